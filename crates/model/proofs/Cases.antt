@@ -1,0 +1,238 @@
+-- The marked cases A to K of the document, from the texts on, and a case for each refusal, checked against the definitions by computing.
+-- Assumes nothing.
+use Prim.Native.Nat.{ℕ, zero, suc, _+_}
+use Prim.Native.String.{String}
+use mathlib.Core.Bool.{Bool, true, false, _&&_}
+use mathlib.Core.List.{List, [], _∷_, _++_}
+use lib.Dec.{T, eqb}
+use lib.ListN.{length, getD, replicate}
+use Rattle.model.specs.Base.{all, same, each, below}
+use Rattle.model.specs.Limits.{need}
+use Rattle.model.specs.Text.{text, decimal}
+use Rattle.model.specs.Table.{orders, rowMap}
+use Rattle.model.specs.Graph.{Graph}
+use Rattle.model.specs.Cuts.{cutsOf, cutTable}
+use Rattle.model.specs.Netlist.{Outcome, refused, mapped}
+use Rattle.model.specs.Reading.{Read, fault, next}
+use Rattle.model.specs.Reading.{holds as reads}
+use Rattle.model.specs.GraphText.{readHeader, readGraph}
+use Rattle.model.specs.Mapper.{mapTexts}
+
+-- "B is the listing above, its library the one meant below."
+unfoldable pub library : List ℕ
+unfolding text
+library = text "cell pins table area d0 d1 d2 d3\ninv 1 0001 1 10 0 0 0\nnand2 2 0007 2 20 20 0 0\n"
+
+unfoldable pub listing : List ℕ
+unfolding text
+listing = text ".model top\n.inputs p1 p2\n.outputs p3\n.gate inv A=m3 O=p3\n.gate nand2 A=p1 B=p2 O=m3\n.end\n# gates 2 area 3 arrival 30\n"
+
+-- the library with a line added
+unfoldable pub with : String → List ℕ
+unfolding library text
+with line = library ++ text line
+
+unfoldable pub graphB : String
+graphB = "aag 3 2 0 1 1\n2\n4\n6\n6 2 4\n"
+
+unfoldable pub graphC : String
+graphC = "aag 3 2 0 1 1\n2\n4\n6\n6 3 5\n"
+
+unfoldable pub graphF : String
+graphF = "aag 6 3 0 0 3\n2\n4\n6\n8 2 4\n10 8 6\n12 8 10\n"
+
+-- what the document says of a case
+pub data Case : Type 0 where
+  -- the whole text, with its gates, area and arrival
+  prints : List ℕ → String → List ℕ → ℕ → ℕ → ℕ → Case
+  -- so many gates and this arrival
+  gives : List ℕ → String → ℕ → ℕ → Case
+  -- this refusal at this place
+  refuses : List ℕ → String → ℕ → ℕ → Case
+  -- this refusal with so many words and bytes lent
+  lacks : List ℕ → String → ℕ → ℕ → ℕ → ℕ → Case
+  -- so many gates and this arrival with so many words and bytes lent
+  suffices : List ℕ → String → ℕ → ℕ → ℕ → ℕ → Case
+  -- these cuts of a variable
+  lists : String → ℕ → List (List ℕ) → Case
+  -- this function of a cut of a variable
+  computes : String → List ℕ → ℕ → ℕ → Case
+  -- this order takes this row to that row
+  takes : ℕ → ℕ → ℕ → Case
+
+unfoldable pub isPrint : List ℕ → ℕ → ℕ → ℕ → Outcome → Bool
+unfolding same
+isPrint t count area arrival (refused n k) = false
+isPrint t count area arrival (mapped u f) = same t u && (eqb count (f .gates) && (eqb area (f .area) && eqb arrival (f .arrival)))
+
+unfoldable pub isGiven : ℕ → ℕ → Outcome → Bool
+isGiven count arrival (refused n k) = false
+isGiven count arrival (mapped u f) = eqb count (f .gates) && eqb arrival (f .arrival)
+
+unfoldable pub isRefusal : ℕ → ℕ → Outcome → Bool
+isRefusal n k (refused m j) = eqb n m && eqb k j
+isRefusal n k (mapped u f) = false
+
+unfoldable pub sameCuts : List (List ℕ) → List (List ℕ) → Bool
+unfolding same
+sameCuts [] [] = true
+sameCuts [] (d ∷ ds) = false
+sameCuts (c ∷ cs) [] = false
+sameCuts (c ∷ cs) (d ∷ ds) = same c d && sameCuts cs ds
+
+-- a test of the graph that a text holds
+unfoldable pub ofGraph : (Graph → Bool) → Read Graph → Bool
+ofGraph p (reads g) = p g
+ofGraph p (fault n k) = false
+
+-- "It lends 32,768 words and 65,536 bytes."
+unfoldable pub mapText : List ℕ → String → Outcome
+unfolding mapTexts text
+mapText l g = mapTexts l (text g) 32768 65536
+
+unfoldable pub graphText : String → Read Graph
+unfolding readHeader readGraph next text
+graphText g = next (readHeader (text g)) (readGraph (text g))
+
+unfoldable pub holds : Case → Bool
+unfolding isPrint isGiven isRefusal sameCuts ofGraph mapText mapTexts text graphText cutsOf cutTable rowMap orders
+holds (prints l g t count area arrival) = isPrint t count area arrival (mapText l g)
+holds (gives l g count arrival) = isGiven count arrival (mapText l g)
+holds (refuses l g n k) = isRefusal n k (mapText l g)
+holds (lacks l g words bytes n k) = isRefusal n k (mapTexts l (text g) words bytes)
+holds (suffices l g words bytes count arrival) = isGiven count arrival (mapTexts l (text g) words bytes)
+holds (lists g v cuts) = ofGraph (λ h. sameCuts cuts (cutsOf h v)) (graphText g)
+holds (computes g cut v f) = ofGraph (λ h. eqb f (cutTable h cut v)) (graphText g)
+holds (takes order r q) = eqb q (rowMap (getD orders order []) r)
+
+unfoldable pub marked : List Case
+unfolding library listing with graphB graphC graphF
+marked =
+    -- A
+    gives library "aag 0 0 0 0 0\n" 0 0
+    -- B
+    ∷ prints library graphB listing 2 3 30
+    -- C, D, E
+    ∷ gives (with "nor2 2 0001 2 35 35 0 0\n") graphC 1 35
+    ∷ gives (with "nor2 2 0001 2 40 40 0 0\n") graphC 1 40
+    ∷ gives (with "nor2 2 0001 2 41 41 0 0\n") graphC 4 40
+    -- F
+    ∷ lists graphF 6 ((6 ∷ []) ∷ (3 ∷ 4 ∷ []) ∷ (4 ∷ 5 ∷ []) ∷ (1 ∷ 2 ∷ 3 ∷ []) ∷ (1 ∷ 2 ∷ 5 ∷ []) ∷ (1 ∷ 2 ∷ 3 ∷ 4 ∷ []) ∷ [])
+    ∷ computes graphF (1 ∷ 2 ∷ 3 ∷ 4 ∷ []) 6 0xf000
+    -- G
+    ∷ takes 1 4 8
+    -- H, I
+    ∷ gives (with "tie0 0 0000 1 0 0 0 0\n") "aag 0 0 0 1 0\n1\n" 2 10
+    ∷ refuses library "aag 0 0 0 1 0\n1\n" 17 0
+    -- J
+    ∷ refuses library "aag 2 0 0 0 2\n2 4 4\n4 2 2\n" 15 1
+    -- K
+    ∷ gives library "aag 3 1 0 1 2\n2\n4\n4 6 6\n6 2 2\n" 2 20
+    ∷ []
+
+-- the marked cases hold
+pub marked-hold : T (all holds marked)
+unfolding all holds marked
+marked-hold = tt
+
+-- a library of n cells without pins
+unfoldable pub cellLines : ℕ → List ℕ
+unfolding text each below decimal
+cellLines n = text "cell pins table area d0 d1 d2 d3\n" ++ each (λ (k : ℕ). 99 ∷ decimal k ++ text " 0 0000 1 0 0 0 0\n") (below n)
+
+-- "graphs with 24 and 25 cuts": of the two chains' last variable
+unfoldable pub graph24 : String
+graph24 = "aag 6 1 0 0 5\n2\n4 2 2\n6 4 4\n8 6 6\n10 8 8\n12 10 8\n"
+
+unfoldable pub graph25 : String
+graph25 = "aag 6 1 0 0 5\n2\n4 2 2\n6 4 4\n8 6 4\n10 6 8\n12 10 10\n"
+
+-- the edges of each refusal from 2 on
+unfoldable pub refusals : List Case
+unfolding library with graphB graph24 graph25 cellLines listing text
+refusals =
+    -- 2
+    refuses [] graphB 2 0
+    ∷ refuses (text "cell pins table area d0 d1 d2 d3") graphB 2 0
+    ∷ refuses (text "cell pins table area d0 d1 d2 d3 \n") graphB 2 0
+    ∷ gives (text "cell pins table area d0 d1 d2 d3\n") "aag 0 0 0 0 0\n" 0 0
+    -- 3, also where the line after the thirty-second is no cell line
+    ∷ gives (cellLines 32) "aag 0 0 0 0 0\n" 0 0
+    ∷ refuses (cellLines 33) "aag 0 0 0 0 0\n" 3 (length (cellLines 32))
+    ∷ refuses (cellLines 32 ++ text "\n") "aag 0 0 0 0 0\n" 3 (length (cellLines 32))
+    -- 4
+    ∷ refuses (with "x 0 0000 1 0 0 0\n") graphB 4 (length library)
+    ∷ refuses (with "x 0 0000 1 0 0 0 0 0\n") graphB 4 (length library)
+    ∷ refuses (with "x  0 0000 1 0 0 0 0\n") graphB 4 (length library)
+    ∷ refuses (with "x 0 0000 1 0 0 0 00\n") graphB 4 (length library)
+    ∷ refuses (with "x 01 0000 1 0 0 0 0\n") graphB 4 (length library)
+    ∷ refuses (with "x 5 0000 1 0 0 0 0\n") graphB 4 (length library)
+    ∷ refuses (with "x 0 0000 65536 0 0 0 0\n") graphB 4 (length library)
+    ∷ refuses (with "x 0 000F 1 0 0 0 0\n") graphB 4 (length library)
+    ∷ refuses (with "x 0 00000 1 0 0 0 0\n") graphB 4 (length library)
+    ∷ refuses (with "abcdefghi 0 0000 1 0 0 0 0\n") graphB 4 (length library)
+    ∷ refuses (with "1x 0 0000 1 0 0 0 0\n") graphB 4 (length library)
+    ∷ refuses (with "x 0 0000 1 0 0 0 0") graphB 4 (length library)
+    ∷ refuses (with "\n") graphB 4 (length library)
+    ∷ gives (with "a_345678 4 ffff 65535 65535 0 0 0\n") graphB 2 30
+    -- 5 before 6, and both line by line
+    ∷ refuses (with "inv 0 0002 1 0 0 0 0\n") graphB 5 (length library)
+    ∷ refuses (with "x 0 0002 1 0 0 0 0\ninv 0 0000 1 0 0 0 0\n") graphB 6 (length library)
+    -- 6
+    ∷ refuses (with "x 0 0002 1 0 0 0 0\n") graphB 6 (length library)
+    ∷ refuses (with "x 1 0004 1 0 0 0 0\n") graphB 6 (length library)
+    ∷ refuses (with "x 1 0002 1 0 5 0 0\n") graphB 6 (length library)
+    -- 7, 8, 9
+    ∷ refuses library "" 7 0
+    ∷ refuses library "aag 0 0 0 0 0" 7 0
+    ∷ refuses library "aag 0 0 0 0\n" 7 0
+    ∷ refuses library "aig 0 0 0 0 0\n" 7 0
+    ∷ refuses library "aag 65536 0 0 0 0\n" 7 0
+    ∷ refuses library "aag 1 0 1 0 0\n2 2\n" 8 0
+    ∷ refuses library "aag 4096 0 1 0 0\n" 8 0
+    ∷ refuses library "aag 4096 0 0 0 0\n" 9 0
+    ∷ refuses library "aag 0 0 0 4097 0\n" 9 0
+    ∷ refuses library "aag 1 1 0 0 1\n2\n2 0 0\n" 9 0
+    -- 10
+    ∷ lacks library "aag 4095 0 0 0 0\n" 655359 0 10 0
+    ∷ lacks library graphB 640 65536 10 0
+    -- 11
+    ∷ refuses library "aag 3 2 0 1 1\n2\n4\n6\n" 11 20
+    ∷ refuses library "aag 3 2 0 1 1\n2\n4\n6\n6 2 4" 11 20
+    ∷ refuses library "aag 3 2 0 1 1\n2\n04\n6\n6 2 4\n" 11 16
+    ∷ refuses library "aag 3 2 0 1 1\n2\n4\n6\n6 2 4 \n" 11 20
+    ∷ refuses library "aag 3 2 0 1 1\n2\n4\n65536\n6 2 4\n" 11 18
+    -- 12, then 13, line by line
+    ∷ refuses library "aag 3 2 0 1 1\n2\n4\n8\n6 2 4\n" 12 18
+    ∷ refuses library "aag 3 2 0 1 1\n2\n0\n6\n6 2 4\n" 12 16
+    ∷ refuses library "aag 3 2 0 1 1\n2\n5\n6\n6 2 4\n" 12 16
+    ∷ refuses library "aag 3 2 0 1 1\n2\n4\n6\n7 2 4\n" 12 20
+    ∷ refuses library "aag 3 2 0 1 1\n2\n2\n6\n6 2 4\n" 13 16
+    ∷ refuses library "aag 3 2 0 1 1\n2\n4\n6\n4 2 4\n" 13 20
+    -- 14: outputs stand before ANDs; a variable may be defined nowhere
+    ∷ refuses library "aag 4 2 0 1 1\n2\n4\n8\n6 2 8\n" 14 18
+    ∷ refuses library "aag 4 2 0 1 1\n2\n4\n6\n6 2 8\n" 14 20
+    ∷ gives library "aag 4 2 0 1 1\n2\n4\n6\n6 2 4\n" 2 30
+    -- 15: also an AND that only waits behind a circle
+    ∷ refuses library "aag 3 0 0 0 3\n2 4 4\n4 6 6\n6 4 4\n" 15 1
+    ∷ refuses library "aag 2 1 0 0 1\n2\n4 4 2\n" 15 2
+    -- 16
+    ∷ gives library graph24 0 0
+    ∷ refuses library graph25 16 6
+    -- 17
+    ∷ refuses library "aag 1 1 0 2 0\n2\n2\n0\n" 17 1
+    ∷ refuses (text "cell pins table area d0 d1 d2 d3\n") "aag 1 1 0 2 0\n2\n3\n2\n" 17 0
+    -- 18, and the words that are enough
+    ∷ suffices library graphB 641 117 2 30
+    ∷ lacks library graphB 641 116 18 117
+    ∷ []
+
+-- each refusal is given where it is due
+pub refusals-hold : T (all holds refusals)
+unfolding all holds refusals
+refusals-hold = tt
+
+-- "160(M+1) + O 16-bit words"
+pub need-is : T (eqb (need 0 0) 160 && (eqb (need 3 1) 641 && eqb (need 4095 4096) 659456))
+unfolding need
+need-is = tt

@@ -1,0 +1,134 @@
+-- BLIF, as far as the netlist uses it: a text read, and the values and arrivals of its nets. Apart from the writer. Assumes nothing.
+use Prim.Native.Nat.{ℕ, zero, suc, _+_, _*_}
+use mathlib.Core.Path.{_≡_}
+use mathlib.Core.Bool.{Bool, true, false, cond}
+use mathlib.Core.Option.{Option, none, some}
+use mathlib.Core.List.{List, [], _∷_, _++_, map, List·Memᴰ}
+use lib.Dec.{eqb}
+use Rattle.model.specs.Base.{one, same, andThen, only, below}
+use Rattle.model.specs.Text.{text, parts}
+use Rattle.model.specs.Table.{value}
+use Rattle.model.specs.Cells.{nameOf, noCell}
+use Rattle.model.specs.Choice.{latest}
+use Rattle.model.specs.declared.Cell.{Cell}
+
+-- ---- the text
+
+-- `pin=net`
+pub record Binding : Type 0 where
+  pub pin : List ℕ
+  pub net : List ℕ
+
+-- a gate line: the name of its cell, and what its pins are bound to
+pub record GateLine : Type 0 where
+  pub cell : List ℕ
+  pub bindings : List Binding
+
+pub record Blif : Type 0 where
+  pub inputs : List (List ℕ)
+  pub outputs : List (List ℕ)
+  pub gates : List GateLine
+
+unfoldable pub longer : ℕ → Binding → Binding
+longer b p = record { pin = b ∷ p .pin; net = p .net }
+
+-- a word `pin=net`, parted at the first `=`
+unfoldable pub binding : List ℕ → Option Binding
+unfolding andThen longer
+binding [] = none
+binding (b ∷ bs) = let rest = binding bs in cond (eqb b 61) (some (record { pin = []; net = bs })) (andThen rest (λ p. some (longer b p)))
+
+unfoldable pub bindingsOf : List (List ℕ) → Option (List Binding)
+unfolding andThen binding
+bindingsOf [] = some []
+bindingsOf (w ∷ ws) = andThen (binding w) (λ p. andThen (bindingsOf ws) (λ ps. some (p ∷ ps)))
+
+-- the words after a first word that is the keyword
+unfoldable pub afterWord : List ℕ → List (List ℕ) → Option (List (List ℕ))
+unfolding same only
+afterWord keyword [] = none
+afterWord keyword (w ∷ ws) = only (same w keyword) ws
+
+unfoldable pub wordsAfter : List ℕ → List ℕ → Option (List (List ℕ))
+unfolding afterWord parts
+wordsAfter keyword l = afterWord keyword (parts 32 l)
+
+unfoldable pub gateOf : List (List ℕ) → Option GateLine
+unfolding bindingsOf andThen
+gateOf [] = none
+gateOf (c ∷ ws) = andThen (bindingsOf ws) (λ ps. some (record { cell = c; bindings = ps }))
+
+unfoldable pub readGate : List ℕ → Option GateLine
+unfolding andThen wordsAfter text gateOf
+readGate l = andThen (wordsAfter (text ".gate") l) gateOf
+
+-- the gate lines up to `.end`
+unfoldable pub readGates : List (List ℕ) → Option (List GateLine)
+unfolding readGate same text andThen
+readGates [] = none
+readGates (l ∷ ls) = cond (same l (text ".end")) (some [])
+    (andThen (readGate l) (λ t. andThen (readGates ls) (λ ts. some (t ∷ ts))))
+
+unfoldable pub readLines : List (List ℕ) → Option Blif
+unfolding same text wordsAfter readGates andThen
+readLines [] = none
+readLines (m ∷ []) = none
+readLines (m ∷ i ∷ []) = none
+readLines (m ∷ i ∷ o ∷ ls) = cond (same m (text ".model top"))
+    (andThen (wordsAfter (text ".inputs") i) (λ is.
+    andThen (wordsAfter (text ".outputs") o) (λ os.
+    andThen (readGates ls) (λ ts. some (record { inputs = is; outputs = os; gates = ts })))))
+    none
+
+-- a model with its inputs, outputs and gates
+unfoldable pub readBlif : List ℕ → Option Blif
+unfolding readLines parts
+readBlif bytes = readLines (parts 10 bytes)
+
+-- ---- its meaning, with the library's cells
+
+-- the cell of a name
+unfoldable pub named : List Cell → List ℕ → Cell
+unfolding same nameOf
+named [] name = noCell
+named (c ∷ cs) name = let r = named cs name in cond (same (nameOf c) name) c r
+
+-- the net that a pin is bound to
+unfoldable pub netAt : List Binding → List ℕ → List ℕ
+unfolding same
+netAt [] pin = []
+netAt (p ∷ ps) pin = let r = netAt ps pin in cond (same (p .pin) pin) (p .net) r
+
+-- "pins A to D, output O"
+unfoldable pub pinNames : ℕ → List (List ℕ)
+unfolding below
+pinNames n = map (λ (j : ℕ). (65 + j) ∷ []) (below n)
+
+abbrev pub outputName : List ℕ
+outputName = 79 ∷ []
+
+-- the net that a gate drives
+unfoldable pub drives : GateLine → List ℕ
+unfolding netAt
+drives t = netAt (t .bindings) outputName
+
+-- the nets that feed a gate's pins, in order
+unfoldable pub fedBy : List Cell → GateLine → List (List ℕ)
+unfolding netAt named pinNames
+fedBy cells t = map (netAt (t .bindings)) (pinNames (named cells (t .cell) .pins))
+
+-- "bit j of r is pin j"
+unfoldable pub rowOf : List Bool → ℕ
+unfolding one
+rowOf [] = 0
+rowOf (b ∷ bs) = one b + 2 * rowOf bs
+
+-- the nets' values w hold: an input net has its input's value, a gate's net its cell's value at its pins
+pub record NetValues (cells : List Cell) (n : Blif) (setting : List Bool) (w : List ℕ → Bool) : Type 0 where
+  pub atInputs : map w (n .inputs) ≡ setting
+  pub atGates : (t : GateLine) → List·Memᴰ t (n .gates) → w (drives t) ≡ value (named cells (t .cell) .table) (rowOf (map w (fedBy cells t)))
+
+-- "A printed net's arrival follows the same rule over the gate lines, in whatever order they stand, with the library text's `d` delays."
+pub record NetArrivals (cells : List Cell) (n : Blif) (at : List ℕ → ℕ) : Type 0 where
+  pub atInputs : (name : List ℕ) → List·Memᴰ name (n .inputs) → at name ≡ 0
+  pub atGates : (t : GateLine) → List·Memᴰ t (n .gates) → at (drives t) ≡ latest (map at (fedBy cells t)) (named cells (t .cell) .delays)

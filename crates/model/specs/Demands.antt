@@ -1,0 +1,159 @@
+-- The three demands as types, for every library text, graph text, number of lent words and number of lent bytes. Assumes nothing.
+use Prim.Native.Nat.{ℕ, suc, _+_, _*_, _≤_, _<_}
+use mathlib.Core.Path.{_≡_}
+use mathlib.Core.Bool.{Bool, true, false}
+use mathlib.Core.Option.{Option, some}
+use mathlib.Core.List.{List, [], _∷_, _++_, map, List·Memᴰ}
+use mathlib.Core.Logic.{_↔_}
+use Prim.Native.Nat.{Ordering, Ordering·gt}
+use lib.ListN.{length, getD}
+use Rattle.model.specs.Base.{each}
+use Rattle.model.specs.Reading.{holds}
+use Rattle.model.specs.Cells.{nameOf}
+use Rattle.model.specs.Graph.{Graph, literal, varOf, unplaced, placingOrder, literalValue, GraphValues}
+use Rattle.model.specs.Cuts.{cutsOf, compareLeaves, crowded}
+use Rattle.model.specs.Choice.{feeds, absent, chosen, preference}
+use Rattle.model.specs.Cover.{Allowed, Needed, arrivalBy, Cover}
+use Rattle.model.specs.Netlist.{Outcome, refused, mapped, gates, figuresOf, netlistText, netName, sum, largest}
+use Rattle.model.specs.Blif.{GateLine, Binding, Blif, readBlif, named, drives, fedBy, pinNames, outputName, NetValues, NetArrivals}
+use Rattle.model.specs.Mapper.{Design, readTexts, mapTexts, answerOf, textAfter, workAfter}
+use Rattle.model.specs.declared.Cell.{Cell}
+use Rattle.model.specs.declared.Source.{Source}
+use Rattle.model.specs.declared.Figures.{Figures}
+use Rattle.model.specs.declared.Answer.{Answer}
+
+-- no element stands twice
+abbrev pub Distinct {ℓ} : {A : Type ℓ} → List A → Type ℓ
+Distinct [] = Unit
+Distinct (x ∷ xs) = (¬ List·Memᴰ x xs) × Distinct xs
+
+-- ---- Demand 1: "after a call on arbitrary bytes the lent memory holds what document 01 says and nothing else"; every call ends "with a
+-- netlist or with the first of the eighteen numbered refusals that applies": what a call leaves of the lent memory, and its answer
+pub record Memory (library graph work text : List ℕ) (answer : Answer) (workLeft textLeft : List ℕ) : Type 0 where
+  pub answers : answer ≡ answerOf (mapTexts library graph (length work) (length text))
+  pub words : workLeft ≡ workAfter (mapTexts library graph (length work) (length text)) work
+  pub bytes : textLeft ≡ textAfter (mapTexts library graph (length work) (length text)) text
+
+-- ---- what is printed
+
+-- the nets that a netlist drives: "`.inputs` drives its nets"
+unfoldable pub drivenNets : Blif → List (List ℕ)
+unfolding drives
+drivenNets n = n .inputs ++ map drives (n .gates)
+
+-- the text t is printed with figures f for a design, and reads back as n
+pub record Printed (library graph : List ℕ) (words bytes : ℕ) (t : List ℕ) (f : Figures) (d : Design) (n : Blif) : Type 0 where
+  pub design : readTexts library graph words ≡ holds d
+  pub outcome : mapTexts library graph words bytes ≡ mapped t f
+  pub reads : readBlif t ≡ some n
+
+-- a statement of every printed netlist
+abbrev pub OfPrinted : (List Cell → Graph → Figures → Blif → Type 0) → Type 0
+OfPrinted P =
+    (library graph : List ℕ) (words bytes : ℕ) (t : List ℕ) (f : Figures) (d : Design) (n : Blif)
+    → Printed library graph words bytes t f d n → P (d .cells) (d .graph) f n
+
+-- what is printed is read from a design, and reads back
+abbrev pub Readable : Type 0
+Readable =
+    (library graph : List ℕ) (words bytes : ℕ) (t : List ℕ) (f : Figures) → mapTexts library graph words bytes ≡ mapped t f
+    → (d : Design) × (n : Blif) × Printed library graph words bytes t f d n
+
+-- "Inputs and outputs keep the file's order." Each gate is of a listed cell and binds its pins and its output; no net is driven twice, and
+-- every net that is used is driven
+pub record Formed (cells : List Cell) (g : Graph) (f : Figures) (n : Blif) : Type 0 where
+  pub inputs : n .inputs ≡ map (λ (v : ℕ). netName (literal false v)) (g .inputs)
+  pub outputs : n .outputs ≡ map netName (g .outputs)
+  pub listed : (t : GateLine) → List·Memᴰ t (n .gates) → (c : Cell) × List·Memᴰ c cells × (nameOf c ≡ t .cell)
+      × (map (λ (b : Binding). b .pin) (t .bindings) ≡ pinNames (c .pins) ++ (outputName ∷ []))
+  pub once : Distinct (drivenNets n)
+  pub driven : (net : List ℕ) → List·Memᴰ net (n .outputs ++ each (fedBy cells) (n .gates)) → List·Memᴰ net (drivenNets n)
+
+-- ---- Demand 2: "the printed netlist, read by BLIF's rules with the listed cells' tables, gives every output the value that the AIGER graph
+-- gives it, for every setting of the inputs": both have values, and with any such values each output has the graph's
+pub record SameValues (cells : List Cell) (g : Graph) (f : Figures) (n : Blif) : Type 0 where
+  pub graphHas : (setting : ℕ → Bool) → (v : ℕ → Bool) × GraphValues g setting v
+  pub netlistHas : (setting : ℕ → Bool) → (w : List ℕ → Bool) × NetValues cells n (map setting (g .inputs)) w
+  pub same : (setting v : ℕ → Bool) → GraphValues g setting v → (w : List ℕ → Bool) → NetValues cells n (map setting (g .inputs)) w
+      → map w (n .outputs) ≡ map (literalValue v) (g .outputs)
+
+-- "the figures equal those of the printed text": nets have arrivals, and with any such arrivals the figures are the text's.
+-- "Gates number at most 2(M+1)."
+pub record SameFigures (cells : List Cell) (g : Graph) (f : Figures) (n : Blif) : Type 0 where
+  pub hasArrivals : (at : List ℕ → ℕ) × NetArrivals cells n at
+  pub count : f .gates ≡ length (n .gates)
+  pub area : f .area ≡ sum (map (λ (t : GateLine). named cells (t .cell) .area) (n .gates))
+  pub arrival : (at : List ℕ → ℕ) → NetArrivals cells n at → f .arrival ≡ largest (map at (n .outputs))
+  pub bound : f .gates ≤ 2 * suc (g .size)
+
+-- ---- Demand 3: "for each net of the printed netlist, every cover of the outputs that has this net gives it an arrival no earlier".
+-- "A cover has a net if it needs that net's phase"
+abbrev pub Earliest : List Cell → Graph → Figures → Blif → Type 0
+Earliest cells g f n =
+    (at : List ℕ → ℕ) → NetArrivals cells n at → (l : ℕ) → List·Memᴰ (netName l) (drivenNets n)
+    → (c : Cover cells g (g .outputs)) → Needed cells g (g .outputs) (c .source) l → at (netName l) ≤ c .arrival l
+
+-- "Where no refusal tried before 16 applies and no AND is over 24 cuts"
+pub record Mappable (library graph : List ℕ) (words : ℕ) (d : Design) : Type 0 where
+  pub design : readTexts library graph words ≡ holds d
+  pub placed : unplaced (d .graph) ≡ []
+  pub few : crowded (d .graph) ≡ []
+
+abbrev pub OfMappable : (ℕ → Outcome → List Cell → Graph → Type 0) → Type 0
+OfMappable P =
+    (library graph : List ℕ) (words bytes : ℕ) (d : Design) → Mappable library graph words d
+    → P bytes (mapTexts library graph words bytes) (d .cells) (d .graph)
+
+-- output k is the lowest that has no cover: "a cover of one output is a cover with that as the only output"
+pub record LowestUncovered (cells : List Cell) (g : Graph) (k : ℕ) : Type 0 where
+  pub isOutput : k < length (g .outputs)
+  pub hasNone : ¬ Cover cells g (getD (g .outputs) k 0 ∷ [])
+  pub before : (j : ℕ) → j < k → Cover cells g (getD (g .outputs) j 0 ∷ [])
+
+-- the text and the figures of the netlist of the cover that 01's choice gives
+abbrev pub choiceFigures : List Cell → Graph → Figures
+choiceFigures cells g = figuresOf g (chosen cells g) (gates cells g (chosen cells g))
+
+abbrev pub choiceText : List Cell → Graph → List ℕ
+choiceText cells g = netlistText g (gates cells g (chosen cells g)) (choiceFigures cells g)
+
+-- "refusal 17 comes exactly when some output has no cover, and names the lowest; else the netlist of the cover that 01's choice gives is
+-- printed, or 18 exactly when it applies"
+pub record Decided (bytes : ℕ) (outcome : Outcome) (cells : List Cell) (g : Graph) : Type 0 where
+  pub seventeen : (k : ℕ) → (outcome ≡ refused 17 k) ↔ LowestUncovered cells g k
+  pub prints : ((l : ℕ) → List·Memᴰ l (g .outputs) → Cover cells g (l ∷ [])) → length (choiceText cells g) ≤ bytes
+      → outcome ≡ mapped (choiceText cells g) (choiceFigures cells g)
+  pub eighteen : ((l : ℕ) → List·Memᴰ l (g .outputs) → Cover cells g (l ∷ [])) → bytes < length (choiceText cells g)
+      → outcome ≡ refused 18 (length (choiceText cells g))
+
+-- "the cover that 01's choice gives": where every output has a cover, the chosen sources and arrivals are a cover of the outputs
+pub record ChosenCover (cells : List Cell) (g : Graph) : Type 0 where
+  pub cover : Cover cells g (g .outputs)
+  pub sources : (l : ℕ) → cover .source l ≡ chosen cells g l .source
+  pub arrivals : (l : ℕ) → cover .arrival l ≡ chosen cells g l .arrival
+
+-- the choice by 01's order of preference: no allowed source of a placed phase whose pins have sources comes before the chosen one, and the
+-- chosen one is allowed and timed by the rule
+pub record Preferred (cells : List Cell) (g : Graph) (l : ℕ) : Type 0 where
+  pub allowed : absent (chosen cells g l .source) ≡ false → Allowed cells g l (chosen cells g l .source)
+  pub timed : absent (chosen cells g l .source) ≡ false
+      → chosen cells g l .arrival ≡ arrivalBy cells g (λ x. chosen cells g x .arrival) l (chosen cells g l .source)
+  pub first : (s : Source) → Allowed cells g l s
+      → ((x : ℕ) → List·Memᴰ x (feeds cells (cutsOf g) l s) → absent (chosen cells g x .source) ≡ false)
+      → (absent (chosen cells g l .source) ≡ false)
+      × (¬ (compareLeaves (preference (chosen cells g l)) (preference (record { source = s; arrival = arrivalBy cells g (λ x. chosen cells g x .arrival) l s })) ≡ Ordering·gt))
+
+pub record Chosen (bytes : ℕ) (outcome : Outcome) (cells : List Cell) (g : Graph) : Type 0 where
+  pub covers : ((l : ℕ) → List·Memᴰ l (g .outputs) → Cover cells g (l ∷ [])) → ChosenCover cells g
+  pub preferred : (l : ℕ) → List·Memᴰ (varOf l) (placingOrder g) → Preferred cells g l
+
+-- ---- the demands together
+
+pub record Demands : Type 0 where
+  pub readable : Readable
+  pub formed : OfPrinted Formed
+  pub values : OfPrinted SameValues
+  pub figures : OfPrinted SameFigures
+  pub earliest : OfPrinted Earliest
+  pub decided : OfMappable Decided
+  pub choice : OfMappable Chosen

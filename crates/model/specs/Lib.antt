@@ -1,0 +1,17 @@
+pub mod Base
+pub mod Limits
+pub mod Text
+pub mod Reading
+pub mod Table
+pub mod Cells
+pub mod Graph
+pub mod Cuts
+pub mod Matching
+pub mod Choice
+pub mod Cover
+pub mod Netlist
+pub mod Blif
+pub mod LibraryText
+pub mod GraphText
+pub mod Mapper
+pub mod Demands

@@ -1,0 +1,76 @@
+-- The whole: two texts, the lent words and bytes, the answer "in checking order", and what the lent memory then holds. Assumes nothing.
+use Prim.Native.Nat.{ℕ, suc, _+_, _*_}
+use mathlib.Core.Bool.{Bool, true, false, cond, _&&_}
+use mathlib.Core.List.{List, [], _∷_, _++_}
+use lib.Dec.{leb}
+use lib.ListN.{length, drop, replicate}
+use Rattle.model.specs.Limits.{need}
+use Rattle.model.specs.Reading.{Read, holds, fault, next, unless}
+use Rattle.model.specs.LibraryText.{readLibrary}
+use Rattle.model.specs.GraphText.{readHeader, readGraph}
+use Rattle.model.specs.Graph.{Graph}
+use Rattle.model.specs.Netlist.{Outcome, refused, mapped, mapGraph}
+use Rattle.model.specs.declared.Cell.{Cell}
+use Rattle.model.specs.declared.Figures.{Figures}
+use Rattle.model.specs.declared.Answer.{Answer}
+use Rattle.model.specs.declared.Answer.the-variants.{Mapped, Refused}
+
+-- what the two texts hold
+pub record Design : Type 0 where
+  pub cells : List Cell
+  pub graph : Graph
+
+-- refusals 1 to 14: "Work memory has fewer than 160(M+1) + O 16-bit words" stands between the header's and those of the due lines
+unfoldable pub readTexts : List ℕ → List ℕ → ℕ → Read Design
+unfolding next unless readLibrary readHeader readGraph need
+readTexts library graph words =
+    unless (leb (length library) 65536 && leb (length graph) 65536) 1 0
+    (next (readLibrary library) (λ cells.
+    next (readHeader graph) (λ h.
+    unless (leb (need (h .size) (h .outputs)) words) 10 0
+    (next (readGraph graph h) (λ g. holds (record { cells = cells; graph = g }))))))
+
+-- "Text memory is shorter than the netlist; place, the length needed."
+unfoldable pub within : ℕ → Outcome → Outcome
+within bytes (refused n k) = refused n k
+within bytes (mapped t f) = cond (leb (length t) bytes) (mapped t f) (refused 18 (length t))
+
+unfoldable pub mapDesign : ℕ → Read Design → Outcome
+unfolding within mapGraph
+mapDesign bytes (holds d) = within bytes (mapGraph (d .cells) (d .graph))
+mapDesign bytes (fault n k) = refused n k
+
+-- the outcome for a library text and a graph text, with so many words and so many bytes lent
+unfoldable pub mapTexts : List ℕ → List ℕ → ℕ → ℕ → Outcome
+unfolding mapDesign readTexts
+mapTexts library graph words bytes = mapDesign bytes (readTexts library graph words)
+
+-- ---- the answer, and the lent memory
+
+-- the answer of a call
+unfoldable pub answerOf : Outcome → Answer
+answerOf (refused n k) = Refused n k
+answerOf (mapped t f) = Mapped (length t) f
+
+-- what the document says that a call returns
+pub record Returned : Type 0 where
+  pub number : ℕ
+  pub value : ℕ
+  pub gates : ℕ
+  pub area : ℕ
+  pub arrival : ℕ
+
+-- "Success returns number 0, the netlist's length and the three figures of its `# gates` line; a refusal its number, its place and zero figures"
+unfoldable pub returned : Answer → Returned
+returned (Mapped n f) = record { number = 0; value = n; gates = f .gates; area = f .area; arrival = f .arrival }
+returned (Refused n k) = record { number = n; value = k; gates = 0; area = 0; arrival = 0 }
+
+-- a refusal leaves "text memory unchanged"; "On success text memory begins with the netlist and keeps its other bytes."
+unfoldable pub textAfter : Outcome → List ℕ → List ℕ
+textAfter (refused n k) memory = memory
+textAfter (mapped t f) memory = t ++ drop (length t) memory
+
+-- "Work memory is unchanged by every refusal tried up to 10, and all zero after a later one and after success."
+unfoldable pub workAfter : Outcome → List ℕ → List ℕ
+workAfter (refused n k) memory = cond (leb n 10) memory (replicate (length memory) 0)
+workAfter (mapped t f) memory = replicate (length memory) 0

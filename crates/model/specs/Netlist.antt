@@ -1,0 +1,173 @@
+-- The gates, the netlist's text and its figures, and what is printed for a graph that is read. Assumes nothing.
+use Prim.Native.Nat.{ℕ, zero, suc, _+_, _*_, max}
+use mathlib.Core.Bool.{Bool, true, false, cond, not}
+use mathlib.Core.Option.{Option, none, some}
+use mathlib.Core.List.{List, [], _∷_, _++_, map, reverse}
+use lib.ListN.{length}
+use Rattle.model.specs.Base.{keep, each, find, elem, below, lowest}
+use Rattle.model.specs.Text.{text, decimal}
+use Rattle.model.specs.Reading.{refusedAt, firstOf}
+use Rattle.model.specs.Cells.{nameOf}
+use Rattle.model.specs.Graph.{Graph, placingOrder, unplaced, varOf, negated, literal}
+use Rattle.model.specs.Cuts.{cutsOf, crowded}
+use Rattle.model.specs.Choice.{Phases, noPhases, phaseOf, feeds, cellOf, absent, choices, chosen}
+use Rattle.model.specs.declared.Cell.{Cell}
+use Rattle.model.specs.declared.Source.{Source}
+use Rattle.model.specs.declared.Source.the-variants.{Input, Cell as Matched, Inverter as Inverted, Nothing}
+use Rattle.model.specs.declared.Phase.{Phase}
+use Rattle.model.specs.declared.Figures.{Figures}
+use Rattle.model.specs.declared.Verdict.{Verdict}
+
+-- ---- the needed phases
+
+unfoldable pub isInverted : Source → Bool
+isInverted Input = false
+isInverted Nothing = false
+isInverted (Matched m) = false
+isInverted (Inverted c) = true
+
+-- a variable's phases, one that an inverter drives before the one that feeds it
+unfoldable pub backwards : (ℕ → Phase) → ℕ → List ℕ
+unfolding isInverted literal
+backwards phase v = cond (isInverted (phase (literal false v) .source))
+    (literal false v ∷ literal true v ∷ []) (literal true v ∷ literal false v ∷ [])
+
+-- "A phase is needed if an output is that phase or the source of a needed phase is fed by it": each phase after all that it can feed
+unfoldable pub spread : List Cell → (ℕ → List (List ℕ)) → (ℕ → Phase) → List ℕ → List ℕ → List ℕ
+unfolding elem feeds
+spread cells cuts phase [] needed = needed
+spread cells cuts phase (l ∷ ls) needed =
+    spread cells cuts phase ls (cond (elem l needed) (feeds cells cuts l (phase l .source) ++ needed) needed)
+
+unfoldable pub needed : List Cell → Graph → (ℕ → Phase) → List ℕ
+unfolding spread backwards placingOrder each cutsOf
+needed cells g phase = spread cells (cutsOf g) phase (each (backwards phase) (reverse (placingOrder g))) (g .outputs)
+
+-- ---- gates
+
+-- a gate: its cell, the nets of its pins in order, and its own net
+pub record Gate : Type 0 where
+  pub cell : Cell
+  pub pins : List ℕ
+  pub net : ℕ
+
+unfoldable pub isOwn : Source → Bool
+isOwn Input = true
+isOwn Nothing = false
+isOwn (Matched m) = false
+isOwn (Inverted c) = false
+
+-- "Needed phases, inputs' own positive nets apart, become gates by ascending variable, `p` first."
+unfoldable pub gates : List Cell → Graph → (ℕ → Phase) → List Gate
+unfolding keep needed elem below feeds cellOf isOwn cutsOf
+gates cells g phase =
+    let nets = needed cells g phase in
+    map (λ (l : ℕ). record { cell = cellOf cells (phase l .source); pins = feeds cells (cutsOf g) l (phase l .source); net = l })
+    (keep (λ (l : ℕ). cond (elem l nets) (not (isOwn (phase l .source))) false) (below (2 * suc (g .size))))
+
+-- ---- the text
+
+-- "Nets are `p` or `m` (negative) and the variable"
+unfoldable pub netName : ℕ → List ℕ
+unfolding decimal negated varOf
+netName l = cond (negated l) 109 112 ∷ decimal (varOf l)
+
+-- " A=net" and so on from pin letter b
+unfoldable pub pinWords : ℕ → List ℕ → List ℕ
+unfolding netName
+pinWords b [] = []
+pinWords b (l ∷ ls) = 32 ∷ b ∷ 61 ∷ netName l ++ pinWords (suc b) ls
+
+-- "a gate line is `.gate`, the cell's name, each pin in order with `=` and its net, then the output likewise": "pins A to D, output O"
+unfoldable pub gateLine : Gate → List ℕ
+unfolding text pinWords netName nameOf
+gateLine t = text ".gate " ++ (nameOf (t .cell) ++ (pinWords 65 (t .pins) ++ (pinWords 79 (t .net ∷ []) ++ text "\n")))
+
+-- "With no names the second or third line is the keyword alone."
+unfoldable pub namesLine : List ℕ → List ℕ → List ℕ
+unfolding text each netName
+namesLine keyword nets = keyword ++ (each (λ (l : ℕ). 32 ∷ netName l) nets ++ text "\n")
+
+unfoldable pub sum : List ℕ → ℕ
+sum [] = 0
+sum (n ∷ ns) = n + sum ns
+
+unfoldable pub largest : List ℕ → ℕ
+largest [] = 0
+largest (n ∷ ns) = max n (largest ns)
+
+-- "The `# gates` line has the gates written, sum of their areas, arrival of the latest output (0 without outputs)."
+unfoldable pub figuresOf : Graph → (ℕ → Phase) → List Gate → Figures
+unfolding sum largest
+figuresOf g phase ts = record {
+  gates = length ts;
+  area = sum (map (λ (t : Gate). t .cell .area) ts);
+  arrival = largest (map (λ (l : ℕ). phase l .arrival) (g .outputs));
+}
+
+-- `.model top`, the names lines, the gates, `.end` and the `# gates` line: "Inputs and outputs keep the file's order."
+unfoldable pub netlistText : Graph → List Gate → Figures → List ℕ
+unfolding text namesLine gateLine decimal literal each
+netlistText g ts f =
+    text ".model top\n"
+    ++ (namesLine (text ".inputs") (map (literal false) (g .inputs))
+    ++ (namesLine (text ".outputs") (g .outputs)
+    ++ (each gateLine ts
+    ++ (text ".end\n# gates " ++ (decimal (f .gates) ++ (text " area " ++ (decimal (f .area) ++ (text " arrival " ++ (decimal (f .arrival) ++ text "\n")))))))))
+
+-- ---- what is printed for a graph that is read
+
+-- "An output has no cover; place, the lowest such index, from 0."
+unfoldable pub uncovered : (ℕ → Phase) → ℕ → List ℕ → List ℕ
+unfolding absent
+uncovered phase k [] = []
+uncovered phase k (l ∷ ls) = let rest = uncovered phase (suc k) ls in cond (absent (phase l .source)) (k ∷ rest) rest
+
+-- ---- the verdicts of the layers
+
+-- "Some AND can't be placed; place, the lowest such variable."
+unfoldable pub placingVerdict : Graph → Verdict
+unfolding refusedAt lowest unplaced
+placingVerdict g = refusedAt 15 (lowest (unplaced g))
+
+-- "place, the first such variable in placing order"
+unfoldable pub cutsVerdict : Graph → Verdict
+unfolding refusedAt firstOf crowded
+cutsVerdict g = refusedAt 16 (firstOf (crowded g))
+
+-- "place, the lowest such index, from 0"
+unfoldable pub coverVerdict : List Cell → Graph → Verdict
+unfolding refusedAt firstOf uncovered chosen
+coverVerdict cells g = refusedAt 17 (firstOf (uncovered (chosen cells g) 0 (g .outputs)))
+
+-- ---- the netlist, or a refusal of 15 to 17
+
+pub data Outcome : Type 0 where
+  refused : ℕ → ℕ → Outcome
+  mapped : List ℕ → Figures → Outcome
+
+-- the netlist, unless some output is uncovered
+unfoldable pub printed : List Cell → Graph → (ℕ → Phase) → List ℕ → Outcome
+unfolding gates figuresOf netlistText
+printed cells g phase (k ∷ ks) = refused 17 k
+printed cells g phase [] = let ts = gates cells g phase in let f = figuresOf g phase ts in mapped (netlistText g ts f) f
+
+unfoldable pub mapChosen : List Cell → Graph → List (ℕ × Phases) → Outcome
+unfolding printed uncovered phaseOf find noPhases
+mapChosen cells g found = let phase = phaseOf (λ u. find noPhases u found) in printed cells g phase (uncovered phase 0 (g .outputs))
+
+-- the choice, unless some AND has too many cuts
+unfoldable pub mapCut : List Cell → Graph → List ℕ → Outcome
+unfolding mapChosen choices
+mapCut cells g (v ∷ vs) = refused 16 v
+mapCut cells g [] = mapChosen cells g (choices cells g)
+
+-- the cuts, unless some AND can't be placed: "place, the lowest such variable"
+unfoldable pub mapPlaced : List Cell → Graph → Option ℕ → Outcome
+unfolding mapCut crowded
+mapPlaced cells g (some v) = refused 15 v
+mapPlaced cells g none = mapCut cells g (crowded g)
+
+unfoldable pub mapGraph : List Cell → Graph → Outcome
+unfolding mapPlaced lowest unplaced
+mapGraph cells g = mapPlaced cells g (lowest (unplaced g))

@@ -1,0 +1,43 @@
+-- What reading gives: what is read, or the first refusal that applies. Assumes nothing.
+use Prim.Native.Nat.{ℕ}
+use mathlib.Core.Bool.{Bool, true, false}
+use mathlib.Core.Option.{Option, none, some}
+use mathlib.Core.List.{List, [], _∷_}
+use Rattle.model.specs.declared.Verdict.{Verdict}
+use Rattle.model.specs.declared.Verdict.the-variants.{Accepted, Refused}
+
+-- what a text holds, or a refusal's number and place
+pub data Read (A : Type 0) : Type 0 where
+  holds : A → Read A
+  fault : ℕ → ℕ → Read A
+
+unfoldable pub next : {A B : Type 0} → Read A → (A → Read B) → Read B
+next (holds a) f = f a
+next (fault n k) f = fault n k
+
+-- a fault where the test fails
+unfoldable pub unless : {A : Type 0} → Bool → ℕ → ℕ → Read A → Read A
+unless true n k r = r
+unless false n k r = fault n k
+
+-- a fault where there is nothing
+unfoldable pub from? : {A : Type 0} → Option A → ℕ → ℕ → Read A
+from? none n k = fault n k
+from? (some a) n k = holds a
+
+-- ---- verdicts of the code, by document 01's numbers and places
+
+-- what a reading says, without what was read
+unfoldable pub verdictOf : {A : Type 0} → Read A → Verdict
+verdictOf (holds a) = Accepted
+verdictOf (fault n k) = Refused n k
+
+-- refusal n at a place, if there is one
+unfoldable pub refusedAt : ℕ → Option ℕ → Verdict
+refusedAt n none = Accepted
+refusedAt n (some k) = Refused n k
+
+-- the first of a list
+unfoldable pub firstOf : List ℕ → Option ℕ
+firstOf [] = none
+firstOf (k ∷ ks) = some k

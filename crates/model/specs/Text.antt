@@ -1,0 +1,109 @@
+-- Bytes: a quoted text, numbers in decimal, lines, fields, hexadecimal tables and names. Assumes nothing.
+use Prim.Native.Nat.{ℕ, zero, suc, _+_, _-_, _*_, _/_, _%_}
+use Prim.Native.Char.{Char, code}
+use Prim.Native.String.{String, [] as end, _∷_ as _then_}
+use mathlib.Core.Bool.{Bool, true, false, cond, _&&_, _||_}
+use mathlib.Core.Option.{Option, none, some}
+use mathlib.Core.List.{List, [], _∷_, _++_, reverse}
+use lib.Dec.{eqb, ltb, leb}
+use lib.ListN.{length}
+use Rattle.model.specs.Base.{all, same, andThen, only}
+
+-- the bytes of a quoted text
+unfoldable pub text : String → List ℕ
+text end = []
+text (c then s) = code c ∷ text s
+
+unfoldable pub digits : ℕ → ℕ → List ℕ → List ℕ
+digits zero n after = after
+digits (suc fuel) n after =
+    let more = digits fuel (n / 10) ((48 + n % 10) ∷ after) in
+    cond (ltb n 10) ((48 + n) ∷ after) more
+
+-- a number "in decimal without leading zeros"
+unfoldable pub decimal : ℕ → List ℕ
+unfolding digits
+decimal n = digits (suc n) n []
+
+unfoldable pub onto : ℕ → List (List ℕ) → List (List ℕ)
+onto b [] = (b ∷ []) ∷ []
+onto b (w ∷ ws) = (b ∷ w) ∷ ws
+
+unfoldable pub split : Bool → ℕ → List (List ℕ) → List (List ℕ)
+unfolding onto
+split true b ws = [] ∷ ws
+split false b ws = onto b ws
+
+-- the parts of a text between the bytes `sep`; a last part that is empty is left out
+unfoldable pub parts : ℕ → List ℕ → List (List ℕ)
+unfolding split
+parts sep [] = []
+parts sep (b ∷ bs) = split (eqb b sep) b (parts sep bs)
+
+-- a line: its first byte's offset, its bytes without byte 10, and whether byte 10 ends it
+pub record Line : Type 0 where
+  pub offset : ℕ
+  pub bytes : List ℕ
+  pub ended : Bool
+
+-- the lines of a text that begins at an offset; `held` are the line's bytes so far, the last first
+unfoldable pub linesFrom : ℕ → List ℕ → List ℕ → List Line
+linesFrom at [] [] = []
+linesFrom at (h ∷ hs) [] = record { offset = at; bytes = reverse (h ∷ hs); ended = false } ∷ []
+linesFrom at held (b ∷ bs) = elim (eqb b 10) [
+  | true ↦ record { offset = at; bytes = reverse held; ended = true } ∷ linesFrom (at + suc (length held)) [] bs
+  | false ↦ linesFrom at (b ∷ held) bs
+]
+
+-- "One space separates fields": one field more than there are spaces
+unfoldable pub fields : List ℕ → List (List ℕ)
+unfolding split
+fields [] = [] ∷ []
+fields (b ∷ bs) = split (eqb b 32) b (fields bs)
+
+-- what the bytes would be as decimal digits
+unfoldable pub asDigits : ℕ → List ℕ → ℕ
+asDigits n [] = n
+asDigits n (b ∷ bs) = asDigits (n * 10 + (b - 48)) bs
+
+-- a number of 0 to 65,535 "in decimal without leading zeros": the bytes are those that it is written with
+unfoldable pub number : List ℕ → Option ℕ
+unfolding only asDigits decimal same
+number w = let n = asDigits 0 w in only (leb n 65535 && same w (decimal n)) n
+
+unfoldable pub numbers : List (List ℕ) → Option (List ℕ)
+unfolding andThen number
+numbers [] = some []
+numbers (w ∷ ws) = andThen (number w) (λ n. andThen (numbers ws) (λ ns. some (n ∷ ns)))
+
+unfoldable pub between : ℕ → ℕ → ℕ → Bool
+between low high b = leb low b && leb b high
+
+-- the value of a "lower-case hexadecimal" digit
+unfoldable pub hexDigit : ℕ → Option ℕ
+unfolding between
+hexDigit b = cond (between 48 57 b) (some (b - 48)) (cond (between 97 102 b) (some (b - 87)) none)
+
+unfoldable pub hexFrom : ℕ → List ℕ → Option ℕ
+unfolding andThen hexDigit
+hexFrom n [] = some n
+hexFrom n (b ∷ bs) = andThen (hexDigit b) (λ d. hexFrom (n * 16 + d) bs)
+
+-- "The table is four lower-case hexadecimal digits"
+unfoldable pub hexTable : List ℕ → Option ℕ
+unfolding andThen only hexFrom
+hexTable w = andThen (only (eqb (length w) 4) w) (hexFrom 0)
+
+unfoldable pub isLetter : ℕ → Bool
+unfolding between
+isLetter b = between 65 90 b || between 97 122 b
+
+unfoldable pub isNameByte : ℕ → Bool
+unfolding isLetter between
+isNameByte b = isLetter b || (between 48 57 b || eqb b 95)
+
+-- "A name is 1 to 8 letters, digits or underscores, a letter first."
+unfoldable pub isName : List ℕ → Bool
+unfolding isLetter isNameByte all
+isName [] = false
+isName (b ∷ bs) = isLetter b && (all isNameByte bs && leb (length bs) 7)

@@ -1,0 +1,85 @@
+// The types that code and meaning share. What they mean stands in specs/.
+
+// A cell of the library: "cell pins table area d0 d1 d2 d3". Its name is the first `len` bytes of `name`, and the bytes after them are 0.
+pub struct Cell {
+    pub name: [u8; 8],
+    pub len: usize,
+    pub pins: u16,
+    pub table: u16,
+    pub area: u16,
+    pub delays: [u16; 4],
+}
+
+// "No cells and 32 cells are accepted." The first `n` are the library's, in the order of their lines.
+pub struct Library {
+    pub n: usize,
+    pub cells: [Cell; 32],
+}
+
+// A refusal's number and place, or none. Every layer answers with it.
+pub enum Verdict {
+    Accepted,
+    Refused(usize, usize),
+}
+
+// The cells stand beside the verdict. After a refusal there are none.
+pub struct LibraryAnswer {
+    pub verdict: Verdict,
+    pub library: Library,
+}
+
+// The numbers of the header line `aag M I L O A`, and the offset of the line after it.
+pub struct Header {
+    pub size: usize,
+    pub inputs: usize,
+    pub latches: usize,
+    pub outputs: usize,
+    pub ands: usize,
+    pub next: usize,
+}
+
+pub enum HeaderAnswer {
+    Read(Header),
+    Refused(usize, usize),
+}
+
+// A cut: so many leaves, ascending; what stands past them is no part of the cut.
+pub struct Cut {
+    pub leaves: [u16; 4],
+    pub count: usize,
+}
+
+// "a cell matched on a cut": the cut's number in its variable's list, the cell's line from 0, the order's number and the phase mask.
+pub struct Match {
+    pub cut: usize,
+    pub cell: usize,
+    pub order: usize,
+    pub mask: usize,
+}
+
+// "In the state each phase is one of these sources with its data, or none." An inverter's data is its cell's line.
+pub enum Source {
+    Input,
+    Cell(Match),
+    Inverter(usize),
+    Nothing,
+}
+
+// A phase's source with its arrival.
+pub struct Phase {
+    pub source: Source,
+    pub arrival: u32,
+}
+
+// "the three figures of its `# gates` line".
+pub struct Figures {
+    pub gates: u32,
+    pub area: u32,
+    pub arrival: u32,
+}
+
+// What a call answers: the netlist's length and its figures, or a refusal's number and place.
+pub enum Answer {
+    Mapped(usize, Figures),
+    Refused(usize, usize),
+}
