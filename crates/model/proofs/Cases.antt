@@ -1,11 +1,11 @@
 -- The marked cases A to K of the document, from the texts on, and a case for each refusal, checked against the definitions by computing.
 -- Assumes nothing.
-use Prim.Native.Nat.{ℕ, zero, suc, _+_}
+use Prim.Native.Nat.{ℕ, _+_}
 use Prim.Native.String.{String}
 use mathlib.Core.Bool.{Bool, true, false, _&&_}
 use mathlib.Core.List.{List, [], _∷_, _++_}
 use lib.Dec.{T, eqb}
-use lib.ListN.{length, getD, replicate}
+use lib.ListN.{length, getD}
 use Rattle.model.specs.Base.{all, same, each, below}
 use Rattle.model.specs.Limits.{need}
 use Rattle.model.specs.Text.{text, decimal}

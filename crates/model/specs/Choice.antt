@@ -1,8 +1,8 @@
 -- The chosen source and arrival of each phase. A phase of a variable is a literal: 2v positive, 2v+1 negative. Assumes nothing.
-use Prim.Native.Nat.{ℕ, zero, suc, _+_, _-_, _*_, _^_, max}
+use Prim.Native.Nat.{ℕ, suc, _+_, _^_, max}
 use mathlib.Core.Bool.{Bool, true, false, not, cond, _&&_}
 use mathlib.Core.List.{List, [], _∷_, _++_, map}
-use lib.Dec.{eqb, ltb}
+use lib.Dec.{ltb}
 use lib.ListN.{length, getD}
 use Rattle.model.specs.Base.{any, keep, each, find, run, below, same}
 use Rattle.model.specs.Table.{orders}

@@ -1,11 +1,11 @@
 -- The three demands as types, for every library text, graph text, number of lent words and number of lent bytes. Assumes nothing.
-use Prim.Native.Nat.{ℕ, suc, _+_, _*_, _≤_, _<_}
+use Prim.Native.Nat.{ℕ, suc, _*_, _≤_, _<_}
 use mathlib.Core.Path.{_≡_}
-use mathlib.Core.Bool.{Bool, true, false}
-use mathlib.Core.Option.{Option, some}
+use mathlib.Core.Bool.{Bool, false}
+use mathlib.Core.Option.{some}
 use mathlib.Core.List.{List, [], _∷_, _++_, map, List·Memᴰ}
 use mathlib.Core.Logic.{_↔_}
-use Prim.Native.Nat.{Ordering, Ordering·gt}
+use Prim.Native.Nat.{Ordering·gt}
 use lib.ListN.{length, getD}
 use Rattle.model.specs.Base.{each}
 use Rattle.model.specs.Reading.{holds}

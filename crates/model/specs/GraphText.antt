@@ -8,7 +8,7 @@ use lib.ListN.{length, getD, drop, replicate}
 use Rattle.model.specs.Base.{all, keep, elem, same, andThen, only}
 use Rattle.model.specs.Text.{Line, text, linesFrom, fields, numbers}
 use Rattle.model.specs.Reading.{Read, holds, fault, next, unless, from?}
-use Rattle.model.specs.Graph.{And, Graph, varOf}
+use Rattle.model.specs.Graph.{Graph, varOf}
 use Rattle.model.specs.declared.Header.{Header}
 use Rattle.model.specs.declared.HeaderAnswer.{HeaderAnswer}
 use Rattle.model.specs.declared.HeaderAnswer.the-variants.{Read as WasRead, Refused}

@@ -1,7 +1,7 @@
 -- The whole: two texts, the lent words and bytes, the answer "in checking order", and what the lent memory then holds. Assumes nothing.
-use Prim.Native.Nat.{ℕ, suc, _+_, _*_}
-use mathlib.Core.Bool.{Bool, true, false, cond, _&&_}
-use mathlib.Core.List.{List, [], _∷_, _++_}
+use Prim.Native.Nat.{ℕ, _+_}
+use mathlib.Core.Bool.{cond, _&&_}
+use mathlib.Core.List.{List, _++_}
 use lib.Dec.{leb}
 use lib.ListN.{length, drop, replicate}
 use Rattle.model.specs.Limits.{need}
@@ -11,7 +11,6 @@ use Rattle.model.specs.GraphText.{readHeader, readGraph}
 use Rattle.model.specs.Graph.{Graph}
 use Rattle.model.specs.Netlist.{Outcome, refused, mapped, mapGraph}
 use Rattle.model.specs.declared.Cell.{Cell}
-use Rattle.model.specs.declared.Figures.{Figures}
 use Rattle.model.specs.declared.Answer.{Answer}
 use Rattle.model.specs.declared.Answer.the-variants.{Mapped, Refused}
 

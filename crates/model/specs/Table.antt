@@ -1,7 +1,7 @@
 -- Tables of up to four pins, the 24 orders, the row map and the masks. Assumes nothing.
-use Prim.Native.Nat.{ℕ, zero, suc, _+_, _*_, _/_, _%_, _^_}
-use mathlib.Core.Bool.{Bool, true, false}
-use mathlib.Core.List.{List, [], _∷_, _++_, map}
+use Prim.Native.Nat.{ℕ, zero, suc, _+_, _*_, _/_}
+use mathlib.Core.Bool.{Bool}
+use mathlib.Core.List.{List, [], _∷_, map}
 use Rattle.model.specs.Base.{bit, one, flip, each, below, from}
 
 -- "bit r is the cell's value in row r"

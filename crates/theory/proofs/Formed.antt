@@ -1,0 +1,185 @@
+-- The form of the printed netlist: names in the file's order, listed cells with their pins bound, every net driven once and every used net
+-- driven. Assumes nothing.
+use Prim.Native.Nat.{ℕ, suc, _*_, _≤_, _<_}
+use native.Mathlib.Nat.{le-trans, le-of-eq, not-suc-le-zero}
+use mathlib.Core.Path.{_≡_, refl, sym, _∙_, ap, ap₂, subst}
+use mathlib.Core.Logic.{_⊎_, inl, inr}
+use mathlib.Core.Bool.{Bool, true, false, not, cond, true≢false}
+use mathlib.Core.List.{List, [], _∷_, _++_, map, List·Memᴰ, List·Memᴰ·tail, List·Memᴰ·append-cases, Memᴰ·append-left, Memᴰ·append-right, Memᴰ·cast}
+use lib.Dec.{T}
+use lib.ListN.{length}
+use Rattle.model.specs.Base.{elem, keep, below, each}
+use Rattle.model.specs.Cells.{nameOf}
+use Rattle.model.specs.Graph.{And, Graph, placeF, placingOrder, varOf, negated, literal, node}
+use Rattle.model.specs.Cuts.{cutsOf}
+use Rattle.model.specs.Choice.{feeds, cellOf, absent, chosen}
+use Rattle.model.specs.Cover.{IsOwn, output, fed}
+use Rattle.model.specs.Netlist.{Gate, isOwn, needed, gates, netName}
+use Rattle.model.specs.Blif.{GateLine, Binding, drives, fedBy, pinNames, outputName}
+use Rattle.model.specs.Demands.{Distinct, drivenNets, Formed}
+use Rattle.model.specs.declared.Cell.{Cell}
+use Rattle.model.specs.declared.Source.{Source}
+use Rattle.model.specs.declared.Source.the-variants.{Input}
+use Rattle.model.specs.declared.Phase.{Phase}
+use Rattle.model.specs.declared.Figures.{Figures}
+use Rattle.theory_graph.proofs.Lists.{map-in, map-out, keep-out, map-map, map-same}
+use Rattle.theory_graph.proofs.Literals.{lit-var}
+use Rattle.theory_graph.proofs.Runs.{along}
+use Rattle.theory_graph.proofs.Accepted.{Accepted, libraryFits}
+use Rattle.theory_graph.proofs.Placing.{order-once}
+use Rattle.theory_graph.proofs.Nodes.{node-input}
+use Rattle.theory_text.proofs.ReadBack.{lineOf, blifOf}
+use Rattle.theory_text.proofs.Names.{net-once}
+use Rattle.model.specs.Choice.{choose, earlier, direct, inverterPhases}
+use lib.Dec.{ltb, ltb→lt}
+use Rattle.theory_cover.proofs.Turns.{own, chosen-entry}
+use Rattle.theory_graph.proofs.Placing.{distinct-once}
+use Rattle.theory_graph.proofs.Lists.{each-out}
+use Rattle.theory_graph.proofs.Distinct.{map-distinct, keep-distinct, below-distinct, append-distinct, length-map, length-keep, length-from}
+use Rattle.theory.proofs.Gates.{sourceOf, NeedsOf, gateOf, chosenGates, bound, gate-in, gate-out, line-bound, gate-listed, own-value, own-source, own-net}
+
+-- ---- "for an input's positive phase its own net"
+
+own-earliest : (b : Phase) → earlier (record { source = Input; arrival = 0 }) b ≡ record { source = Input; arrival = 0 }
+unfolding earlier absent
+own-earliest b = go (absent (b .source)) (ltb (b .arrival) 0) (ltb→lt (b .arrival) 0)
+  where
+    go : (x y : Bool) → (T y → b .arrival < 0) → cond x (record { source = Input; arrival = 0 }) (cond y b (record { source = Input; arrival = 0 })) ≡ record { source = Input; arrival = 0 }
+    go true y h = refl
+    go false true h = absurd (not-suc-le-zero (h tt))
+    go false false h = refl
+
+pub own-chosen : (cells : List Cell) (g : Graph) → Distinct (placingOrder g) → (l : ℕ) → IsOwn g l → chosen cells g l .source ≡ Input
+own-chosen cells g once l o =
+    along (λ v. (x : ℕ) → varOf x ≡ v → IsOwn g x → chosen cells g x .source ≡ Input) (placingOrder g)
+    (λ u h x p i. absurd (h (Memᴰ·cast (sym p) (in-order x (i .isInput)))))
+    (λ pre v post e ih x p i. ap (λ (f : Phase). f .source) (chosen-entry cells g pre v post e once x p ∙ turn pre v x p i))
+    (varOf l) l refl o
+  where
+    in-order : (x : ℕ) → List·Memᴰ (varOf x) (g .inputs) → List·Memᴰ (varOf x) (placingOrder g)
+    in-order x m = unfold placingOrder in List·Memᴰ·tail (Memᴰ·append-left (placeF (length (g .ands)) (g .ands) (0 ∷ g .inputs)) m)
+
+    off : (b : Bool) → T (not b) → b ≡ false
+    off true t = absurd t
+    off false t = refl
+
+    turn : (pre : List ℕ) (v x : ℕ) → varOf x ≡ v → IsOwn g x
+        → choose (own cells g pre v (negated x) ∷ inverterPhases cells 0 (own cells g pre v (not (negated x)))) ≡ record { source = Input; arrival = 0 }
+    turn pre v x p i =
+        unfold choose direct in
+        ap (λ (f : Phase). earlier f (choose (inverterPhases cells 0 (own cells g pre v (not (negated x))))))
+        (ap₂ (λ (b : Bool) (k : Rattle.model.specs.Graph.Node). direct cells g (Rattle.theory_cover.proofs.Turns.phasesKnown cells g pre) v (cutsOf g v) b k) (off (negated x) (i .positive))
+        (ap (node g) (sym p) ∙ node-input g (varOf x) once (i .isInput)))
+        ∙ own-earliest (choose (inverterPhases cells 0 (own cells g pre v (not (negated x)))))
+
+module _ (cells : List Cell) (fit : T (libraryFits cells)) (g : Graph) (ok : Accepted g)
+    (present-outputs : (l : ℕ) → List·Memᴰ l (g .outputs) → absent (chosen cells g l .source) ≡ false) where
+  -- the phases that become gates
+  abbrev pub gateNets : List ℕ
+  gateNets = keep (λ (l : ℕ). cond (elem l (needed cells g (chosen cells g))) (not (isOwn (sourceOf cells g l))) false) (below (2 * suc (g .size)))
+
+  pub gates-are : (chosenGates cells g) ≡ map (gateOf cells g) gateNets
+  unfolding gates
+  gates-are = refl
+
+  -- "Gates number at most 2(M+1)."
+  pub gate-count : length (chosenGates cells g) ≤ 2 * suc (g .size)
+  unfolding below
+  gate-count =
+      le-trans (le-of-eq (ap length gates-are ∙ length-map (gateOf cells g) gateNets))
+      (le-trans (length-keep (λ (l : ℕ). cond (elem l (needed cells g (chosen cells g))) (not (isOwn (sourceOf cells g l))) false) (below (2 * suc (g .size))))
+      (le-of-eq (length-from (2 * suc (g .size)) 0)))
+
+  -- what a line drives
+  pub line-net : (u : Gate) → List·Memᴰ u (chosenGates cells g) → drives (lineOf u) ≡ netName (u .net)
+  line-net u m =
+      let r = gate-out cells fit g ok present-outputs u m in
+      subst (λ (x : Gate). drives (lineOf x) ≡ netName (x .net)) (sym (r .isGate)) (line-bound cells fit g ok present-outputs (r .at) (r .needs) (r .notOwn) .isDriven)
+
+  driven-are : drivenNets (blifOf g (chosenGates cells g)) ≡ map (λ (v : ℕ). netName (literal false v)) (g .inputs) ++ map netName gateNets
+  unfolding drivenNets blifOf
+  driven-are =
+      ap (λ (xs : List (List ℕ)). map (λ (v : ℕ). netName (literal false v)) (g .inputs) ++ xs)
+      (map-map drives lineOf (chosenGates cells g)
+      ∙ map-same (λ (u : Gate). drives (lineOf u)) (λ (u : Gate). netName (u .net)) (chosenGates cells g) line-net
+      ∙ ap (map (λ (u : Gate). netName (u .net))) gates-are
+      ∙ map-map (λ (u : Gate). netName (u .net)) (gateOf cells g) gateNets)
+
+  -- a needed (chosen cells g)'s net is driven
+  pub needed-driven : (l : ℕ) → NeedsOf cells g l → List·Memᴰ (netName l) (drivenNets (blifOf g (chosenGates cells g)))
+  unfolding drivenNets blifOf
+  needed-driven l n = go (isOwn (sourceOf cells g l)) refl
+    where
+      go : (b : Bool) → isOwn (sourceOf cells g l) ≡ b → List·Memᴰ (netName l) (map (λ (v : ℕ). netName (literal false v)) (g .inputs) ++ map drives (map lineOf (chosenGates cells g)))
+      go true e =
+          let o = own-source cells fit g ok present-outputs l n e in
+          Memᴰ·append-left (map drives (map lineOf (chosenGates cells g)))
+          (Memᴰ·cast (ap netName (sym (own-value cells fit g ok present-outputs (λ u. false) l o .0))) (map-in (λ (v : ℕ). netName (literal false v)) (o .isInput)))
+      go false e =
+          Memᴰ·append-right (map (λ (v : ℕ). netName (literal false v)) (g .inputs))
+          (Memᴰ·cast (sym (line-bound cells fit g ok present-outputs l n e .isDriven)) (map-in drives (map-in lineOf (gate-in cells fit g ok present-outputs l n e))))
+
+  driven-once : Distinct (drivenNets (blifOf g (chosenGates cells g)))
+  driven-once =
+      subst Distinct (sym driven-are)
+      (append-distinct (map (λ (v : ℕ). netName (literal false v)) (g .inputs)) (map netName gateNets)
+      (map-distinct (λ (v : ℕ). netName (literal false v)) (g .inputs)
+      (λ x y e. sym (lit-var false x) ∙ ap varOf (net-once (literal false x) (literal false y) e) ∙ lit-var false y)
+      (distinct-once (0 ∷ g .inputs) (map (λ (a : And). a .var) (g .ands)) (ok .defined) .1))
+      (map-distinct netName gateNets net-once
+      (keep-distinct (λ (l : ℕ). cond (elem l (needed cells g (chosen cells g))) (not (isOwn (sourceOf cells g l))) false) (below (2 * suc (g .size))) (below-distinct (2 * suc (g .size)))))
+      apart)
+    where
+      not-own : (a b : Bool) → T (cond a (not b) false) → b ≡ false
+      not-own true true u = absurd u
+      not-own true false u = refl
+      not-own false b u = absurd u
+
+      own-is : (s : Source) → s ≡ Input → true ≡ isOwn s
+      own-is s e = unfold isOwn in sym (ap isOwn e)
+
+      apart : (x : List ℕ) → List·Memᴰ x (map (λ (v : ℕ). netName (literal false v)) (g .inputs)) → ¬ List·Memᴰ x (map netName gateNets)
+      apart x m n =
+          let i = map-out (λ (v : ℕ). netName (literal false v)) (g .inputs) m in
+          let o = map-out netName gateNets n in
+          let l = o .0 in
+          let same-net : literal false (i .0) ≡ l = net-once (literal false (i .0)) l (sym (i .2) ∙ o .2) in
+          let kept = keep-out (λ (k : ℕ). cond (elem k (needed cells g (chosen cells g))) (not (isOwn (sourceOf cells g k))) false) (below (2 * suc (g .size))) (o .1) in
+          let no : isOwn (sourceOf cells g l) ≡ false = not-own (elem l (needed cells g (chosen cells g))) (isOwn (sourceOf cells g l)) (kept .1) in
+          let is : sourceOf cells g l ≡ Input = subst (λ (k : ℕ). sourceOf cells g k ≡ Input) same-net
+          (own-chosen cells g (order-once g ok) (literal false (i .0)) (own-net cells fit g ok present-outputs (i .0) (i .1))) in
+          let own : true ≡ isOwn (sourceOf cells g l) = own-is (sourceOf cells g l) is in true≢false (own ∙ no)
+
+  pub well-formed : (f : Figures) → Formed cells g f (blifOf g (chosenGates cells g))
+  unfolding blifOf
+  well-formed f = record {
+    inputs = refl;
+    outputs = refl;
+    listed = λ t m. of-line t (map-out lineOf (chosenGates cells g) m);
+    once = driven-once;
+    driven = λ net m. used net (List·Memᴰ·append-cases (map netName (g .outputs)) m);
+  }
+    where
+      of-line : (t : GateLine) → (u : Gate) × List·Memᴰ u (chosenGates cells g) × (t ≡ lineOf u)
+          → (c : Cell) × List·Memᴰ c cells × (nameOf c ≡ t .cell) × (map (λ (b : Binding). b .pin) (t .bindings) ≡ pinNames (c .pins) ++ (outputName ∷ []))
+      of-line t o =
+          let r = gate-out cells fit g ok present-outputs (o .0) (o .1) in
+          let l = r .at in
+          let e : t ≡ lineOf (gateOf cells g l) = o .2 ∙ ap lineOf (r .isGate) in (
+            cellOf cells (sourceOf cells g l),
+            gate-listed cells fit g ok present-outputs l (r .needs) (r .notOwn),
+            (unfold lineOf in ap (λ (x : GateLine). x .cell) (sym e)),
+            ap (λ (x : GateLine). map (λ (b : Binding). b .pin) (x .bindings)) e ∙ line-bound cells fit g ok present-outputs l (r .needs) (r .notOwn) .isBound,
+          )
+
+      used : (net : List ℕ) → List·Memᴰ net (map netName (g .outputs)) ⊎ List·Memᴰ net (each (fedBy cells) (map lineOf (chosenGates cells g))) → List·Memᴰ net (drivenNets (blifOf g (chosenGates cells g)))
+      used net (inl m) = let o = map-out netName (g .outputs) m in Memᴰ·cast (o .2) (needed-driven (o .0) (output (o .1)))
+      used net (inr m) =
+          let t = each-out (fedBy cells) (map lineOf (chosenGates cells g)) m in
+          let u = map-out lineOf (chosenGates cells g) (t .1) in
+          let r = gate-out cells fit g ok present-outputs (u .0) (u .1) in
+          let l = r .at in
+          let e : t .0 ≡ lineOf (gateOf cells g l) = u .2 ∙ ap lineOf (r .isGate) in
+          let x = map-out netName (feeds cells (cutsOf g) l (sourceOf cells g l))
+          (subst (λ (nets : List (List ℕ)). List·Memᴰ net nets) (ap (fedBy cells) e ∙ line-bound cells fit g ok present-outputs l (r .needs) (r .notOwn) .isFed) (t .2)) in
+          Memᴰ·cast (x .2) (needed-driven (x .0) (fed (r .needs) (x .1)))

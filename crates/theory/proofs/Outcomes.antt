@@ -1,0 +1,95 @@
+-- What a printed netlist says of the texts: the graph is accepted, no AND has too many cuts, every output is chosen a source, and the text
+-- and its figures are those of the chosen gates. Assumes nothing.
+use Prim.Native.Nat.{ℕ, suc}
+use mathlib.Core.Path.{_≡_, refl, sym, _∙_, ap}
+use mathlib.Core.Bool.{Bool, true, false, cond, false≢true}
+use mathlib.Core.Option.{Option, none, some}
+use mathlib.Core.List.{List, [], _∷_, cons≢nil, List·Memᴰ, List·Memᴰ·head, List·Memᴰ·tail}
+use lib.Dec.{leb}
+use lib.ListN.{length}
+use Rattle.model.specs.Base.{lowest, smaller}
+use Rattle.model.specs.Reading.{holds}
+use Rattle.model.specs.Graph.{Graph, unplaced}
+use Rattle.model.specs.Cuts.{crowded}
+use Rattle.model.specs.Choice.{absent, chosen}
+use Rattle.model.specs.Netlist.{Outcome, refused, mapped, mapGraph, mapPlaced, mapCut, mapChosen, printed, uncovered}
+use Rattle.model.specs.Mapper.{Design, readTexts, mapTexts, mapDesign, within}
+use Rattle.model.specs.Demands.{choiceText, choiceFigures}
+use Rattle.model.specs.declared.Cell.{Cell}
+use Rattle.model.specs.declared.Phase.{Phase}
+use Rattle.model.specs.declared.Figures.{Figures}
+
+isMapped : Outcome → Bool
+isMapped (refused n k) = false
+isMapped (mapped t f) = true
+
+pub refused-never : {n k : ℕ} {t : List ℕ} {f : Figures} → ¬ (refused n k ≡ mapped t f)
+unfolding isMapped
+refused-never e = false≢true (ap isMapped e)
+
+textOf : Outcome → List ℕ
+textOf (refused n k) = []
+textOf (mapped t f) = t
+
+figuresIn : Figures → Outcome → Figures
+figuresIn d (refused n k) = d
+figuresIn d (mapped t f) = f
+
+pub record FromChoice (cells : List Cell) (g : Graph) (t : List ℕ) (f : Figures) : Type 0 where
+  pub placed : unplaced g ≡ []
+  pub few : crowded g ≡ []
+  pub covered : (l : ℕ) → List·Memᴰ l (g .outputs) → absent (chosen cells g l .source) ≡ false
+  pub isText : t ≡ choiceText cells g
+  pub areFigures : f ≡ choiceFigures cells g
+
+-- where none is uncovered, each output has a source
+outputs-present : (phase : ℕ → Phase) (k : ℕ) (ls : List ℕ) → uncovered phase k ls ≡ [] → (l : ℕ) → List·Memᴰ l ls → absent (phase l .source) ≡ false
+unfolding uncovered
+outputs-present phase k (x ∷ ls) e l m = go (absent (phase x .source)) refl e m (λ q. outputs-present phase (suc k) ls q l)
+  where
+    go : (b : Bool) → absent (phase x .source) ≡ b → cond b (k ∷ uncovered phase (suc k) ls) (uncovered phase (suc k) ls) ≡ [] → List·Memᴰ l (x ∷ ls)
+        → (uncovered phase (suc k) ls ≡ [] → List·Memᴰ l ls → absent (phase l .source) ≡ false) → absent (phase l .source) ≡ false
+    go true a q n later = absurd (cons≢nil q)
+    go false a q (List·Memᴰ·head s) later = ap (λ (y : ℕ). absent (phase y .source)) s ∙ a
+    go false a q (List·Memᴰ·tail n) later = later q n
+
+module _ (cells : List Cell) (g : Graph) (t : List ℕ) (f : Figures) where
+  from-choice : mapGraph cells g ≡ mapped t f → FromChoice cells g t f
+  unfolding mapGraph mapPlaced mapCut mapChosen printed chosen lowest smaller textOf figuresIn
+  from-choice e = places (unplaced g) refl e
+    where
+      outs : unplaced g ≡ [] → crowded g ≡ [] → (us : List ℕ) → uncovered (chosen cells g) 0 (g .outputs) ≡ us → printed cells g (chosen cells g) us ≡ mapped t f → FromChoice cells g t f
+      outs p c [] q h =
+          record { placed = p; few = c; covered = outputs-present (chosen cells g) 0 (g .outputs) q; isText = sym (ap textOf h); areFigures = sym (ap (figuresIn f) h) }
+      outs p c (k ∷ ks) q h = absurd (refused-never h)
+
+      cuts : unplaced g ≡ [] → (vs : List ℕ) → crowded g ≡ vs → mapCut cells g vs ≡ mapped t f → FromChoice cells g t f
+      cuts p [] c h = outs p c (uncovered (chosen cells g) 0 (g .outputs)) refl h
+      cuts p (v ∷ vs) c h = absurd (refused-never h)
+
+      none-lowest : (u : ℕ) (o : Option ℕ) → ¬ (mapPlaced cells g (smaller u o) ≡ mapped t f)
+      none-lowest u none h = refused-never h
+      none-lowest u (some w) h = refused-never h
+
+      places : (us : List ℕ) → unplaced g ≡ us → mapPlaced cells g (lowest us) ≡ mapped t f → FromChoice cells g t f
+      places [] p h = cuts p (crowded g) refl h
+      places (u ∷ us) p h = absurd (none-lowest u (lowest us) h)
+
+-- a netlist that fits is the graph's
+within-mapped : (bytes : ℕ) (o : Outcome) (t : List ℕ) (f : Figures) → within bytes o ≡ mapped t f → o ≡ mapped t f
+unfolding within
+within-mapped bytes (refused n k) t f e = absurd (refused-never e)
+within-mapped bytes (mapped u h) t f e = go (leb (length u) bytes) e
+  where
+    go : (b : Bool) → cond b (mapped u h) (refused 18 (length u)) ≡ mapped t f → mapped u h ≡ mapped t f
+    go true q = q
+    go false q = absurd (refused-never q)
+
+module _ (library graph : List ℕ) (words bytes : ℕ) (d : Design) (e : readTexts library graph words ≡ holds d) where
+  -- the outcome of texts that are read
+  pub outcome-is : mapTexts library graph words bytes ≡ within bytes (mapGraph (d .cells) (d .graph))
+  unfolding mapTexts mapDesign
+  outcome-is = ap (mapDesign bytes) e
+
+  pub printed-choice : (t : List ℕ) (f : Figures) → mapTexts library graph words bytes ≡ mapped t f → FromChoice (d .cells) (d .graph) t f
+  printed-choice t f h = from-choice (d .cells) (d .graph) t f (within-mapped bytes (mapGraph (d .cells) (d .graph)) t f (sym outcome-is ∙ h))

@@ -1,0 +1,1 @@
+// The demands of document 01, proved of the definitions; no code.

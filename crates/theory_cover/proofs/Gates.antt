@@ -1,0 +1,215 @@
+-- A gate computes its phase: a cell matched on a cut has, at the values of its pins' nets, the AIGER value of the phase; so has an inverter.
+-- Assumes nothing.
+use Prim.Native.Nat.{ℕ, zero, suc, _+_, _-_, _*_, _/_, _%_, _^_, _≤_, _<_, compare}
+use native.Mathlib.Nat.{le-refl, le-of-suc-le-suc, not-suc-le-zero, add-zero, zero-add, suc-add, add-suc, pow-suc}
+use native.Mathlib.Omega.{arith}
+use mathlib.Core.Path.{_≡_, refl, sym, _∙_, ap, ap₂, subst}
+use mathlib.Core.Logic.{_⊎_, inl, inr}
+use mathlib.Core.Bool.{Bool, true, false, not, Bool·beq}
+use mathlib.Core.List.{List, [], _∷_, map, List·Memᴰ, List·Memᴰ·not-nil, List·Memᴰ·cases-cons, List·Memᴰ·eq-of-singleton}
+use lib.Dec.{T, eqb, eqb→eq, leb, leb→le, ltb, ltb→lt}
+use lib.ListN.{length, take, getD, length-map, List·getD-map}
+use lib.Pow.{pow-pos}
+use mir.Facts.{and-yes, eqb-no}
+use Rattle.model.specs.Base.{all, bit, one, flip, below, each, union, find}
+use Rattle.model.specs.Table.{value, orders, pinRow}
+use Rattle.model.specs.Cells.{cellAt, isInverter}
+use Rattle.model.specs.Graph.{Graph, Node, constant, input, undefined, both, node, placingOrder, span, varOf, negated, opposite, literalValue}
+use Rattle.model.specs.Cuts.{tabulate, walk, cutTable, cutsOf, nodeCuts, unions, compareCuts}
+use Rattle.model.specs.Matching.{phaseTable, placesFit, rowsAgree, fedNets, matchNets}
+use Rattle.model.specs.Choice.{feeds}
+use Rattle.model.specs.Cover.{IsMatch}
+use Rattle.model.specs.Blif.{rowOf}
+use Rattle.model.specs.Demands.{Distinct}
+use Rattle.model.specs.declared.Cell.{Cell}
+use Rattle.model.specs.declared.Match.{Match}
+use Rattle.model.specs.declared.Source.the-variants.{Cell as Matched}
+use Rattle.theory_graph.proofs.Lists.{all-of, below-in, keep-out}
+use Rattle.theory_graph.proofs.Sets.{union-only}
+use Rattle.theory_graph.proofs.Literals.{lit-var, lit-neg, opposite-var, opposite-neg}
+use Rattle.theory_graph.proofs.Runs.{along}
+use Rattle.theory_graph.proofs.Walk.{Valuation, Carry}
+use Rattle.theory_graph.proofs.CutFacts.{cutsKnown, cuts-entry, cuts-none, cut-value}
+use Rattle.theory_cover.proofs.Matches.{fits-places, fits-rows, cutFor, cut-listed}
+
+-- ---- bits
+
+bit-low : (b : Bool) (n : ℕ) → bit (one b + 2 * n) 0 ≡ b
+unfolding bit one
+bit-low true n = ap (λ (k : ℕ). eqb k 1) (let e : (1 + 2 * n) % 2 ≡ 1 = omega arith in e)
+bit-low false n = ap (λ (k : ℕ). eqb k 1) (let e : (0 + 2 * n) % 2 ≡ 0 = omega arith in e)
+
+bit-high : (b : Bool) (n i : ℕ) → bit (one b + 2 * n) (suc i) ≡ bit n i
+unfolding bit one
+bit-high true n i = ap (λ (k : ℕ). bit k i) (let e : (1 + 2 * n) / 2 ≡ n = omega arith in e)
+bit-high false n i = ap (λ (k : ℕ). bit k i) (let e : (0 + 2 * n) / 2 ≡ n = omega arith in e)
+
+-- a table has the values that it is made of
+pub bit-tabulate : (f : ℕ → Bool) (n r : ℕ) → r < n → bit (tabulate f n) r ≡ f r
+unfolding tabulate
+bit-tabulate f zero r h = absurd (not-suc-le-zero h)
+bit-tabulate f (suc n) zero h = bit-low (f 0) (tabulate (λ r. f (suc r)) n)
+bit-tabulate f (suc n) (suc r) h = bit-high (f 0) (tabulate (λ q. f (suc q)) n) r ∙ bit-tabulate (λ q. f (suc q)) n r (le-of-suc-le-suc h)
+
+two-pow : (n : ℕ) → 2 ^ suc n ≡ 2 * 2 ^ n
+two-pow n = pow-suc 2 n ∙ (let e : 2 ^ n * 2 ≡ 2 * 2 ^ n = omega arith in e)
+
+one-le : (b : Bool) → one b ≤ 1
+unfolding one
+one-le true = le-refl 1
+one-le false = omega arith
+
+pub tabulate-lt : (f : ℕ → Bool) (n : ℕ) → tabulate f n < 2 ^ n
+unfolding tabulate
+tabulate-lt f zero = le-refl 1
+tabulate-lt f (suc n) =
+    omega (arith, one-le (f 0), tabulate-lt (λ r. f (suc r)) n, two-pow n)
+
+-- the bits of a row are what it is made of
+bit-row : (bs : List Bool) (i : ℕ) (d : Bool) → i < length bs → bit (rowOf bs) i ≡ getD bs i d
+unfolding rowOf
+bit-row [] i d h = absurd (not-suc-le-zero h)
+bit-row (b ∷ bs) zero d h = bit-low b (rowOf bs)
+bit-row (b ∷ bs) (suc i) d h = bit-high b (rowOf bs) i ∙ bit-row bs i d (le-of-suc-le-suc h)
+
+-- the complement's bits
+bit-complement : (n t r : ℕ) → t < 2 ^ n → r < n → bit (2 ^ n - 1 - t) r ≡ not (bit t r)
+unfolding bit
+bit-complement zero t r h k = absurd (not-suc-le-zero k)
+bit-complement (suc n) t zero h k = go (eqb (t % 2) 1) (eqb→eq (t % 2) 1) eqb-no
+  where
+    odd : t % 2 ≡ 1 → (2 ^ suc n - 1 - t) % 2 ≡ 0
+    odd e = omega (arith, two-pow n)
+
+    even : ¬ (t % 2 ≡ 1) → (2 ^ suc n - 1 - t) % 2 ≡ 1
+    even e = omega (arith, two-pow n)
+
+    go : (b : Bool) → (T b → t % 2 ≡ 1) → (T (not b) → ¬ (t % 2 ≡ 1)) → eqb ((2 ^ suc n - 1 - t) % 2) 1 ≡ not b
+    go true y m = ap (λ (x : ℕ). eqb x 1) (odd (y tt))
+    go false y m = ap (λ (x : ℕ). eqb x 1) (even (m tt))
+bit-complement (suc n) t (suc r) h k =
+    ap (λ (x : ℕ). bit x r) halved ∙ bit-complement n (t / 2) r small (le-of-suc-le-suc k)
+  where
+    halved : (2 ^ suc n - 1 - t) / 2 ≡ 2 ^ n - 1 - t / 2
+    halved = omega (arith, two-pow n)
+
+    small : t / 2 < 2 ^ n
+    small = omega (arith, two-pow n)
+
+-- ---- rows
+
+-- the leaves' values, as a row, are carried
+carry-row : (w : ℕ → Bool) (xs : List ℕ) (r i : ℕ) → ((k : ℕ) → k < length xs → bit r (i + k) ≡ w (getD xs k 0)) → Carry w r i xs
+carry-row w [] r i h = tt
+carry-row w (x ∷ xs) r i h = (
+  ap (bit r) (sym (add-zero i)) ∙ h 0 (omega arith),
+  carry-row w xs r (suc i) (λ k q. ap (bit r) (suc-add i k ∙ sym (add-suc i k)) ∙ h (suc k) (omega arith)),
+)
+
+row-bit : (w : ℕ → Bool) (xs : List ℕ) (k : ℕ) → k < length xs → bit (rowOf (map w xs)) k ≡ w (getD xs k 0)
+row-bit w xs k h = bit-row (map w xs) k (w 0) (omega (arith, length-map xs w)) ∙ List·getD-map w xs k 0
+
+row-lt : (bs : List Bool) (n : ℕ) → length bs ≤ n → rowOf bs < 2 ^ n
+unfolding rowOf
+row-lt [] n h = pow-pos n
+row-lt (b ∷ bs) zero h = absurd (not-suc-le-zero h)
+row-lt (b ∷ bs) (suc n) h = omega (arith, one-le b, row-lt bs n (le-of-suc-le-suc h), two-pow n)
+
+-- the pins' row is that of the values of their nets
+pins-row : (w : ℕ → Bool) (n : ℕ) (places : List ℕ) (mask : ℕ) (cut : List ℕ) (r : ℕ) → ((k : ℕ) → k < length cut → bit r k ≡ w (getD cut k 0))
+    → T (all (λ (p : ℕ). ltb p (length cut)) (take n places)) → rowOf (map (literalValue w) (fedNets n places mask cut)) ≡ pinRow n places mask r
+unfolding fedNets pinRow rowOf all literalValue
+pins-row w zero places mask cut r h t = refl
+pins-row w (suc n) [] mask cut r h t = refl
+pins-row w (suc n) (p ∷ ps) mask cut r h t =
+    let q = and-yes (ltb p (length cut)) (all (λ (x : ℕ). ltb x (length cut)) (take n ps)) t in
+    ap₂ (λ (a b : ℕ). a + 2 * b)
+    (ap one (ap₂ flip (lit-neg (bit mask 0) (getD cut p 0)) (ap w (lit-var (bit mask 0) (getD cut p 0)) ∙ sym (h p (ltb→lt p (length cut) (q .0))))))
+    (pins-row w n ps (mask / 2) cut r h (q .1))
+
+beq-eq : (a b : Bool) → T (Bool·beq a b) → a ≡ b
+beq-eq true true t = refl
+beq-eq true false t = absurd t
+beq-eq false true t = absurd t
+beq-eq false false t = refl
+
+-- ---- a cut has at most four leaves
+
+cut-small : (look : ℕ → List (List ℕ)) (v : ℕ) (k : Node) (c : List ℕ) → List·Memᴰ c (nodeCuts look v k) → length c ≤ 4
+unfolding nodeCuts unions
+cut-small look v constant c m = subst (λ (d : List ℕ). length d ≤ 4) (sym (List·Memᴰ·eq-of-singleton m)) (omega arith)
+cut-small look v input c m = subst (λ (d : List ℕ). length d ≤ 4) (sym (List·Memᴰ·eq-of-singleton m)) (omega arith)
+cut-small look v undefined c m = absurd (List·Memᴰ·not-nil m)
+cut-small look v (both l r) c m =
+    outer (union-only compareCuts c ((v ∷ []) ∷ unions (look (varOf l)) (look (varOf r))) [] m)
+  where
+    inner : (c ≡ v ∷ []) ⊎ List·Memᴰ c (unions (look (varOf l)) (look (varOf r))) → length c ≤ 4
+    inner (inl e) = subst (λ (d : List ℕ). length d ≤ 4) (sym e) (omega arith)
+    inner (inr n) = leb→le (length c) 4 (keep-out (λ (d : List ℕ). leb (length d) 4) (each (λ (d : List ℕ). map (union compare d) (look (varOf r))) (look (varOf l))) n .1)
+
+    outer : List·Memᴰ c ((v ∷ []) ∷ unions (look (varOf l)) (look (varOf r))) ⊎ List·Memᴰ c [] → length c ≤ 4
+    outer (inl n) = inner (List·Memᴰ·cases-cons n)
+    outer (inr n) = absurd (List·Memᴰ·not-nil n)
+
+pub cut-length : (g : Graph) → Distinct (placingOrder g) → (v : ℕ) (c : List ℕ) → List·Memᴰ c (cutsOf g v) → length c ≤ 4
+cut-length g once =
+    along (λ v. (c : List ℕ) → List·Memᴰ c (cutsOf g v) → length c ≤ 4) (placingOrder g)
+    (λ u h c m. absurd (List·Memᴰ·not-nil (subst (λ (cs : List (List ℕ)). List·Memᴰ c cs) (cuts-none g u h) m)))
+    (λ pre v post e ih c m. cut-small (λ u. find [] u (cutsKnown g pre)) v (node g v) c (subst (λ (cs : List (List ℕ)). List·Memᴰ c cs) (cuts-entry g pre v post e once) m))
+
+-- ---- the gate
+
+phase-bit : (neg : Bool) (t r : ℕ) → t < 2 ^ 16 → r < 16 → bit (phaseTable neg t) r ≡ flip neg (bit t r)
+unfolding phaseTable flip
+phase-bit true t r h k = bit-complement 16 t r h k
+phase-bit false t r h k = refl
+
+-- a matched cell computes its phase, whatever its number of pins
+pub gate-value : (cells : List Cell) (g : Graph) → Distinct (placingOrder g) → (setting w : ℕ → Bool) → Valuation g setting w → (l : ℕ) (m : Match) → IsMatch cells g l m
+    → value (cellAt cells (m .cell) .table) (rowOf (map (literalValue w) (feeds cells (cutsOf g) l (Matched m)))) ≡ literalValue w l
+unfolding value feeds matchNets rowsAgree placesFit cutTable literalValue
+gate-value cells g once setting w isValue l m k =
+    ap (bit (c .table)) (pins-row w (c .pins) places (m .mask) cut r carries (fits-places c places (m .mask) (length cut) f (k .agrees)))
+    ∙ sym (beq-eq (bit f r) (bit (c .table) (pinRow (c .pins) places (m .mask) r)) agree)
+    ∙ phase-bit (negated l) (cutTable g cut (varOf l)) r (tabulate-lt (λ q. walk (span g) g cut q (varOf l)) 16) r-small
+    ∙ ap (flip (negated l)) (bit-tabulate (λ q. walk (span g) g cut q (varOf l)) 16 r r-small
+    ∙ cut-value g once setting w isValue (varOf l) cut (cut-listed cells g l m k) r (carry-row w cut r 0 (λ i h. ap (bit r) (zero-add i) ∙ carries i h)))
+  where
+    c : Cell
+    c = cellAt cells (m .cell)
+
+    places : List ℕ
+    places = getD orders (m .order) []
+
+    cut : List ℕ
+    cut = cutFor g l m
+
+    f : ℕ
+    f = phaseTable (negated l) (cutTable g cut (varOf l))
+
+    r : ℕ
+    r = rowOf (map w cut)
+
+    r-small : r < 16
+    r-small = row-lt (map w cut) 4 (omega (arith, length-map cut w, cut-length g once (varOf l) cut (cut-listed cells g l m k)))
+
+    carries : (i : ℕ) → i < length cut → bit r i ≡ w (getD cut i 0)
+    carries i h = row-bit w cut i h
+
+    agree : T (Bool·beq (bit f r) (bit (c .table) (pinRow (c .pins) places (m .mask) r)))
+    agree =
+        all-of (λ (q : ℕ). Bool·beq (bit f q) (bit (c .table) (pinRow (c .pins) places (m .mask) q))) (below 16)
+        (fits-rows c places (m .mask) (length cut) f (k .agrees)) r (below-in 16 r r-small)
+
+-- an inverter computes its phase
+pub inverter-value : (c : Cell) (w : ℕ → Bool) (l : ℕ) → T (isInverter c) → value (c .table) (rowOf (literalValue w (opposite l) ∷ [])) ≡ literalValue w l
+unfolding value isInverter bit rowOf one flip literalValue
+inverter-value c w l t =
+    ap (λ (x : ℕ). bit x (rowOf (literalValue w (opposite l) ∷ []))) (eqb→eq (c .table) 1 (and-yes (eqb (c .pins) 1) (eqb (c .table) 1) t .1))
+    ∙ ap (λ (b : Bool). bit 1 (rowOf (b ∷ []))) (ap₂ flip (opposite-neg l) (ap w (opposite-var l))) ∙ turned (negated l) (w (varOf l))
+  where
+    turned : (a b : Bool) → bit 1 (rowOf (flip (not a) b ∷ [])) ≡ flip a b
+    turned true true = refl
+    turned true false = refl
+    turned false true = refl
+    turned false false = refl

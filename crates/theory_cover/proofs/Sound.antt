@@ -1,0 +1,343 @@
+-- The other half of demand 3 at the choice: where a phase is chosen a source, the chosen sources are a cover of it. Assumes nothing.
+use Prim.Native.Nat.{ℕ, _+_, _≤_, _<_}
+use native.Mathlib.Nat.{zero-add}
+use native.Mathlib.Omega.{arith}
+use mathlib.Core.Path.{_≡_, refl, sym, _∙_, ap, ap₂, subst}
+use mathlib.Core.Logic.{_⊎_, inl, inr, _↔_}
+use mathlib.Core.Bool.{Bool, true, false, not, cond, true≢false, false≢true}
+use mathlib.Core.List.{List, [], _∷_, _++_, map, List·Memᴰ, List·Memᴰ·head, List·Memᴰ·tail, List·Memᴰ·not-nil, List·Memᴰ·eq-of-singleton, Memᴰ·cast}
+use lib.Dec.{T, ltb, ltb→lt}
+use lib.ListN.{getD}
+use mir.Facts.{no-ltb}
+use Rattle.model.specs.Cells.{cellAt, noCell}
+use Rattle.model.specs.Graph.{Graph, Node, constant, input, undefined, both, node, placingOrder, varOf, negated, opposite}
+use Rattle.model.specs.Cuts.{cutsOf}
+use Rattle.model.specs.Matching.{matchNets}
+use Rattle.model.specs.Choice.{Phases, noPhase, feeds, latest, absent, earlier, choose, phaseOf, matchPhase, matchPhases, inverterPhases, direct, chosen}
+use Rattle.model.specs.Cover.{IsMatch, Allowed, Needed, output, fed, Feeds, directly, through, arrivalBy, Cover}
+use Rattle.model.specs.Demands.{Distinct}
+use Rattle.model.specs.declared.Cell.{Cell}
+use Rattle.model.specs.declared.Match.{Match}
+use Rattle.model.specs.declared.Phase.{Phase}
+use Rattle.model.specs.declared.Source.{Source}
+use Rattle.model.specs.declared.Source.the-variants.{Input, Cell as Matched, Inverter as Inverted, Nothing}
+use Rattle.theory_graph.proofs.Lists.{is-true, map-map, map-same}
+use Rattle.theory_graph.proofs.Literals.{opposite-var, opposite-neg}
+use Rattle.theory_graph.proofs.Runs.{along}
+use Rattle.theory_graph.proofs.Nodes.{input-out}
+use Rattle.theory_graph.proofs.CutFacts.{leaves-before, leaves-closed}
+use Rattle.theory_cover.proofs.Turns.{phasesKnown, chosen-known, own, chosen-entry, opposite-entry, chosen-none}
+use Rattle.theory_cover.proofs.Matches.{cutFor, cut-listed, match-out, matched-leaf, matchedPhase, matchPhase-out, invertedPhase, InverterPhase, inverter-out}
+use Rattle.theory_cover.proofs.Earliest.{Straight, latest-one, arrival-matched, arrival-inverted, nothing-uncovered}
+
+-- ---- what is chosen is one of those tried
+
+-- the choice between two, with what it says of them
+pub data Between (a b : Phase) : Phase → Type 0 where
+  the-first : absent (a .source) ≡ false → Between a b a
+  the-second : (absent (a .source) ≡ true) ⊎ (b .arrival < a .arrival) → Between a b b
+
+pub earlier-between : (a b : Phase) → absent (earlier a b .source) ≡ false → Between a b (earlier a b)
+unfolding earlier
+earlier-between a b = go (absent (a .source)) refl (absent (b .source)) (ltb (b .arrival) (a .arrival)) (ltb→lt (b .arrival) (a .arrival))
+  where
+    go : (x : Bool) → absent (a .source) ≡ x → (y z : Bool) → (T z → b .arrival < a .arrival)
+        → absent (cond x b (cond y a (cond z b a)) .source) ≡ false → Between a b (cond x b (cond y a (cond z b a)))
+    go true e y z k h = the-second (inl e)
+    go false e true z k h = the-first e
+    go false e false true k h = the-second (inr (k tt))
+    go false e false false k h = the-first e
+
+pub choose-in : (ws : List Phase) → absent (choose ws .source) ≡ false → List·Memᴰ (choose ws) ws
+unfolding choose noPhase absent
+choose-in [] h = absurd (true≢false h)
+choose-in (w ∷ ws) h = go (earlier w (choose ws)) (earlier-between w (choose ws) h) h (choose-in ws)
+  where
+    go : (x : Phase) → Between w (choose ws) x → absent (x .source) ≡ false → (absent (choose ws .source) ≡ false → List·Memᴰ (choose ws) ws) → List·Memᴰ x (w ∷ ws)
+    go x (the-first e) k back = List·Memᴰ·head refl
+    go x (the-second e) k back = List·Memᴰ·tail (back k)
+
+-- what a phase is without inverters
+data DirectPhase (cells : List Cell) (g : Graph) (known : ℕ → Phases) (l : ℕ) : Phase → Type 0 where
+  own-net : node g (varOf l) ≡ input → negated l ≡ false → DirectPhase cells g known l (record { source = Input; arrival = 0 })
+  by-match : (m : Match) → IsMatch cells g l m → DirectPhase cells g known l (matchPhase cells known (cutFor g l m) m)
+
+direct-out : (cells : List Cell) (g : Graph) (known : ℕ → Phases) (l : ℕ) (k : Node) → node g (varOf l) ≡ k
+    → absent (direct cells g known (varOf l) (cutsOf g (varOf l)) (negated l) k .source) ≡ false
+    → DirectPhase cells g known l (direct cells g known (varOf l) (cutsOf g (varOf l)) (negated l) k)
+unfolding direct noPhase absent
+direct-out cells g known l = at
+  where
+    tried : List Phase
+    tried = matchPhases cells g known (varOf l) (negated l) 0 (cutsOf g (varOf l))
+
+    best : absent (choose tried .source) ≡ false → DirectPhase cells g known l (choose tried)
+    best h =
+        let o = match-out cells g known l (choose tried) (choose-in tried h) in
+        subst (DirectPhase cells g known l) (sym (o .2)) (by-match (o .0) (o .1))
+
+    net : (b : Bool) → negated l ≡ b → node g (varOf l) ≡ input → absent (cond b noPhase (record { source = Input; arrival = 0 }) .source) ≡ false
+        → DirectPhase cells g known l (cond b noPhase (record { source = Input; arrival = 0 }))
+    net true q e h = absurd (true≢false h)
+    net false q e h = own-net e q
+
+    at : (k : Node) → node g (varOf l) ≡ k → absent (direct cells g known (varOf l) (cutsOf g (varOf l)) (negated l) k .source) ≡ false
+        → DirectPhase cells g known l (direct cells g known (varOf l) (cutsOf g (varOf l)) (negated l) k)
+    at constant e h = best h
+    at input e h = net (negated l) refl e h
+    at undefined e h = absurd (true≢false h)
+    at (both a b) e h = best h
+
+-- ---- one of two phases keeps its own source
+
+earlier-keeps : (a b : Phase) → absent (a .source) ≡ false → (absent (b .source) ≡ true) ⊎ (a .arrival ≤ b .arrival) → earlier a b ≡ a
+unfolding earlier
+earlier-keeps a b e (inl k) = ap₂ (λ (x y : Bool). cond x b (cond y a (cond (ltb (b .arrival) (a .arrival)) b a))) e k
+earlier-keeps a b e (inr k) =
+    ap (λ (x : Bool). cond x b (cond (absent (b .source)) a (cond (ltb (b .arrival) (a .arrival)) b a))) e
+    ∙ go (absent (b .source)) (ltb (b .arrival) (a .arrival)) (no-ltb k)
+  where
+    go : (y z : Bool) → T (not z) → cond y a (cond z b a) ≡ a
+    go true z t = refl
+    go false true t = absurd t
+    go false false t = refl
+
+-- the other phase's source stays as it is where this phase's is later
+pub other-stays : (cells : List Cell) (o a : Phase) → absent (o .source) ≡ false → (absent (a .source) ≡ true) ⊎ (o .arrival < a .arrival) → choose (o ∷ inverterPhases cells 0 a) ≡ o
+unfolding choose
+other-stays cells o a e k = earlier-keeps o (choose (inverterPhases cells 0 a)) e (go (absent (choose (inverterPhases cells 0 a) .source)) refl k)
+  where
+    go : (b : Bool) → absent (choose (inverterPhases cells 0 a) .source) ≡ b → (absent (a .source) ≡ true) ⊎ (o .arrival < a .arrival)
+        → (absent (choose (inverterPhases cells 0 a) .source) ≡ true) ⊎ (o .arrival ≤ choose (inverterPhases cells 0 a) .arrival)
+    go true q h = inl q
+    go false q (inl h) = absurd (true≢false (sym h ∙ inverter-out cells 0 a (choose (inverterPhases cells 0 a)) (choose-in (inverterPhases cells 0 a) q) .present))
+    go false q (inr h) =
+        let r = inverter-out cells 0 a (choose (inverterPhases cells 0 a)) (choose-in (inverterPhases cells 0 a) q) in
+        let t : choose (inverterPhases cells 0 a) .arrival ≡ a .arrival + getD (getD cells (r .place) noCell .delays) 0 0 = ap (λ (w : Phase). w .arrival) (r .isPhase) in
+        inr (omega arith)
+
+-- ---- the chosen sources are a cover
+
+module _ (cells : List Cell) (g : Graph) (once : Distinct (placingOrder g)) where
+  abbrev pub src : ℕ → Source
+  src l = chosen cells g l .source
+
+  abbrev pub arr : ℕ → ℕ
+  arr l = chosen cells g l .arrival
+
+  abbrev pub Present : ℕ → Type 0
+  Present l = absent (src l) ≡ false
+
+  -- a source of phase l that is by the rules
+  pub record Fine (l : ℕ) (w : Phase) : Type 0 where
+    pub allowed : Allowed cells g l (w .source)
+    pub timed : w .arrival ≡ arrivalBy cells g arr l (w .source)
+    pub fedBy : (x : ℕ) → List·Memᴰ x (feeds cells (cutsOf g) l (w .source)) → Present x
+
+  -- the nets of a match are known when its variable's turn comes
+  pub match-known : (pre : List ℕ) (l : ℕ) (post : List ℕ) → placingOrder g ≡ pre ++ (varOf l ∷ post) → (m : Match) → IsMatch cells g l m
+      → (x : ℕ) → List·Memᴰ x (matchNets cells (cutFor g l m) m) → chosen cells g x ≡ phaseOf (phasesKnown cells g pre) x
+  match-known pre l post e m k x j =
+      chosen-known cells g pre (varOf l) post e x
+      (leaves-before g pre (varOf l) post e once (cutFor g l m) (cut-listed cells g l m k) (k .notAlone) (varOf x) (matched-leaf cells g l m x k j))
+
+  pub match-times : (pre : List ℕ) (l : ℕ) (post : List ℕ) → placingOrder g ≡ pre ++ (varOf l ∷ post) → (m : Match) → IsMatch cells g l m
+      → map (λ (y : Phase). y .arrival) (map (phaseOf (phasesKnown cells g pre)) (matchNets cells (cutFor g l m) m)) ≡ map arr (matchNets cells (cutFor g l m) m)
+  match-times pre l post e m k =
+      map-map (λ (y : Phase). y .arrival) (phaseOf (phasesKnown cells g pre)) (matchNets cells (cutFor g l m) m)
+      ∙ map-same (λ (x : ℕ). phaseOf (phasesKnown cells g pre) x .arrival) arr (matchNets cells (cutFor g l m) m)
+      (λ x j. sym (ap (λ (y : Phase). y .arrival) (match-known pre l post e m k x j)))
+
+  -- the source without inverters, in a variable's turn
+  direct-fine : (pre : List ℕ) (l : ℕ) (post : List ℕ) → placingOrder g ≡ pre ++ (varOf l ∷ post) → (w : Phase) → DirectPhase cells g (phasesKnown cells g pre) l w
+      → absent (w .source) ≡ false → Fine l w × Straight (w .source)
+  unfolding arrivalBy feeds latest
+  direct-fine pre l post e w (own-net q b) h = (
+    record {
+      allowed = record { positive = subst (λ (x : Bool). T (not x)) (sym b) tt; isInput = input-out g (varOf l) q };
+      timed = refl;
+      fedBy = λ x i. absurd (List·Memᴰ·not-nil i);
+    },
+    tt,
+  )
+  direct-fine pre l post e w (by-match m k) h =
+      subst (λ (x : Phase). Fine l x × Straight (x .source)) (sym (o .1)) (
+        record {
+          allowed = k;
+          timed = ap (λ (ts : List ℕ). latest ts (cellAt cells (m .cell) .delays)) (match-times pre l post e m k) ∙ sym (arrival-matched cells g arr l m);
+          fedBy = λ x j. ap (λ (y : Phase). absent (y .source)) (match-known pre l post e m k x j) ∙ o .0 x j;
+        },
+        tt,
+      )
+    where
+      o : ((x : ℕ) → List·Memᴰ x (matchNets cells (cutFor g l m) m) → absent (phaseOf (phasesKnown cells g pre) x .source) ≡ false)
+          × (matchPhase cells (phasesKnown cells g pre) (cutFor g l m) m ≡ matchedPhase cells (phasesKnown cells g pre) (cutFor g l m) m)
+      o = matchPhase-out cells (phasesKnown cells g pre) (cutFor g l m) m h
+
+  pub own-fine : (pre : List ℕ) (v : ℕ) (post : List ℕ) → placingOrder g ≡ pre ++ (v ∷ post) → (l : ℕ) (b : Bool) → varOf l ≡ v → negated l ≡ b
+      → absent (own cells g pre v b .source) ≡ false → Fine l (own cells g pre v b) × Straight (own cells g pre v b .source)
+  own-fine pre v post e l b p q =
+      subst (λ (b : Bool). absent (own cells g pre v b .source) ≡ false → Fine l (own cells g pre v b) × Straight (own cells g pre v b .source)) q
+      (subst (λ (v : ℕ). placingOrder g ≡ pre ++ (v ∷ post) → absent (own cells g pre v (negated l) .source) ≡ false
+      → Fine l (own cells g pre v (negated l)) × Straight (own cells g pre v (negated l) .source)) p
+      (λ e′ h. direct-fine pre l post e′ (own cells g pre (varOf l) (negated l))
+      (direct-out cells g (phasesKnown cells g pre) l (node g (varOf l)) refl h) h) e)
+
+  -- what is chosen is by the rules, and what an inverter is fed by has no inverter
+  Good : ℕ → Type 0
+  Good v = (l : ℕ) → varOf l ≡ v → Present l → Fine l (chosen cells g l) × ((i : ℕ) → src l ≡ Inverted i → Straight (src (opposite l)))
+
+  -- an inverter is by the rules, where the other phase keeps its own
+  inverter-fine : (l : ℕ) (other w : Phase) → InverterPhase cells 0 other w → chosen cells g (opposite l) ≡ other → Fine l w
+  unfolding feeds cellAt
+  inverter-fine l other w r o =
+      subst (Fine l) (sym (r .isPhase ∙ ap (λ (j : ℕ). invertedPhase (getD cells (r .place) noCell) j other) (zero-add (r .place))))
+      (record {
+        allowed = record { hasCell = r .hasPlace; inverts = r .inverts };
+        timed = latest-one (other .arrival) (getD cells (r .place) noCell .delays)
+            ∙ ap (λ (y : Phase). latest (y .arrival ∷ []) (getD cells (r .place) noCell .delays)) (sym o)
+            ∙ sym (arrival-inverted cells g arr l (r .place));
+        fedBy = λ x i. ap (λ (y : ℕ). absent (src y)) (List·Memᴰ·eq-of-singleton i) ∙ ap (λ (y : Phase). absent (y .source)) o ∙ r .present;
+      })
+
+  turn : (pre : List ℕ) (v : ℕ) (post : List ℕ) → placingOrder g ≡ pre ++ (v ∷ post) → Good v
+  unfolding Good choose
+  turn pre v post e l p h =
+      go (earlier mine inv) (earlier-between mine inv (ap (λ (y : Phase). absent (y .source)) (sym entry) ∙ h)) entry (ap (λ (y : Phase). absent (y .source)) (sym entry) ∙ h)
+    where
+      mine : Phase
+      mine = own cells g pre v (negated l)
+
+      other : Phase
+      other = own cells g pre v (not (negated l))
+
+      inv : Phase
+      inv = choose (inverterPhases cells 0 other)
+
+      entry : chosen cells g l ≡ earlier mine inv
+      entry = chosen-entry cells g pre v post e once l p
+
+      sooner : InverterPhase cells 0 other inv → (absent (mine .source) ≡ true) ⊎ (inv .arrival < mine .arrival) → (absent (mine .source) ≡ true) ⊎ (other .arrival < mine .arrival)
+      sooner r (inl k) = inl k
+      sooner r (inr k) =
+          let t : inv .arrival ≡ other .arrival + getD (getD cells (r .place) noCell .delays) 0 0 = ap (λ (y : Phase). y .arrival) (r .isPhase) in inr (omega arith)
+
+      go : (w : Phase) → Between mine inv w → chosen cells g l ≡ w → absent (w .source) ≡ false
+          → Fine l (chosen cells g l) × ((i : ℕ) → src l ≡ Inverted i → Straight (src (opposite l)))
+      go w (the-first a) q k =
+          let f = own-fine pre v post e l (negated l) p refl k in (
+            subst (Fine l) (sym q) (f .0),
+            (λ i s. absurd (subst Straight (sym (ap (λ (y : Phase). y .source) q) ∙ s) (f .1))),
+          )
+      go w (the-second a) q k =
+          let r : InverterPhase cells 0 other inv = inverter-out cells 0 other inv (choose-in (inverterPhases cells 0 other) k) in
+          let o : chosen cells g (opposite l) ≡ other = opposite-entry cells g pre v post e once l p ∙ other-stays cells other mine (r .present) (sooner r a) in (
+            subst (Fine l) (sym q) (inverter-fine l other inv r o),
+            (λ i s. subst (λ (y : Phase). Straight (y .source)) (sym o)
+                (own-fine pre v post e (opposite l) (not (negated l)) (opposite-var l ∙ p) (opposite-neg l) (r .present) .1)),
+          )
+
+  pub chosen-fine : (l : ℕ) → Present l → Fine l (chosen cells g l) × ((i : ℕ) → src l ≡ Inverted i → Straight (src (opposite l)))
+  unfolding Good
+  chosen-fine l h =
+      along Good (placingOrder g) (λ u k x p a. absurd (true≢false (sym (chosen-none cells g x (λ m. k (Memᴰ·cast (sym p) m))) ∙ a)))
+      (λ pre v post e ih. turn pre v post e) (varOf l) l refl h
+
+  -- ---- no circle
+
+  abbrev Fed : ℕ → ℕ → Type 0
+  Fed x l = Feeds cells g src x l
+
+  pub is-match : (l : ℕ) (m : Match) → src l ≡ Matched m → IsMatch cells g l m
+  unfolding absent
+  is-match l m s = subst (Allowed cells g l) s (chosen-fine l (ap absent s) .0 .allowed)
+
+  -- what is placed before a variable is fed by such alone
+  pub closed : (pre vs : List ℕ) → placingOrder g ≡ pre ++ vs → (x y : ℕ) → List·Memᴰ x (feeds cells (cutsOf g) y (src y)) → ¬ List·Memᴰ (varOf y) vs → ¬ List·Memᴰ (varOf x) vs
+  unfolding feeds
+  closed pre vs e x y i h = go (src y) refl i
+    where
+      go : (s : Source) → src y ≡ s → List·Memᴰ x (feeds cells (cutsOf g) y s) → ¬ List·Memᴰ (varOf x) vs
+      go Input q j = absurd (List·Memᴰ·not-nil j)
+      go Nothing q j = absurd (List·Memᴰ·not-nil j)
+      go (Matched m) q j = leaves-closed g pre vs e once (varOf y) h (cutFor g y m) (cut-listed cells g y m (is-match y m q)) (varOf x) (matched-leaf cells g y m x (is-match y m q) j)
+      go (Inverted c) q j = λ n. h (Memᴰ·cast (sym (ap varOf (List·Memᴰ·eq-of-singleton j) ∙ opposite-var y)) n)
+
+  closed-all : (pre vs : List ℕ) → placingOrder g ≡ pre ++ vs → (x y : ℕ) → Fed x y → ¬ List·Memᴰ (varOf y) vs → ¬ List·Memᴰ (varOf x) vs
+  closed-all pre vs e x y (directly i) h = closed pre vs e x y i h
+  closed-all pre vs e x y (through {y = z} f i) h = closed-all pre vs e x z f (closed pre vs e z y i h)
+
+  -- what feeds a phase without an inverter is placed before its variable
+  pub straight-before : (pre : List ℕ) (v : ℕ) (post : List ℕ) → placingOrder g ≡ pre ++ (v ∷ post) → (y : ℕ) → varOf y ≡ v → Straight (src y)
+      → (x : ℕ) → List·Memᴰ x (feeds cells (cutsOf g) y (src y)) → ¬ List·Memᴰ (varOf x) (v ∷ post)
+  unfolding feeds
+  straight-before pre v post e y p t x i = go (src y) refl t i
+    where
+      go : (s : Source) → src y ≡ s → Straight s → List·Memᴰ x (feeds cells (cutsOf g) y s) → ¬ List·Memᴰ (varOf x) (v ∷ post)
+      go Input q u j = absurd (List·Memᴰ·not-nil j)
+      go Nothing q u j = absurd u
+      go (Matched m) q u j =
+          let k = is-match y m q in
+          leaves-before g pre v post e once (cutFor g y m) (subst (λ (w : ℕ). List·Memᴰ (cutFor g y m) (cutsOf g w)) p (cut-listed cells g y m k))
+          (λ a. k .notAlone (a ∙ ap (λ (w : ℕ). w ∷ []) (sym p))) (varOf x) (matched-leaf cells g y m x k j)
+      go (Inverted c) q u j = absurd u
+
+  straight-all : (pre : List ℕ) (v : ℕ) (post : List ℕ) → placingOrder g ≡ pre ++ (v ∷ post) → (y : ℕ) → varOf y ≡ v → Straight (src y) → (x : ℕ) → Fed x y → ¬ List·Memᴰ (varOf x) (v ∷ post)
+  straight-all pre v post e y p t x (directly i) = straight-before pre v post e y p t x i
+  straight-all pre v post e y p t x (through {y = z} f i) = closed-all pre (v ∷ post) e x z f (straight-before pre v post e y p t z i)
+
+  pub not-opposite : (l : ℕ) → ¬ (l ≡ opposite l)
+  not-opposite l e = go (negated l) (ap negated e ∙ opposite-neg l)
+    where
+      go : (b : Bool) → ¬ (b ≡ not b)
+      go true h = true≢false h
+      go false h = false≢true h
+
+  round : (pre : List ℕ) (v : ℕ) (post : List ℕ) → placingOrder g ≡ pre ++ (v ∷ post) → (l : ℕ) → varOf l ≡ v → Present l → ¬ Fed l l
+  unfolding feeds
+  round pre v post e l p h f = go (src l) refl f
+    where
+      here : ¬ ¬ List·Memᴰ (varOf l) (v ∷ post)
+      here n = n (List·Memᴰ·head p)
+
+      turned : (c : ℕ) → src l ≡ Inverted c → Fed l l → ⊥
+      turned c q (directly i) = not-opposite l (List·Memᴰ·eq-of-singleton (subst (λ (s : Source). List·Memᴰ l (feeds cells (cutsOf g) l s)) q i))
+      turned c q (through {y = z} k i) =
+          here (straight-all pre v post e (opposite l) (opposite-var l ∙ p) (chosen-fine l h .1 c q) l
+          (subst (λ (y : ℕ). Fed l y) (List·Memᴰ·eq-of-singleton (subst (λ (s : Source). List·Memᴰ z (feeds cells (cutsOf g) l s)) q i)) k))
+
+      go : (s : Source) → src l ≡ s → Fed l l → ⊥
+      go Input q k = here (straight-all pre v post e l p (subst Straight (sym q) tt) l k)
+      go Nothing q k = subst (Allowed cells g l) q (chosen-fine l h .0 .allowed)
+      go (Matched m) q k = here (straight-all pre v post e l p (subst Straight (sym q) tt) l k)
+      go (Inverted c) q k = turned c q k
+
+  pub no-circle : (l : ℕ) → Present l → ¬ Fed l l
+  no-circle l h =
+      along (λ v. (x : ℕ) → varOf x ≡ v → Present x → ¬ Fed x x) (placingOrder g)
+      (λ u k x p a. absurd (true≢false (sym (chosen-none cells g x (λ m. k (Memᴰ·cast (sym p) m))) ∙ a)))
+      (λ pre v post e ih. round pre v post e) (varOf l) l refl h
+
+  -- ---- the cover
+
+  pub needed-present : (outs : List ℕ) → ((l : ℕ) → List·Memᴰ l outs → Present l) → (l : ℕ) → Needed cells g outs src l → Present l
+  needed-present outs h l (output i) = h l i
+  needed-present outs h x (fed {l = l} n i) = chosen-fine l (needed-present outs h l n) .0 .fedBy x i
+
+  -- the chosen sources are a cover of phases that are chosen a source
+  unfoldable pub chosen-cover : (outs : List ℕ) → ((l : ℕ) → List·Memᴰ l outs → absent (chosen cells g l .source) ≡ false) → Cover cells g outs
+  chosen-cover outs h = record {
+    source = src;
+    arrival = arr;
+    allowed = λ l n. chosen-fine l (needed-present outs h l n) .0 .allowed;
+    noCircle = λ l n. no-circle l (needed-present outs h l n);
+    timed = λ l n. chosen-fine l (needed-present outs h l n) .0 .timed;
+  }
+
+-- Demand 3: the choice gives Nothing for a phase exactly where it has no cover
+pub nothing-iff : (cells : List Cell) (g : Graph) → Distinct (placingOrder g) → (l : ℕ) → T (absent (chosen cells g l .source)) ↔ (¬ Cover cells g (l ∷ []))
+nothing-iff cells g once l = ((λ t. nothing-uncovered cells g once l (is-true (absent (chosen cells g l .source)) t)), (λ no-cover. go (absent (chosen cells g l .source)) refl no-cover))
+  where
+    go : (b : Bool) → absent (chosen cells g l .source) ≡ b → ¬ Cover cells g (l ∷ []) → T b
+    go true e n = tt
+    go false e n = absurd (n (chosen-cover cells g once (l ∷ []) (λ x i. ap (λ (y : ℕ). absent (chosen cells g y .source)) (List·Memᴰ·eq-of-singleton i) ∙ e)))

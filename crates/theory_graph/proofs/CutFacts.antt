@@ -1,0 +1,217 @@
+-- The cuts of a variable: each cuts it off, and the leaves of one that is not the variable alone are placed before it. Assumes nothing.
+use Prim.Native.Nat.{ℕ, zero, suc, _+_, _≤_, compare}
+use native.Mathlib.Nat.{le-refl, le-of-suc-le-suc, not-suc-le-zero, suc-add, add-suc}
+use native.Mathlib.Omega.{arith}
+use mathlib.Core.Path.{_≡_, refl, sym, _∙_, ap, subst}
+use mathlib.Core.Logic.{_⊎_, inl, inr}
+use mathlib.Core.Bool.{Bool}
+use mathlib.Core.Option.{Option, none, some}
+use mathlib.Core.List.{List, [], _∷_, _++_, map, append-nil, List·Memᴰ, List·Memᴰ·head, List·Memᴰ·tail, List·Memᴰ·not-nil, List·Memᴰ·cases-cons, List·Memᴰ·eq-of-singleton}
+use lib.Dec.{leb}
+use lib.ListN.{length, length-append}
+use Rattle.model.specs.Base.{find, run, union, keep, each, lowest}
+use Rattle.model.specs.Graph.{And, Graph, Node, constant, input, undefined, both, node, placingOrder, span, varOf, andOn, placeF, ready}
+use Rattle.model.specs.Cuts.{compareCuts, unions, nodeCuts, cutLists, cutsOf, walk}
+use Rattle.model.specs.Demands.{Distinct}
+use Rattle.theory_graph.proofs.Sets.{union-left, union-right, union-only}
+use Rattle.theory_graph.proofs.Lists.{map-out, each-out, keep-out}
+use Rattle.theory_graph.proofs.Runs.{no-twice-behind, run-stays, run-entry, run-split, run-keeps, find-cons}
+use Rattle.theory_graph.proofs.Walk.{Valuation, Carry, Under, leaf, nought, and, walk-value}
+
+-- where the native comparison finds no difference there is none
+pub compare-found : (x y : ℕ) → compare x y ≡ Prim.Native.Nat.Ordering·eq → x ≡ y
+compare-found x y e = lib.Dec.eqb→eq x y (subst (λ o. lib.Dec.T (lib.Dec.isEq o)) (sym e) tt)
+
+-- a cut of an AND is the AND alone, or the union of a cut of each operand
+pub record Joined (look : ℕ → List (List ℕ)) (l r : ℕ) (c : List ℕ) : Type 0 where
+  pub left : List ℕ
+  pub right : List ℕ
+  pub isLeft : List·Memᴰ left (look (varOf l))
+  pub isRight : List·Memᴰ right (look (varOf r))
+  pub isUnion : c ≡ union compare left right
+
+unions-out : (look : ℕ → List (List ℕ)) (l r : ℕ) (c : List ℕ) → List·Memᴰ c (unions (look (varOf l)) (look (varOf r))) → Joined look l r c
+unfolding unions
+unions-out look l r c m =
+    let kept = keep-out (λ (d : List ℕ). leb (length d) 4) (each (λ (a : List ℕ). map (union compare a) (look (varOf r))) (look (varOf l))) m in
+    let at = each-out (λ (a : List ℕ). map (union compare a) (look (varOf r))) (look (varOf l)) (kept .0) in
+    let back = map-out (union compare (at .0)) (look (varOf r)) (at .2) in
+    record { left = at .0; right = back .0; isLeft = at .1; isRight = back .1; isUnion = back .2 }
+
+pub both-cuts : (look : ℕ → List (List ℕ)) (v l r : ℕ) (c : List ℕ) → List·Memᴰ c (nodeCuts look v (both l r)) → (c ≡ v ∷ []) ⊎ Joined look l r c
+unfolding nodeCuts
+both-cuts look v l r c m = outer (union-only compareCuts c ((v ∷ []) ∷ unions (look (varOf l)) (look (varOf r))) [] m)
+  where
+    inner : (c ≡ v ∷ []) ⊎ List·Memᴰ c (unions (look (varOf l)) (look (varOf r))) → (c ≡ v ∷ []) ⊎ Joined look l r c
+    inner (inl e) = inl e
+    inner (inr n) = inr (unions-out look l r c n)
+
+    outer : List·Memᴰ c ((v ∷ []) ∷ unions (look (varOf l)) (look (varOf r))) ⊎ List·Memᴰ c [] → (c ≡ v ∷ []) ⊎ Joined look l r c
+    outer (inl n) = inner (List·Memᴰ·cases-cons n)
+    outer (inr n) = absurd (List·Memᴰ·not-nil n)
+
+-- x is a leaf of a cut that look gives of some variable
+pub record Known (look : ℕ → List (List ℕ)) (x : ℕ) : Type 0 where
+  pub at : ℕ
+  pub cut : List ℕ
+  pub isCut : List·Memᴰ cut (look at)
+  pub isLeaf : List·Memᴰ x cut
+
+-- a leaf of a cut is the variable, in the cut of it alone, or a leaf known before
+leaf-known : (look : ℕ → List (List ℕ)) (v : ℕ) (k : Node) (c : List ℕ) (x : ℕ) → List·Memᴰ c (nodeCuts look v k) → List·Memᴰ x c → (c ≡ v ∷ []) ⊎ Known look x
+unfolding nodeCuts
+leaf-known look v constant c x m n = absurd (List·Memᴰ·not-nil (subst (λ (d : List ℕ). List·Memᴰ x d) (List·Memᴰ·eq-of-singleton m) n))
+leaf-known look v input c x m n = inl (List·Memᴰ·eq-of-singleton m)
+leaf-known look v undefined c x m n = absurd (List·Memᴰ·not-nil m)
+leaf-known look v (both l r) c x m n = go (both-cuts look v l r c m)
+  where
+    side : (j : Joined look l r c) → List·Memᴰ x (j .left) ⊎ List·Memᴰ x (j .right) → Known look x
+    side j (inl h) = record { at = varOf l; cut = j .left; isCut = j .isLeft; isLeaf = h }
+    side j (inr h) = record { at = varOf r; cut = j .right; isCut = j .isRight; isLeaf = h }
+
+    go : (c ≡ v ∷ []) ⊎ Joined look l r c → (c ≡ v ∷ []) ⊎ Known look x
+    go (inl e) = inl e
+    go (inr j) = inr (side j (union-only compare x (j .left) (j .right) (subst (λ (d : List ℕ). List·Memᴰ x d) (j .isUnion) n)))
+
+abbrev Sub : List ℕ → List ℕ → Type 0
+Sub c leaves = (x : ℕ) → List·Memᴰ x c → List·Memᴰ x leaves
+
+-- more steps do no harm
+under-more : {g : Graph} {leaves : List ℕ} {n v : ℕ} → Under g leaves n v → Under g leaves (suc n) v
+under-more (leaf m) = leaf m
+under-more (nought e) = nought e
+under-more (and e a b) = and e (under-more a) (under-more b)
+
+module _ (g : Graph) where
+  -- the step of `cutLists`
+  abbrev pub cutStep : List (ℕ × List (List ℕ)) → ℕ → List (List ℕ)
+  cutStep known v = nodeCuts (λ u. find [] u known) v (node g v)
+
+  -- no leaf that is known is still to be placed
+  Leaves : List (ℕ × List (List ℕ)) → List ℕ → Type 0
+  Leaves known vs = (u : ℕ) (c : List ℕ) (x : ℕ) → List·Memᴰ c (find [] u known) → List·Memᴰ x c → ¬ List·Memᴰ x vs
+
+  leaves-next : (known : List (ℕ × List (List ℕ))) (v : ℕ) (vs : List ℕ) → Distinct (v ∷ vs) → Leaves known (v ∷ vs) → Leaves ((v, cutStep known v) ∷ known) vs
+  unfolding Leaves
+  leaves-next known v vs once j u =
+      find-cons [] cutStep (λ cs. (c : List ℕ) (x : ℕ) → List·Memᴰ c cs → List·Memᴰ x c → ¬ List·Memᴰ x vs) v u (cutStep known v) known
+      (λ e c x m n. new c x n (leaf-known (λ w. find [] w known) v (node g v) c x m n))
+      (λ c x m n h. j u c x m n (List·Memᴰ·tail h))
+    where
+      new : (c : List ℕ) (x : ℕ) → List·Memᴰ x c → (c ≡ v ∷ []) ⊎ Known (λ w. find [] w known) x → ¬ List·Memᴰ x vs
+      new c x n (inl e) h =
+          once .0 (subst (λ (y : ℕ). List·Memᴰ y vs) (List·Memᴰ·eq-of-singleton (subst (λ (d : List ℕ). List·Memᴰ x d) e n)) h)
+      new c x n (inr k) h = j (k .at) (k .cut) x (k .isCut) (k .isLeaf) (List·Memᴰ·tail h)
+
+  -- what is known when a variable's turn comes
+  abbrev pub cutsKnown : List ℕ → List (ℕ × List (List ℕ))
+  cutsKnown pre = run cutStep pre []
+
+  -- the cuts of a variable are its step's
+  pub cuts-entry : (pre : List ℕ) (v : ℕ) (post : List ℕ) → placingOrder g ≡ pre ++ (v ∷ post) → Distinct (placingOrder g)
+      → cutsOf g v ≡ nodeCuts (λ u. find [] u (cutsKnown pre)) v (node g v)
+  unfolding cutsOf cutLists
+  cuts-entry pre v post e once =
+      ap (λ (vs : List ℕ). find [] v (run cutStep vs [])) e
+      ∙ ap (find [] v) (run-split [] cutStep pre (v ∷ post) [])
+      ∙ run-entry [] cutStep v post (cutsKnown pre) (no-twice-behind pre (v ∷ post) (subst Distinct e once) .0)
+
+  -- what is never placed has no cuts
+  pub cuts-none : (v : ℕ) → ¬ List·Memᴰ v (placingOrder g) → cutsOf g v ≡ []
+  unfolding cutsOf cutLists
+  cuts-none v h = run-stays [] cutStep (placingOrder g) [] v h
+
+  leaves-so-far : (pre vs : List ℕ) → placingOrder g ≡ pre ++ vs → Distinct (placingOrder g) → Leaves (cutsKnown pre) vs
+  unfolding Leaves find
+  leaves-so-far pre vs e once = run-keeps [] cutStep Leaves leaves-next pre vs [] (subst Distinct e once) (λ u d y p q. absurd (List·Memᴰ·not-nil p))
+
+  -- what is placed before a variable has only leaves that are
+  pub leaves-closed : (pre vs : List ℕ) → placingOrder g ≡ pre ++ vs → Distinct (placingOrder g) → (u : ℕ) → ¬ List·Memᴰ u vs
+      → (c : List ℕ) → List·Memᴰ c (cutsOf g u) → (x : ℕ) → List·Memᴰ x c → ¬ List·Memᴰ x vs
+  unfolding cutsOf cutLists Leaves
+  leaves-closed pre vs e once u h c m x n =
+      leaves-so-far pre vs e once u c x
+      (subst (λ (cs : List (List ℕ)). List·Memᴰ c cs)
+      (ap (λ (ws : List ℕ). find [] u (run cutStep ws [])) e ∙ ap (find [] u) (run-split [] cutStep pre vs []) ∙ run-stays [] cutStep vs (cutsKnown pre) u h) m) n
+
+  -- "a cut other than the variable alone" has only leaves that are placed before the variable
+  pub leaves-before : (pre : List ℕ) (v : ℕ) (post : List ℕ) → placingOrder g ≡ pre ++ (v ∷ post) → Distinct (placingOrder g)
+      → (c : List ℕ) → List·Memᴰ c (cutsOf g v) → ¬ (c ≡ v ∷ []) → (x : ℕ) → List·Memᴰ x c → ¬ List·Memᴰ x (v ∷ post)
+  unfolding Leaves
+  leaves-before pre v post e once c m alone x n =
+      last (leaf-known (λ w. find [] w (cutsKnown pre)) v (node g v) c x (subst (λ (cs : List (List ℕ)). List·Memᴰ c cs) (cuts-entry pre v post e once) m) n)
+    where
+      last : (c ≡ v ∷ []) ⊎ Known (λ w. find [] w (cutsKnown pre)) x → ¬ List·Memᴰ x (v ∷ post)
+      last (inl s) = absurd (alone s)
+      last (inr k) = leaves-so-far pre (v ∷ post) e once (k .at) (k .cut) x (k .isCut) (k .isLeaf)
+
+  -- each known cut cuts its variable off
+  Cutting : List (ℕ × List (List ℕ)) → List ℕ → Type 0
+  Cutting known vs = (u : ℕ) (c : List ℕ) → List·Memᴰ c (find [] u known) → (leaves : List ℕ) → Sub c leaves → Under g leaves (length known) u
+
+  cutting-new : (known : List (ℕ × List (List ℕ))) (v : ℕ) → Cutting known [] → (k : Node) → node g v ≡ k → (c : List ℕ)
+      → List·Memᴰ c (nodeCuts (λ u. find [] u known) v k) → (leaves : List ℕ) → Sub c leaves → Under g leaves (suc (length known)) v
+  unfolding nodeCuts Cutting
+  cutting-new known v j constant e c m leaves s = nought e
+  cutting-new known v j input e c m leaves s =
+      leaf (s v (subst (λ (d : List ℕ). List·Memᴰ v d) (sym (List·Memᴰ·eq-of-singleton m)) (List·Memᴰ·head refl)))
+  cutting-new known v j undefined e c m leaves s = absurd (List·Memᴰ·not-nil m)
+  cutting-new known v j (both l r) e c m leaves s = go (both-cuts (λ u. find [] u known) v l r c m)
+    where
+      go : (c ≡ v ∷ []) ⊎ Joined (λ u. find [] u known) l r c → Under g leaves (suc (length known)) v
+      go (inl a) = leaf (s v (subst (λ (d : List ℕ). List·Memᴰ v d) (sym a) (List·Memᴰ·head refl)))
+      go (inr h) =
+          and e
+          (j (varOf l) (h .left) (h .isLeft) leaves
+          (λ x n. s x (subst (λ (d : List ℕ). List·Memᴰ x d) (sym (h .isUnion)) (union-left compare compare-found x (h .left) (h .right) n))))
+          (j (varOf r) (h .right) (h .isRight) leaves
+          (λ x n. s x (subst (λ (d : List ℕ). List·Memᴰ x d) (sym (h .isUnion)) (union-right compare x (h .left) (h .right) n))))
+
+  cutting-next : (known : List (ℕ × List (List ℕ))) (v : ℕ) (vs : List ℕ) → Distinct (v ∷ vs) → Cutting known (v ∷ vs) → Cutting ((v, cutStep known v) ∷ known) vs
+  unfolding Cutting
+  cutting-next known v vs once j u =
+      find-cons [] cutStep (λ cs. (c : List ℕ) → List·Memᴰ c cs → (leaves : List ℕ) → Sub c leaves → Under g leaves (suc (length known)) u) v u (cutStep known v) known
+      (λ e c m leaves s. subst (Under g leaves (suc (length known))) (sym e) (cutting-new known v j (node g v) refl c m leaves s))
+      (λ c m leaves s. under-more (j u c m leaves s))
+
+length-run {ℓ} : {A : Type ℓ} (step : List (ℕ × A) → ℕ → A) (vs : List ℕ) (known : List (ℕ × A)) → length (run step vs known) ≡ length vs + length known
+unfolding run
+length-run step [] known = omega arith
+length-run step (v ∷ vs) known = length-run step vs ((v, step known v) ∷ known) ∙ add-suc (length vs) (length known) ∙ sym (suc-add (length vs) (length known))
+
+length-placeF : (fuel : ℕ) (ands : List And) (placed : List ℕ) → length (placeF fuel ands placed) ≤ fuel
+unfolding placeF andOn
+length-placeF zero ands placed = le-refl 0
+length-placeF (suc fuel) ands placed = go (lowest (map (λ (a : And). a .var) (keep (ready placed) ands))) (λ v. length-placeF fuel ands (v ∷ placed))
+  where
+    go : (o : Option ℕ) → ((v : ℕ) → length (placeF fuel ands (v ∷ placed)) ≤ fuel) → length (andOn o (λ v. placeF fuel ands (v ∷ placed))) ≤ suc fuel
+    go none h = omega arith
+    go (some v) h = Prim.Native.Nat.suc-le-suc (h v)
+
+pub length-order : (g : Graph) → length (placingOrder g) ≤ span g
+unfolding placingOrder span
+length-order g = omega (arith, length-append (g .inputs) (placeF (length (g .ands)) (g .ands) (0 ∷ g .inputs)), length-placeF (length (g .ands)) (g .ands) (0 ∷ g .inputs))
+
+under-le : {g : Graph} {leaves : List ℕ} {n v : ℕ} (m : ℕ) → n ≤ m → Under g leaves n v → Under g leaves m v
+under-le zero h (leaf i) = absurd (not-suc-le-zero h)
+under-le zero h (nought e) = absurd (not-suc-le-zero h)
+under-le zero h (and e a b) = absurd (not-suc-le-zero h)
+under-le (suc m) h (leaf i) = leaf i
+under-le (suc m) h (nought e) = nought e
+under-le (suc m) h (and e a b) = and e (under-le m (le-of-suc-le-suc h) a) (under-le m (le-of-suc-le-suc h) b)
+
+-- every cut of a variable cuts it off, within the walk's count
+pub cut-under : (g : Graph) → Distinct (placingOrder g) → (v : ℕ) (c : List ℕ) → List·Memᴰ c (cutsOf g v) → Under g c (span g) v
+unfolding cutsOf cutLists Cutting
+cut-under g once v c m =
+    under-le (span g) (omega (arith, length-order g, length-run (cutStep g) (placingOrder g) [])) (all-cut v c m c (λ x n. n))
+  where
+    all-cut : Cutting g (run (cutStep g) (placingOrder g) []) []
+    all-cut =
+        run-keeps [] (cutStep g) (Cutting g) (cutting-next g) (placingOrder g) [] []
+        (subst Distinct (sym (append-nil (placingOrder g))) once) (λ u d p. absurd (List·Memᴰ·not-nil p))
+
+-- "A cut's function" in the row that the leaves carry is the AIGER value of the variable
+pub cut-value : (g : Graph) → Distinct (placingOrder g) → (setting w : ℕ → Bool) → Valuation g setting w → (v : ℕ) (c : List ℕ) → List·Memᴰ c (cutsOf g v)
+    → (r : ℕ) → Carry w r 0 c → walk (span g) g c r v ≡ w v
+cut-value g once setting w isValue v c m r carry = walk-value g setting w isValue c r carry (span g) v (cut-under g once v c m)

@@ -1,0 +1,70 @@
+-- Lists without repetition, and lengths of lists. Assumes nothing.
+use Prim.Native.Nat.{ℕ, zero, suc, _≤_}
+use native.Mathlib.Nat.{le-refl, le-of-eq}
+use native.Mathlib.Omega.{arith}
+use mathlib.Core.Path.{_≡_, refl, sym, ap}
+use mathlib.Core.Logic.{_⊎_, inl, inr}
+use mathlib.Core.Bool.{Bool, true, false, cond}
+use mathlib.Core.List.{List, [], _∷_, _++_, map, List·Memᴰ, List·Memᴰ·head, List·Memᴰ·tail, List·Memᴰ·not-nil, List·Memᴰ·append-cases, Memᴰ·cast}
+use lib.ListN.{length}
+use Rattle.model.specs.Base.{keep, from, below}
+use Rattle.model.specs.Demands.{Distinct}
+use Rattle.theory_graph.proofs.Lists.{map-out, keep-out}
+
+pub map-distinct : {A B : Type 0} (f : A → B) (xs : List A) → ((x y : A) → f x ≡ f y → x ≡ y) → Distinct xs → Distinct (map f xs)
+map-distinct f [] once d = tt
+map-distinct f (x ∷ xs) once d =
+    ((λ m. let o = map-out f xs m in d .0 (Memᴰ·cast (once x (o .0) (o .2)) (o .1))), map-distinct f xs once (d .1))
+
+pub keep-distinct : (p : ℕ → Bool) (xs : List ℕ) → Distinct xs → Distinct (keep p xs)
+unfolding keep
+keep-distinct p [] d = tt
+keep-distinct p (x ∷ xs) d = go (p x) (keep-distinct p xs (d .1))
+  where
+    go : (b : Bool) → Distinct (keep p xs) → Distinct (cond b (x ∷ keep p xs) (keep p xs))
+    go true r = ((λ m. d .0 (keep-out p xs m .0)), r)
+    go false r = r
+
+from-above : (n i k : ℕ) → List·Memᴰ k (from i n) → i ≤ k
+unfolding from
+from-above zero i k m = absurd (List·Memᴰ·not-nil m)
+from-above (suc n) i k (List·Memᴰ·head e) = le-of-eq (sym e)
+from-above (suc n) i k (List·Memᴰ·tail m) = let h : suc i ≤ k = from-above n (suc i) k m in omega arith
+
+from-distinct : (n i : ℕ) → Distinct (from i n)
+unfolding from
+from-distinct zero i = tt
+from-distinct (suc n) i = ((λ m. let h : suc i ≤ i = from-above n (suc i) i m in omega arith), from-distinct n (suc i))
+
+pub below-distinct : (n : ℕ) → Distinct (below n)
+unfolding below
+below-distinct n = from-distinct n 0
+
+pub append-distinct : {A : Type 0} (xs ys : List A) → Distinct xs → Distinct ys → ((x : A) → List·Memᴰ x xs → ¬ List·Memᴰ x ys) → Distinct (xs ++ ys)
+append-distinct [] ys a b h = b
+append-distinct (x ∷ xs) ys a b h =
+    ((λ m. go (List·Memᴰ·append-cases xs m)), append-distinct xs ys (a .1) b (λ y m. h y (List·Memᴰ·tail m)))
+  where
+    go : List·Memᴰ x xs ⊎ List·Memᴰ x ys → ⊥
+    go (inl m) = a .0 m
+    go (inr m) = h x (List·Memᴰ·head refl) m
+
+-- ---- lengths
+
+pub length-map : {A B : Type 0} (h : A → B) (xs : List A) → length (map h xs) ≡ length xs
+length-map h [] = refl
+length-map h (x ∷ xs) = ap suc (length-map h xs)
+
+pub length-keep : (p : ℕ → Bool) (xs : List ℕ) → length (keep p xs) ≤ length xs
+unfolding keep
+length-keep p [] = le-refl 0
+length-keep p (x ∷ xs) = go (p x) (length-keep p xs)
+  where
+    go : (b : Bool) → length (keep p xs) ≤ length xs → length (cond b (x ∷ keep p xs) (keep p xs)) ≤ suc (length xs)
+    go true h = omega arith
+    go false h = omega arith
+
+pub length-from : (n i : ℕ) → length (from i n) ≡ n
+unfolding from
+length-from zero i = refl
+length-from (suc n) i = ap suc (length-from n (suc i))

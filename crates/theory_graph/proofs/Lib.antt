@@ -1,0 +1,12 @@
+pub mod Lists
+pub mod Distinct
+pub mod Sets
+pub mod Literals
+pub mod Runs
+pub mod Accepted
+pub mod Nodes
+pub mod Walk
+pub mod CutFacts
+pub mod Placing
+pub mod Values
+pub mod GraphValue

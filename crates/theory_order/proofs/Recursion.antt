@@ -1,0 +1,288 @@
+-- The cut sets as document 01 states them, apart from the lists: "The cut set of variable 0 is {∅}; of input i, {{i}}; of AND n, {{n}} and every
+-- union of a cut of one operand's variable with a cut of the other's that has at most four members." In an accepted graph each variable's list has
+-- just these, each once, in the order that the document names.
+--     cuts-exactly                a list holds a set exactly where it is a cut
+--     cuts-listed, cuts-once      "Cuts are listed by size, then by ascending leaves compared left to right"; "Equal sets count once."
+--     leaves-ascending, leaves-four, leaves-earlier       the leaves of a cut
+--     cuts-constant, cuts-input, cuts-and                 the recursion as equations of the lists
+-- Assumes nothing.
+use Prim.Native.Nat.{ℕ, _≤_, _<_, compare}
+use native.Mathlib.Omega.{arith}
+use mathlib.Core.Path.{_≡_, refl, sym, _∙_, ap, ap₂, subst, subst₂}
+use mathlib.Core.Logic.{_⊎_, inl, inr, _↔_}
+use mathlib.Core.Bool.{Bool, cond}
+use mathlib.Core.List.{List, [], _∷_, _++_, map, List·Memᴰ, List·Memᴰ·head, List·Memᴰ·tail, List·Memᴰ·not-nil, List·Memᴰ·cases-cons, List·Memᴰ·eq-of-singleton, List·Memᴰ·append-cases, Memᴰ·append-left, Memᴰ·append-right, Memᴰ·cast}
+use lib.Dec.{leb}
+use lib.ListN.{length}
+use mir.Facts.{leb-yes, yes-leb}
+use borrow.Author.Tests.{eq-eqb, ne-eqb}
+use Rattle.model.specs.Base.{elem, each, union, find, run}
+use Rattle.model.specs.Graph.{And, Graph, constant, input, both, findAnd, node, placingOrder, varOf}
+use Rattle.model.specs.Cuts.{compareCuts, unions, nodeCuts, cutLists, cutsOf}
+use Rattle.model.specs.Demands.{Distinct}
+use Rattle.theory_graph.proofs.Accepted.{Accepted, andVars}
+use Rattle.theory_graph.proofs.Lists.{map-in, map-out, each-in, each-out, keep-in, keep-out}
+use Rattle.theory_graph.proofs.Sets.{union-left, union-right, union-only}
+use Rattle.theory_graph.proofs.Runs.{along, twice-apart, run-stays, run-split}
+use Rattle.theory_graph.proofs.Placing.{order-once, defined-placed}
+use Rattle.theory_graph.proofs.Nodes.{node-input}
+use Rattle.theory_graph.proofs.Values.{and-once, ands-once}
+use Rattle.theory_graph.proofs.CutFacts.{compare-found, cutStep, cutsKnown, cuts-entry, cuts-none, leaves-before}
+use Rattle.theory_order.proofs.Splits.{by-elem, not-elem, distinct-yes, split-at}
+use Rattle.theory_order.proofs.Ascending.{Ascending, Before, ascending-once, ascending-unique, leaves-ascend, cuts-found, cuts-never, cuts-ascend}
+use Rattle.theory_order.proofs.Orders.{Follows, order-turn}
+
+-- z is the union of two sets, as an ascending list
+pub record IsUnion (c d z : List ℕ) : Type 0 where
+  pub ascends : Ascending _<_ z
+  pub has : (x : ℕ) → List·Memᴰ x z ↔ (List·Memᴰ x c ⊎ List·Memᴰ x d)
+
+-- a cut of a variable
+pub data IsCut (g : Graph) : ℕ → List ℕ → Type 0 where
+  ofConstant : IsCut g 0 []
+  ofInput : {i : ℕ} → List·Memᴰ i (g .inputs) → IsCut g i (i ∷ [])
+  ofAnd : {a : And} → List·Memᴰ a (g .ands) → IsCut g (a .var) (a .var ∷ [])
+  ofOperands : {a : And} {c d z : List ℕ} → List·Memᴰ a (g .ands) → IsCut g (varOf (a .left)) c → IsCut g (varOf (a .right)) d → IsUnion c d z → length z ≤ 4
+      → IsCut g (a .var) z
+
+-- ---- unions
+
+union-is : (c d : List ℕ) → Ascending _<_ d → IsUnion c d (union compare c d)
+union-is c d h = record { ascends = leaves-ascend c d h; has = λ x. (union-only compare x c d, back x) }
+  where
+    back : (x : ℕ) → List·Memᴰ x c ⊎ List·Memᴰ x d → List·Memᴰ x (union compare c d)
+    back x (inl m) = union-left compare compare-found x c d m
+    back x (inr m) = union-right compare x c d m
+
+-- a union is one list
+is-union : (c d z : List ℕ) → Ascending _<_ d → IsUnion c d z → z ≡ union compare c d
+is-union c d z h u =
+    let v = union-is c d h in
+    ascending-unique z (union compare c d) (u .ascends) (v .ascends) (λ x m. v .has x .1 (u .has x .0 m)) (λ x m. u .has x .1 (v .has x .0 m))
+
+-- a union of a cut of each list that has at most four members
+record Joined (cs ds : List (List ℕ)) (z : List ℕ) : Type 0 where
+  left : List ℕ
+  right : List ℕ
+  isLeft : List·Memᴰ left cs
+  isRight : List·Memᴰ right ds
+  isUnion : z ≡ union compare left right
+  four : length z ≤ 4
+
+unions-iff : (cs ds : List (List ℕ)) (z : List ℕ) → List·Memᴰ z (unions cs ds) ↔ Joined cs ds z
+unfolding unions
+unions-iff cs ds z = (
+  (λ m.
+      let kept = keep-out (λ (d : List ℕ). leb (length d) 4) (each (λ (c : List ℕ). map (union compare c) ds) cs) m in
+      let at = each-out (λ (c : List ℕ). map (union compare c) ds) cs (kept .0) in
+      let back = map-out (union compare (at .0)) ds (at .2) in
+      record { left = at .0; right = back .0; isLeft = at .1; isRight = back .1; isUnion = back .2; four = leb-yes (kept .1) }),
+  (λ j.
+      keep-in (λ (d : List ℕ). leb (length d) 4)
+      (each-in (λ (c : List ℕ). map (union compare c) ds) (j .isLeft) (Memᴰ·cast (j .isUnion) (map-in (union compare (j .left)) (j .isRight))))
+      (yes-leb (j .four))),
+)
+
+-- the list of an AND
+abbrev pub andCuts : ℕ → List (List ℕ) → List (List ℕ) → List (List ℕ)
+andCuts v cs ds = union compareCuts ((v ∷ []) ∷ unions cs ds) []
+
+and-cuts-iff : (v : ℕ) (cs ds : List (List ℕ)) (z : List ℕ) → List·Memᴰ z (andCuts v cs ds) ↔ ((z ≡ v ∷ []) ⊎ Joined cs ds z)
+and-cuts-iff v cs ds z = ((λ m. outer (union-only compareCuts z ((v ∷ []) ∷ unions cs ds) [] m)), back)
+  where
+    inner : (z ≡ v ∷ []) ⊎ List·Memᴰ z (unions cs ds) → (z ≡ v ∷ []) ⊎ Joined cs ds z
+    inner (inl e) = inl e
+    inner (inr n) = inr (unions-iff cs ds z .0 n)
+
+    outer : List·Memᴰ z ((v ∷ []) ∷ unions cs ds) ⊎ List·Memᴰ z [] → (z ≡ v ∷ []) ⊎ Joined cs ds z
+    outer (inl n) = inner (List·Memᴰ·cases-cons n)
+    outer (inr n) = absurd (List·Memᴰ·not-nil n)
+
+    back : (z ≡ v ∷ []) ⊎ Joined cs ds z → List·Memᴰ z (andCuts v cs ds)
+    back (inl e) = union-left compareCuts cuts-found z ((v ∷ []) ∷ unions cs ds) [] (List·Memᴰ·head e)
+    back (inr j) = union-left compareCuts cuts-found z ((v ∷ []) ∷ unions cs ds) [] (List·Memᴰ·tail (unions-iff cs ds z .1 j))
+
+-- ---- the leaves of a cut
+
+pub cut-ascends : {g : Graph} {v : ℕ} {c : List ℕ} → IsCut g v c → Ascending _<_ c
+cut-ascends ofConstant = tt
+cut-ascends (ofInput m) = ((λ y n. absurd (List·Memᴰ·not-nil n)), tt)
+cut-ascends (ofAnd m) = ((λ y n. absurd (List·Memᴰ·not-nil n)), tt)
+cut-ascends (ofOperands m l r u h) = u .ascends
+
+pub cut-four : {g : Graph} {v : ℕ} {c : List ℕ} → IsCut g v c → length c ≤ 4
+cut-four ofConstant = omega arith
+cut-four (ofInput m) = omega arith
+cut-four (ofAnd m) = omega arith
+cut-four (ofOperands m l r u h) = h
+
+-- a leaf is an input or an AND
+pub cut-leaf : {g : Graph} {v : ℕ} {c : List ℕ} → IsCut g v c → (x : ℕ) → List·Memᴰ x c → List·Memᴰ x (g .inputs ++ andVars g)
+cut-leaf ofConstant x n = absurd (List·Memᴰ·not-nil n)
+cut-leaf {g} (ofInput m) x n = Memᴰ·append-left (andVars g) (Memᴰ·cast (List·Memᴰ·eq-of-singleton n) m)
+cut-leaf {g} (ofAnd m) x n = Memᴰ·append-right (g .inputs) (Memᴰ·cast (List·Memᴰ·eq-of-singleton n) (map-in (λ (b : And). b .var) m))
+cut-leaf {g} (ofOperands {c = c} {d = d} m l r u h) x n = go (u .has x .0 n) (λ k. cut-leaf l x k) (λ k. cut-leaf r x k)
+  where
+    go : List·Memᴰ x c ⊎ List·Memᴰ x d → (List·Memᴰ x c → List·Memᴰ x (g .inputs ++ andVars g)) → (List·Memᴰ x d → List·Memᴰ x (g .inputs ++ andVars g))
+        → List·Memᴰ x (g .inputs ++ andVars g)
+    go (inl k) a b = a k
+    go (inr k) a b = b k
+
+-- ---- an AND's node
+
+find-line : (ands : List And) → Distinct (map (λ (b : And). b .var) ands) → (a : And) → List·Memᴰ a ands → findAnd (a .var) ands ≡ both (a .left) (a .right)
+unfolding findAnd
+find-line (x ∷ xs) h a (List·Memᴰ·head e) =
+    ap (λ (b : Bool). cond b (both (x .left) (x .right)) (findAnd (a .var) xs)) (eq-eqb (a .var) (x .var) (ap (λ (b : And). b .var) e))
+    ∙ ap₂ both (ap (λ (b : And). b .left) (sym e)) (ap (λ (b : And). b .right) (sym e))
+find-line (x ∷ xs) h a (List·Memᴰ·tail m) =
+    ap (λ (b : Bool). cond b (both (x .left) (x .right)) (findAnd (a .var) xs))
+    (ne-eqb (a .var) (x .var) (λ e. h .0 (Memᴰ·cast (sym e) (map-in (λ (b : And). b .var) m))))
+    ∙ find-line xs (h .1) a m
+
+-- an AND is neither variable 0 nor an input
+and-apart : (g : Graph) → Accepted g → (v : ℕ) → List·Memᴰ v (andVars g) → ¬ List·Memᴰ v (0 ∷ g .inputs)
+and-apart g ok v m k = twice-apart (0 ∷ g .inputs) (andVars g) v (distinct-yes (0 ∷ g .inputs ++ andVars g) (ok .defined)) k m
+
+node-line : (g : Graph) → Accepted g → (a : And) → List·Memᴰ a (g .ands) → node g (a .var) ≡ both (a .left) (a .right)
+unfolding node
+node-line g ok a m =
+    ap (λ (b : Bool). cond b constant (cond (elem (a .var) (g .inputs)) input (findAnd (a .var) (g .ands)))) (ne-eqb (a .var) 0 (λ e. apart (List·Memᴰ·head e)))
+    ∙ ap (λ (b : Bool). cond b input (findAnd (a .var) (g .ands))) (not-elem (a .var) (g .inputs) (λ k. apart (List·Memᴰ·tail k)))
+    ∙ find-line (g .ands) (ands-once g ok) a m
+  where
+    apart : ¬ List·Memᴰ (a .var) (0 ∷ g .inputs)
+    apart k = and-apart g ok (a .var) (map-in (λ (b : And). b .var) m) k
+
+module _ (g : Graph) (ok : Accepted g) where
+  once : Distinct (placingOrder g)
+  once = order-once g ok
+
+  -- what was known at a variable's turn of those before it is what is known at the end
+  cuts-known : (pre : List ℕ) (v : ℕ) (post : List ℕ) → placingOrder g ≡ pre ++ (v ∷ post) → (u : ℕ) → List·Memᴰ u pre → find [] u (cutsKnown g pre) ≡ cutsOf g u
+  unfolding cutsOf cutLists
+  cuts-known pre v post e u m =
+      sym (ap (λ (vs : List ℕ). find [] u (run (cutStep g) vs [])) e
+      ∙ ap (find [] u) (run-split [] (cutStep g) pre (v ∷ post) [])
+      ∙ run-stays [] (cutStep g) (v ∷ post) (cutsKnown g pre) u (twice-apart pre (v ∷ post) u (subst Distinct e once) m))
+
+  -- "The cut set of variable 0 is {∅}"
+  pub cuts-constant : cutsOf g 0 ≡ [] ∷ []
+  unfolding nodeCuts node
+  cuts-constant =
+      let s = split-at (placingOrder g) (defined-placed g ok 0 (List·Memᴰ·head refl)) in
+      cuts-entry g (s .0) 0 (s .1) (s .2) once
+
+  -- "of input i, {{i}}"
+  pub cuts-input : (i : ℕ) → List·Memᴰ i (g .inputs) → cutsOf g i ≡ (i ∷ []) ∷ []
+  unfolding nodeCuts
+  cuts-input i m =
+      let s = split-at (placingOrder g) (defined-placed g ok i (Memᴰ·append-left (andVars g) (List·Memᴰ·tail m))) in
+      cuts-entry g (s .0) i (s .1) (s .2) once ∙ ap (nodeCuts (λ u. find [] u (cutsKnown g (s .0))) i) (node-input g i once m)
+
+  turn-cuts : (pre : List ℕ) (v : ℕ) (post : List ℕ) → placingOrder g ≡ pre ++ (v ∷ post) → (f : Follows g pre v)
+      → cutsOf g v ≡ andCuts v (cutsOf g (varOf (f .line .left))) (cutsOf g (varOf (f .line .right)))
+  unfolding nodeCuts
+  turn-cuts pre v post e f =
+      cuts-entry g pre v post e once
+      ∙ ap (nodeCuts (λ u. find [] u (cutsKnown g pre)) v) (ap (node g) (sym (f .isVar)) ∙ node-line g ok (f .line) (f .isLine))
+      ∙ ap₂ (andCuts v) (cuts-known pre v post e (varOf (f .line .left)) (f .left)) (cuts-known pre v post e (varOf (f .line .right)) (f .right))
+
+  -- "of AND n, {{n}} and every union of a cut of one operand's variable with a cut of the other's that has at most four members"
+  pub cuts-and : (a : And) → List·Memᴰ a (g .ands) → cutsOf g (a .var) ≡ andCuts (a .var) (cutsOf g (varOf (a .left))) (cutsOf g (varOf (a .right)))
+  cuts-and a m =
+      let n : List·Memᴰ (a .var) (andVars g) = map-in (λ (b : And). b .var) m in
+      let s = split-at (placingOrder g) (defined-placed g ok (a .var) (Memᴰ·append-right (0 ∷ g .inputs) n)) in
+      go (s .0) (s .1) (s .2) n (order-turn g (s .0) (a .var) (s .1) (s .2))
+    where
+      go : (pre post : List ℕ) → placingOrder g ≡ pre ++ (a .var ∷ post) → List·Memᴰ (a .var) (andVars g) → List·Memᴰ (a .var) (0 ∷ g .inputs) ⊎ Follows g pre (a .var)
+          → cutsOf g (a .var) ≡ andCuts (a .var) (cutsOf g (varOf (a .left))) (cutsOf g (varOf (a .right)))
+      go pre post e n (inl k) = absurd (and-apart g ok (a .var) n k)
+      go pre post e n (inr f) =
+          turn-cuts pre (a .var) post e f
+          ∙ ap (λ (b : And). andCuts (a .var) (cutsOf g (varOf (b .left))) (cutsOf g (varOf (b .right))))
+          (and-once (g .ands) (ands-once g ok) (f .line) a (f .isLine) m (f .isVar))
+
+  -- what is listed is a cut
+  listed-cut : (v : ℕ) (c : List ℕ) → List·Memᴰ c (cutsOf g v) → IsCut g v c
+  listed-cut =
+      along (λ v. (c : List ℕ) → List·Memᴰ c (cutsOf g v) → IsCut g v c) (placingOrder g)
+      (λ u h c m. absurd (List·Memᴰ·not-nil (subst (λ (cs : List (List ℕ)). List·Memᴰ c cs) (cuts-none g u h) m)))
+      (λ pre v post e known c m. turn pre v post e known c m (order-turn g pre v post e))
+    where
+      turn : (pre : List ℕ) (v : ℕ) (post : List ℕ) → placingOrder g ≡ pre ++ (v ∷ post)
+          → ((u : ℕ) → ¬ List·Memᴰ u (v ∷ post) → (c : List ℕ) → List·Memᴰ c (cutsOf g u) → IsCut g u c)
+          → (c : List ℕ) → List·Memᴰ c (cutsOf g v) → List·Memᴰ v (0 ∷ g .inputs) ⊎ Follows g pre v → IsCut g v c
+      turn pre v post e known c m (inl (List·Memᴰ·head q)) =
+          subst₂ (IsCut g) (sym q)
+          (sym (List·Memᴰ·eq-of-singleton (subst (λ (cs : List (List ℕ)). List·Memᴰ c cs) (ap (cutsOf g) q ∙ cuts-constant) m))) ofConstant
+      turn pre v post e known c m (inl (List·Memᴰ·tail n)) =
+          subst (IsCut g v) (sym (List·Memᴰ·eq-of-singleton (subst (λ (cs : List (List ℕ)). List·Memᴰ c cs) (cuts-input v n) m))) (ofInput n)
+      turn pre v post e known c m (inr f) =
+          last (and-cuts-iff v (cutsOf g (varOf (f .line .left))) (cutsOf g (varOf (f .line .right))) c .0
+          (subst (λ (cs : List (List ℕ)). List·Memᴰ c cs) (turn-cuts pre v post e f) m))
+        where
+          before : (u : ℕ) → List·Memᴰ u pre → (d : List ℕ) → List·Memᴰ d (cutsOf g u) → IsCut g u d
+          before u k = known u (twice-apart pre (v ∷ post) u (subst Distinct e once) k)
+
+          last : (c ≡ v ∷ []) ⊎ Joined (cutsOf g (varOf (f .line .left))) (cutsOf g (varOf (f .line .right))) c → IsCut g v c
+          last (inl q) = subst (λ (u : ℕ). IsCut g u c) (f .isVar) (subst (IsCut g (f .line .var)) (sym (q ∙ ap (λ (u : ℕ). u ∷ []) (sym (f .isVar)))) (ofAnd (f .isLine)))
+          last (inr j) =
+              let l = before (varOf (f .line .left)) (f .left) (j .left) (j .isLeft) in
+              let r = before (varOf (f .line .right)) (f .right) (j .right) (j .isRight) in
+              subst (λ (u : ℕ). IsCut g u c) (f .isVar)
+              (ofOperands (f .isLine) l r (subst (IsUnion (j .left) (j .right)) (sym (j .isUnion)) (union-is (j .left) (j .right) (cut-ascends r))) (j .four))
+
+  -- and every cut is listed
+  cut-listed : {v : ℕ} {c : List ℕ} → IsCut g v c → List·Memᴰ c (cutsOf g v)
+  cut-listed ofConstant = subst (λ (cs : List (List ℕ)). List·Memᴰ [] cs) (sym cuts-constant) (List·Memᴰ·head refl)
+  cut-listed (ofInput {i} m) = subst (λ (cs : List (List ℕ)). List·Memᴰ (i ∷ []) cs) (sym (cuts-input i m)) (List·Memᴰ·head refl)
+  cut-listed (ofAnd {a} m) =
+      subst (λ (cs : List (List ℕ)). List·Memᴰ (a .var ∷ []) cs) (sym (cuts-and a m))
+      (and-cuts-iff (a .var) (cutsOf g (varOf (a .left))) (cutsOf g (varOf (a .right))) (a .var ∷ []) .1 (inl refl))
+  cut-listed (ofOperands {a} {c} {d} {z} m l r u h) =
+      subst (λ (cs : List (List ℕ)). List·Memᴰ z cs) (sym (cuts-and a m))
+      (and-cuts-iff (a .var) (cutsOf g (varOf (a .left))) (cutsOf g (varOf (a .right))) z .1
+      (inr record { left = c; right = d; isLeft = cut-listed l; isRight = cut-listed r; isUnion = is-union c d z (cut-ascends r) u; four = h }))
+
+  -- a list has just the cuts of its variable
+  pub cuts-exactly : (v : ℕ) (c : List ℕ) → List·Memᴰ c (cutsOf g v) ↔ IsCut g v c
+  cuts-exactly v c = (listed-cut v c, cut-listed)
+
+  -- "Cuts are listed by size, then by ascending leaves compared left to right."
+  pub cuts-listed : (v : ℕ) → Ascending Before (cutsOf g v)
+  cuts-listed v =
+      by-elem v (placingOrder g) (λ m. let s = split-at (placingOrder g) m in go (s .0) (s .1) (s .2) (order-turn g (s .0) v (s .1) (s .2)))
+      (λ h. subst (Ascending Before) (sym (cuts-none g v h)) tt)
+    where
+      one : (c : List ℕ) → Ascending Before (c ∷ [])
+      one c = ((λ d m. absurd (List·Memᴰ·not-nil m)), tt)
+
+      go : (pre post : List ℕ) → placingOrder g ≡ pre ++ (v ∷ post) → List·Memᴰ v (0 ∷ g .inputs) ⊎ Follows g pre v → Ascending Before (cutsOf g v)
+      go pre post e (inl (List·Memᴰ·head q)) = subst (Ascending Before) (sym (ap (cutsOf g) q ∙ cuts-constant)) (one [])
+      go pre post e (inl (List·Memᴰ·tail n)) = subst (Ascending Before) (sym (cuts-input v n)) (one (v ∷ []))
+      go pre post e (inr f) =
+          subst (Ascending Before) (sym (turn-cuts pre v post e f))
+          (cuts-ascend ((v ∷ []) ∷ unions (cutsOf g (varOf (f .line .left))) (cutsOf g (varOf (f .line .right)))) [] tt)
+
+  -- "Equal sets count once."
+  pub cuts-once : (v : ℕ) → Distinct (cutsOf g v)
+  cuts-once v = ascending-once Before cuts-never (cutsOf g v) (cuts-listed v)
+
+  -- the leaves of a cut ascend
+  pub leaves-ascending : (v : ℕ) (c : List ℕ) → List·Memᴰ c (cutsOf g v) → Ascending _<_ c
+  leaves-ascending v c m = cut-ascends (listed-cut v c m)
+
+  -- and are at most four
+  pub leaves-four : (v : ℕ) (c : List ℕ) → List·Memᴰ c (cutsOf g v) → length c ≤ 4
+  leaves-four v c m = cut-four (listed-cut v c m)
+
+  -- and are placed before the variable, in every cut but that of the variable alone
+  pub leaves-earlier : (pre : List ℕ) (v : ℕ) (post : List ℕ) → placingOrder g ≡ pre ++ (v ∷ post) → (c : List ℕ) → List·Memᴰ c (cutsOf g v) → ¬ (c ≡ v ∷ [])
+      → (x : ℕ) → List·Memᴰ x c → List·Memᴰ x pre
+  leaves-earlier pre v post e c m other x n =
+      go (List·Memᴰ·append-cases pre (subst (λ (vs : List ℕ). List·Memᴰ x vs) e (defined-placed g ok x (List·Memᴰ·tail (cut-leaf (listed-cut v c m) x n)))))
+    where
+      go : List·Memᴰ x pre ⊎ List·Memᴰ x (v ∷ post) → List·Memᴰ x pre
+      go (inl k) = k
+      go (inr k) = absurd (leaves-before g pre v post e once c m other x n k)

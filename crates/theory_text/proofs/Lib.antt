@@ -1,0 +1,7 @@
+pub mod Steps
+pub mod Plain
+pub mod ReadBack
+pub mod Names
+pub mod ReadLibrary
+pub mod ReadGraph
+pub mod ReadTexts

@@ -1,0 +1,489 @@
+-- A graph that is read is in the limits, and accepted if all its ANDs can be placed. Assumes nothing.
+use Prim.Native.Nat.{ℕ, zero, suc, _+_, _*_, _/_, _%_, _≤_, _<_}
+use native.Mathlib.Nat.{le-of-suc-le-suc, not-suc-le-zero}
+use native.Mathlib.Omega.{arith}
+use mathlib.Core.Path.{_≡_, refl, sym, _∙_, ap, ap₂, subst}
+use mathlib.Core.Logic.{_⊎_, inl, inr}
+use mathlib.Core.Bool.{Bool, true, false, not, cond, _&&_, _||_, false≢true}
+use mathlib.Core.List.{List, [], _∷_, _++_, map, List·Memᴰ, List·Memᴰ·head, List·Memᴰ·tail, List·Memᴰ·not-nil, List·Memᴰ·cases-cons, List·Memᴰ·append-cases, List·Memᴰ·eq-of-singleton, Memᴰ·cast, cons≢nil, nil≢cons, head-eq-of-cons-eq, tail-eq-of-cons-eq}
+use lib.Dec.{T, eqb, leb, leb→le, le→leb, lit<, T-not, not-T}
+use lib.ListN.{length, getD, drop, replicate, length-append, length-map}
+use mir.Facts.{and-yes, yes-and, eqb-yes, eqb-no, leb-yes}
+use Rattle.model.specs.Base.{all, elem, keep, each, only}
+use Rattle.model.specs.Text.{Line, linesFrom, fields, numbers}
+use Rattle.model.specs.Reading.{holds, next, unless, from?}
+use Rattle.model.specs.Graph.{And, Graph, varOf, unplaced}
+use Rattle.model.specs.GraphText.{headerOf, inLimits, readHeader, Kind, anInput, anOutput, anAnd, howMany, defines, due, Item, itemLiterals, readDue, uses, definedBy, checkUses, sameKind, isKind, graphOf, readGraph}
+use Rattle.model.specs.Demands.{Distinct}
+use Rattle.model.specs.declared.Header.{Header}
+use Rattle.theory_graph.proofs.Lists.{map-out, keep-out, each-out, elem-T, elem-out, map-map, getD-in, all-of, all-in, is-true}
+use Rattle.theory_graph.proofs.Accepted.{Accepted, distinct, andVars}
+use Rattle.theory_text.proofs.Steps.{holds-once, fault-never, unless-out, from-out, next-out, then-out, only-out, numbers-length}
+
+-- the first literal's variable
+abbrev head : Item → ℕ
+head i = varOf (getD (i .literals) 0 0)
+
+-- the AND of a line
+abbrev andOf : Item → And
+andOf i = record { var = head i; left = getD (i .literals) 1 0; right = getD (i .literals) 2 0 }
+
+-- an item in range and of its kind's length
+record Good (size : ℕ) (i : Item) : Type 0 where
+  long : length (i .literals) ≡ howMany (i .kind)
+  low : T (all (λ (n : ℕ). leb n (2 * size + 1)) (i .literals))
+
+-- what one due line gives
+record Step (end size : ℕ) (before : List ℕ) (k : Kind) (ks : List Kind) (ls : List Line) (is : List Item) : Type 0 where
+  item : Item
+  rest : List Item
+  isKind′ : item .kind ≡ k
+  isGood : Good size item
+  isEven : T (not (defines k) || (eqb (getD (item .literals) 0 0 % 2) 0 && not (eqb (getD (item .literals) 0 0) 0)))
+  isNew : T (not (defines k && elem (head item) before))
+  isRest : readDue end size (cond (defines k) (head item ∷ before) before) ks ls ≡ holds rest
+  isList : item ∷ rest ≡ is
+
+due-step : (end size : ℕ) (before : List ℕ) (k : Kind) (ks : List Kind) (l : Line) (ls : List Line) (is : List Item)
+    → readDue end size before (k ∷ ks) (l ∷ ls) ≡ holds is → Step end size before k ks ls is
+unfolding readDue itemLiterals
+due-step end size before k ks l ls is e =
+    let a = next-out (from? (itemLiterals k l) 11 (l .offset)) _ is e in
+    let ns = a .0 in
+    let o = then-out (only (l .ended && eqb (length (fields (l .bytes))) (howMany k)) (fields (l .bytes))) numbers ns (from-out (itemLiterals k l) 11 (l .offset) ns (a .1)) in
+    let t = only-out (l .ended && eqb (length (fields (l .bytes))) (howMany k)) (fields (l .bytes)) (o .0) (o .1) in
+    let long : length ns ≡ howMany k =
+    numbers-length (o .0) ns (o .2) ∙ ap length (sym (t .1)) ∙ eqb-yes (and-yes (l .ended) (eqb (length (fields (l .bytes))) (howMany k)) (t .0) .1) in
+    let b = unless-out (all (λ (n : ℕ). leb n (2 * size + 1)) ns && (not (defines k) || (eqb (getD ns 0 0 % 2) 0 && not (eqb (getD ns 0 0) 0)))) 12 (l .offset) _ is (a .2) in
+    let p = and-yes (all (λ (n : ℕ). leb n (2 * size + 1)) ns) (not (defines k) || (eqb (getD ns 0 0 % 2) 0 && not (eqb (getD ns 0 0) 0))) (b .0) in
+    let c = unless-out (not (defines k && elem (varOf (getD ns 0 0)) before)) 13 (l .offset) _ is (b .1) in
+    let d = next-out (readDue end size (cond (defines k) (varOf (getD ns 0 0) ∷ before) before) ks ls) (λ js. holds (record { kind = k; offset = l .offset; literals = ns } ∷ js)) is (c .1) in
+    record {
+      item = record { kind = k; offset = l .offset; literals = ns };
+      rest = d .0;
+      isKind′ = refl;
+      isGood = record { long = long; low = p .0 };
+      isEven = p .1;
+      isNew = c .0;
+      isRest = d .1;
+      isList = holds-once (d .2);
+    }
+
+-- ---- what the due lines give
+
+due-kinds : (end size : ℕ) (before : List ℕ) (ks : List Kind) (ls : List Line) (is : List Item) → readDue end size before ks ls ≡ holds is → map (λ (i : Item). i .kind) is ≡ ks
+unfolding readDue
+due-kinds end size before [] ls is e = ap (map (λ (i : Item). i .kind)) (sym (holds-once e))
+due-kinds end size before (k ∷ ks) [] is e = absurd (fault-never e)
+due-kinds end size before (k ∷ ks) (l ∷ ls) is e =
+    let s = due-step end size before k ks l ls is e in
+    ap (map (λ (i : Item). i .kind)) (sym (s .isList))
+    ∙ ap₂ (λ (a : Kind) (b : List Kind). a ∷ b) (s .isKind′) (due-kinds end size (cond (defines k) (head (s .item) ∷ before) before) ks ls (s .rest) (s .isRest))
+
+due-good : (end size : ℕ) (before : List ℕ) (ks : List Kind) (ls : List Line) (is : List Item) → readDue end size before ks ls ≡ holds is → (i : Item) → List·Memᴰ i is → Good size i
+unfolding readDue
+due-good end size before [] ls is e i m = absurd (List·Memᴰ·not-nil (subst (λ (js : List Item). List·Memᴰ i js) (sym (holds-once e)) m))
+due-good end size before (k ∷ ks) [] is e i m = absurd (fault-never e)
+due-good end size before (k ∷ ks) (l ∷ ls) is e i m =
+    go (List·Memᴰ·cases-cons (subst (λ (js : List Item). List·Memᴰ i js) (sym (s .isList)) m))
+    (due-good end size (cond (defines k) (head (s .item) ∷ before) before) ks ls (s .rest) (s .isRest) i)
+  where
+    s : Step end size before k ks ls is
+    s = due-step end size before k ks l ls is e
+
+    go : (i ≡ s .item) ⊎ List·Memᴰ i (s .rest) → (List·Memᴰ i (s .rest) → Good size i) → Good size i
+    go (inl q) later = subst (Good size) (sym q) (s .isGood)
+    go (inr n) later = later n
+
+-- a variable that is defined: new, not 0, and in range
+record Fresh (size : ℕ) (before : List ℕ) (x : ℕ) : Type 0 where
+  isNew : ¬ List·Memᴰ x before
+  nonzero : ¬ (x ≡ 0)
+  small : x ≤ size
+
+step-fresh : (end size : ℕ) (before : List ℕ) (k : Kind) (ks : List Kind) (ls : List Line) (is : List Item) (s : Step end size before k ks ls is) → defines k ≡ true → Fresh size before (head (s .item))
+unfolding varOf defines howMany
+step-fresh end size before k ks ls is s d = record {
+  isNew = λ m. T-not (elem (head (s .item)) before) (subst (λ (b : Bool). T (not (b && elem (head (s .item)) before))) d (s .isNew)) (elem-T (head (s .item)) before m);
+  nonzero = λ e. let h : getD (s .item .literals) 0 0 / 2 ≡ 0 = e in
+      eqb-no (and-yes (eqb (getD (s .item .literals) 0 0 % 2) 0) (not (eqb (getD (s .item .literals) 0 0) 0)) even .1)
+      (let r : getD (s .item .literals) 0 0 % 2 ≡ 0 = eqb-yes (and-yes (eqb (getD (s .item .literals) 0 0 % 2) 0) (not (eqb (getD (s .item .literals) 0 0) 0)) even .0) in
+      let q : getD (s .item .literals) 0 0 ≡ 0 = omega arith in q);
+  small = let q : getD (s .item .literals) 0 0 ≤ 2 * size + 1 =
+      leb→le (getD (s .item .literals) 0 0) (2 * size + 1)
+      (all-of (λ (n : ℕ). leb n (2 * size + 1)) (s .item .literals) (s .isGood .low) (getD (s .item .literals) 0 0) (getD-in (s .item .literals) 0 0 some-there)) in omega arith;
+}
+  where
+    even : T (eqb (getD (s .item .literals) 0 0 % 2) 0 && not (eqb (getD (s .item .literals) 0 0) 0))
+    even = subst (λ (b : Bool). T (not b || (eqb (getD (s .item .literals) 0 0 % 2) 0 && not (eqb (getD (s .item .literals) 0 0) 0)))) d (s .isEven)
+
+    many : (j : Kind) → 0 < howMany j
+    many anInput = omega arith
+    many anOutput = omega arith
+    many anAnd = omega arith
+
+    some-there : 0 < length (s .item .literals)
+    some-there = omega (arith, many (s .item .kind), s .isGood .long)
+
+-- an item that defines, or one that doesn't
+defined-cons : (b : Bool) (i : Item) (is : List Item) → defines (i .kind) ≡ b → definedBy (i ∷ is) ≡ cond b (head i ∷ definedBy is) (definedBy is)
+unfolding definedBy
+defined-cons b i is e = ap (λ (t : Bool). cond t (head i ∷ definedBy is) (definedBy is)) e
+
+due-fresh : (end size : ℕ) (before : List ℕ) (ks : List Kind) (ls : List Line) (is : List Item) → readDue end size before ks ls ≡ holds is
+    → ((x : ℕ) → List·Memᴰ x (definedBy is) → Fresh size before x) × Distinct (definedBy is)
+unfolding readDue definedBy
+due-fresh end size before [] ls is e =
+    subst (λ (js : List Item). ((x : ℕ) → List·Memᴰ x (definedBy js) → Fresh size before x) × Distinct (definedBy js)) (holds-once e) ((λ x m. absurd (List·Memᴰ·not-nil m)), tt)
+due-fresh end size before (k ∷ ks) [] is e = absurd (fault-never e)
+due-fresh end size before (k ∷ ks) (l ∷ ls) is e =
+    subst (λ (js : List Item). ((x : ℕ) → List·Memᴰ x (definedBy js) → Fresh size before x) × Distinct (definedBy js)) (s .isList)
+    (go (defines k) refl (due-fresh end size (cond (defines k) (head (s .item) ∷ before) before) ks ls (s .rest) (s .isRest)))
+  where
+    s : Step end size before k ks ls is
+    s = due-step end size before k ks l ls is e
+
+    wider : {x : ℕ} → Fresh size (head (s .item) ∷ before) x → Fresh size before x
+    wider f = record { isNew = λ m. f .isNew (List·Memᴰ·tail m); nonzero = f .nonzero; small = f .small }
+
+    Both : List ℕ → List ℕ → Type 0
+    Both b ds = ((x : ℕ) → List·Memᴰ x ds → Fresh size b x) × Distinct ds
+
+    go : (b : Bool) → defines k ≡ b → Both (cond (defines k) (head (s .item) ∷ before) before) (definedBy (s .rest)) → Both before (definedBy (s .item ∷ s .rest))
+    go true d r =
+        let r′ : Both (head (s .item) ∷ before) (definedBy (s .rest)) = subst (λ (t : Bool). Both (cond t (head (s .item) ∷ before) before) (definedBy (s .rest))) d r in
+        subst (Both before) (sym (defined-cons true (s .item) (s .rest) (ap defines (s .isKind′) ∙ d)))
+        ((λ x m. first x (List·Memᴰ·cases-cons m) (r′ .0 x)), ((λ m. r′ .0 (head (s .item)) m .isNew (List·Memᴰ·head refl)), r′ .1))
+      where
+        first : (x : ℕ) → (x ≡ head (s .item)) ⊎ List·Memᴰ x (definedBy (s .rest)) → (List·Memᴰ x (definedBy (s .rest)) → Fresh size (head (s .item) ∷ before) x) → Fresh size before x
+        first x (inl q) later = subst (Fresh size before) (sym q) (step-fresh end size before k ks ls is s d)
+        first x (inr m) later = wider (later m)
+    go false d r =
+        subst (Both before) (sym (defined-cons false (s .item) (s .rest) (ap defines (s .isKind′) ∙ d)))
+        (subst (λ (t : Bool). Both (cond t (head (s .item) ∷ before) before) (definedBy (s .rest))) d r)
+
+-- ---- the layout of the lines
+
+abbrev ins : List Item → List ℕ
+ins is = map head (keep (isKind anInput) is)
+
+abbrev ans : List Item → List ℕ
+ans is = map head (keep (isKind anAnd) is)
+
+abbrev kinds : List Item → List Kind
+kinds is = map (λ (i : Item). i .kind) is
+
+keep-of : (k j : Kind) (i : Item) (is : List Item) → i .kind ≡ j → keep (isKind k) (i ∷ is) ≡ cond (sameKind k j) (i ∷ keep (isKind k) is) (keep (isKind k) is)
+unfolding keep isKind
+keep-of k j i is e = ap (λ (t : Kind). cond (sameKind k t) (i ∷ keep (isKind k) is) (keep (isKind k) is)) e
+
+defined-of : (j : Kind) (i : Item) (is : List Item) → i .kind ≡ j → definedBy (i ∷ is) ≡ cond (defines j) (head i ∷ definedBy is) (definedBy is)
+defined-of j i is e = defined-cons (defines j) i is (ap defines e)
+
+-- only ANDs are left
+of-ands : (a : ℕ) (is : List Item) → kinds is ≡ replicate a anAnd → (ins is ≡ []) × (ans is ≡ definedBy is)
+unfolding definedBy keep sameKind defines
+of-ands zero [] e = (refl, refl)
+of-ands zero (i ∷ is) e = absurd (cons≢nil e)
+of-ands (suc a) [] e = absurd (nil≢cons e)
+of-ands (suc a) (i ∷ is) e =
+    let k : i .kind ≡ anAnd = head-eq-of-cons-eq e in
+    let r = of-ands a is (tail-eq-of-cons-eq e) in (
+      ap (map head) (keep-of anInput anAnd i is k) ∙ r .0,
+      ap (map head) (keep-of anAnd anAnd i is k) ∙ ap (λ (xs : List ℕ). head i ∷ xs) (r .1) ∙ sym (defined-of anAnd i is k),
+    )
+
+-- outputs are left, and then ANDs
+of-outputs : (o a : ℕ) (is : List Item) → kinds is ≡ replicate o anOutput ++ replicate a anAnd → (ins is ≡ []) × (ans is ≡ definedBy is)
+unfolding definedBy keep sameKind defines
+of-outputs zero a is e = of-ands a is e
+of-outputs (suc o) a [] e = absurd (nil≢cons e)
+of-outputs (suc o) a (i ∷ is) e =
+    let k : i .kind ≡ anOutput = head-eq-of-cons-eq e in
+    let r = of-outputs o a is (tail-eq-of-cons-eq e) in (
+      ap (map head) (keep-of anInput anOutput i is k) ∙ r .0,
+      ap (map head) (keep-of anAnd anOutput i is k) ∙ r .1 ∙ sym (defined-of anOutput i is k),
+    )
+
+-- the inputs' and the ANDs' variables, in this order, are those that the lines define
+of-all : (n o a : ℕ) (is : List Item) → kinds is ≡ replicate n anInput ++ (replicate o anOutput ++ replicate a anAnd) → ins is ++ ans is ≡ definedBy is
+unfolding definedBy keep sameKind defines
+of-all zero o a is e = let r = of-outputs o a is e in ap (λ (xs : List ℕ). xs ++ ans is) (r .0) ∙ r .1
+of-all (suc n) o a [] e = absurd (nil≢cons e)
+of-all (suc n) o a (i ∷ is) e =
+    let k : i .kind ≡ anInput = head-eq-of-cons-eq e in
+    ap₂ (λ (xs ys : List Item). map head xs ++ map head ys) (keep-of anInput anInput i is k) (keep-of anAnd anInput i is k)
+    ∙ ap (λ (xs : List ℕ). head i ∷ xs) (of-all n o a is (tail-eq-of-cons-eq e))
+    ∙ sym (defined-of anInput i is k)
+
+-- ---- uses
+
+uses-out : (known : List ℕ) (is js : List Item) → checkUses known is ≡ holds js
+    → (is ≡ js) × ((i : Item) → List·Memᴰ i is → T (all (λ (l : ℕ). elem (varOf l) (0 ∷ known)) (uses i)))
+unfolding checkUses
+uses-out known [] js e = (holds-once e, (λ i m. absurd (List·Memᴰ·not-nil m)))
+uses-out known (i ∷ is) js e =
+    let a = unless-out (all (λ (l : ℕ). elem (varOf l) (0 ∷ known)) (uses i)) 14 (i .offset) (next (checkUses known is) (λ ks. holds (i ∷ ks))) js e in
+    let b = next-out (checkUses known is) (λ ks. holds (i ∷ ks)) js (a .1) in
+    let r = uses-out known is (b .0) (b .1) in (
+      ap (λ (ks : List Item). i ∷ ks) (r .0) ∙ holds-once (b .2),
+      (λ j m. go (a .0) (r .1) j (List·Memᴰ·cases-cons m)),
+    )
+  where
+    go : T (all (λ (l : ℕ). elem (varOf l) (0 ∷ known)) (uses i)) → ((j : Item) → List·Memᴰ j is → T (all (λ (l : ℕ). elem (varOf l) (0 ∷ known)) (uses j)))
+        → (j : Item) → (j ≡ i) ⊎ List·Memᴰ j is → T (all (λ (l : ℕ). elem (varOf l) (0 ∷ known)) (uses j))
+    go t later j (inl q) = subst (λ (x : Item). T (all (λ (l : ℕ). elem (varOf l) (0 ∷ known)) (uses x))) (sym q) t
+    go t later j (inr m) = later j m
+
+kind-is : (k j : Kind) → T (sameKind k j) → j ≡ k
+unfolding sameKind
+kind-is anInput anInput t = refl
+kind-is anInput anOutput t = absurd t
+kind-is anInput anAnd t = absurd t
+kind-is anOutput anInput t = absurd t
+kind-is anOutput anOutput t = refl
+kind-is anOutput anAnd t = absurd t
+kind-is anAnd anInput t = absurd t
+kind-is anAnd anOutput t = absurd t
+kind-is anAnd anAnd t = refl
+
+once-distinct : (xs : List ℕ) → Distinct xs → T (distinct xs)
+unfolding distinct
+once-distinct [] h = tt
+once-distinct (x ∷ xs) h =
+    yes-and (not (elem x xs)) (distinct xs) (not-T (elem x xs) (λ t. h .0 (elem-out x xs (is-true (elem x xs) t)))) (once-distinct xs (h .1))
+
+-- a line's literal after those that it defines is one that it uses
+use-in : (i : Item) (k : Kind) → i .kind ≡ k → length (i .literals) ≡ howMany k → (n : ℕ) → n < howMany k → (defines k ≡ true → 0 < n) → List·Memᴰ (getD (i .literals) n 0) (uses i)
+unfolding uses
+use-in i k e h n b later =
+    subst (λ (j : Kind). List·Memᴰ (getD (i .literals) n 0) (cond (defines j) (drop 1 (i .literals)) (i .literals))) (sym e) (go (defines k) (i .literals) (omega arith) later n b)
+  where
+    go : (d : Bool) (ns : List ℕ) → n < length ns → (d ≡ true → 0 < n) → (m : ℕ) → m < howMany k → List·Memᴰ (getD ns n 0) (cond d (drop 1 ns) ns)
+    go true ns q z m r = skip ns n q (z refl)
+      where
+        skip : (xs : List ℕ) (p : ℕ) → p < length xs → 0 < p → List·Memᴰ (getD xs p 0) (drop 1 xs)
+        skip [] p u v = absurd (not-suc-le-zero u)
+        skip (x ∷ xs) zero u v = absurd (not-suc-le-zero v)
+        skip (x ∷ xs) (suc p) u v = getD-in xs p 0 (le-of-suc-le-suc u)
+    go false ns q z m r = getD-in ns n 0 q
+
+-- ---- the graph
+
+module _ (end : ℕ) (h : Header) (ls : List Line) (is : List Item) (r : readDue end (h .size) [] (due h) ls ≡ holds is)
+    (used : (i : Item) → List·Memᴰ i is → T (all (λ (l : ℕ). elem (varOf l) (0 ∷ definedBy is)) (uses i))) where
+  abbrev whole : Graph
+  whole = graphOf (h .size) is
+
+  fresh : ((x : ℕ) → List·Memᴰ x (definedBy is) → Fresh (h .size) [] x) × Distinct (definedBy is)
+  fresh = due-fresh end (h .size) [] (due h) ls is r
+
+  vars : whole .inputs ++ andVars whole ≡ definedBy is
+  unfolding graphOf due
+  vars =
+      ap (λ (xs : List ℕ). ins is ++ xs)
+      (map-map (λ (a : And). a .var) andOf (keep (isKind anAnd) is))
+      ∙ of-all (h .inputs) (h .outputs) (h .ands) is (due-kinds end (h .size) [] (due h) ls is r)
+
+  -- a literal that a line of kind k has at place n is of a variable that is defined, or 0
+  known : (k : Kind) (i : Item) → List·Memᴰ i (keep (isKind k) is) → (n : ℕ) → n < howMany k → (defines k ≡ true → 0 < n)
+      → List·Memᴰ (varOf (getD (i .literals) n 0)) (0 ∷ whole .inputs ++ andVars whole)
+  unfolding isKind
+  known k i m n b later =
+      let o = keep-out (isKind k) is m in
+      let e : i .kind ≡ k = kind-is k (i .kind) (o .1) in
+      let long : length (i .literals) ≡ howMany k = due-good end (h .size) [] (due h) ls is r i (o .0) .long ∙ ap howMany e in
+      let t : T (elem (varOf (getD (i .literals) n 0)) (0 ∷ definedBy is)) =
+      all-of (λ (l : ℕ). elem (varOf l) (0 ∷ definedBy is)) (uses i) (used i (o .0)) (getD (i .literals) n 0) (use-in i k e long n b later) in
+      subst (λ (xs : List ℕ). List·Memᴰ (varOf (getD (i .literals) n 0)) (0 ∷ xs)) (sym vars)
+      (elem-out (varOf (getD (i .literals) n 0)) (0 ∷ definedBy is) (is-true (elem (varOf (getD (i .literals) n 0)) (0 ∷ definedBy is)) t))
+
+  accepted : unplaced whole ≡ [] → Accepted whole
+  unfolding graphOf howMany defines
+  accepted p = record {
+    defined = subst (λ (xs : List ℕ). T (distinct (0 ∷ xs))) (sym vars) (once-distinct (0 ∷ definedBy is) ((λ m. fresh .0 0 m .nonzero refl), fresh .1));
+    inRange = subst (λ (xs : List ℕ). T (all (λ (v : ℕ). leb v (h .size)) xs)) (sym vars)
+        (all-in (λ (v : ℕ). leb v (h .size)) (definedBy is) (λ x m. le→leb x (h .size) (fresh .0 x m .small)));
+    used = λ l m. either l (List·Memᴰ·append-cases (whole .outputs) m);
+    placed = p;
+  }
+    where
+      two : (i : Item) → List·Memᴰ i (keep (isKind anAnd) is) → (l : ℕ) → List·Memᴰ l (getD (i .literals) 1 0 ∷ getD (i .literals) 2 0 ∷ [])
+          → List·Memᴰ (varOf l) (0 ∷ whole .inputs ++ andVars whole)
+      two i m l (List·Memᴰ·head q) = Memᴰ·cast (ap varOf q) (known anAnd i m 1 (lit< tt) (λ e. lit< tt))
+      two i m l (List·Memᴰ·tail n) = Memᴰ·cast (ap varOf (List·Memᴰ·eq-of-singleton n)) (known anAnd i m 2 (lit< tt) (λ e. lit< tt))
+
+      of-and : (l : ℕ) → (a : And) × List·Memᴰ a (whole .ands) × List·Memᴰ l (a .left ∷ a .right ∷ []) → List·Memᴰ (varOf l) (0 ∷ whole .inputs ++ andVars whole)
+      of-and l o =
+          let q = map-out andOf (keep (isKind anAnd) is) (o .1) in
+          two (q .0) (q .1) l (subst (λ (a : And). List·Memᴰ l (a .left ∷ a .right ∷ [])) (q .2) (o .2))
+
+      either : (l : ℕ) → List·Memᴰ l (whole .outputs) ⊎ List·Memᴰ l (each (λ (a : And). a .left ∷ a .right ∷ []) (whole .ands)) → List·Memᴰ (varOf l) (0 ∷ whole .inputs ++ andVars whole)
+      either l (inl m) =
+          let q = map-out (λ (i : Item). getD (i .literals) 0 0) (keep (isKind anOutput) is) m in
+          Memᴰ·cast (ap varOf (q .2)) (known anOutput (q .0) (q .1) 0 (lit< tt) (λ e. absurd (false≢true e)))
+      either l (inr m) = of-and l (each-out (λ (a : And). a .left ∷ a .right ∷ []) (whole .ands) m)
+
+-- ---- how many lines there are of each kind
+
+keep-append : (p : Kind → Bool) (xs ys : List Kind) → keep p (xs ++ ys) ≡ keep p xs ++ keep p ys
+unfolding keep
+keep-append p [] ys = refl
+keep-append p (x ∷ xs) ys = go (p x) (keep-append p xs ys)
+  where
+    go : (b : Bool) → keep p (xs ++ ys) ≡ keep p xs ++ keep p ys → cond b (x ∷ keep p (xs ++ ys)) (keep p (xs ++ ys)) ≡ cond b (x ∷ keep p xs) (keep p xs) ++ keep p ys
+    go true e = ap (λ (r : List Kind). x ∷ r) e
+    go false e = e
+
+keep-replicate : (p : Kind → Bool) (n : ℕ) (k : Kind) → length (keep p (replicate n k)) ≡ cond (p k) n 0
+unfolding keep
+keep-replicate p zero k = go (p k)
+  where
+    go : (b : Bool) → _≡_ {A = ℕ} 0 (cond b 0 0)
+    go true = refl
+    go false = refl
+keep-replicate p (suc n) k = go (p k) (keep-replicate p n k)
+  where
+    go : (b : Bool) → length (keep p (replicate n k)) ≡ cond b n 0 → length (cond b (k ∷ keep p (replicate n k)) (keep p (replicate n k))) ≡ cond b (suc n) 0
+    go true e = ap suc e
+    go false e = e
+
+count-kinds : (k : Kind) (is : List Item) → length (keep (isKind k) is) ≡ length (keep (sameKind k) (kinds is))
+unfolding keep isKind
+count-kinds k [] = refl
+count-kinds k (i ∷ is) = go (sameKind k (i .kind)) (count-kinds k is)
+  where
+    go : (b : Bool) → length (keep (isKind k) is) ≡ length (keep (sameKind k) (kinds is))
+        → length (cond b (i ∷ keep (isKind k) is) (keep (isKind k) is)) ≡ length (cond b (i .kind ∷ keep (sameKind k) (kinds is)) (keep (sameKind k) (kinds is)))
+    go true e = ap suc e
+    go false e = e
+
+count-due : (k : Kind) (h : Header) (is : List Item) → kinds is ≡ due h
+    → length (keep (isKind k) is) ≡ cond (sameKind k anInput) (h .inputs) 0 + (cond (sameKind k anOutput) (h .outputs) 0 + cond (sameKind k anAnd) (h .ands) 0)
+unfolding due
+count-due k h is e =
+    count-kinds k is
+    ∙ ap (λ (ks : List Kind). length (keep (sameKind k) ks)) e
+    ∙ both (replicate (h .inputs) anInput) (replicate (h .outputs) anOutput ++ replicate (h .ands) anAnd)
+    ∙ ap₂ _+_ (keep-replicate (sameKind k) (h .inputs) anInput)
+    (both (replicate (h .outputs) anOutput) (replicate (h .ands) anAnd)
+    ∙ ap₂ _+_ (keep-replicate (sameKind k) (h .outputs) anOutput) (keep-replicate (sameKind k) (h .ands) anAnd))
+  where
+    both : (xs ys : List Kind) → length (keep (sameKind k) (xs ++ ys)) ≡ length (keep (sameKind k) xs) + length (keep (sameKind k) ys)
+    both xs ys = ap length (keep-append (sameKind k) xs ys) ∙ length-append (keep (sameKind k) xs) (keep (sameKind k) ys)
+
+-- a literal of a line is at most 2M+1
+low-literal : (size : ℕ) (i : Item) → Good size i → (n : ℕ) → n < howMany (i .kind) → getD (i .literals) n 0 ≤ 2 * size + 1
+low-literal size i good n h =
+    leb→le (getD (i .literals) n 0) (2 * size + 1)
+    (all-of (λ (m : ℕ). leb m (2 * size + 1)) (i .literals) (good .low) (getD (i .literals) n 0) (getD-in (i .literals) n 0 (omega (arith, good .long))))
+
+-- ---- the text
+
+-- the lines of a graph that is read
+record Lines (bytes : List ℕ) (h : Header) (g : Graph) : Type 0 where
+  items : List Item
+  isRead : readDue (length bytes) (h .size) [] (due h) (linesFrom (h .next) [] (drop (h .next) bytes)) ≡ holds items
+  isUsed : (i : Item) → List·Memᴰ i items → T (all (λ (l : ℕ). elem (varOf l) (0 ∷ definedBy items)) (uses i))
+  isGraph : graphOf (h .size) items ≡ g
+
+graph-lines : (bytes : List ℕ) (h : Header) (g : Graph) → readGraph bytes h ≡ holds g → Lines bytes h g
+unfolding readGraph
+graph-lines bytes h g e =
+    let a = next-out (readDue (length bytes) (h .size) [] (due h) (linesFrom (h .next) [] (drop (h .next) bytes))) (λ is. next (checkUses (definedBy is) is) (λ js. holds (graphOf (h .size) js))) g e in
+    let b = next-out (checkUses (definedBy (a .0)) (a .0)) (λ js. holds (graphOf (h .size) js)) g (a .2) in
+    let u = uses-out (definedBy (a .0)) (a .0) (b .0) (b .1) in
+    record { items = a .0; isRead = a .1; isUsed = u .1; isGraph = ap (graphOf (h .size)) (u .0) ∙ holds-once (b .2) }
+
+-- a graph text that is read gives, if all its ANDs can be placed, an accepted graph
+pub graph-accepted : (bytes : List ℕ) (h : Header) (g : Graph) → readGraph bytes h ≡ holds g → unplaced g ≡ [] → Accepted g
+graph-accepted bytes h g e p =
+    let s = graph-lines bytes h g e in
+    subst Accepted (s .isGraph)
+    (accepted (length bytes) h (linesFrom (h .next) [] (drop (h .next) bytes)) (s .items) (s .isRead) (s .isUsed) (ap unplaced (s .isGraph) ∙ p))
+
+-- a graph has the numbers of its header
+pub record Counted (h : Header) (g : Graph) : Type 0 where
+  pub size : g .size ≡ h .size
+  pub inputs : length (g .inputs) ≡ h .inputs
+  pub outputs : length (g .outputs) ≡ h .outputs
+  pub ands : length (g .ands) ≡ h .ands
+
+pub graph-counted : (bytes : List ℕ) (h : Header) (g : Graph) → readGraph bytes h ≡ holds g → Counted h g
+unfolding graphOf sameKind
+graph-counted bytes h g e = subst (Counted h) (s .isGraph) (record {
+  size = refl;
+  inputs = length-map (keep (isKind anInput) (s .items)) head ∙ (let q = count-due anInput h (s .items) layout in omega (arith, q));
+  outputs = length-map (keep (isKind anOutput) (s .items)) (λ (i : Item). getD (i .literals) 0 0) ∙ (let q = count-due anOutput h (s .items) layout in omega (arith, q));
+  ands = length-map (keep (isKind anAnd) (s .items)) andOf
+      ∙ (let q = count-due anAnd h (s .items) layout in omega (arith, q));
+})
+  where
+    s : Lines bytes h g
+    s = graph-lines bytes h g e
+
+    layout : kinds (s .items) ≡ due h
+    layout = due-kinds (length bytes) (h .size) [] (due h) (linesFrom (h .next) [] (drop (h .next) bytes)) (s .items) (s .isRead)
+
+-- "A literal exceeds 2M+1": none does
+pub record LowLiterals (g : Graph) : Type 0 where
+  pub outputs : (l : ℕ) → List·Memᴰ l (g .outputs) → l ≤ 2 * g .size + 1
+  pub lefts : (a : And) → List·Memᴰ a (g .ands) → a .left ≤ 2 * g .size + 1
+  pub rights : (a : And) → List·Memᴰ a (g .ands) → a .right ≤ 2 * g .size + 1
+
+pub graph-low : (bytes : List ℕ) (h : Header) (g : Graph) → readGraph bytes h ≡ holds g → LowLiterals g
+unfolding graphOf howMany
+graph-low bytes h g e = subst LowLiterals (s .isGraph) (record {
+  outputs = λ l m. let q = map-out (λ (i : Item). getD (i .literals) 0 0) (keep (isKind anOutput) (s .items)) m in
+      subst (λ (n : ℕ). n ≤ 2 * h .size + 1) (sym (q .2)) (low anOutput (q .0) (q .1) 0 (lit< tt));
+  lefts = λ a m. let q = map-out andOf (keep (isKind anAnd) (s .items)) m in
+      subst (λ (b : And). b .left ≤ 2 * h .size + 1) (sym (q .2)) (low anAnd (q .0) (q .1) 1 (lit< tt));
+  rights = λ a m. let q = map-out andOf (keep (isKind anAnd) (s .items)) m in
+      subst (λ (b : And). b .right ≤ 2 * h .size + 1) (sym (q .2)) (low anAnd (q .0) (q .1) 2 (lit< tt));
+})
+  where
+    s : Lines bytes h g
+    s = graph-lines bytes h g e
+
+    low : (k : Kind) (i : Item) → List·Memᴰ i (keep (isKind k) (s .items)) → (n : ℕ) → n < howMany k → getD (i .literals) n 0 ≤ 2 * h .size + 1
+    low k i m n b =
+        let o = keep-out (isKind k) (s .items) m in
+        low-literal (h .size) i (due-good (length bytes) (h .size) [] (due h) (linesFrom (h .next) [] (drop (h .next) bytes)) (s .items) (s .isRead) i (o .0)) n
+        (subst (λ (j : Kind). n < howMany j) (sym (kind-is k (i .kind) (o .1))) b)
+
+-- ---- the header
+
+-- a header that is read has no latches, and is in the limits
+pub record HeaderFits (h : Header) : Type 0 where
+  pub latches : h .latches ≡ 0
+  pub size : h .size ≤ 4095
+  pub outputs : h .outputs ≤ 4096
+  pub variables : h .inputs + h .ands ≤ h .size
+
+pub header-fits : (bytes : List ℕ) (h : Header) → readHeader bytes ≡ holds h → HeaderFits h
+unfolding readHeader inLimits
+header-fits bytes h e =
+    let a = next-out (from? (headerOf (linesFrom 0 [] bytes)) 7 0) (λ k. unless (eqb (k .latches) 0) 8 0 (unless (inLimits k) 9 0 (holds k))) h e in
+    let b = unless-out (eqb (a .0 .latches) 0) 8 0 (unless (inLimits (a .0)) 9 0 (holds (a .0))) h (a .2) in
+    let c = unless-out (inLimits (a .0)) 9 0 (holds (a .0)) h (b .1) in
+    let p = and-yes (leb (a .0 .size) 4095) (leb (a .0 .outputs) 4096 && leb (a .0 .inputs + a .0 .ands) (a .0 .size)) (c .0) in
+    let q = and-yes (leb (a .0 .outputs) 4096) (leb (a .0 .inputs + a .0 .ands) (a .0 .size)) (p .1) in
+    subst HeaderFits (holds-once (c .1)) (record { latches = eqb-yes (b .0); size = leb-yes (p .0); outputs = leb-yes (q .0); variables = leb-yes (q .1) })
+
+-- "M exceeds 4,095, O exceeds 4,096, or I + A exceeds M": none of them
+pub record GraphFits (g : Graph) : Type 0 where
+  pub size : g .size ≤ 4095
+  pub outputs : length (g .outputs) ≤ 4096
+  pub variables : length (g .inputs) + length (g .ands) ≤ g .size
+  pub low : LowLiterals g
+
+pub graph-fits : (bytes : List ℕ) (h : Header) (g : Graph) → readHeader bytes ≡ holds h → readGraph bytes h ≡ holds g → GraphFits g
+graph-fits bytes h g d e =
+    let f = header-fits bytes h d in
+    let c = graph-counted bytes h g e in
+    record {
+      size = omega (arith, f .size, c .size);
+      outputs = omega (arith, f .outputs, c .outputs);
+      variables = omega (arith, f .variables, c .size, c .inputs, c .ands);
+      low = graph-low bytes h g e;
+    }

@@ -1,0 +1,68 @@
+-- Two texts that are read give a library that fits and a graph that is in the limits, and accepted if all its ANDs can be placed. Assumes nothing.
+use Prim.Native.Nat.{ℕ, _≤_}
+use mathlib.Core.Path.{_≡_, subst}
+use mathlib.Core.Bool.{_&&_}
+use mathlib.Core.List.{List, [], List·Memᴰ}
+use lib.Dec.{T, leb}
+use lib.ListN.{length}
+use mir.Facts.{and-yes, leb-yes}
+use Rattle.model.specs.Limits.{need}
+use Rattle.model.specs.Reading.{holds}
+use Rattle.model.specs.LibraryText.{readLibrary, isClean}
+use Rattle.model.specs.GraphText.{readHeader, readGraph}
+use Rattle.model.specs.Graph.{unplaced}
+use Rattle.model.specs.Mapper.{Design, readTexts}
+use Rattle.model.specs.declared.Cell.{Cell}
+use Rattle.model.specs.declared.Header.{Header}
+use Rattle.theory_graph.proofs.Accepted.{Accepted, libraryFits}
+use Rattle.theory_text.proofs.Steps.{holds-once, unless-out, next-out}
+use Rattle.theory_text.proofs.ReadLibrary.{Written, library-fits, library-few, library-written}
+use Rattle.theory_text.proofs.ReadGraph.{graph-accepted, GraphFits, graph-fits}
+
+-- the two texts were read: the library's, the header's and the graph's, with words enough
+pub record Texts (library graph : List ℕ) (words : ℕ) (d : Design) : Type 0 where
+  pub header : Header
+  pub shortLibrary : length library ≤ 65536
+  pub shortGraph : length graph ≤ 65536
+  pub isLibrary : readLibrary library ≡ holds (d .cells)
+  pub isHeader : readHeader graph ≡ holds header
+  pub enough : need (header .size) (header .outputs) ≤ words
+  pub isGraph : readGraph graph header ≡ holds (d .graph)
+
+pub texts-read : (library graph : List ℕ) (words : ℕ) (d : Design) → readTexts library graph words ≡ holds d → Texts library graph words d
+unfolding readTexts
+texts-read library graph words d e =
+    let a = unless-out (leb (length library) 65536 && leb (length graph) 65536) 1 0 _ d e in
+    let p = and-yes (leb (length library) 65536) (leb (length graph) 65536) (a .0) in
+    let b = next-out (readLibrary library) _ d (a .1) in
+    let c = next-out (readHeader graph) _ d (b .2) in
+    let f = unless-out (leb (need (c .0 .size) (c .0 .outputs)) words) 10 0 _ d (c .2) in
+    let g = next-out (readGraph graph (c .0)) (λ x. holds (record { cells = b .0; graph = x })) d (f .1) in
+    subst (Texts library graph words) (holds-once (g .2)) (record {
+      header = c .0;
+      shortLibrary = leb-yes (p .0);
+      shortGraph = leb-yes (p .1);
+      isLibrary = b .1;
+      isHeader = c .1;
+      enough = leb-yes (f .0);
+      isGraph = g .1;
+    })
+
+module _ (library graph : List ℕ) (words : ℕ) (d : Design) (e : readTexts library graph words ≡ holds d) where
+  -- the library is free of refusals 3 to 6
+  pub design-library : T (libraryFits (d .cells))
+  design-library = library-fits library (d .cells) (texts-read library graph words d e .isLibrary)
+
+  pub design-few : length (d .cells) ≤ 32
+  design-few = library-few library (d .cells) (texts-read library graph words d e .isLibrary)
+
+  pub design-written : (c : Cell) → List·Memᴰ c (d .cells) → Written c × T (isClean c)
+  design-written = library-written library (d .cells) (texts-read library graph words d e .isLibrary)
+
+  -- the graph is free of refusals 9 and 12
+  pub design-graph : GraphFits (d .graph)
+  design-graph = let t = texts-read library graph words d e in graph-fits graph (t .header) (d .graph) (t .isHeader) (t .isGraph)
+
+  -- and of 13 to 15, if all its ANDs can be placed
+  pub design-accepted : unplaced (d .graph) ≡ [] → Accepted (d .graph)
+  design-accepted = let t = texts-read library graph words d e in graph-accepted graph (t .header) (d .graph) (t .isGraph)

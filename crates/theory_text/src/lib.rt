@@ -1,0 +1,1 @@
+// Laws of the two texts that are read and of the netlist that is printed; no code.
