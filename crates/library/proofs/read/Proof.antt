@@ -1,0 +1,31 @@
+-- `library::read` meets its contract: the names line, and then the cell lines.
+-- Assumes nothing.
+use borrow.Author.Needs.{needs}
+use mathlib.Core.Path.{sym, ap, _∙_}
+use Rattle.model.specs.Cells.{libraryAnswer}
+use Rattle.library.proofs.First.{names-not, names-read}
+use Rattle.library.proofs.read.Statement.{statement}
+use Rattle.library.proofs.read.Tie as tie
+
+names-line-requires : tie.Need-names-line-requires
+names-line-requires c κs = search needs
+
+cells-requires : tie.Need-cells-requires
+cells-requires c κs = search needs
+
+refused-requires : tie.Need-refused-requires
+refused-requires c κs = search needs
+
+returns : tie.Need-returns
+returns c =
+    let e = names-read _ (sym (c .before .before .names-line .ensures) ∙ c .before .if1 .taken) in
+    c .cells .ensures ∙ sym (ap libraryAnswer e)
+
+returns-2 : tie.Need-returns-2
+returns-2 c =
+    let e = names-not _ (sym (c .before .before .names-line .ensures) ∙ c .before .if1 .left) in
+    c .refused .ensures ∙ sym (ap libraryAnswer e)
+
+pub read-spec : {M : Type 1} → statement M
+read-spec =
+    tie.close (tie.spec names-line-requires cells-requires refused-requires returns returns-2)

@@ -1,0 +1,73 @@
+-- `library::repeated` meets its contract. The invariant: none of the first i cells has the name; the measure is what is left.
+-- Assumes nothing.
+use borrow.Author.Needs.{needs}
+use mathlib.Core.Path.{_≡_, sym, ap, _∙_}
+use Prim.Native.Nat.{_+_, _-_, _≤_}
+use native.Mathlib.Omega.{arith}
+use mathlib.Core.Bool.{false}
+use Rattle.model.specs.Cells.{nameOf}
+use Rattle.library.specs.Reading.{isRepeated}
+use Rattle.library.proofs.Judging.{repeated-none, repeated-step, repeated-more}
+use Rattle.library.proofs.repeated.Statement.{statement}
+use Rattle.library.proofs.repeated.Tie as tie
+
+abbrev Inv-loop : tie.InvT-loop
+Inv-loop w lib n i₀ i = (i ≤ n) × (n ≤ 32) × (isRepeated w (lib .cells) i ≡ false)
+
+abbrev μ-loop : tie.MeasureT-loop
+μ-loop w lib n i₀ i = n - i
+
+loop-holds : tie.Need-loop-holds Inv-loop μ-loop
+loop-holds c = (omega arith, omega arith, repeated-none _ _)
+
+mul-c : tie.Need-mul-c Inv-loop μ-loop
+mul-c c = search needs
+
+element-copy-out-c : tie.Need-element-copy-out-c Inv-loop μ-loop
+element-copy-out-c c = search needs
+
+name-is-requires : tie.Need-name-is-requires Inv-loop μ-loop
+name-is-requires c κs = search needs
+
+returns : tie.Need-returns Inv-loop μ-loop
+unfolding nameOf
+returns c =
+    let l = c .before .before .before .before .before in
+    let a = l .before .before .args in
+    sym (repeated-more (a .w .now) (a .t1 .cells) (l .loop .i + 1) (a .t1 .n) (omega arith) (repeated-step (a .w .now) (a .t1 .cells) (l .loop .i) ∙ rw (sym (c .before .name-is .ensures) ∙ c .if1 .taken)))
+
+add-i : tie.Need-add-i Inv-loop μ-loop
+add-i c = search needs
+
+loop-less : tie.Need-loop-less Inv-loop μ-loop
+loop-less c = search needs
+
+loop-again : tie.Need-loop-again Inv-loop μ-loop
+unfolding nameOf
+loop-again c =
+    let l = c .before .before .before .before .before in
+    let a = l .before .before .args in
+    (omega arith, omega arith, repeated-step (a .w .now) (a .t1 .cells) (l .loop .i) ∙ rw (sym (c .before .name-is .ensures) ∙ c .if1 .left) (l .loop .inv .2))
+
+returns-2 : tie.Need-returns-2 Inv-loop μ-loop
+returns-2 c =
+    let l = c .before in
+    let a = l .before .before .args in
+    let e : l .loop .i ≡ a .t1 .n = omega arith in
+    sym (ap (isRepeated (a .w .now) (a .t1 .cells)) (sym e) ∙ l .loop .inv .2)
+
+pub repeated-spec : {M : Type 1} → statement M
+repeated-spec =
+    tie.close
+    (tie.spec
+    Inv-loop
+    μ-loop
+    loop-holds
+    mul-c
+    element-copy-out-c
+    name-is-requires
+    returns
+    add-i
+    loop-less
+    loop-again
+    returns-2)

@@ -1,0 +1,131 @@
+-- What each function of the library's reader answers, composed of what the readers of the crate text find. Assumes nothing.
+use Prim.Native.Nat.{ℕ, zero, suc, _+_, _-_}
+use mathlib.Core.Bool.{Bool, true, false, _&&_, _||_}
+use mathlib.Core.List.{List, [], _∷_}
+use lib.Dec.{eqb, ltb, leb}
+use lib.ListN.{length, take, drop, getD, set}
+use Rattle.model.specs.Base.{same, any}
+use Rattle.model.specs.Text.{text}
+use Rattle.model.specs.Cells.{nameOf, noCell}
+use Rattle.model.specs.LibraryText.{nameBytes, isClean}
+use Rattle.model.specs.declared.Cell.{Cell}
+use Rattle.model.specs.declared.Library.{Library}
+use Rattle.text.specs.Fields.{onNumber, onStep, numberThen, tableThen, nameAt, byteAt}
+use Rattle.text.specs.declared.Cursor.{Cursor}
+use Rattle.library.specs.declared.Figures.{Figures}
+use Rattle.library.specs.declared.Delays.{Delays}
+use Rattle.library.specs.declared.Delays.the-variants.{Four, Broken as NoDelays}
+use Rattle.library.specs.declared.Head.{Head}
+use Rattle.library.specs.declared.Head.the-variants.{Three, Broken as NoHead}
+use Rattle.library.specs.declared.FiguresRead.{FiguresRead}
+use Rattle.library.specs.declared.FiguresRead.the-variants.{Got, Broken as NoFigures}
+use Rattle.library.specs.declared.Form.{Form}
+use Rattle.library.specs.declared.Form.the-variants.{Cell as ACell, Broken as NoForm}
+use Rattle.library.specs.declared.Judged.{Judged}
+use Rattle.library.specs.declared.Judged.the-variants.{Cell as Good, Refused as Bad}
+
+-- ---- the form of a cell line
+
+unfoldable pub delaysAt : List ℕ → ℕ → Delays
+delaysAt s at =
+    onNumber (numberThen s at 32) (λ d0 c0.
+    onNumber (numberThen s (c0 .at) 32) (λ d1 c1.
+    onNumber (numberThen s (c1 .at) 32) (λ d2 c2.
+    onNumber (numberThen s (c2 .at) 10) (λ d3 c3. Four d0 d1 d2 d3 c3) NoDelays) NoDelays) NoDelays) NoDelays
+
+unfoldable pub headAt : List ℕ → ℕ → Head
+headAt s at =
+    onNumber (numberThen s at 32) (λ p c0.
+    onNumber (tableThen s (c0 .at) 32) (λ t c1.
+    onNumber (numberThen s (c1 .at) 32) (λ a c2. Three p t a c2) NoHead) NoHead) NoHead
+
+abbrev pub onHead : {A : Type 0} → Head → (ℕ → ℕ → ℕ → Cursor → A) → A → A
+onHead (Three p t a c) f e = f p t a c
+onHead NoHead f e = e
+
+abbrev pub onDelays : {A : Type 0} → Delays → (ℕ → ℕ → ℕ → ℕ → Cursor → A) → A → A
+onDelays (Four d0 d1 d2 d3 c) f e = f d0 d1 d2 d3 c
+onDelays NoDelays f e = e
+
+abbrev pub pickFigures : Bool → FiguresRead → FiguresRead → FiguresRead
+pickFigures true a b = a
+pickFigures false a b = b
+
+unfoldable pub figuresAt : List ℕ → ℕ → FiguresRead
+figuresAt s at =
+    onHead (headAt s at) (λ p t a c.
+    onDelays (delaysAt s (c .at)) (λ d0 d1 d2 d3 e.
+    pickFigures (leb p 4) (Got (record { pins = p; table = t; area = a; d0 = d0; d1 = d1; d2 = d2; d3 = d3 }) e) NoFigures) NoFigures) NoFigures
+
+abbrev pub onFigures : {A : Type 0} → FiguresRead → (Figures → Cursor → A) → A → A
+onFigures (Got f c) g e = g f c
+onFigures NoFigures g e = e
+
+unfoldable pub formAt : List ℕ → ℕ → Form
+formAt s at =
+    onStep (nameAt s at) (λ n.
+    onStep (byteAt s (n .at) 32) (λ c.
+    onFigures (figuresAt s (c .at)) (λ f d. ACell (n .at) f d) NoForm) NoForm) NoForm
+
+-- ---- what a cell line must not say
+
+abbrev pub delayOk : ℕ → ℕ → ℕ → Bool
+delayOk p j d = ltb j p || eqb d 0
+
+unfoldable pub delaysOk : Figures → Bool
+delaysOk f = delayOk (f .pins) 0 (f .d0) && (delayOk (f .pins) 1 (f .d1) && (delayOk (f .pins) 2 (f .d2) && delayOk (f .pins) 3 (f .d3)))
+
+abbrev pub pickN : Bool → ℕ → ℕ → ℕ
+pickN true a b = a
+pickN false a b = b
+
+abbrev pub clamped : ℕ → ℕ
+clamped n = pickN (ltb n 8) n 8
+
+-- ---- cells
+
+-- the cell of a line's name and figures
+unfoldable pub lineCell : List ℕ → Figures → Cell
+lineCell w f = record {
+  name = nameBytes w;
+  len = length w;
+  pins = f .pins;
+  table = f .table;
+  area = f .area;
+  delays = f .d0 ∷ f .d1 ∷ f .d2 ∷ f .d3 ∷ [];
+}
+
+-- the first n cells, the last first
+unfoldable pub before : List Cell → ℕ → List Cell
+before cells zero = []
+before cells (suc i) = getD cells i noCell ∷ before cells i
+
+unfoldable pub isRepeated : List ℕ → List Cell → ℕ → Bool
+isRepeated w cells n = any (λ (d : Cell). same w (nameOf d)) (before cells n)
+
+abbrev pub added : Library → Cell → Library
+added l c = record { n = l .n + 1; cells = set (l .cells) (l .n) c }
+
+-- ---- lines
+
+abbrev pub pickJudged : Bool → Judged → Judged → Judged
+pickJudged true a b = a
+pickJudged false a b = b
+
+abbrev pub onForm : {A : Type 0} → Form → (ℕ → Figures → Cursor → A) → A → A
+onForm (ACell n f c) g e = g n f c
+onForm NoForm g e = e
+
+-- "3, 4, 5, 6" in this order
+unfoldable pub judgedAt : Library → List ℕ → ℕ → Judged
+judgedAt l s at =
+    pickJudged (ltb (l .n) 32)
+    (onForm (formAt s at) (λ e f c.
+    pickJudged (isRepeated (take (e - at) (drop at s)) (l .cells) (l .n)) (Bad 5)
+    (pickJudged (isClean (lineCell [] f)) (Good e f c) (Bad 6))) (Bad 4))
+    (Bad 3)
+
+-- the names line, with its byte 10
+unfoldable pub namesLine : List ℕ
+unfolding text
+namesLine = text "cell pins table area d0 d1 d2 d3\n"

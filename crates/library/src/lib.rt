@@ -1,0 +1,358 @@
+// The cell library's text, read: its cells by value, or the first refusal of 2 to 6 with its place.
+// "The first line is `cell pins table area d0 d1 d2 d3`; each further line gives one cell's values in that order."
+// "Items 3 to 6 are tried line by line."
+ghost use mathlib.Core.Path.{_≡_};
+ghost use mathlib.Core.List.{[]};
+ghost use Prim.Native.Nat.{_+_, _^_, _≤_, _<_};
+ghost use lib.ListN.{length, take, drop, getD};
+ghost use Rattle.model.specs.Base.{same, any};
+ghost use Rattle.model.specs.Text.{linesFrom};
+ghost use Rattle.model.specs.Reading.{fault};
+ghost use Rattle.model.specs.Cells.{noCell, libraryOf, libraryAnswer};
+ghost use Rattle.model.specs.LibraryText.{isClean, readCells, readLibrary};
+ghost use Rattle.library.specs.Reading.{delaysAt, headAt, figuresAt, formAt, judgedAt, lineCell, added, isRepeated, delayOk, delaysOk, clamped, namesLine};
+use model::Cell;
+use model::Library;
+use model::LibraryAnswer;
+use model::Verdict;
+use text::Cursor;
+use text::Number;
+use text::Step;
+
+// What stands behind a cell's name.
+pub struct Figures {
+    pub pins: u16,
+    pub table: u16,
+    pub area: u16,
+    pub d0: u16,
+    pub d1: u16,
+    pub d2: u16,
+    pub d3: u16,
+}
+
+pub enum Delays {
+    Four(u16, u16, u16, u16, Cursor),
+    Broken,
+}
+
+pub enum Head {
+    Three(u16, u16, u16, Cursor),
+    Broken,
+}
+
+pub enum FiguresRead {
+    Got(Figures, Cursor),
+    Broken,
+}
+
+// A cell line that has its form: where its name ends, its figures, and the next line.
+pub enum Form {
+    Cell(usize, Figures, Cursor),
+    Broken,
+}
+
+// The same, or the number of the line's refusal.
+pub enum Judged {
+    Cell(usize, Figures, Cursor),
+    Refused(usize),
+}
+
+// ---- the form of a cell line
+
+// `d0 d1 d2 d3` and the end of the line.
+fn read_delays(c: Cursor, s: &[u8]) -> Delays
+    ensures { λ r. ⌜ r ≡ delaysAt (now (s .entry)) (c .at) ⌝ }
+{
+    match c.number_then(s, 32) {
+        Number::Value(d0, c0) => match c0.number_then(s, 32) {
+            Number::Value(d1, c1) => match c1.number_then(s, 32) {
+                Number::Value(d2, c2) => match c2.number_then(s, 10) {
+                    Number::Value(d3, c3) => Delays::Four(d0, d1, d2, d3, c3),
+                    Number::Broken => Delays::Broken,
+                },
+                Number::Broken => Delays::Broken,
+            },
+            Number::Broken => Delays::Broken,
+        },
+        Number::Broken => Delays::Broken,
+    }
+}
+
+// `pins table area` and the spaces behind them.
+fn read_head(c: Cursor, s: &[u8]) -> Head
+    ensures { λ r. ⌜ r ≡ headAt (now (s .entry)) (c .at) ⌝ }
+{
+    match c.number_then(s, 32) {
+        Number::Value(pins, c0) => match c0.table_then(s, 32) {
+            Number::Value(table, c1) => match c1.number_then(s, 32) {
+                Number::Value(area, c2) => Head::Three(pins, table, area, c2),
+                Number::Broken => Head::Broken,
+            },
+            Number::Broken => Head::Broken,
+        },
+        Number::Broken => Head::Broken,
+    }
+}
+
+// "Pins: 0 to 4."
+fn read_figures(c: Cursor, s: &[u8]) -> FiguresRead
+    ensures { λ r. ⌜ r ≡ figuresAt (now (s .entry)) (c .at) ⌝ }
+{
+    match read_head(c, s) {
+        Head::Three(pins, table, area, c0) => match read_delays(c0, s) {
+            Delays::Four(d0, d1, d2, d3, c1) => {
+                if pins <= 4 {
+                    FiguresRead::Got(
+                        Figures {
+                            pins,
+                            table,
+                            area,
+                            d0,
+                            d1,
+                            d2,
+                            d3,
+                        },
+                        c1,
+                    )
+                } else {
+                    FiguresRead::Broken
+                }
+            }
+            Delays::Broken => FiguresRead::Broken,
+        },
+        Head::Broken => FiguresRead::Broken,
+    }
+}
+
+fn read_form(c: Cursor, s: &[u8]) -> Form
+    ensures { λ r. ⌜ r ≡ formAt (now (s .entry)) (c .at) ⌝ }
+{
+    match c.name(s) {
+        Step::To(n) => match n.byte(s, 32) {
+            Step::To(c0) => match read_figures(c0, s) {
+                FiguresRead::Got(f, c1) => Form::Cell(n.at, f, c1),
+                FiguresRead::Broken => Form::Broken,
+            },
+            Step::Broken => Form::Broken,
+        },
+        Step::Broken => Form::Broken,
+    }
+}
+
+// ---- what a cell line must not say
+
+// Tables of so many pins are below this.
+fn limit(pins: u16) -> u32
+    requires { ⌜ pins ≤ 4 ⌝ }
+    ensures { λ r. ⌜ r ≡ 2 ^ 2 ^ pins ⌝ }
+{
+    1u32 << (1u32 << (pins as u32))
+}
+
+// Pin j is there, or its delay is 0.
+fn delay_ok(pins: u16, j: u16, d: u16) -> bool
+    ensures { λ r. ⌜ r ≡ delayOk pins j d ⌝ }
+{
+    if j < pins {
+        return true;
+    }
+    if d == 0 { true } else { false }
+}
+
+fn delays_ok(f: Figures) -> bool
+    ensures { λ r. ⌜ r ≡ delaysOk f ⌝ }
+{
+    if !delay_ok(f.pins, 0, f.d0) {
+        return false;
+    }
+    if !delay_ok(f.pins, 1, f.d1) {
+        return false;
+    }
+    if !delay_ok(f.pins, 2, f.d2) {
+        return false;
+    }
+    delay_ok(f.pins, 3, f.d3)
+}
+
+// No "table bit at or above row 2^pins", and no "delay of an absent pin" that "isn't 0".
+fn is_clean(f: Figures) -> bool
+    requires { ⌜ f .pins ≤ 4 ⌝ }
+    ensures { λ r. ⌜ r ≡ isClean (lineCell [] f) ⌝ }
+{
+    if f.table as u32 >= limit(f.pins) {
+        return false;
+    }
+    delays_ok(f)
+}
+
+// ---- names
+
+fn clamp(len: usize) -> usize
+    ensures { λ r. ⌜ r ≡ clamped len ⌝ }
+{
+    if len < 8 { len } else { 8 }
+}
+
+// A cell's name has the same bytes.
+fn name_is(name: [u8; 8], len: usize, w: &[u8]) -> bool
+    ensures { λ r. ⌜ r ≡ same (now (w .entry)) (take len name) ⌝ }
+{
+    let n = clamp(len);
+    text::same_bytes(w, &name[..n])
+}
+
+// "A cell name is repeated."
+fn repeated(lib: Library, w: &[u8]) -> bool
+    requires { ⌜ lib .n ≤ 32 ⌝ }
+    ensures { λ r. ⌜ r ≡ isRepeated (now (w .entry)) (lib .cells) (lib .n) ⌝ }
+{
+    let n = lib.n;
+    let mut i = 0;
+    while i < n {
+        let c = lib.cells[i];
+        let name = c.name;
+        if name_is(name, c.len, w) {
+            return true;
+        }
+        i += 1;
+    }
+    false
+}
+
+// ---- cells by value
+
+fn empty() -> Library
+    ensures { λ r. ⌜ r ≡ libraryOf [] ⌝ }
+{
+    let c = Cell {
+        name: [0; 8],
+        len: 0,
+        pins: 0,
+        table: 0,
+        area: 0,
+        delays: [0; 4],
+    };
+    let cells = [c; 32];
+    Library { n: 0, cells }
+}
+
+fn cell_of(w: &[u8], f: Figures) -> Cell
+    requires { ⌜ length (now w) ≤ 8 ⌝ }
+    ensures { λ r. ⌜ r ≡ lineCell (now (w .entry)) f ⌝ }
+{
+    let name = text::name_bytes(w);
+    Cell {
+        name,
+        len: w.len(),
+        pins: f.pins,
+        table: f.table,
+        area: f.area,
+        delays: [f.d0, f.d1, f.d2, f.d3],
+    }
+}
+
+fn add(mut lib: Library, c: Cell) -> Library
+    requires { ⌜ lib .n < 32 ⌝ }
+    ensures { λ r. ⌜ r ≡ added lib c ⌝ }
+{
+    let n = lib.n;
+    lib.cells[n] = c;
+    lib.n = n + 1;
+    lib
+}
+
+fn refused(number: usize, place: usize) -> LibraryAnswer
+    ensures { λ r. ⌜ r ≡ libraryAnswer (fault number place) ⌝ }
+{
+    let library = empty();
+    LibraryAnswer {
+        verdict: Verdict::Refused(number, place),
+        library,
+    }
+}
+
+// ---- the lines
+
+// One cell line: 3, 4, 5 and 6 in this order.
+fn judge(lib: Library, s: &[u8], at: usize) -> Judged
+    requires { ⌜ (lib .n ≤ 32) × (at < length (now s)) ⌝ }
+    ensures { λ r. ⌜ r ≡ judgedAt lib (now (s .entry)) at ⌝ }
+{
+    if lib.n >= 32 {
+        return Judged::Refused(3);
+    }
+    match read_form(Cursor { at }, s) {
+        Form::Cell(end, f, next) => {
+            if repeated(lib, &s[at..end]) {
+                return Judged::Refused(5);
+            }
+            if is_clean(f) {
+                Judged::Cell(end, f, next)
+            } else {
+                Judged::Refused(6)
+            }
+        }
+        Form::Broken => Judged::Refused(4),
+    }
+}
+
+// The cell lines from a place on.
+fn cells(s: &[u8], from: usize) -> LibraryAnswer
+    ensures { λ r. ⌜ r ≡ libraryAnswer (readCells 0 [] (linesFrom from [] (drop from (now (s .entry))))) ⌝ }
+{
+    let mut lib = empty();
+    let mut at = from;
+    while at < s.len() {
+        match judge(lib, s, at) {
+            Judged::Cell(end, f, next) => {
+                let c = cell_of(&s[at..end], f);
+                lib = add(lib, c);
+                at = next.at;
+            }
+            Judged::Refused(number) => {
+                return refused(number, at);
+            }
+        }
+    }
+    LibraryAnswer {
+        verdict: Verdict::Accepted,
+        library: lib,
+    }
+}
+
+// "The library's first line isn't the names line; place 0."
+fn names_line(s: &[u8]) -> bool
+    ensures { λ r. ⌜ r ≡ same (take 33 (now (s .entry))) namesLine ⌝ }
+{
+    if s.len() < 33 {
+        return false;
+    }
+    text::same_bytes(&s[..33], b"cell pins table area d0 d1 d2 d3\n")
+}
+
+// The cells of a library's text, or the first refusal of 2 to 6.
+pub fn read(s: &[u8]) -> LibraryAnswer
+    ensures { λ r. ⌜ r ≡ libraryAnswer (readLibrary (now (s .entry))) ⌝ }
+{
+    if names_line(s) {
+        cells(s, 33)
+    } else {
+        refused(2, 0)
+    }
+}
+
+// ---- the cells of a library that was read
+
+pub fn count(lib: Library) -> usize
+    ensures { λ r. ⌜ r ≡ lib .n ⌝ }
+{
+    lib.n
+}
+
+// The cell of a line, from 0.
+pub fn cell_at(lib: Library, i: usize) -> Cell
+    requires { ⌜ i < 32 ⌝ }
+    ensures { λ r. ⌜ r ≡ getD (lib .cells) i noCell ⌝ }
+{
+    lib.cells[i]
+}

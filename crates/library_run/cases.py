@@ -1,0 +1,77 @@
+#!/usr/bin/env python3
+"""Write the standard input of this program, some hundred library texts, and by a reader of its own the output that it must give.
+usage: cases.py"""
+import pathlib, random, re
+HERE = pathlib.Path(__file__).resolve().parent
+NAMES = b"cell pins table area d0 d1 d2 d3"
+FIELDS = [rb"[A-Za-z][A-Za-z0-9_]{0,7}", rb"[0-4]", rb"[0-9a-f]{4}"] + [rb"(0|[1-9][0-9]{0,4})"] * 5
+
+def read(t):
+    lines, at = [], 0
+    while at < len(t):
+        end = t.find(b"\n", at)
+        lines.append((at, t[at:] if end < 0 else t[at:end], end >= 0))
+        at = len(t) if end < 0 else end + 1
+    if not lines or not lines[0][2] or lines[0][1] != NAMES:
+        return "refused 2 0"
+    cells = []
+    for at, line, ended in lines[1:]:
+        if len(cells) == 32:
+            return f"refused 3 {at}"
+        f = line.split(b" ")
+        ok = ended and len(f) == 8 and all(re.fullmatch(p, x) for p, x in zip(FIELDS, f)) and all(int(x) <= 65535 for x in f[3:])
+        if not ok:
+            return f"refused 4 {at}"
+        if any(c[0] == f[0] for c in cells):
+            return f"refused 5 {at}"
+        pins, table, d = int(f[1]), int(f[2], 16), [int(x) for x in f[4:]]
+        if table >> (1 << pins) or any(d[pins:]):
+            return f"refused 6 {at}"
+        cells.append((f[0], pins, table, int(f[3]), *d))
+    return f"read {len(cells)}" + "".join(" " + " ".join([c[0].decode()] + [str(x) for x in c[1:]]) for c in cells)
+
+def cell(r, name):
+    p = r.randrange(5)
+    table = r.randrange(1 << (1 << p))
+    d = [r.choice([0, 1, 9, 10, 65535, r.randrange(65536)]) if j < p else 0 for j in range(4)]
+    return b"%s %d %04x %d %d %d %d %d\n" % (name, p, table, r.choice([0, 7, 65535]), *d)
+
+def texts():
+    r = random.Random(1)
+    head = NAMES + b"\n"
+    out = [b"", b"\n", NAMES, head, head + b"\n", b" " + head, head[:-1] + b" \n", b"x" + head]
+    many = [b"c%d 0 0000 1 0 0 0 0\n" % i for i in range(34)]
+    out += [head + b"".join(many[:n]) for n in (31, 32, 33, 34)]
+    out += [head + b"".join(many[:32]) + x for x in (b"\n", b"x")]
+    good = b"inv 1 0001 1 10 0 0 0\n"
+    for a, b in [(b"inv", b"9inv"), (b"inv", b"abcdefgh"), (b"inv", b"abcdefghi"), (b"inv", b"_a"), (b"inv", b"a_9Z"), (b"inv", b"a-b"), (b"inv", b""),
+                 (b" 1 0001", b" 01 0001"), (b" 1 0001", b" 5 0001"), (b" 1 0001", b" 0 0001"), (b" 1 0001", b" 0 0002"), (b"0001", b"0004"), (b"0001", b"000A"),
+                 (b"0001", b"001"), (b"0001", b"00001"), (b"0001", b"000g"), (b" 10 ", b" 65535 "), (b" 10 ", b" 65536 "), (b" 10 ", b" 00 "), (b" 10 ", b" 010 "),
+                 (b" 10 ", b" 99999999999999999999999 "), (b" 10 ", b"  10 "), (b" 10 ", b" "), (b" 10 ", b" 1x "), (b"0 0\n", b"0 1\n"), (b"0 0\n", b"0 0 \n"),
+                 (b"0 0\n", b"0 0 0\n"), (b"0 0\n", b"0\n"), (b"\n", b""), (b"\n", b"\r\n"), (b" 1 10", b"\t1 10")]:
+        out += [head + good.replace(a, b, 1), head + b"nand2 2 0007 2 20 20 0 0\n" + good.replace(a, b, 1) + b"x"]
+    out += [head + good + good, head + good + b"inv 9\n", head + good + b"inv 1 ffff 1 10 0 0 0\n", head + b"a 0 0000 1 0 0 0 0\nab 0 0000 1 0 0 0 0\n"]
+    for name in ("tiny", "array", "full"):  # 5, 24 and 32 cells; then a cell more, a line repeated, an end cut off, a byte changed
+        t = (HERE / "libraries" / (name + ".txt")).read_bytes()
+        lines = t.splitlines(keepends=True)
+        out += [t, t + b"more 0 0000 1 0 0 0 0\n", t + lines[-1], t[:-1], t[:-5], t.replace(b"\n", b"\r\n"), b"".join(lines[1:]), b"".join(lines[:2] + lines[:1] + lines[2:])]
+        for _ in range(6):
+            i = r.randrange(len(t))
+            out.append(t[:i] + bytes([r.choice(b"019afgZ_ \n")]) + t[i + 1:])
+    for _ in range(150):
+        t = bytearray(head + b"".join(cell(r, r.choice([b"a", b"b", b"nand2", b"x%d" % r.randrange(9)])) for _ in range(r.randrange(4))))
+        if r.random() < 0.6:
+            for _ in range(r.randrange(1, 3)):
+                i = r.randrange(len(t) if r.random() < 0.1 else max(1, len(t) - 33)) + (33 if len(t) > 40 else 0)
+                i = min(i, len(t) - 1)
+                t[i:i + r.randrange(2)] = bytes([r.choice(b"0123456789af gAz_\n\n ")])
+        out.append(bytes(t))
+    return out
+
+
+ts = texts()
+assert all(0 not in t for t in ts)
+inputs = b"".join(t + b"\0" for t in ts)
+assert len(inputs) <= 65536
+(HERE / "stdin").write_bytes(inputs)
+(HERE / "stdout").write_text("".join(read(t) + "\n" for t in ts))

@@ -1,0 +1,89 @@
+// Each text of the standard input, ended by byte 0, is read as a cell library, and one line says what was found:
+// `refused`, number and place; or `read`, the number of cells and their values in the order of the names line. cases.py writes the texts, and the lines by a reader of its own.
+ghost use Prim.Native.Nat.{_≤_};
+use libc::STDIN_FILENO;
+use libc::STDOUT_FILENO;
+use model::Cell;
+use model::Library;
+use model::Verdict;
+
+fn number(n: u64) {
+    io::write_all(STDOUT_FILENO, b" ");
+    io::print_decimal(STDOUT_FILENO, n);
+}
+
+fn wide(x: u16) -> u64 {
+    x as u64
+}
+
+fn show_name(name: [u8; 8], len: usize) {
+    io::write_all(STDOUT_FILENO, b" ");
+    if len <= 8 {
+        io::write_all(STDOUT_FILENO, &name[..len]);
+    }
+}
+
+fn show_delays(d: [u16; 4]) {
+    number(wide(d[0]));
+    number(wide(d[1]));
+    number(wide(d[2]));
+    number(wide(d[3]));
+}
+
+fn show_cell(c: Cell) {
+    let name = c.name;
+    show_name(name, c.len);
+    number(wide(c.pins));
+    number(wide(c.table));
+    number(wide(c.area));
+    let delays = c.delays;
+    show_delays(delays);
+}
+
+fn show_cells(l: Library) {
+    let n = library::count(l);
+    number(n as u64);
+    let mut i = 0;
+    while i < 32 {
+        if i < n {
+            show_cell(library::cell_at(l, i));
+        }
+        i += 1;
+    }
+}
+
+fn show(text: &[u8]) {
+    let a = library::read(text);
+    let v = a.verdict;
+    match v {
+        Verdict::Accepted => {
+            io::write_all(STDOUT_FILENO, b"read");
+            let l = a.library;
+            show_cells(l);
+        }
+        Verdict::Refused(k, p) => {
+            io::write_all(STDOUT_FILENO, b"refused");
+            number(k as u64);
+            number(p as u64);
+        }
+    }
+    io::write_all(STDOUT_FILENO, b"\n");
+}
+
+fn each(s: &[u8]) {
+    let mut from = 0;
+    let mut at = 0;
+    while at < s.len() {
+        if s[at] == 0 {
+            show(&s[from..at]);
+            from = at + 1;
+        }
+        at += 1;
+    }
+}
+
+fn main() {
+    let mut buf = [0u8; 65536];
+    let n = io::read_full(STDIN_FILENO, &mut buf);
+    each(&buf[..n]);
+}

@@ -1,0 +1,20 @@
+-- `text::Cursor::table_then` meets its contract, which is composed of those of `table` and `then_byte`.
+-- Assumes nothing.
+use borrow.Author.Needs.{needs}
+use mathlib.Core.Path.{sym}
+use Rattle.text.specs.Fields.{tableThen}
+use Rattle.text.proofs.Cursor.table_then.Statement.{statement}
+use Rattle.text.proofs.Cursor.table_then.Tie as tie
+
+table-requires : tie.Need-table-requires
+table-requires c κs = search needs
+
+then-byte-requires : tie.Need-then-byte-requires
+then-byte-requires c κs = search needs
+
+returns : tie.Need-returns
+unfolding tableThen
+returns c = rw (sym (c .before .table .ensures)) (c .then-byte .ensures)
+
+pub table-then-spec : {M : Type 1} → statement M
+table-then-spec = tie.close (tie.spec table-requires then-byte-requires returns)

@@ -1,0 +1,87 @@
+-- What each reader finds at a place of a text, by the crate model's own judgement of a field. Assumes nothing.
+use Prim.Native.Nat.{ℕ, _+_}
+use mathlib.Core.Bool.{Bool, true, false, _&&_}
+use mathlib.Core.Option.{Option, none, some}
+use mathlib.Core.List.{List, [], _∷_}
+use lib.Dec.{eqb, ltb}
+use lib.ListN.{length, drop, getD}
+use Rattle.model.specs.Text.{number, hexTable, isName}
+use Rattle.text.specs.declared.Cursor.{Cursor}
+use Rattle.text.specs.declared.Value.{Value}
+use Rattle.text.specs.declared.Value.the-variants.{Is, Broken as NoValue}
+use Rattle.text.specs.declared.Number.{Number}
+use Rattle.text.specs.declared.Number.the-variants.{Value as Found, Broken as NoNumber}
+use Rattle.text.specs.declared.Step.{Step}
+use Rattle.text.specs.declared.Step.the-variants.{To, Broken as NoStep}
+
+abbrev pub pickBytes : Bool → List ℕ → List ℕ → List ℕ
+pickBytes true a b = a
+pickBytes false a b = b
+
+-- the field that a text begins with: its bytes before the first space or byte 10
+unfoldable pub wordOf : List ℕ → List ℕ
+wordOf [] = []
+wordOf (b ∷ bs) = pickBytes (eqb b 32) [] (pickBytes (eqb b 10) [] (b ∷ wordOf bs))
+
+-- the field at a place, and the place past it
+unfoldable pub wordAt : List ℕ → ℕ → List ℕ
+unfolding wordOf
+wordAt s at = wordOf (drop at s)
+
+unfoldable pub endAt : List ℕ → ℕ → ℕ
+unfolding wordAt
+endAt s at = at + length (wordAt s at)
+
+abbrev pub valueOf : Option ℕ → Value
+valueOf none = NoValue
+valueOf (some n) = Is n
+
+abbrev pub numberOf : Option ℕ → ℕ → Number
+numberOf none p = NoNumber
+numberOf (some n) p = Found n (record { at = p })
+
+abbrev pub stepOf : Bool → ℕ → Step
+stepOf false p = NoStep
+stepOf true p = To (record { at = p })
+
+-- the byte b stands at a place
+abbrev pub isByte : List ℕ → ℕ → ℕ → Bool
+isByte s at b = ltb at (length s) && eqb (getD s at 0) b
+
+unfoldable pub byteAt : List ℕ → ℕ → ℕ → Step
+byteAt s at b = stepOf (isByte s at b) (at + 1)
+
+unfoldable pub numberAt : List ℕ → ℕ → Number
+unfolding endAt
+numberAt s at = numberOf (number (wordAt s at)) (endAt s at)
+
+unfoldable pub tableAt : List ℕ → ℕ → Number
+unfolding endAt
+tableAt s at = numberOf (hexTable (wordAt s at)) (endAt s at)
+
+unfoldable pub nameAt : List ℕ → ℕ → Step
+unfolding endAt
+nameAt s at = stepOf (isName (wordAt s at)) (endAt s at)
+
+-- what is done with a number or a step that was found, or else e
+abbrev pub onNumber : {A : Type 0} → Number → (ℕ → Cursor → A) → A → A
+onNumber (Found n c) f e = f n c
+onNumber NoNumber f e = e
+
+abbrev pub onStep : {A : Type 0} → Step → (Cursor → A) → A → A
+onStep (To c) f e = f c
+onStep NoStep f e = e
+
+-- a number that was found, if the byte b stands behind it
+unfoldable pub thenByte : List ℕ → Number → ℕ → Number
+unfolding byteAt
+thenByte s found b = onNumber found (λ n c. onStep (byteAt s (c .at) b) (λ d. Found n d) NoNumber) NoNumber
+
+-- a field and the byte that must stand behind it
+unfoldable pub numberThen : List ℕ → ℕ → ℕ → Number
+unfolding numberAt thenByte
+numberThen s at b = thenByte s (numberAt s at) b
+
+unfoldable pub tableThen : List ℕ → ℕ → ℕ → Number
+unfolding tableAt thenByte
+tableThen s at b = thenByte s (tableAt s at) b

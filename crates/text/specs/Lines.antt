@@ -1,0 +1,54 @@
+-- A line of a text, and its fields from a place on: what a reader that goes from field to field meets. Assumes nothing.
+use Prim.Native.Nat.{ℕ, zero, suc, _+_}
+use mathlib.Core.Bool.{Bool, true, false, _&&_}
+use mathlib.Core.Option.{Option, none, some}
+use mathlib.Core.List.{List, [], _∷_}
+use lib.Dec.{eqb}
+use lib.ListN.{length, drop}
+use Rattle.model.specs.Base.{andThen}
+use Rattle.model.specs.Text.{Line}
+use Rattle.text.specs.declared.Cursor.{Cursor}
+use Rattle.text.specs.Fields.{pickBytes, wordAt, endAt, isByte, onNumber, numberThen}
+
+abbrev pub pickBool : Bool → Bool → Bool → Bool
+pickBool true a b = a
+pickBool false a b = b
+
+-- the bytes before the first byte 10, and whether there is one
+unfoldable pub lineOf : List ℕ → List ℕ
+lineOf [] = []
+lineOf (b ∷ bs) = pickBytes (eqb b 10) [] (b ∷ lineOf bs)
+
+unfoldable pub endedOf : List ℕ → Bool
+endedOf [] = false
+endedOf (b ∷ bs) = pickBool (eqb b 10) true (endedOf bs)
+
+-- the line that begins at a place, and the place past it and its byte 10
+unfoldable pub lineAt : List ℕ → ℕ → Line
+unfolding lineOf endedOf
+lineAt s at = record { offset = at; bytes = lineOf (drop at s); ended = endedOf (drop at s) }
+
+unfoldable pub pastLine : List ℕ → ℕ → ℕ
+unfolding lineOf
+pastLine s at = at + suc (length (lineOf (drop at s)))
+
+-- the field at a place and k more, whatever bytes stand between them
+unfoldable pub wordsAt : ℕ → List ℕ → ℕ → List (List ℕ)
+wordsAt zero s at = wordAt s at ∷ []
+wordsAt (suc k) s at = wordAt s at ∷ wordsAt k s (endAt s at + 1)
+
+-- a space stands between them, and byte 10 behind the last
+unfoldable pub sepsAt : ℕ → List ℕ → ℕ → Bool
+sepsAt zero s at = isByte s (endAt s at) 10
+sepsAt (suc k) s at = isByte s (endAt s at) 32 && sepsAt k s (endAt s at + 1)
+
+-- the place past them all
+unfoldable pub afterAt : ℕ → List ℕ → ℕ → ℕ
+afterAt zero s at = endAt s at + 1
+afterAt (suc k) s at = afterAt k s (endAt s at + 1)
+
+-- the number at a place and k more, a space behind each but the last and byte 10 behind that
+unfoldable pub numbersAt : ℕ → List ℕ → ℕ → Option (List ℕ)
+unfolding numberThen
+numbersAt zero s at = onNumber (numberThen s at 10) (λ n c. some (n ∷ [])) none
+numbersAt (suc k) s at = onNumber (numberThen s at 32) (λ n c. andThen (numbersAt k s (c .at)) (λ ns. some (n ∷ ns))) none

@@ -1,0 +1,351 @@
+// Fields, numbers and names in a text of bytes, and numbers written into one.
+// "One space separates fields; byte 10 ends every line." "Every reader is a cursor that hands itself on after each number."
+// A field is what stands up to the next space, byte 10 or end of text; each field is judged whole, by the definition of the crate `model`.
+ghost use mathlib.Core.Path.{_≡_};
+ghost use mathlib.Core.List.{_∷_, []};
+ghost use Prim.Native.Nat.{_+_, _≤_, _<_};
+ghost use lib.ListN.{length, getD, drop};
+ghost use Rattle.model.specs.Base.{all, same};
+ghost use Rattle.model.specs.Text.{decimal, number, hexDigit, hexFrom, hexTable, isLetter, isNameByte, isName};
+ghost use Rattle.model.specs.LibraryText.{nameBytes};
+ghost use Rattle.words.specs.Put.{putAt};
+ghost use Rattle.text.specs.Fields.{endAt, valueOf, byteAt, numberAt, tableAt, nameAt, thenByte, numberThen, tableThen};
+
+// A position in a text. The text itself is a parameter of each method.
+pub struct Cursor {
+    pub at: usize,
+}
+
+// What a field says as a number.
+pub enum Value {
+    Is(u16),
+    Broken,
+}
+
+// A number that was read, with the cursor past it.
+pub enum Number {
+    Value(u16, Cursor),
+    Broken,
+}
+
+// The cursor past what was read.
+pub enum Step {
+    To(Cursor),
+    Broken,
+}
+
+// ---- fields
+
+// Where the field at `from` ends: at the next space, byte 10 or end of text.
+pub fn field_end(s: &[u8], from: usize) -> usize
+    ensures { λ r. ⌜ r ≡ endAt (now (s .entry)) from ⌝ }
+{
+    let mut at = from;
+    while at < s.len() {
+        let b = s[at];
+        if b == 32 {
+            return at;
+        }
+        if b == 10 {
+            return at;
+        }
+        at += 1;
+    }
+    at
+}
+
+// The same bytes.
+pub fn same_bytes(a: &[u8], b: &[u8]) -> bool
+    ensures { λ r. ⌜ r ≡ same (now (a .entry)) (now (b .entry)) ⌝ }
+{
+    if a.len() != b.len() {
+        return false;
+    }
+    let mut i = 0;
+    while i < a.len() {
+        if a[i] != b[i] {
+            return false;
+        }
+        i += 1;
+    }
+    true
+}
+
+// ---- numbers
+
+// "decimal, 0 to 65,535, without leading zeros": the digits of a field that begins with no zero.
+fn digits_of(w: &[u8]) -> Value
+    requires { ⌜ (0 < length (now w)) × (getD (now w) 0 0 ≡ 48 → ⊥) ⌝ }
+    ensures { λ r. ⌜ r ≡ valueOf (number (now (w .entry))) ⌝ }
+{
+    let mut n: u32 = 0;
+    let mut i = 0;
+    while i < w.len() {
+        let b = w[i];
+        if b < 48 {
+            return Value::Broken;
+        }
+        if b > 57 {
+            return Value::Broken;
+        }
+        n = n * 10 + (b as u32 - 48);
+        if n > 65535 {
+            return Value::Broken;
+        }
+        i += 1;
+    }
+    Value::Is(n as u16)
+}
+
+// The same for any field: a zero stands alone.
+pub fn number_of(w: &[u8]) -> Value
+    ensures { λ r. ⌜ r ≡ valueOf (number (now (w .entry))) ⌝ }
+{
+    if w.len() == 0 {
+        return Value::Broken;
+    }
+    if w[0] == 48 {
+        if w.len() == 1 {
+            return Value::Is(0);
+        }
+        return Value::Broken;
+    }
+    digits_of(w)
+}
+
+// ---- "four lower-case hexadecimal digits"
+
+fn hex_digit(b: u8) -> Value
+    ensures { λ r. ⌜ r ≡ valueOf (hexDigit b) ⌝ }
+{
+    match b {
+        b'0'..=b'9' => Value::Is(b as u16 - 48),
+        b'a'..=b'f' => Value::Is(b as u16 - 87),
+        _ => Value::Broken,
+    }
+}
+
+fn hex_pair(a: u8, b: u8) -> Value
+    ensures { λ r. ⌜ r ≡ valueOf (hexFrom 0 (a ∷ b ∷ [])) ⌝ }
+{
+    match hex_digit(a) {
+        Value::Is(h) => match hex_digit(b) {
+            Value::Is(l) => Value::Is(h * 16 + l),
+            Value::Broken => Value::Broken,
+        },
+        Value::Broken => Value::Broken,
+    }
+}
+
+pub fn hex_of(w: &[u8]) -> Value
+    ensures { λ r. ⌜ r ≡ valueOf (hexTable (now (w .entry))) ⌝ }
+{
+    if w.len() != 4 {
+        return Value::Broken;
+    }
+    match hex_pair(w[0], w[1]) {
+        Value::Is(h) => match hex_pair(w[2], w[3]) {
+            Value::Is(l) => Value::Is(h * 256 + l),
+            Value::Broken => Value::Broken,
+        },
+        Value::Broken => Value::Broken,
+    }
+}
+
+// ---- "A name is 1 to 8 letters, digits or underscores, a letter first."
+
+fn is_letter(b: u8) -> bool
+    ensures { λ r. ⌜ r ≡ isLetter b ⌝ }
+{
+    match b {
+        b'A'..=b'Z' => true,
+        b'a'..=b'z' => true,
+        _ => false,
+    }
+}
+
+fn is_name_byte(b: u8) -> bool
+    ensures { λ r. ⌜ r ≡ isNameByte b ⌝ }
+{
+    if is_letter(b) {
+        return true;
+    }
+    match b {
+        b'0'..=b'9' => true,
+        b'_' => true,
+        _ => false,
+    }
+}
+
+fn name_bytes_from(w: &[u8], from: usize) -> bool
+    ensures { λ r. ⌜ r ≡ all isNameByte (drop from (now (w .entry))) ⌝ }
+{
+    let mut i = from;
+    while i < w.len() {
+        if !is_name_byte(w[i]) {
+            return false;
+        }
+        i += 1;
+    }
+    true
+}
+
+pub fn is_name(w: &[u8]) -> bool
+    ensures { λ r. ⌜ r ≡ isName (now (w .entry)) ⌝ }
+{
+    if w.len() == 0 {
+        return false;
+    }
+    if w.len() > 8 {
+        return false;
+    }
+    if !is_letter(w[0]) {
+        return false;
+    }
+    name_bytes_from(w, 1)
+}
+
+// ---- the cursor
+
+impl Cursor {
+    // One given byte.
+    pub fn byte(self, s: &[u8], b: u8) -> Step
+        ensures { λ r. ⌜ r ≡ byteAt (now (s .entry)) (self .at) b ⌝ }
+    {
+        let at = self.at;
+        if s.len() <= at {
+            return Step::Broken;
+        }
+        if s[at] == b {
+            Step::To(Cursor { at: at + 1 })
+        } else {
+            Step::Broken
+        }
+    }
+
+    // The end of a line: "byte 10 ends every line".
+    pub fn line_end(self, s: &[u8]) -> Step
+        ensures { λ r. ⌜ r ≡ byteAt (now (s .entry)) (self .at) 10 ⌝ }
+    {
+        self.byte(s, 10)
+    }
+
+    // A number's field.
+    pub fn number(self, s: &[u8]) -> Number
+        ensures { λ r. ⌜ r ≡ numberAt (now (s .entry)) (self .at) ⌝ }
+    {
+        let from = self.at;
+        if s.len() <= from {
+            return Number::Broken;
+        }
+        let end = field_end(s, from);
+        match number_of(&s[from..end]) {
+            Value::Is(n) => Number::Value(n, Cursor { at: end }),
+            Value::Broken => Number::Broken,
+        }
+    }
+
+    // A table's field.
+    pub fn table(self, s: &[u8]) -> Number
+        ensures { λ r. ⌜ r ≡ tableAt (now (s .entry)) (self .at) ⌝ }
+    {
+        let from = self.at;
+        if s.len() <= from {
+            return Number::Broken;
+        }
+        let end = field_end(s, from);
+        match hex_of(&s[from..end]) {
+            Value::Is(n) => Number::Value(n, Cursor { at: end }),
+            Value::Broken => Number::Broken,
+        }
+    }
+
+    // A name's field: the cursor past it says how long it is.
+    pub fn name(self, s: &[u8]) -> Step
+        ensures { λ r. ⌜ r ≡ nameAt (now (s .entry)) (self .at) ⌝ }
+    {
+        let from = self.at;
+        if s.len() <= from {
+            return Step::Broken;
+        }
+        let end = field_end(s, from);
+        if is_name(&s[from..end]) {
+            Step::To(Cursor { at: end })
+        } else {
+            Step::Broken
+        }
+    }
+
+    // A number's field, and the byte that must stand behind it.
+    pub fn number_then(self, s: &[u8], b: u8) -> Number
+        ensures { λ r. ⌜ r ≡ numberThen (now (s .entry)) (self .at) b ⌝ }
+    {
+        then_byte(self.number(s), s, b)
+    }
+
+    // The same for a table's.
+    pub fn table_then(self, s: &[u8], b: u8) -> Number
+        ensures { λ r. ⌜ r ≡ tableThen (now (s .entry)) (self .at) b ⌝ }
+    {
+        then_byte(self.table(s), s, b)
+    }
+}
+
+// What was found counts only if the byte b stands behind it.
+fn then_byte(found: Number, s: &[u8], b: u8) -> Number
+    ensures { λ r. ⌜ r ≡ thenByte (now (s .entry)) found b ⌝ }
+{
+    match found {
+        Number::Value(n, c) => match c.byte(s, b) {
+            Step::To(d) => Number::Value(n, d),
+            Step::Broken => Number::Broken,
+        },
+        Number::Broken => Number::Broken,
+    }
+}
+
+// ---- bytes and numbers written
+
+// All of `from`, from byte `at` on.
+pub fn put(out: &mut [u8], at: usize, from: &[u8])
+    requires { ⌜ at + length (now from) ≤ length (now out) ⌝ }
+    ensures { λ _. ⌜ now (out .exit) ≡ putAt (now (out .entry)) at (now (from .entry)) ⌝ }
+{
+    let mut i = 0;
+    while i < from.len() {
+        out[at + i] = from[i];
+        i += 1;
+    }
+}
+
+// A name's bytes by value, with zeros behind them.
+pub fn name_bytes(w: &[u8]) -> [u8; 8]
+    requires { ⌜ length (now w) ≤ 8 ⌝ }
+    ensures { λ r. ⌜ r ≡ nameBytes (now (w .entry)) ⌝ }
+{
+    let mut name = [0u8; 8];
+    put(&mut name, 0, w);
+    name
+}
+
+// How many digits a number has "in decimal without leading zeros".
+pub fn number_len(n: u32) -> usize
+    ensures { λ r. ⌜ r ≡ length (decimal n) ⌝ }
+{
+    if n < 10 { 1 } else { number_len(n / 10) + 1 }
+}
+
+// A number's digits, from byte `at` on; the answer is the place past them.
+pub fn put_number(out: &mut [u8], at: usize, n: u32) -> usize
+    requires { ⌜ at + length (decimal n) ≤ length (now out) ⌝ }
+    ensures { λ r. ⌜ (r ≡ at + length (decimal n)) × (now (out .exit) ≡ putAt (now (out .entry)) at (decimal n)) ⌝ }
+{
+    if n < 10 {
+        out[at] = 48 + n as u8;
+        at + 1
+    } else {
+        let next = put_number(out, at, n / 10);
+        out[next] = 48 + (n % 10) as u8;
+        next + 1
+    }
+}

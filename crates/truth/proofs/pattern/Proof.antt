@@ -1,0 +1,44 @@
+-- `truth::pattern` meets its contract: that the four words are the leaves' tables antt computes.
+-- Assumes nothing.
+use mathlib.Core.Path.{_≡_}
+use mathlib.Core.Bool.{Bool}
+use mathlib.Core.List.{List, map}
+use Prim.Native.Nat.{ℕ, _<_}
+use lib.Dec.{T, eqb, eqb→eq}
+use lib.ListN.{getD}
+use borrow.Author.Needs.{needs}
+use Rattle.model.specs.Base.{all, below, bit}
+use Rattle.model.specs.Cuts.{tabulate}
+use Rattle.truth.specs.Variant.{leafTable}
+use Rattle.truth.proofs.Tested.{at}
+use Rattle.truth.proofs.pattern.Statement.{statement}
+use Rattle.truth.proofs.pattern.Tie as tie
+
+entries : List ℕ
+unfolding leafTable below tabulate bit
+entries = map leafTable (below 4)
+
+right : ℕ → Bool
+unfolding entries
+right i = eqb (getD entries i 0) (leafTable i)
+
+all-right : T (all right (below 4))
+unfolding right all below
+all-right = tt
+
+entry : (i : ℕ) → i < 4 → getD entries i 0 ≡ leafTable i
+unfolding right
+entry i h = eqb→eq (getD entries i 0) (leafTable i) (at right 4 all-right i h)
+
+mul-result : tie.Need-mul-result
+mul-result c = search needs
+
+array-read-result : tie.Need-array-read-result
+array-read-result c = search needs
+
+returns : tie.Need-returns
+unfolding entries
+returns c = entry (c .args .i) (c .pre)
+
+pub pattern-spec : {M : Type 1} → statement M
+pattern-spec = tie.close (tie.spec mul-result array-read-result returns)

@@ -1,0 +1,183 @@
+// Truth tables of up to four inputs, 16 rows each: "bit r is the cell's value in row r, where bit j of r is pin j".
+ghost use mathlib.Core.Path.{_≡_};
+ghost use Prim.Native.Nat.{_+_, _*_, _<_, _≤_};
+ghost use mathlib.Core.Bool.{true, _&&_};
+ghost use lib.Dec.{ltb};
+ghost use lib.ListN.{getD};
+ghost use Rattle.model.specs.Base.{one};
+ghost use Rattle.model.specs.Table.{value, pinRow, rowMap};
+ghost use Rattle.model.specs.Matching.{phaseTable};
+ghost use Rattle.truth.specs.Variant.{placesOf, variantTable, leafTable, placesBelow};
+
+// "A fixed table of 384 rows gives, for each order and row r, the row whose bit j is the bit of r at the order's place j".
+const ROWS: [[u8; 16]; 24] = [
+    [0, 1, 2, 3, 4, 5, 6, 7, 8, 9, 10, 11, 12, 13, 14, 15],
+    [0, 1, 2, 3, 8, 9, 10, 11, 4, 5, 6, 7, 12, 13, 14, 15],
+    [0, 1, 4, 5, 2, 3, 6, 7, 8, 9, 12, 13, 10, 11, 14, 15],
+    [0, 1, 8, 9, 2, 3, 10, 11, 4, 5, 12, 13, 6, 7, 14, 15],
+    [0, 1, 4, 5, 8, 9, 12, 13, 2, 3, 6, 7, 10, 11, 14, 15],
+    [0, 1, 8, 9, 4, 5, 12, 13, 2, 3, 10, 11, 6, 7, 14, 15],
+    [0, 2, 1, 3, 4, 6, 5, 7, 8, 10, 9, 11, 12, 14, 13, 15],
+    [0, 2, 1, 3, 8, 10, 9, 11, 4, 6, 5, 7, 12, 14, 13, 15],
+    [0, 4, 1, 5, 2, 6, 3, 7, 8, 12, 9, 13, 10, 14, 11, 15],
+    [0, 8, 1, 9, 2, 10, 3, 11, 4, 12, 5, 13, 6, 14, 7, 15],
+    [0, 4, 1, 5, 8, 12, 9, 13, 2, 6, 3, 7, 10, 14, 11, 15],
+    [0, 8, 1, 9, 4, 12, 5, 13, 2, 10, 3, 11, 6, 14, 7, 15],
+    [0, 2, 4, 6, 1, 3, 5, 7, 8, 10, 12, 14, 9, 11, 13, 15],
+    [0, 2, 8, 10, 1, 3, 9, 11, 4, 6, 12, 14, 5, 7, 13, 15],
+    [0, 4, 2, 6, 1, 5, 3, 7, 8, 12, 10, 14, 9, 13, 11, 15],
+    [0, 8, 2, 10, 1, 9, 3, 11, 4, 12, 6, 14, 5, 13, 7, 15],
+    [0, 4, 8, 12, 1, 5, 9, 13, 2, 6, 10, 14, 3, 7, 11, 15],
+    [0, 8, 4, 12, 1, 9, 5, 13, 2, 10, 6, 14, 3, 11, 7, 15],
+    [0, 2, 4, 6, 8, 10, 12, 14, 1, 3, 5, 7, 9, 11, 13, 15],
+    [0, 2, 8, 10, 4, 6, 12, 14, 1, 3, 9, 11, 5, 7, 13, 15],
+    [0, 4, 2, 6, 8, 12, 10, 14, 1, 5, 3, 7, 9, 13, 11, 15],
+    [0, 8, 2, 10, 4, 12, 6, 14, 1, 9, 3, 11, 5, 13, 7, 15],
+    [0, 4, 8, 12, 2, 6, 10, 14, 1, 5, 9, 13, 3, 7, 11, 15],
+    [0, 8, 4, 12, 2, 10, 6, 14, 1, 9, 5, 13, 3, 11, 7, 15],
+];
+
+// "The 24 orders of places 0 to 3 stand in lexicographic order, numbered from 0."
+const PLACES: [[u8; 4]; 24] = [
+    [0, 1, 2, 3],
+    [0, 1, 3, 2],
+    [0, 2, 1, 3],
+    [0, 2, 3, 1],
+    [0, 3, 1, 2],
+    [0, 3, 2, 1],
+    [1, 0, 2, 3],
+    [1, 0, 3, 2],
+    [1, 2, 0, 3],
+    [1, 2, 3, 0],
+    [1, 3, 0, 2],
+    [1, 3, 2, 0],
+    [2, 0, 1, 3],
+    [2, 0, 3, 1],
+    [2, 1, 0, 3],
+    [2, 1, 3, 0],
+    [2, 3, 0, 1],
+    [2, 3, 1, 0],
+    [3, 0, 1, 2],
+    [3, 0, 2, 1],
+    [3, 1, 0, 2],
+    [3, 1, 2, 0],
+    [3, 2, 0, 1],
+    [3, 2, 1, 0],
+];
+
+// aaaa, cccc, f0f0 and ff00.
+const PATTERNS: [u16; 4] = [0xaaaa, 0xcccc, 0xf0f0, 0xff00];
+
+// An entry of a table, as an index.
+fn wide(x: u8) -> usize
+    ensures { λ r. ⌜ r ≡ x ⌝ }
+{
+    x as usize
+}
+
+// The row that an order makes of row r.
+pub fn row(order: usize, r: usize) -> usize
+    requires { ⌜ (order < 24) × (r < 16) ⌝ }
+    ensures { λ x. ⌜ x ≡ rowMap (placesOf order) r ⌝ }
+{
+    wide(ROWS[order][r])
+}
+
+// An order's place j.
+pub fn place(order: usize, j: usize) -> usize
+    requires { ⌜ (order < 24) × (j < 4) ⌝ }
+    ensures { λ x. ⌜ x ≡ getD (placesOf order) j 0 ⌝ }
+{
+    wide(PLACES[order][j])
+}
+
+// "bit r is the cell's value in row r".
+pub fn bit(table: u16, r: usize) -> bool
+    requires { ⌜ r < 16 ⌝ }
+    ensures { λ x. ⌜ x ≡ value table r ⌝ }
+{
+    (table >> r) % 2 == 1
+}
+
+// The row of a cell's pins: "pin j fed from its place, complemented where mask bit j is 1".
+fn pin_row(pins: u16, order: usize, mask: usize, r: usize) -> usize
+    requires { ⌜ (pins ≤ 4) × (order < 24) × (r < 16) ⌝ }
+    ensures { λ x. ⌜ x ≡ pinRow pins (placesOf order) mask r ⌝ }
+{
+    (row(order, r) ^ mask) % (1 << pins)
+}
+
+// The value of a cell under an order and a mask.
+pub fn cell_value(pins: u16, table: u16, order: usize, mask: usize, r: usize) -> bool
+    requires { ⌜ (pins ≤ 4) × (order < 24) × (r < 16) ⌝ }
+    ensures { λ x. ⌜ x ≡ value table (pinRow pins (placesOf order) mask r) ⌝ }
+{
+    bit(table, pin_row(pins, order, mask, r))
+}
+
+// A table with a row put below those that it has.
+fn with_row(b: bool, t: u16) -> u16
+    requires { ⌜ t < 32768 ⌝ }
+    ensures { λ x. ⌜ x ≡ one b + 2 * t ⌝ }
+{
+    if b { 1 + 2 * t } else { 2 * t }
+}
+
+// The 16 rows of a cell under an order and a mask, from the last row down.
+pub fn variant_table(pins: u16, table: u16, order: usize, mask: usize) -> u16
+    requires { ⌜ (pins ≤ 4) × (order < 24) ⌝ }
+    ensures { λ x. ⌜ x ≡ variantTable pins table (placesOf order) mask ⌝ }
+{
+    let mut t: u16 = 0;
+    let mut r: usize = 16;
+    while r > 0 {
+        r -= 1;
+        t = with_row(cell_value(pins, table, order, mask, r), t);
+    }
+    t
+}
+
+// "For the negative phase the cut's function is complemented."
+pub fn complement(t: u16) -> u16
+    ensures { λ x. ⌜ x ≡ phaseTable true t ⌝ }
+{
+    65535 - t
+}
+
+// A table in a phase.
+pub fn in_phase(neg: bool, t: u16) -> u16
+    ensures { λ x. ⌜ x ≡ phaseTable neg t ⌝ }
+{
+    if neg { complement(t) } else { t }
+}
+
+// "leaf number i (ascending, from 0) is bit i of the row".
+pub fn pattern(i: usize) -> u16
+    requires { ⌜ i < 4 ⌝ }
+    ensures { λ x. ⌜ x ≡ leafTable i ⌝ }
+{
+    PATTERNS[i]
+}
+
+// Whether places before j fit, and place j too.
+fn fits_too(ok: bool, order: usize, j: usize, leaves: usize) -> bool
+    requires { ⌜ (order < 24) × (j < 4) ⌝ }
+    ensures { λ x. ⌜ x ≡ (ok && ltb (getD (placesOf order) j 0) leaves) ⌝ }
+{
+    if ok { place(order, j) < leaves } else { false }
+}
+
+// "pin j's place is below the number of leaves for each j < m".
+pub fn places_fit(pins: u16, order: usize, leaves: usize) -> bool
+    requires { ⌜ (pins ≤ 4) × (order < 24) ⌝ }
+    ensures { λ x. ⌜ x ≡ placesBelow pins (placesOf order) leaves ⌝ }
+{
+    let m = pins as usize;
+    let mut ok = true;
+    let mut j: usize = 0;
+    while j < m {
+        ok = fits_too(ok, order, j, leaves);
+        j += 1;
+    }
+    ok
+}

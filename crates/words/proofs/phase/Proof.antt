@@ -1,0 +1,24 @@
+-- `words::phase` meets its contract: by the literal's phase. Assumes nothing.
+use Rattle.model.specs.Graph.{varOf, negated}
+use Rattle.model.specs.Choice.{phaseOf}
+use borrow.Author.Tests.{eq-eqb, ne-eqb}
+use borrow.Author.Needs.{needs}
+use Rattle.words.proofs.phase.Statement.{statement}
+use Rattle.words.proofs.phase.Tie as tie
+
+negative-requires : tie.Need-negative-requires
+negative-requires c κs = search needs
+
+positive-requires : tie.Need-positive-requires
+positive-requires c κs = search needs
+
+returns : tie.Need-returns
+unfolding phaseOf negated varOf
+returns c = rw (eq-eqb _ _ (c .before .if1 .taken)) (c .negative .ensures)
+
+returns-2 : tie.Need-returns-2
+unfolding phaseOf negated varOf
+returns-2 c = rw (ne-eqb _ _ (c .before .if1 .left)) (c .positive .ensures)
+
+pub phase-spec : {M : Type 1} → statement M
+phase-spec = tie.close (tie.spec negative-requires positive-requires returns returns-2)

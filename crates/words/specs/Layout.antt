@@ -1,0 +1,139 @@
+-- What lies where in the lent words: a column for each property of a variable, then the cut lists, the functions and the outputs.
+-- With W = M + 1 variables a column of one word for each variable takes W words. No other crate writes a number for an address. Assumes nothing.
+use mathlib.Core.List.{List, [], _∷_}
+use Prim.Native.Nat.{ℕ, _+_, _*_, _/_, _%_, _≤_}
+use lib.ListN.{length, getD}
+use Rattle.model.specs.Limits.{cutLimit}
+
+-- ---- the addresses
+
+-- what a variable is: 0 undefined, 1 constant, 2 input, 3 AND
+abbrev pub kindAddr : ℕ → ℕ → ℕ
+kindAddr m v = v
+
+-- its operands' literals
+abbrev pub leftAddr : ℕ → ℕ → ℕ
+leftAddr m v = m + 1 + v
+
+abbrev pub rightAddr : ℕ → ℕ → ℕ
+rightAddr m v = 2 * (m + 1) + v
+
+-- the variable that is placed i-th
+abbrev pub slotAddr : ℕ → ℕ → ℕ
+slotAddr m i = 3 * (m + 1) + i
+
+-- 1 and the variable's slot, 0 while it is not placed
+abbrev pub placeAddr : ℕ → ℕ → ℕ
+placeAddr m v = 4 * (m + 1) + v
+
+-- how many cuts it has
+abbrev pub countAddr : ℕ → ℕ → ℕ
+countAddr m v = 5 * (m + 1) + v
+
+-- which of its phases are needed
+abbrev pub neededAddr : ℕ → ℕ → ℕ
+neededAddr m v = 6 * (m + 1) + v
+
+-- a word for each variable that nothing uses yet
+abbrev pub freeAddr : ℕ → ℕ → ℕ
+freeAddr m v = 7 * (m + 1) + v
+
+-- its phases, four words for each
+abbrev pub positiveAddr : ℕ → ℕ → ℕ
+positiveAddr m v = 8 * (m + 1) + 4 * v
+
+abbrev pub negativeAddr : ℕ → ℕ → ℕ
+negativeAddr m v = 12 * (m + 1) + 4 * v
+
+-- until phases are chosen, the words of the positive phase note what a walk over a cut's cone found: a table, and the number of the walk in two words
+abbrev pub noteAddr : ℕ → ℕ → ℕ
+noteAddr m v = positiveAddr m v
+
+-- the words of a variable's cut list: five to a cut
+abbrev pub block : ℕ
+block = 5 * cutLimit
+
+-- the cuts of v
+abbrev pub listAddr : ℕ → ℕ → ℕ
+listAddr m v = 16 * (m + 1) + block * v
+
+abbrev pub cutAddr : ℕ → ℕ → ℕ → ℕ
+cutAddr m v k = listAddr m v + 5 * k
+
+-- the functions of v's cuts, one word for each
+abbrev pub functionAddr : ℕ → ℕ → ℕ → ℕ
+functionAddr m v k = (16 + block) * (m + 1) + cutLimit * v + k
+
+-- output i's literal
+abbrev pub outputAddr : ℕ → ℕ → ℕ
+outputAddr m i = (16 + block + cutLimit) * (m + 1) + i
+
+-- ---- where columns that a pass writes whole begin and end
+
+abbrev pub countsFrom : ℕ → ℕ
+countsFrom m = 5 * (m + 1)
+
+abbrev pub countsTo : ℕ → ℕ
+countsTo m = 6 * (m + 1)
+
+abbrev pub notesFrom : ℕ → ℕ
+notesFrom m = 8 * (m + 1)
+
+abbrev pub notesTo : ℕ → ℕ
+notesTo m = 12 * (m + 1)
+
+abbrev pub listsFrom : ℕ → ℕ
+listsFrom m = 16 * (m + 1)
+
+abbrev pub listsTo : ℕ → ℕ
+listsTo m = (16 + block) * (m + 1)
+
+-- ---- enough words
+
+-- for all but the outputs: "M exceeds 4,095" is turned back, and so is "Work memory has fewer than 160(M+1) + O 16-bit words"
+pub record Room (w : List ℕ) (m : ℕ) : Type 0 where
+  pub small : m ≤ 4095
+  pub room : outputAddr m 0 ≤ length w
+
+-- for the outputs too
+pub record RoomFor (w : List ℕ) (m outputs : ℕ) : Type 0 where
+  pub small : m ≤ 4095
+  pub room : outputAddr m outputs ≤ length w
+
+-- ---- the words there
+
+abbrev pub kindAt : List ℕ → ℕ → ℕ → ℕ
+kindAt w m v = getD w (kindAddr m v) 0
+
+abbrev pub leftAt : List ℕ → ℕ → ℕ → ℕ
+leftAt w m v = getD w (leftAddr m v) 0
+
+abbrev pub rightAt : List ℕ → ℕ → ℕ → ℕ
+rightAt w m v = getD w (rightAddr m v) 0
+
+abbrev pub slotAt : List ℕ → ℕ → ℕ → ℕ
+slotAt w m i = getD w (slotAddr m i) 0
+
+abbrev pub placeAt : List ℕ → ℕ → ℕ → ℕ
+placeAt w m v = getD w (placeAddr m v) 0
+
+abbrev pub countAt : List ℕ → ℕ → ℕ → ℕ
+countAt w m v = getD w (countAddr m v) 0
+
+abbrev pub neededAt : List ℕ → ℕ → ℕ → ℕ
+neededAt w m v = getD w (neededAddr m v) 0
+
+abbrev pub functionAt : List ℕ → ℕ → ℕ → ℕ → ℕ
+functionAt w m v k = getD w (functionAddr m v k) 0
+
+abbrev pub outputAt : List ℕ → ℕ → ℕ → ℕ
+outputAt w m i = getD w (outputAddr m i) 0
+
+abbrev pub notedAt : List ℕ → ℕ → ℕ → ℕ
+notedAt w m v = getD w (noteAddr m v) 0
+
+abbrev pub walkAt : List ℕ → ℕ → ℕ → ℕ
+walkAt w m v = getD w (noteAddr m v + 1) 0 + 65536 * getD w (noteAddr m v + 2) 0
+
+abbrev pub noteWords : ℕ → ℕ → List ℕ
+noteWords x walk = x ∷ walk % 65536 ∷ walk / 65536 ∷ []

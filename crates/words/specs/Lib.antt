@@ -1,0 +1,8 @@
+-- `Put`: words stored into a list from a place on. `Layout`: what lies where in the lent words. `Record`: a node, a cut and a cut list in words.
+-- `Phases`: a phase in words, and which phases are needed. `Places`: every record of the layout, with its address.
+pub mod Put
+pub mod Layout
+pub mod Record
+pub mod Phases
+pub mod Places
+pub mod Holding

@@ -1,0 +1,77 @@
+-- A node as three words, its kind and its operands; a cut as five words, its count and its four leaves; a list of cuts as those of its cuts.
+-- Assumes nothing.
+use mathlib.Core.Bool.{cond}
+use mathlib.Core.List.{List, [], _∷_, _++_}
+use Prim.Native.Nat.{ℕ, zero, suc, _+_, _*_, _≤_, _<_}
+use lib.Dec.{eqb}
+use lib.ListN.{length, take, getD}
+use Rattle.model.specs.Limits.{cutLimit}
+use Rattle.model.specs.declared.Cut.{Cut}
+use Rattle.model.specs.Graph.{Node, constant, input, undefined, both}
+use Rattle.words.specs.Put.{putAt}
+use Rattle.words.specs.Layout.{kindAddr, leftAddr, rightAddr, kindAt, leftAt, rightAt, countAt, countAddr, listAddr}
+
+-- the leaves of a cut
+abbrev pub leavesOf : Cut → List ℕ
+leavesOf c = take (c .count) (c .leaves)
+
+-- the cut in the five words from `at` on
+unfoldable pub cutAt : List ℕ → ℕ → Cut
+cutAt w at = record { leaves = getD w (at + 1) 0 ∷ getD w (at + 2) 0 ∷ getD w (at + 3) 0 ∷ getD w (at + 4) 0 ∷ []; count = getD w at 0 }
+
+-- four leaves, with zeros past the last
+abbrev pub padded : List ℕ → List ℕ
+padded ls = take 4 (ls ++ 0 ∷ 0 ∷ 0 ∷ 0 ∷ [])
+
+-- the words of a cut: its size and its leaves, with zeros past the last
+unfoldable pub cutWords : List ℕ → List ℕ
+cutWords c = length c ∷ padded c
+
+-- the words of a list of cuts
+unfoldable pub flat : List (List ℕ) → List ℕ
+flat [] = []
+flat (c ∷ cs) = cutWords c ++ flat cs
+
+-- the leaves of the n cuts from `at` on
+unfoldable pub listAt : List ℕ → ℕ → ℕ → List (List ℕ)
+listAt w at zero = []
+listAt w at (suc n) = leavesOf (cutAt w at) ∷ listAt w (at + 5) n
+
+-- the cuts of a variable, as the words have them
+unfoldable pub cutsAt : List ℕ → ℕ → ℕ → List (List ℕ)
+cutsAt w m v = listAt w (listAddr m v) (countAt w m v)
+
+-- the words with a list of cuts stored for a variable
+unfoldable pub putList : List ℕ → ℕ → ℕ → List (List ℕ) → List ℕ
+putList w m v cs = putAt (putAt w (countAddr m v) (length cs ∷ [])) (listAddr m v) (flat cs)
+
+-- what a kind, and the words of the operands, say a variable is
+abbrev pub nodeOf : ℕ → ℕ → ℕ → Node
+nodeOf k l r = cond (eqb k 1) constant (cond (eqb k 2) input (cond (eqb k 3) (both l r) undefined))
+
+-- what a variable is, as the words have it
+unfoldable pub nodeAt : List ℕ → ℕ → ℕ → Node
+nodeAt w m v = nodeOf (kindAt w m v) (leftAt w m v) (rightAt w m v)
+
+-- the words with a kind and operands stored for a variable
+unfoldable pub putNode : List ℕ → ℕ → ℕ → ℕ → ℕ → ℕ → List ℕ
+putNode w m v k l r = putAt (putAt (putAt w (kindAddr m v) (k ∷ [])) (leftAddr m v) (l ∷ [])) (rightAddr m v) (r ∷ [])
+
+-- ascending leaves from lo on, each a variable: "M exceeds 4,095" is turned back
+abbrev pub Leaves : ℕ → List ℕ → Type 0
+Leaves lo [] = Unit {0}
+Leaves lo (x ∷ xs) = (lo ≤ x) × (x < 4096) × Leaves (suc x) xs
+
+-- "at most four members", ascending
+abbrev pub Good : List ℕ → Type 0
+Good c = (length c ≤ 4) × Leaves 0 c
+
+abbrev pub AllGood : List (List ℕ) → Type 0
+AllGood [] = Unit {0}
+AllGood (c ∷ cs) = Good c × AllGood cs
+
+-- the words of a variable's cut list can be read: few cuts, each of at most four ascending leaves
+pub record Sound (w : List ℕ) (m v : ℕ) : Type 0 where
+  pub few : countAt w m v ≤ cutLimit
+  pub narrow : (k : ℕ) → k < countAt w m v → getD w (listAddr m v + 5 * k) 0 ≤ 4
+  pub good : AllGood (cutsAt w m v)
