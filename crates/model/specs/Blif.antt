@@ -24,11 +24,13 @@ pub record GateLine : Type 0 where
   pub cell : List ℕ
   pub bindings : List Binding
 
+-- a model: its inputs, outputs and gates
 pub record Blif : Type 0 where
   pub inputs : List (List ℕ)
   pub outputs : List (List ℕ)
   pub gates : List GateLine
 
+-- a binding whose pin's name has one byte more in front
 unfoldable pub longer : ℕ → Binding → Binding
 longer b p = record { pin = b ∷ p .pin; net = p .net }
 
@@ -38,6 +40,7 @@ unfolding andThen longer
 binding [] = none
 binding (b ∷ bs) = let rest = binding bs in cond (eqb b 61) (some (record { pin = []; net = bs })) (andThen rest (λ p. some (longer b p)))
 
+-- the bindings of a gate line
 unfoldable pub bindingsOf : List (List ℕ) → Option (List Binding)
 unfolding andThen binding
 bindingsOf [] = some []
@@ -49,15 +52,18 @@ unfolding same only
 afterWord keyword [] = none
 afterWord keyword (w ∷ ws) = only (same w keyword) ws
 
+-- the words of a line after its keyword, one space between
 unfoldable pub wordsAfter : List ℕ → List ℕ → Option (List (List ℕ))
 unfolding afterWord parts
 wordsAfter keyword l = afterWord keyword (parts 32 l)
 
+-- the cell's name, and the bindings
 unfoldable pub gateOf : List (List ℕ) → Option GateLine
 unfolding bindingsOf andThen
 gateOf [] = none
 gateOf (c ∷ ws) = andThen (bindingsOf ws) (λ ps. some (record { cell = c; bindings = ps }))
 
+-- a line `.gate`
 unfoldable pub readGate : List ℕ → Option GateLine
 unfolding andThen wordsAfter text gateOf
 readGate l = andThen (wordsAfter (text ".gate") l) gateOf
@@ -69,6 +75,7 @@ readGates [] = none
 readGates (l ∷ ls) = cond (same l (text ".end")) (some [])
     (andThen (readGate l) (λ t. andThen (readGates ls) (λ ts. some (t ∷ ts))))
 
+-- `.model top`, `.inputs`, `.outputs`, the gates
 unfoldable pub readLines : List (List ℕ) → Option Blif
 unfolding same text wordsAfter readGates andThen
 readLines [] = none
@@ -104,6 +111,7 @@ unfoldable pub pinNames : ℕ → List (List ℕ)
 unfolding below
 pinNames n = map (λ (j : ℕ). (65 + j) ∷ []) (below n)
 
+-- "output O"
 abbrev pub outputName : List ℕ
 outputName = 79 ∷ []
 

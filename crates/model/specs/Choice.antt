@@ -21,9 +21,11 @@ pub record Phases : Type 0 where
   pub positive : Phase
   pub negative : Phase
 
+-- "or none"
 unfoldable pub noPhase : Phase
 noPhase = record { source = Nothing; arrival = 0 }
 
+-- no phase of either
 unfoldable pub noPhases : Phases
 unfolding noPhase
 noPhases = record { positive = noPhase; negative = noPhase }
@@ -55,6 +57,7 @@ latest [] ds = 0
 latest (t ∷ ts) [] = max t (latest ts [])
 latest (t ∷ ts) (d ∷ ds) = max (t + d) (latest ts ds)
 
+-- there is no source
 unfoldable pub absent : Source → Bool
 absent Input = false
 absent Nothing = true

@@ -46,6 +46,7 @@ unfoldable pub cutLists : Graph → List (ℕ × List (List ℕ))
 unfolding run find placingOrder node nodeCuts
 cutLists g = run (λ known v. nodeCuts (λ u. find [] u known) v (node g v)) (placingOrder g) []
 
+-- the cut list of a variable
 unfoldable pub cutsOf : Graph → ℕ → List (List ℕ)
 unfolding cutLists find
 cutsOf g v = find [] v (cutLists g)

@@ -47,25 +47,24 @@ pub record Printed (library graph : List ℕ) (words bytes : ℕ) (t : List ℕ)
   pub outcome : mapTexts library graph words bytes ≡ mapped t f
   pub reads : readBlif t ≡ some n
 
--- a statement of every printed netlist
-abbrev pub OfPrinted : (List Cell → Graph → Figures → Blif → Type 0) → Type 0
-OfPrinted P =
-    (library graph : List ℕ) (words bytes : ℕ) (t : List ℕ) (f : Figures) (d : Design) (n : Blif)
-    → Printed library graph words bytes t f d n → P (d .cells) (d .graph) f n
+-- a statement of what is printed for two texts
+abbrev pub OfPrinted : (List Cell → Graph → Figures → Blif → Type 0) → List ℕ → List ℕ → ℕ → ℕ → Type 0
+OfPrinted P library graph words bytes =
+    (t : List ℕ) (f : Figures) (d : Design) (n : Blif) → Printed library graph words bytes t f d n → P (d .cells) (d .graph) f n
 
 -- what is printed is read from a design, and reads back
-abbrev pub Readable : Type 0
-Readable =
-    (library graph : List ℕ) (words bytes : ℕ) (t : List ℕ) (f : Figures) → mapTexts library graph words bytes ≡ mapped t f
-    → (d : Design) × (n : Blif) × Printed library graph words bytes t f d n
+abbrev pub Readable : List ℕ → List ℕ → ℕ → ℕ → Type 0
+Readable library graph words bytes =
+    (t : List ℕ) (f : Figures) → mapTexts library graph words bytes ≡ mapped t f → (d : Design) × (n : Blif) × Printed library graph words bytes t f d n
 
--- "Inputs and outputs keep the file's order." Each gate is of a listed cell and binds its pins and its output; no net is driven twice, and
--- every net that is used is driven
+-- "Inputs and outputs keep the file's order." "Nets are `p` or `m` (negative) and the variable". Each gate is of a listed cell and binds its
+-- pins and its output; no net is driven twice, and every net that is used is driven
 pub record Formed (cells : List Cell) (g : Graph) (f : Figures) (n : Blif) : Type 0 where
   pub inputs : n .inputs ≡ map (λ (v : ℕ). netName (literal false v)) (g .inputs)
   pub outputs : n .outputs ≡ map netName (g .outputs)
   pub listed : (t : GateLine) → List·Memᴰ t (n .gates) → (c : Cell) × List·Memᴰ c cells × (nameOf c ≡ t .cell)
       × (map (λ (b : Binding). b .pin) (t .bindings) ≡ pinNames (c .pins) ++ (outputName ∷ []))
+  pub nets : (net : List ℕ) → List·Memᴰ net (drivenNets n) → (l : ℕ) × (net ≡ netName l)
   pub once : Distinct (drivenNets n)
   pub driven : (net : List ℕ) → List·Memᴰ net (n .outputs ++ each (fedBy cells) (n .gates)) → List·Memᴰ net (drivenNets n)
 
@@ -88,8 +87,8 @@ pub record SameFigures (cells : List Cell) (g : Graph) (f : Figures) (n : Blif) 
 
 -- ---- Demand 3: "for each net of the printed netlist, every cover of the outputs that has this net gives it an arrival no earlier".
 -- "A cover has a net if it needs that net's phase"
-abbrev pub Earliest : List Cell → Graph → Figures → Blif → Type 0
-Earliest cells g f n =
+abbrev pub NoEarlier : List Cell → Graph → Figures → Blif → Type 0
+NoEarlier cells g f n =
     (at : List ℕ → ℕ) → NetArrivals cells n at → (l : ℕ) → List·Memᴰ (netName l) (drivenNets n)
     → (c : Cover cells g (g .outputs)) → Needed cells g (g .outputs) (c .source) l → at (netName l) ≤ c .arrival l
 
@@ -99,10 +98,10 @@ pub record Mappable (library graph : List ℕ) (words : ℕ) (d : Design) : Type
   pub placed : unplaced (d .graph) ≡ []
   pub few : crowded (d .graph) ≡ []
 
-abbrev pub OfMappable : (ℕ → Outcome → List Cell → Graph → Type 0) → Type 0
-OfMappable P =
-    (library graph : List ℕ) (words bytes : ℕ) (d : Design) → Mappable library graph words d
-    → P bytes (mapTexts library graph words bytes) (d .cells) (d .graph)
+-- a statement of the outcome for two texts that can be mapped
+abbrev pub OfMappable : (ℕ → Outcome → List Cell → Graph → Type 0) → List ℕ → List ℕ → ℕ → ℕ → Type 0
+OfMappable P library graph words bytes =
+    (d : Design) → Mappable library graph words d → P bytes (mapTexts library graph words bytes) (d .cells) (d .graph)
 
 -- output k is the lowest that has no cover: "a cover of one output is a cover with that as the only output"
 pub record LowestUncovered (cells : List Cell) (g : Graph) (k : ℕ) : Type 0 where
@@ -114,6 +113,7 @@ pub record LowestUncovered (cells : List Cell) (g : Graph) (k : ℕ) : Type 0 wh
 abbrev pub choiceFigures : List Cell → Graph → Figures
 choiceFigures cells g = figuresOf g (chosen cells g) (gates cells g (chosen cells g))
 
+-- its text
 abbrev pub choiceText : List Cell → Graph → List ℕ
 choiceText cells g = netlistText g (gates cells g (chosen cells g)) (choiceFigures cells g)
 
@@ -143,17 +143,22 @@ pub record Preferred (cells : List Cell) (g : Graph) (l : ℕ) : Type 0 where
       → (absent (chosen cells g l .source) ≡ false)
       × (¬ (compareLeaves (preference (chosen cells g l)) (preference (record { source = s; arrival = arrivalBy cells g (λ x. chosen cells g x .arrival) l s })) ≡ Ordering·gt))
 
+-- what is said of the choice
 pub record Chosen (bytes : ℕ) (outcome : Outcome) (cells : List Cell) (g : Graph) : Type 0 where
   pub covers : ((l : ℕ) → List·Memᴰ l (g .outputs) → Cover cells g (l ∷ [])) → ChosenCover cells g
   pub preferred : (l : ℕ) → List·Memᴰ (varOf l) (placingOrder g) → Preferred cells g l
 
--- ---- the demands together
+-- ---- demands 2 and 3 together, for two texts and so many words and bytes lent
 
-pub record Demands : Type 0 where
-  pub readable : Readable
-  pub formed : OfPrinted Formed
-  pub values : OfPrinted SameValues
-  pub figures : OfPrinted SameFigures
-  pub earliest : OfPrinted Earliest
-  pub decided : OfMappable Decided
-  pub choice : OfMappable Chosen
+-- Demand 2, with the figures
+pub record Values (library graph : List ℕ) (words bytes : ℕ) : Type 0 where
+  pub readable : Readable library graph words bytes
+  pub formed : OfPrinted Formed library graph words bytes
+  pub values : OfPrinted SameValues library graph words bytes
+  pub figures : OfPrinted SameFigures library graph words bytes
+
+-- Demand 3
+pub record Earliest (library graph : List ℕ) (words bytes : ℕ) : Type 0 where
+  pub earliest : OfPrinted NoEarlier library graph words bytes
+  pub decided : OfMappable Decided library graph words bytes
+  pub choice : OfMappable Chosen library graph words bytes

@@ -25,9 +25,11 @@ pub record Graph : Type 0 where
 unfoldable pub varOf : ℕ → ℕ
 varOf l = l / 2
 
+-- a literal is a complement
 unfoldable pub negated : ℕ → Bool
 negated l = eqb (l % 2) 1
 
+-- the literal of a variable, complemented or not
 unfoldable pub literal : Bool → ℕ → ℕ
 literal neg v = cond neg (2 * v + 1) (2 * v)
 
@@ -41,6 +43,7 @@ pub data Node : Type 0 where
   constant input undefined : Node
   both : ℕ → ℕ → Node
 
+-- the AND that defines a variable
 unfoldable pub findAnd : ℕ → List And → Node
 findAnd v [] = undefined
 findAnd v (a ∷ as′) = let r = findAnd v as′ in cond (eqb v (a .var)) (both (a .left) (a .right)) r
@@ -101,6 +104,7 @@ unfoldable pub values : Graph → (ℕ → Bool) → List (ℕ × Bool)
 unfolding run find placingOrder node nodeValue
 values g setting = run (λ known v. nodeValue setting (λ u. find false u known) v (node g v)) (placingOrder g) []
 
+-- the value of a variable under a setting of the inputs
 unfoldable pub valueOf : Graph → (ℕ → Bool) → ℕ → Bool
 unfolding values find
 valueOf g setting v = find false v (values g setting)

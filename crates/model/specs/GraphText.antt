@@ -15,6 +15,7 @@ use Rattle.model.specs.declared.HeaderAnswer.the-variants.{Read as WasRe
 
 -- ---- the header `aag M I L O A`
 
+-- the header of five numbers, the line behind it beginning at `end`
 unfoldable pub headerOfNumbers : ℕ → List ℕ → Header
 headerOfNumbers end ns =
     record { size = getD ns 0 0; inputs = getD ns 1 0; latches = getD ns 2 0; outputs = getD ns 3 0; ands = getD ns 4 0; next = end }
@@ -50,6 +51,7 @@ headerAnswer (fault n k) = Refused n k
 pub data Kind : Type 0 where
   anInput anOutput anAnd : Kind
 
+-- how many numbers a due line has
 unfoldable pub howMany : Kind → ℕ
 howMany anInput = 1
 howMany anOutput = 1
@@ -71,6 +73,7 @@ pub record Item : Type 0 where
   pub offset : ℕ
   pub literals : List ℕ
 
+-- the literals of a due line: "one space between, byte 10 after each line"
 unfoldable pub itemLiterals : Kind → Line → Option (List ℕ)
 unfolding andThen only numbers fields howMany
 itemLiterals k l = let ws = fields (l .bytes) in andThen (only (l .ended && eqb (length ws) (howMany k)) ws) numbers
@@ -92,6 +95,7 @@ unfoldable pub uses : Item → List ℕ
 unfolding defines
 uses i = cond (defines (i .kind)) (drop 1 (i .literals)) (i .literals)
 
+-- the variables that lines define
 unfoldable pub definedBy : List Item → List ℕ
 unfolding defines varOf
 definedBy [] = []
@@ -104,6 +108,7 @@ checkUses known [] = holds []
 checkUses known (i ∷ is) =
     unless (all (λ (l : ℕ). elem (varOf l) (0 ∷ known)) (uses i)) 14 (i .offset) (next (checkUses known is) (λ js. holds (i ∷ js)))
 
+-- the same kind
 unfoldable pub sameKind : Kind → Kind → Bool
 sameKind anInput anInput = true
 sameKind anInput anOutput = false
@@ -115,10 +120,12 @@ sameKind anAnd anInput = false
 sameKind anAnd anOutput = false
 sameKind anAnd anAnd = true
 
+-- a line of that kind
 unfoldable pub isKind : Kind → Item → Bool
 unfolding sameKind
 isKind k i = sameKind k (i .kind)
 
+-- the graph of the lines that are read
 unfoldable pub graphOf : ℕ → List Item → Graph
 unfolding keep isKind varOf
 graphOf size is = record {

@@ -34,6 +34,7 @@ unfoldable pub within : ℕ → Outcome → Outcome
 within bytes (refused n k) = refused n k
 within bytes (mapped t f) = cond (leb (length t) bytes) (mapped t f) (refused 18 (length t))
 
+-- the outcome for what was read
 unfoldable pub mapDesign : ℕ → Read Design → Outcome
 unfolding within mapGraph
 mapDesign bytes (holds d) = within bytes (mapGraph (d .cells) (d .graph))

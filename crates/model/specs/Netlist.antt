@@ -20,6 +20,7 @@ use Rattle.model.specs.declared.Verdict.{Verdict}
 
 -- ---- the needed phases
 
+-- an inverter
 unfoldable pub isInverted : Source → Bool
 isInverted Input = false
 isInverted Nothing = false
@@ -39,6 +40,7 @@ spread cells cuts phase [] needed = needed
 spread cells cuts phase (l ∷ ls) needed =
     spread cells cuts phase ls (cond (elem l needed) (feeds cells cuts l (phase l .source) ++ needed) needed)
 
+-- the needed phases
 unfoldable pub needed : List Cell → Graph → (ℕ → Phase) → List ℕ
 unfolding spread backwards placingOrder each cutsOf
 needed cells g phase = spread cells (cutsOf g) phase (each (backwards phase) (reverse (placingOrder g))) (g .outputs)
@@ -51,6 +53,7 @@ pub record Gate : Type 0 where
   pub pins : List ℕ
   pub net : ℕ
 
+-- "inputs' own positive nets"
 unfoldable pub isOwn : Source → Bool
 isOwn Input = true
 isOwn Nothing = false
@@ -88,10 +91,12 @@ unfoldable pub namesLine : List ℕ → List ℕ → List ℕ
 unfolding text each netName
 namesLine keyword nets = keyword ++ (each (λ (l : ℕ). 32 ∷ netName l) nets ++ text "\n")
 
+-- the sum of a list
 unfoldable pub sum : List ℕ → ℕ
 sum [] = 0
 sum (n ∷ ns) = n + sum ns
 
+-- the largest of a list, 0 where it is empty
 unfoldable pub largest : List ℕ → ℕ
 largest [] = 0
 largest (n ∷ ns) = max n (largest ns)
@@ -142,6 +147,7 @@ coverVerdict cells g = refusedAt 17 (firstOf (uncovered (chosen cells g) 0 (g .o
 
 -- ---- the netlist, or a refusal of 15 to 17
 
+-- a refusal's number and place, or the text with its figures
 pub data Outcome : Type 0 where
   refused : ℕ → ℕ → Outcome
   mapped : List ℕ → Figures → Outcome
@@ -152,6 +158,7 @@ unfolding gates figuresOf netlistText
 printed cells g phase (k ∷ ks) = refused 17 k
 printed cells g phase [] = let ts = gates cells g phase in let f = figuresOf g phase ts in mapped (netlistText g ts f) f
 
+-- what is printed for the choice
 unfoldable pub mapChosen : List Cell → Graph → List (ℕ × Phases) → Outcome
 unfolding printed uncovered phaseOf find noPhases
 mapChosen cells g found = let phase = phaseOf (λ u. find noPhases u found) in printed cells g phase (uncovered phase 0 (g .outputs))
@@ -168,6 +175,7 @@ unfolding mapCut crowded
 mapPlaced cells g (some v) = refused 15 v
 mapPlaced cells g none = mapCut cells g (crowded g)
 
+-- what is printed for a library and a graph, 15 to 17 tried in this order
 unfoldable pub mapGraph : List Cell → Graph → Outcome
 unfolding mapPlaced lowest unplaced
 mapGraph cells g = mapPlaced cells g (lowest (unplaced g))

@@ -11,6 +11,7 @@ pub data Read (A : Type 0) : Type 0 where
   holds : A → Read A
   fault : ℕ → ℕ → Read A
 
+-- what is read further, unless there was a refusal
 unfoldable pub next : {A B : Type 0} → Read A → (A → Read B) → Read B
 next (holds a) f = f a
 next (fault n k) f = fault n k

@@ -14,6 +14,7 @@ unfoldable pub text : String → List ℕ
 text end = []
 text (c then s) = code c ∷ text s
 
+-- the digits of a number in front of bytes; each step takes one
 unfoldable pub digits : ℕ → ℕ → List ℕ → List ℕ
 digits zero n after = after
 digits (suc fuel) n after =
@@ -25,10 +26,12 @@ unfoldable pub decimal : ℕ → List ℕ
 unfolding digits
 decimal n = digits (suc n) n []
 
+-- a byte put in front of the first part
 unfoldable pub onto : ℕ → List (List ℕ) → List (List ℕ)
 onto b [] = (b ∷ []) ∷ []
 onto b (w ∷ ws) = (b ∷ w) ∷ ws
 
+-- a new part begins at the separator
 unfoldable pub split : Bool → ℕ → List (List ℕ) → List (List ℕ)
 unfolding onto
 split true b ws = [] ∷ ws
@@ -71,11 +74,13 @@ unfoldable pub number : List ℕ → Option ℕ
 unfolding only asDigits decimal same
 number w = let n = asDigits 0 w in only (leb n 65535 && same w (decimal n)) n
 
+-- all fields as numbers
 unfoldable pub numbers : List (List ℕ) → Option (List ℕ)
 unfolding andThen number
 numbers [] = some []
 numbers (w ∷ ws) = andThen (number w) (λ n. andThen (numbers ws) (λ ns. some (n ∷ ns)))
 
+-- a byte of a range
 unfoldable pub between : ℕ → ℕ → ℕ → Bool
 between low high b = leb low b && leb b high
 
@@ -84,6 +89,7 @@ unfoldable pub hexDigit : ℕ → Option ℕ
 unfolding between
 hexDigit b = cond (between 48 57 b) (some (b - 48)) (cond (between 97 102 b) (some (b - 87)) none)
 
+-- the digits behind a number that was read so far
 unfoldable pub hexFrom : ℕ → List ℕ → Option ℕ
 unfolding andThen hexDigit
 hexFrom n [] = some n
@@ -94,10 +100,12 @@ unfoldable pub hexTable : List ℕ → Option ℕ
 unfolding andThen only hexFrom
 hexTable w = andThen (only (eqb (length w) 4) w) (hexFrom 0)
 
+-- a letter
 unfoldable pub isLetter : ℕ → Bool
 unfolding between
 isLetter b = between 65 90 b || between 97 122 b
 
+-- "letters, digits or underscores"
 unfoldable pub isNameByte : ℕ → Bool
 unfolding isLetter between
 isNameByte b = isLetter b || (between 48 57 b || eqb b 95)

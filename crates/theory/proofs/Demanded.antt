@@ -19,7 +19,7 @@ use Rattle.model.specs.Cover.{output}
 use Rattle.model.specs.Netlist.{Gate, Outcome, refused, mapped, mapGraph, gates, figuresOf, netName, sum, largest}
 use Rattle.model.specs.Blif.{GateLine, Blif, readBlif, named, drives}
 use Rattle.model.specs.Mapper.{Design, readTexts, mapTexts, mapDesign, within}
-use Rattle.model.specs.Demands.{drivenNets, Printed, OfPrinted, Readable, Formed, SameValues, SameFigures, Earliest, OfMappable, Decided, Chosen, choiceText, choiceFigures, Demands}
+use Rattle.model.specs.Demands.{drivenNets, Printed, OfPrinted, Readable, Formed, SameValues, SameFigures, NoEarlier, OfMappable, Decided, Chosen, choiceText, choiceFigures, Values, Earliest}
 use Rattle.model.specs.declared.Cell.{Cell}
 use Rattle.model.specs.declared.Figures.{Figures}
 use Rattle.theory_graph.proofs.Lists.{map-out, map-map, map-same, is-true}
@@ -65,14 +65,15 @@ known library graph words bytes t f d e o =
     }
 
 -- a statement of every printed netlist, from one of the chosen gates
-of-printed : (P : List Cell → Graph → Figures → Blif → Type 0) → ((t : List ℕ) (f : Figures) (d : Design) → Known t f d → P (d .cells) (d .graph) f (chosenBlif d)) → OfPrinted P
+of-printed : (P : List Cell → Graph → Figures → Blif → Type 0) → ((t : List ℕ) (f : Figures) (d : Design) → Known t f d → P (d .cells) (d .graph) f (chosenBlif d))
+    → (library graph : List ℕ) (words bytes : ℕ) → OfPrinted P library graph words bytes
 of-printed P h library graph words bytes t f d n p =
     let k = known library graph words bytes t f d (p .design) (p .outcome) in
     let q : _≡_ {A = Option Blif} (some n) (some (chosenBlif d)) = sym (p .reads) ∙ k .reads in
     let e : n ≡ chosenBlif d = cc in
     subst (P (d .cells) (d .graph) f) (sym e) (h t f d k)
 
-pub readable : Readable
+pub readable : (library graph : List ℕ) (words bytes : ℕ) → Readable library graph words bytes
 unfolding mapTexts mapDesign
 readable library graph words bytes t f o = go (readTexts library graph words) refl o
   where
@@ -80,12 +81,12 @@ readable library graph words bytes t f o = go (readTexts library graph words) re
     go (fault n k) e q = absurd (refused-never q)
     go (holds d) e q = (d, chosenBlif d, record { design = e; outcome = o; reads = known library graph words bytes t f d e o .reads })
 
-pub formed : OfPrinted Formed
+pub formed : (library graph : List ℕ) (words bytes : ℕ) → OfPrinted Formed library graph words bytes
 formed = of-printed Formed (λ t f d k. well-formed (d .cells) (k .library) (d .graph) (k .graph) (k .choice .covered) f)
 
 -- ---- demand 2
 
-pub values : OfPrinted SameValues
+pub values : (library graph : List ℕ) (words bytes : ℕ) → OfPrinted SameValues library graph words bytes
 unfolding blifOf literalValue
 values = of-printed SameValues (λ t f d k. record {
   graphHas = λ setting. (valueOf (d .graph) setting, values-exist (d .graph) (k .graph) setting);
@@ -99,7 +100,7 @@ values = of-printed SameValues (λ t f d k. record {
       (defined-placed (d .graph) (k .graph) (varOf l) (k .graph .used l (Memᴰ·append-left (each (λ (a : And). a .left ∷ a .right ∷ []) (d .graph .ands)) m))))));
 })
 
-pub figures : OfPrinted SameFigures
+pub figures : (library graph : List ℕ) (words bytes : ℕ) → OfPrinted SameFigures library graph words bytes
 unfolding blifOf lineOf figuresOf
 figures = of-printed SameFigures (λ t f d k.
     let ts = gates (d .cells) (d .graph) (chosen (d .cells) (d .graph)) in
@@ -127,11 +128,11 @@ figures = of-printed SameFigures (λ t f d k.
 
 -- ---- demand 3
 
-pub earliest : OfPrinted Earliest
+pub no-earlier : (library graph : List ℕ) (words bytes : ℕ) → OfPrinted NoEarlier library graph words bytes
 unfolding blifOf drivenNets
-earliest = of-printed Earliest at-net
+no-earlier = of-printed NoEarlier at-net
   where
-    at-net : (t : List ℕ) (f : Figures) (d : Design) → Known t f d → Earliest (d .cells) (d .graph) f (chosenBlif d)
+    at-net : (t : List ℕ) (f : Figures) (d : Design) → Known t f d → NoEarlier (d .cells) (d .graph) f (chosenBlif d)
     at-net t f d k at h l m c n = go (List·Memᴰ·append-cases (map (λ (v : ℕ). netName (literal false v)) (d .graph .inputs)) m)
       where
         ts : List Gate
@@ -168,7 +169,7 @@ within-seventeen bytes (mapped t f) k = (
     go true e = refused-never (sym e)
     go false e = let q : _≡_ {A = ℕ} 18 17 = ap numberOf e in omega arith
 
-pub decided : OfMappable Decided
+pub decided : (library graph : List ℕ) (words bytes : ℕ) → OfMappable Decided library graph words bytes
 decided library graph words bytes d p = record {
   seventeen = λ k.
       let s = seventeen-iff (d .cells) (d .graph) ok (p .few) k in
@@ -200,12 +201,23 @@ decided library graph words bytes d p = record {
         go true y = absurd (let z : length t ≤ bytes = y tt in omega arith)
         go false y = refl
 
-pub choice : OfMappable Chosen
+pub choice : (library graph : List ℕ) (words bytes : ℕ) → OfMappable Chosen library graph words bytes
 choice library graph words bytes d p =
     let ok = design-accepted library graph words d (p .design) (p .placed) in
     record { covers = choice-cover (d .cells) (d .graph) ok; preferred = choice-preferred (d .cells) (d .graph) ok }
 
 -- ---- together
 
-pub demands : Demands
-demands = record { readable = readable; formed = formed; values = values; figures = figures; earliest = earliest; decided = decided; choice = choice }
+-- "the printed netlist, read by BLIF's rules with the listed cells' tables, gives every output the value that the AIGER graph gives it"
+pub demand-values : (library graph : List ℕ) (words bytes : ℕ) → Values library graph words bytes
+demand-values library graph words bytes = record {
+  readable = readable library graph words bytes;
+  formed = formed library graph words bytes;
+  values = values library graph words bytes;
+  figures = figures library graph words bytes;
+}
+
+-- "for each net of the printed netlist, every cover of the outputs that has this net gives it an arrival no earlier"
+pub demand-earliest : (library graph : List ℕ) (words bytes : ℕ) → Earliest library graph words bytes
+demand-earliest library graph words bytes =
+    record { earliest = no-earlier library graph words bytes; decided = decided library graph words bytes; choice = choice library graph words bytes }

@@ -156,6 +156,7 @@ module _ (cells : List Cell) (fit : T (libraryFits cells)) (g : Graph) (ok : Acc
     inputs = refl;
     outputs = refl;
     listed = λ t m. of-line t (map-out lineOf (chosenGates cells g) m);
+    nets = λ net m. is-net net (List·Memᴰ·append-cases (map (λ (v : ℕ). netName (literal false v)) (g .inputs)) (subst (λ (xs : List (List ℕ)). List·Memᴰ net xs) driven-are m));
     once = driven-once;
     driven = λ net m. used net (List·Memᴰ·append-cases (map netName (g .outputs)) m);
   }
@@ -171,6 +172,10 @@ module _ (cells : List Cell) (fit : T (libraryFits cells)) (g : Graph) (ok : Acc
             (unfold lineOf in ap (λ (x : GateLine). x .cell) (sym e)),
             ap (λ (x : GateLine). map (λ (b : Binding). b .pin) (x .bindings)) e ∙ line-bound cells fit g ok present-outputs l (r .needs) (r .notOwn) .isBound,
           )
+
+      is-net : (net : List ℕ) → List·Memᴰ net (map (λ (v : ℕ). netName (literal false v)) (g .inputs)) ⊎ List·Memᴰ net (map netName gateNets) → (l : ℕ) × (net ≡ netName l)
+      is-net net (inl m) = let o = map-out (λ (v : ℕ). netName (literal false v)) (g .inputs) m in (literal false (o .0), o .2)
+      is-net net (inr m) = let o = map-out netName gateNets m in (o .0, o .2)
 
       used : (net : List ℕ) → List·Memᴰ net (map netName (g .outputs)) ⊎ List·Memᴰ net (each (fedBy cells) (map lineOf (chosenGates cells g))) → List·Memᴰ net (drivenNets (blifOf g (chosenGates cells g)))
       used net (inl m) = let o = map-out netName (g .outputs) m in Memᴰ·cast (o .2) (needed-driven (o .0) (output (o .1)))

@@ -43,7 +43,7 @@ pub record FromChoice (cells : List Cell) (g : Graph) (t : List ℕ) (f : Figure
   pub areFigures : f ≡ choiceFigures cells g
 
 -- where none is uncovered, each output has a source
-outputs-present : (phase : ℕ → Phase) (k : ℕ) (ls : List ℕ) → uncovered phase k ls ≡ [] → (l : ℕ) → List·Memᴰ l ls → absent (phase l .source) ≡ false
+pub outputs-present : (phase : ℕ → Phase) (k : ℕ) (ls : List ℕ) → uncovered phase k ls ≡ [] → (l : ℕ) → List·Memᴰ l ls → absent (phase l .source) ≡ false
 unfolding uncovered
 outputs-present phase k (x ∷ ls) e l m = go (absent (phase x .source)) refl e m (λ q. outputs-present phase (suc k) ls q l)
   where

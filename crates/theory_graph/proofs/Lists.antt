@@ -6,7 +6,7 @@ use mathlib.Core.Option.{Option, none, some}
 use mathlib.Core.Logic.{_⊎_, inl, inr}
 use native.Mathlib.Omega.{arith}
 use mathlib.Core.Bool.{or-true, Bool, true, false, not, cond, _||_, true≢false, false≢true}
-use mathlib.Core.List.{List, [], _∷_, map, List·Memᴰ, List·Memᴰ·head, List·Memᴰ·tail, List·Memᴰ·not-nil, List·Memᴰ·append-cases, Memᴰ·append-left, Memᴰ·append-right}
+use mathlib.Core.List.{List, [], _∷_, _++_, map, List·Memᴰ, List·Memᴰ·head, List·Memᴰ·tail, List·Memᴰ·not-nil, List·Memᴰ·append-cases, Memᴰ·append-left, Memᴰ·append-right}
 use lib.Dec.{T, eqb, eqb→eq, eqb-refl, leb}
 use lib.ListN.{length, getD}
 use mir.Facts.{eqb-no, and-yes, yes-and, yes-eqb}
@@ -192,3 +192,13 @@ pub all-in : {A : Type 0} (p : A → Bool) (xs : List A) → ((x : A) → List·
 unfolding all
 all-in p [] h = tt
 all-in p (x ∷ xs) h = yes-and (p x) (all p xs) (h x (List·Memᴰ·head refl)) (all-in p xs (λ y m. h y (List·Memᴰ·tail m)))
+
+-- what is kept of two lists, one after the other
+pub keep-append : {A : Type 0} (p : A → Bool) (xs ys : List A) → keep p (xs ++ ys) ≡ keep p xs ++ keep p ys
+unfolding keep
+keep-append p [] ys = refl
+keep-append {A} p (x ∷ xs) ys = by (p x) (keep-append p xs ys)
+  where
+    by : (b : Bool) → keep p (xs ++ ys) ≡ keep p xs ++ keep p ys → cond b (x ∷ keep p (xs ++ ys)) (keep p (xs ++ ys)) ≡ cond b (x ∷ keep p xs) (keep p xs) ++ keep p ys
+    by true e = ap (λ (l : List A). x ∷ l) e
+    by false e = e

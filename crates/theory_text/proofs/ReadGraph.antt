@@ -16,7 +16,7 @@ use Rattle.model.specs.Graph.{And, Graph, varOf, unplaced}
 use Rattle.model.specs.GraphText.{headerOf, inLimits, readHeader, Kind, anInput, anOutput, anAnd, howMany, defines, due, Item, itemLiterals, readDue, uses, definedBy, checkUses, sameKind, isKind, graphOf, readGraph}
 use Rattle.model.specs.Demands.{Distinct}
 use Rattle.model.specs.declared.Header.{Header}
-use Rattle.theory_graph.proofs.Lists.{map-out, keep-out, each-out, elem-T, elem-out, map-map, getD-in, all-of, all-in, is-true}
+use Rattle.theory_graph.proofs.Lists.{map-out, keep-out, each-out, elem-T, elem-out, map-map, getD-in, all-of, all-in, is-true, keep-append}
 use Rattle.theory_graph.proofs.Accepted.{Accepted, distinct, andVars}
 use Rattle.theory_text.proofs.Steps.{holds-once, fault-never, unless-out, from-out, next-out, then-out, only-out, numbers-length}
 
@@ -325,15 +325,6 @@ module _ (end : ℕ) (h : Header) (ls : List Line) (is : List Item) (r : readDue
       either l (inr m) = of-and l (each-out (λ (a : And). a .left ∷ a .right ∷ []) (whole .ands) m)
 
 -- ---- how many lines there are of each kind
-
-keep-append : (p : Kind → Bool) (xs ys : List Kind) → keep p (xs ++ ys) ≡ keep p xs ++ keep p ys
-unfolding keep
-keep-append p [] ys = refl
-keep-append p (x ∷ xs) ys = go (p x) (keep-append p xs ys)
-  where
-    go : (b : Bool) → keep p (xs ++ ys) ≡ keep p xs ++ keep p ys → cond b (x ∷ keep p (xs ++ ys)) (keep p (xs ++ ys)) ≡ cond b (x ∷ keep p xs) (keep p xs) ++ keep p ys
-    go true e = ap (λ (r : List Kind). x ∷ r) e
-    go false e = e
 
 keep-replicate : (p : Kind → Bool) (n : ℕ) (k : Kind) → length (keep p (replicate n k)) ≡ cond (p k) n 0
 unfolding keep

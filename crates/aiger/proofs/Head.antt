@@ -1,0 +1,229 @@
+-- The header line, as the crate model says it:
+--     three-is         three numbers behind each other are the line's last three fields
+--     header-means     the header of the text's first line is what `formAt` finds
+--     header-..        and so 7, 8 and 9 apply just where `header` refuses
+--     limits-..        the tests of 9, one by one
+-- Assumes nothing.
+use Prim.Native.Nat.{ℕ, suc, _+_, _-_, _≤_, _<_}
+use native.Mathlib.Nat.{zero-add}
+use native.Mathlib.Omega.{arith}
+use mathlib.Core.Path.{_≡_, refl, sym, ap, _∙_}
+use mathlib.Core.Bool.{Bool, true, false, cond, _&&_}
+use mathlib.Core.Option.{Option, none, some}
+use mathlib.Core.List.{List, [], _∷_}
+use lib.Dec.{eqb, leb}
+use lib.ListN.{length, drop, getD}
+use borrow.Author.Tests.{le-leb, lt-leb, leb-true, leb-false}
+use Rattle.model.specs.Base.{andThen, only, same}
+use Rattle.model.specs.Text.{Line, text, linesFrom, fields, number, numbers}
+use Rattle.model.specs.Reading.{Read, holds, fault, next, unless, from?}
+use Rattle.model.specs.GraphText.{headerOfNumbers, headerOf, inLimits, readHeader, headerAnswer}
+use Rattle.model.specs.declared.Header.{Header}
+use Rattle.model.specs.declared.HeaderAnswer.the-variants.{Read as WasRead}
+use Rattle.model.specs.Limits.{need}
+use Rattle.words.proofs.Columns.{room-for}
+use Rattle.text.proofs.Bytes.{and-left, and-right}
+use Rattle.text.specs.declared.Cursor.{Cursor}
+use Rattle.text.specs.Fields.{wordAt, endAt, isByte, onNumber, onStep, numberOf, stepOf, byteAt, numberThen}
+use Rattle.text.specs.Lines.{lineAt, pastLine, wordsAt, sepsAt, afterAt, numbersAt}
+use Rattle.text.proofs.Found.{past, found, number-is}
+use Rattle.text.proofs.Bridge.{lines-at, past-at}
+use Rattle.text.proofs.Numbers.{line-words, numbers-at}
+use Rattle.aiger.specs.declared.Three.{Three}
+use Rattle.aiger.specs.declared.Three.the-variants.{Numbers, Broken as NoThree}
+use Rattle.aiger.specs.declared.HeaderForm.{HeaderForm}
+use Rattle.aiger.specs.declared.HeaderForm.the-variants.{Is, Broken as NoForm}
+use Rattle.aiger.specs.Lines.{threeAt, onThree, pickStep, aag, tagAt, headerRecord, numbersForm, formAt}
+use Rattle.aiger.specs.Passes.{Fit}
+
+-- ---- the limits
+
+shift : (a b c : ℕ) → b ≤ c → leb (b + a) c ≡ leb a (c - b)
+shift a b c h = go (leb a (c - b)) refl
+  where
+    go : (t : Bool) → leb a (c - b) ≡ t → leb (b + a) c ≡ t
+    go true e = let l : a ≤ c - b = leb-true a (c - b) e in le-leb (b + a) c (omega arith)
+    go false e = let l : c - b < a = leb-false a (c - b) e in lt-leb (b + a) c (omega arith)
+
+module _ (h : Header) where
+  pub limits-size : 4095 < h .size → inLimits h ≡ false
+  unfolding inLimits
+  limits-size l = rw (lt-leb (h .size) 4095 l)
+
+  pub limits-outputs : h .size ≤ 4095 → 4096 < h .outputs → inLimits h ≡ false
+  unfolding inLimits
+  limits-outputs s l = rw (le-leb (h .size) 4095 s, lt-leb (h .outputs) 4096 l)
+
+  pub limits-inputs : h .size ≤ 4095 → h .outputs ≤ 4096 → h .size < h .inputs → inLimits h ≡ false
+  unfolding inLimits
+  limits-inputs s o l = rw (le-leb (h .size) 4095 s, le-leb (h .outputs) 4096 o, lt-leb (h .inputs + h .ands) (h .size) (omega arith))
+
+  pub limits-ands : h .size ≤ 4095 → h .outputs ≤ 4096 → h .inputs ≤ h .size → inLimits h ≡ leb (h .ands) (h .size - h .inputs)
+  unfolding inLimits
+  limits-ands s o l = rw (le-leb (h .size) 4095 s, le-leb (h .outputs) 4096 o) (shift (h .ands) (h .inputs) (h .size) l)
+
+-- ---- numbers behind each other
+
+-- what is made of three numbers and the place behind them
+abbrev pub threeOf : Option (List ℕ) → ℕ → Three
+threeOf none q = NoThree
+threeOf (some ns) q = Numbers (getD ns 0 0) (getD ns 1 0) (getD ns 2 0) (record { at = q })
+
+pub three-is : (s : List ℕ) (at : ℕ) → threeAt s at ≡ threeOf (numbersAt 2 s at) (afterAt 2 s at)
+unfolding threeAt numbersAt afterAt andThen
+three-is s at = rw (number-is s at 32) (go (found number s at 32))
+  where
+    last : (a b r : ℕ) (o : Option ℕ)
+        → onNumber (numberOf o r) (λ d c2. Numbers a b d c2) NoThree
+        ≡ threeOf (andThen (andThen (onNumber (numberOf o r) (λ n c. some (n ∷ [])) none) (λ ns. some (b ∷ ns))) (λ ns. some (a ∷ ns))) r
+    last a b r none = refl
+    last a b r (some d) = refl
+
+    second : (a r : ℕ) (o : Option ℕ)
+        → onNumber (numberOf o r) (λ b c1. onNumber (numberThen s (c1 .at) 10) (λ d c2. Numbers a b d c2) NoThree) NoThree
+        ≡ threeOf (andThen (onNumber (numberOf o r) (λ n c. andThen (onNumber (numberThen s (c .at) 10) (λ m d. some (m ∷ [])) none) (λ ns. some (n ∷ ns))) none) (λ ns. some (a ∷ ns))) (past s r)
+    second a r none = refl
+    second a r (some b) = rw (number-is s r 10) (last a b (past s r) (found number s r 10))
+
+    go : (o : Option ℕ)
+        → onNumber (numberOf o (past s at)) (λ a c0. onNumber (numberThen s (c0 .at) 32) (λ b c1. onNumber (numberThen s (c1 .at) 10) (λ d c2. Numbers a b d c2) NoThree) NoThree) NoThree
+        ≡ threeOf (onNumber (numberOf o (past s at)) (λ n c. andThen (onNumber (numberThen s (c .at) 32) (λ n₁ c₁. andThen (onNumber (numberThen s (c₁ .at) 10) (λ m d. some (m ∷ [])) none) (λ ns. some (n₁ ∷ ns))) none) (λ ns. some (n ∷ ns))) none) (past s (past s (past s at)))
+    go none = refl
+    go (some a) = rw (number-is s (past s at) 32) (second a (past s (past s at)) (found number s (past s at) 32))
+
+-- what is made of five
+abbrev formOf : Option (List ℕ) → ℕ → HeaderForm
+formOf none q = NoForm
+formOf (some ns) q = Is (headerOfNumbers q ns)
+
+five-is : (s : List ℕ) (at : ℕ) → numbersForm s at ≡ formOf (numbersAt 4 s at) (afterAt 4 s at)
+unfolding numbersForm numbersAt afterAt andThen headerOfNumbers
+five-is s at = rw (number-is s at 32) (go (found number s at 32))
+  where
+    last : (m i r : ℕ) (o : Option (List ℕ)) → onThree (threeOf o r) (λ l k a c2. Is (headerRecord m i l k a (c2 .at))) NoForm ≡ formOf (andThen (andThen o (λ ns. some (i ∷ ns))) (λ ns. some (m ∷ ns))) r
+    last m i r none = refl
+    last m i r (some ns) = refl
+
+    second : (m r : ℕ) (o : Option ℕ)
+        → onNumber (numberOf o r) (λ i c1. onThree (threeAt s (c1 .at)) (λ l k a c2. Is (headerRecord m i l k a (c2 .at))) NoForm) NoForm
+        ≡ formOf (andThen (onNumber (numberOf o r) (λ n c. andThen (numbersAt 2 s (c .at)) (λ ns. some (n ∷ ns))) none) (λ ns. some (m ∷ ns))) (afterAt 2 s r)
+    second m r none = refl
+    second m r (some i) = rw (three-is s r) (last m i (afterAt 2 s r) (numbersAt 2 s r))
+
+    go : (o : Option ℕ)
+        → onNumber (numberOf o (past s at)) (λ m c0. onNumber (numberThen s (c0 .at) 32) (λ i c1. onThree (threeAt s (c1 .at)) (λ l k a c2. Is (headerRecord m i l k a (c2 .at))) NoForm) NoForm) NoForm
+        ≡ formOf (onNumber (numberOf o (past s at)) (λ n c. andThen (onNumber (numberThen s (c .at) 32) (λ n₁ c₁. andThen (numbersAt 2 s (c₁ .at)) (λ ns. some (n₁ ∷ ns))) none) (λ ns. some (n ∷ ns))) none) (afterAt 2 s (past s (past s at)))
+    go none = refl
+    go (some m) = rw (number-is s (past s at) 32) (second m (past s (past s at)) (found number s (past s at) 32))
+
+-- ---- the first line
+
+unfoldable pub formMeans : HeaderForm → Option Header
+formMeans NoForm = none
+formMeans (Is h) = some h
+
+-- the test of the tag among the others
+tests : (e n : Bool) (t : List (List ℕ) → Bool) (ws : List (List ℕ)) → only (e && (n && t ws)) (drop 1 ws) ≡ andThen (only (e && n) ws) (λ vs. only (t vs) (drop 1 vs))
+unfolding only andThen
+tests true true t ws = refl
+tests true false t ws = refl
+tests false n t ws = refl
+
+-- the tag, its space, and five numbers
+module _ (w : List ℕ) (ws : List (List ℕ)) (end behind q : ℕ) (on : Cursor → HeaderForm) where
+  first-line : (t b x : Bool) → same w aag ≡ t → ((b && x) ≡ true → end ≡ behind) → on (record { at = q }) ≡ formOf (andThen (only x ws) numbers) behind
+      → andThen (andThen (only (b && x) (w ∷ ws)) (λ vs. only (same (getD vs 0 []) aag) (drop 1 vs))) (λ vs. andThen (numbers vs) (λ ns. some (headerOfNumbers end ns)))
+      ≡ formMeans (onStep (pickStep t (stepOf b q) (stepOf false q)) on NoForm)
+  unfolding andThen only formMeans
+  first-line false false x e h k = refl
+  first-line true false x e h k = refl
+  first-line false true false e h k = refl
+  first-line true true false e h k = sym (ap formMeans k)
+  first-line false true true e h k = rw e
+  first-line true true true e h k = rw (e, k, h refl) (go (numbers ws))
+    where
+      go : (o : Option (List ℕ)) → andThen o (λ ns. some (headerOfNumbers behind ns)) ≡ formMeans (formOf o behind)
+      go none = refl
+      go (some ns) = refl
+
+-- the line at 0, of a text that is not empty
+module _ (s : List ℕ) where
+  line-end : (isByte s (endAt s 0) 32 && sepsAt 4 s (past s 0)) ≡ true → suc (length (lineAt s 0 .bytes)) ≡ afterAt 4 s (past s 0)
+  unfolding sepsAt afterAt pastLine lineAt
+  line-end e = sym (past-at 5 s 0 e .1 ∙ zero-add (suc (length (lineAt s 0 .bytes))))
+
+  first-is : (ls : List Line) → headerOf (lineAt s 0 ∷ ls) ≡ formMeans (formAt s)
+  unfolding headerOf formAt tagAt byteAt aag wordsAt sepsAt
+  first-is ls =
+      ap (λ (o : Option (List (List ℕ))). andThen o (λ vs. andThen (numbers vs) (λ ns. some (headerOfNumbers (suc (length (lineAt s 0 .bytes))) ns))))
+      (tests (lineAt s 0 .ended) (eqb (length (fields (lineAt s 0 .bytes))) 6) (λ (vs : List (List ℕ)). same (getD vs 0 []) aag) (fields (lineAt s 0 .bytes))
+      ∙ ap (λ (o : Option (List (List ℕ))). andThen o (λ vs. only (same (getD vs 0 []) aag) (drop 1 vs))) (line-words 5 s 0))
+      ∙ first-line (wordAt s 0) (wordsAt 4 s (past s 0)) (suc (length (lineAt s 0 .bytes))) (afterAt 4 s (past s 0)) (past s 0) (λ c. numbersForm s (c .at))
+      (same (wordAt s 0) aag) (isByte s (endAt s 0) 32) (sepsAt 4 s (past s 0)) refl line-end
+      (five-is s (past s 0) ∙ ap (λ (o : Option (List ℕ)). formOf o (afterAt 4 s (past s 0))) (sym (numbers-at 4 s (past s 0))))
+
+none-is : headerOf (linesFrom 0 [] []) ≡ formMeans (formAt [])
+unfolding headerOf linesFrom formAt tagAt wordAt aag text same formMeans
+none-is = refl
+
+pub header-means : (s : List ℕ) → headerOf (linesFrom 0 [] s) ≡ formMeans (formAt s)
+header-means [] = none-is
+header-means (b ∷ s) = ap headerOf (lines-at (b ∷ s) 0 (omega arith)) ∙ first-is (b ∷ s) (cond (lineAt (b ∷ s) 0 .ended) (linesFrom (pastLine (b ∷ s) 0) [] (drop (pastLine (b ∷ s) 0) (b ∷ s))) [])
+
+-- ---- 7, 8 and 9
+
+module _ (s : List ℕ) where
+  read-is : readHeader s ≡ next (from? (formMeans (formAt s)) 7 0) (λ h. unless (eqb (h .latches) 0) 8 0 (unless (inLimits h) 9 0 (holds h)))
+  unfolding readHeader
+  read-is = rw (header-means s)
+
+  pub header-broken : formAt s ≡ NoForm → readHeader s ≡ fault 7 0
+  unfolding next from? formMeans
+  header-broken e = read-is ∙ rw e
+
+  pub header-latches : (h : Header) → formAt s ≡ Is h → eqb (h .latches) 0 ≡ false → readHeader s ≡ fault 8 0
+  unfolding next from? formMeans unless
+  header-latches h e f = read-is ∙ rw (e, f)
+
+  pub header-limits : (h : Header) → formAt s ≡ Is h → eqb (h .latches) 0 ≡ true → inLimits h ≡ false → readHeader s ≡ fault 9 0
+  unfolding next from? formMeans unless
+  header-limits h e f l = read-is ∙ rw (e, f, l)
+
+  pub header-good : (h : Header) → formAt s ≡ Is h → eqb (h .latches) 0 ≡ true → inLimits h ≡ true → readHeader s ≡ holds h
+  unfolding next from? formMeans unless
+  header-good h e f l = read-is ∙ rw (e, f, l)
+
+  -- and what a header that is accepted says of its text
+  pub header-form : (h : Header) → readHeader s ≡ holds h → (formAt s ≡ Is h) × (inLimits h ≡ true)
+  unfolding next from? formMeans unless
+  header-form h e = go (formAt s) refl (sym read-is ∙ e)
+    where
+      tested : (a b : Bool) (k : Header) → inLimits k ≡ b → unless a 8 0 (unless b 9 0 (holds k)) ≡ holds h → (k ≡ h) × (inLimits h ≡ true)
+      tested false b k l q = let z : _≡_ {A = ℕ} 0 1 = cc in absurd (omega arith)
+      tested true false k l q = let z : _≡_ {A = ℕ} 0 1 = cc in absurd (omega arith)
+      tested true true k l q = let i : k ≡ h = cc in (i, ap inLimits (sym i) ∙ l)
+
+      go : (f : HeaderForm) → formAt s ≡ f → next (from? (formMeans f) 7 0) (λ k. unless (eqb (k .latches) 0) 8 0 (unless (inLimits k) 9 0 (holds k))) ≡ holds h → (formAt s ≡ Is h) × (inLimits h ≡ true)
+      go NoForm e q = let z : _≡_ {A = ℕ} 0 1 = cc in absurd (omega arith)
+      go (Is k) e q = let t = tested (eqb (k .latches) 0) (inLimits k) k refl q in (e ∙ ap Is (t .0), t .1)
+
+-- what 9 leaves, and enough words for it
+pub limits-known : (h : Header) → inLimits h ≡ true → (h .size ≤ 4095) × (h .outputs ≤ 4096) × (h .inputs + h .ands ≤ h .size)
+unfolding inLimits
+limits-known h e =
+    let r = and-right (leb (h .size) 4095) (leb (h .outputs) 4096 && leb (h .inputs + h .ands) (h .size)) e in (
+      leb-true (h .size) 4095 (and-left (leb (h .size) 4095) (leb (h .outputs) 4096 && leb (h .inputs + h .ands) (h .size)) e),
+      leb-true (h .outputs) 4096 (and-left (leb (h .outputs) 4096) (leb (h .inputs + h .ands) (h .size)) r),
+      leb-true (h .inputs + h .ands) (h .size) (and-right (leb (h .outputs) 4096) (leb (h .inputs + h .ands) (h .size)) r),
+    )
+
+pub header-fit : (s : List ℕ) (h : Header) (w : List ℕ) → readHeader s ≡ holds h → need (h .size) (h .outputs) ≤ length w → Fit h w
+header-fit s h w e l =
+    let k = limits-known h (header-form s h e .1) in
+    record { room = room-for w (h .size) (h .outputs) (k .0) l; outs = k .1; lines = k .2 }
+
+-- a header that is answered is the text's
+pub header-read : (r : Read Header) (h : Header) → headerAnswer r ≡ WasRead h → r ≡ holds h
+unfolding headerAnswer
+header-read (holds k) h e = let i : k ≡ h = cc in ap holds i
+header-read (fault n k) h e = let z : _≡_ {A = ℕ} 0 1 = cc in absurd (omega arith)

@@ -1,0 +1,58 @@
+-- `aiger::check_at` meets its contract: each return knows the tests that led there.
+-- Assumes nothing.
+use mathlib.Core.Path.{sym, _∙_}
+use borrow.Author.Tests.{not-true, not-false}
+use Rattle.aiger.specs.Passes.{checkAt}
+use Rattle.aiger.proofs.Judging.{fit-known}
+use borrow.Author.Needs.{needs}
+use Rattle.aiger.proofs.check_at.Statement.{statement}
+use Rattle.aiger.proofs.check_at.Tie as tie
+
+due-kind-requires : tie.Need-due-kind-requires
+due-kind-requires c κs = search needs
+
+read-line-requires : tie.Need-read-line-requires
+read-line-requires c κs = search needs
+
+enum-known-l : tie.Need-enum-known-l
+enum-known-l c = search needs
+
+fits-requires : tie.Need-fits-requires
+fits-requires c κs = search needs
+
+returns : tie.Need-returns
+unfolding checkAt
+returns c = rw (sym (c .before .before .before .before .before .before .due-kind .ensures), sym (c .before .before .before .before .before .read-line .ensures) ∙ c .before .before .before .l .given .1, sym (c .before .fits2 .ensures) ∙ not-true _ (c .if1 .taken))
+
+uses-known-requires : tie.Need-uses-known-requires
+uses-known-requires c κs = (search needs, fit-known _ _ (sym (c .before .fits2 .ensures) ∙ not-false _ (c .if1 .left)))
+
+enum-told : tie.Need-enum-told
+enum-told c = search needs
+
+returns-2 : tie.Need-returns-2
+unfolding checkAt
+returns-2 c = rw (sym (c .before .before .before .before .before .before .before .before .due-kind .ensures), sym (c .before .before .before .before .before .before .before .read-line .ensures) ∙ c .before .before .before .before .before .l .given .1, sym (c .before .before .before .fits2 .ensures) ∙ not-false _ (c .before .before .if1 .left), sym (c .before .uses-known .ensures) ∙ c .if2 .taken)
+
+returns-3 : tie.Need-returns-3
+unfolding checkAt
+returns-3 c = rw (sym (c .before .before .before .before .before .before .before .before .due-kind .ensures), sym (c .before .before .before .before .before .before .before .read-line .ensures) ∙ c .before .before .before .before .before .l .given .1, sym (c .before .before .before .fits2 .ensures) ∙ not-false _ (c .before .before .if1 .left), sym (c .before .uses-known .ensures) ∙ c .if2 .left)
+
+returns-4 : tie.Need-returns-4
+unfolding checkAt
+returns-4 c = rw (sym (c .before .before .before .due-kind .ensures), sym (c .before .before .read-line .ensures) ∙ c .enum-told .given .1)
+
+pub check-at-spec : {M : Type 1} → statement M
+check-at-spec =
+    tie.close
+    (tie.spec
+    due-kind-requires
+    read-line-requires
+    enum-known-l
+    fits-requires
+    returns
+    uses-known-requires
+    enum-told
+    returns-2
+    returns-3
+    returns-4)

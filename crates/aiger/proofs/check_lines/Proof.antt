@@ -1,0 +1,66 @@
+-- `aiger::check_lines` meets its contract. The invariant: what the lines from here on give is what all lines give; the measure is the lines that are left.
+-- Assumes nothing.
+use borrow.Author.Needs.{needs}
+use mathlib.Core.Path.{sym, _∙_}
+use Prim.Native.Nat.{_-_}
+use Rattle.aiger.specs.Lines.{dueCount}
+use Rattle.aiger.proofs.Judging.{Left, left-first, left-on, left-stop, left-end}
+use Rattle.aiger.proofs.check_lines.Statement.{statement}
+use Rattle.aiger.proofs.check_lines.Tie as tie
+
+abbrev Inv-loop : tie.InvT-loop
+Inv-loop s work h count at₀ k₀ at k = Left s h work k at
+
+abbrev μ-loop : tie.MeasureT-loop
+μ-loop s work h count at₀ k₀ at k = dueCount h - k
+
+add-count : tie.Need-add-count Inv-loop μ-loop
+add-count c = search needs
+
+add-count-2 : tie.Need-add-count-2 Inv-loop μ-loop
+add-count-2 c = search needs
+
+loop-holds : tie.Need-loop-holds Inv-loop μ-loop
+loop-holds c = left-first _ _ _
+
+check-at-requires : tie.Need-check-at-requires Inv-loop μ-loop
+check-at-requires c κs = search needs
+
+enum-known-next : tie.Need-enum-known-next Inv-loop μ-loop
+enum-known-next c = search needs
+
+enum-known-n : tie.Need-enum-known-n Inv-loop μ-loop
+enum-known-n c = search needs
+
+returns : tie.Need-returns Inv-loop μ-loop
+returns c = left-stop _ _ _ _ _ (c .before .before .before .before .before .loop .inv) (c .before .before .before .before .loop-test .taken) _ _ (sym (c .before .before .before .check-at .ensures) ∙ c .before .n .given .1)
+
+add-k : tie.Need-add-k Inv-loop μ-loop
+add-k c = search needs
+
+loop-less : tie.Need-loop-less Inv-loop μ-loop
+loop-less c = search needs
+
+loop-again : tie.Need-loop-again Inv-loop μ-loop
+loop-again c = left-on _ _ _ _ _ (c .before .before .before .before .before .loop .inv) (c .before .before .before .before .loop-test .taken) _ (sym (c .before .before .before .check-at .ensures) ∙ c .before .next .given .1)
+
+returns-2 : tie.Need-returns-2 Inv-loop μ-loop
+returns-2 c = left-end _ _ _ _ _ (c .before .loop .inv) (c .loop-test .left)
+
+pub check-lines-spec : {M : Type 1} → statement M
+check-lines-spec =
+    tie.close
+    (tie.spec
+    Inv-loop
+    μ-loop
+    add-count
+    add-count-2
+    loop-holds
+    check-at-requires
+    enum-known-next
+    enum-known-n
+    returns
+    add-k
+    loop-less
+    loop-again
+    returns-2)

@@ -1,0 +1,32 @@
+-- `aiger::header_form` meets its contract: each return knows what the reads that led there found.
+-- Assumes nothing.
+use mathlib.Core.Path.{sym, _∙_}
+use Rattle.aiger.specs.Lines.{formAt}
+use borrow.Author.Needs.{needs}
+use Rattle.aiger.proofs.header_form.Statement.{statement}
+use Rattle.aiger.proofs.header_form.Tie as tie
+
+tag-requires : tie.Need-tag-requires
+tag-requires c κs = search needs
+
+enum-known-c : tie.Need-enum-known-c
+enum-known-c c = search needs
+
+header-numbers-requires : tie.Need-header-numbers-requires
+header-numbers-requires c κs = search needs
+
+enum-told : tie.Need-enum-told
+enum-told c = search needs
+
+returns : tie.Need-returns
+unfolding formAt
+returns c = rw (sym (c .before .before .before .before .tag .ensures) ∙ c .before .before .c .given .1) (c .header-numbers .ensures)
+
+returns-2 : tie.Need-returns-2
+unfolding formAt
+returns-2 c = rw (sym (c .before .before .tag .ensures) ∙ c .enum-told .given .1)
+
+pub header-form-spec : {M : Type 1} → statement M
+header-form-spec =
+    tie.close
+    (tie.spec tag-requires enum-known-c header-numbers-requires enum-told returns returns-2)

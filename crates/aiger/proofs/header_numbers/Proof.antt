@@ -1,0 +1,72 @@
+-- `aiger::header_numbers` meets its contract: each return knows what the reads that led there found.
+-- Assumes nothing.
+use mathlib.Core.Path.{sym, _∙_}
+use Rattle.aiger.specs.Lines.{numbersForm}
+use borrow.Author.Needs.{needs}
+use Rattle.aiger.proofs.header_numbers.Statement.{statement}
+use Rattle.aiger.proofs.header_numbers.Tie as tie
+
+number-then-requires : tie.Need-number-then-requires
+number-then-requires c κs = search needs
+
+enum-known-size : tie.Need-enum-known-size
+enum-known-size c = search needs
+
+number-then-requires-2 : tie.Need-number-then-requires-2
+number-then-requires-2 c κs = search needs
+
+enum-known-inputs : tie.Need-enum-known-inputs
+enum-known-inputs c = search needs
+
+read-three-requires : tie.Need-read-three-requires
+read-three-requires c κs = search needs
+
+enum-known-latches : tie.Need-enum-known-latches
+enum-known-latches c = search needs
+
+header-record-requires : tie.Need-header-record-requires
+header-record-requires c κs = search needs
+
+enum-told : tie.Need-enum-told
+enum-told c = search needs
+
+enum-told-2 : tie.Need-enum-told-2
+enum-told-2 c = search needs
+
+enum-told-3 : tie.Need-enum-told-3
+enum-told-3 c = search needs
+
+returns : tie.Need-returns
+unfolding numbersForm
+returns c = rw (sym (c .before .before .before .before .before .before .before .before .before .before .before .before .number-then .ensures) ∙ c .before .before .before .before .before .before .before .before .before .before .size .given .1, sym (c .before .before .before .before .before .before .before .before .number-then2 .ensures) ∙ c .before .before .before .before .before .before .inputs .given .1, sym (c .before .before .before .before .read-three .ensures) ∙ c .before .before .latches .given .1, c .header-record .ensures)
+
+returns-2 : tie.Need-returns-2
+unfolding numbersForm
+returns-2 c = rw (sym (c .before .before .before .before .before .before .before .before .before .before .number-then .ensures) ∙ c .before .before .before .before .before .before .before .before .size .given .1, sym (c .before .before .before .before .before .before .number-then2 .ensures) ∙ c .before .before .before .before .inputs .given .1, sym (c .before .before .read-three .ensures) ∙ c .enum-told .given .1)
+
+returns-3 : tie.Need-returns-3
+unfolding numbersForm
+returns-3 c = rw (sym (c .before .before .before .before .before .before .number-then .ensures) ∙ c .before .before .before .before .size .given .1, sym (c .before .before .number-then2 .ensures) ∙ c .enum-told2 .given .1)
+
+returns-4 : tie.Need-returns-4
+unfolding numbersForm
+returns-4 c = rw (sym (c .before .before .number-then .ensures) ∙ c .enum-told3 .given .1)
+
+pub header-numbers-spec : {M : Type 1} → statement M
+header-numbers-spec =
+    tie.close
+    (tie.spec
+    number-then-requires
+    enum-known-size
+    number-then-requires-2
+    enum-known-inputs
+    read-three-requires
+    enum-known-latches
+    header-record-requires
+    enum-told
+    enum-told-2
+    enum-told-3
+    returns
+    returns-2
+    returns-3
+    returns-4)

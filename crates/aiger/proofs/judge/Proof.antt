@@ -1,0 +1,64 @@
+-- `aiger::judge` meets its contract: each return knows the tests that led there.
+-- Assumes nothing.
+use mathlib.Core.Path.{sym, _∙_}
+use borrow.Author.Tests.{not-true, not-false}
+use Rattle.text.proofs.Bytes.{and-false}
+use Rattle.aiger.specs.Lines.{judgedAt}
+use Rattle.aiger.proofs.Judging.{fit-known}
+use borrow.Author.Needs.{needs}
+use Rattle.aiger.proofs.judge.Statement.{statement}
+use Rattle.aiger.proofs.judge.Tie as tie
+
+read-line-requires : tie.Need-read-line-requires
+read-line-requires c κs = search needs
+
+enum-known-l : tie.Need-enum-known-l
+enum-known-l c = search needs
+
+fits-requires : tie.Need-fits-requires
+fits-requires c κs = search needs
+
+returns : tie.Need-returns
+unfolding judgedAt
+returns c = rw (sym (c .before .before .before .before .before .read-line .ensures) ∙ c .before .before .before .l .given .1, sym (c .before .fits2 .ensures) ∙ not-true _ (c .if1 .taken))
+
+may-define-requires : tie.Need-may-define-requires
+may-define-requires c κs = search needs
+
+returns-2 : tie.Need-returns-2
+unfolding judgedAt
+returns-2 c = rw (sym (c .before .before .before .before .before .before .before .read-line .ensures) ∙ c .before .before .before .before .before .l .given .1, sym (c .before .may-define .ensures) ∙ not-true _ (c .if2 .taken), and-false)
+
+taken-requires : tie.Need-taken-requires
+taken-requires c κs = (search needs, fit-known _ _ (sym (c .before .before .before .fits2 .ensures) ∙ not-false _ (c .before .before .if1 .left)) .first)
+
+returns-3 : tie.Need-returns-3
+unfolding judgedAt
+returns-3 c = rw (sym (c .before .before .before .before .before .before .before .before .before .read-line .ensures) ∙ c .before .before .before .before .before .before .before .l .given .1, sym (c .before .before .before .before .before .fits2 .ensures) ∙ not-false _ (c .before .before .before .before .if1 .left), sym (c .before .before .before .may-define .ensures) ∙ not-false _ (c .before .before .if2 .left), sym (c .before .taken .ensures) ∙ c .if3 .taken)
+
+enum-told : tie.Need-enum-told
+enum-told c = search needs
+
+returns-4 : tie.Need-returns-4
+unfolding judgedAt
+returns-4 c = rw (sym (c .before .before .before .before .before .before .before .before .before .read-line .ensures) ∙ c .before .before .before .before .before .before .before .l .given .1, sym (c .before .before .before .before .before .fits2 .ensures) ∙ not-false _ (c .before .before .before .before .if1 .left), sym (c .before .before .before .may-define .ensures) ∙ not-false _ (c .before .before .if2 .left), sym (c .before .taken .ensures) ∙ c .if3 .left)
+
+returns-5 : tie.Need-returns-5
+unfolding judgedAt
+returns-5 c = rw (sym (c .before .before .read-line .ensures) ∙ c .enum-told .given .1)
+
+pub judge-spec : {M : Type 1} → statement M
+judge-spec =
+    tie.close
+    (tie.spec
+    read-line-requires
+    enum-known-l
+    fits-requires
+    returns
+    may-define-requires
+    returns-2
+    taken-requires
+    returns-3
+    enum-told
+    returns-4
+    returns-5)

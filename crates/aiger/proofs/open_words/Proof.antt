@@ -1,0 +1,31 @@
+-- `aiger::open_words` meets its contract, by those of the three stores.
+-- Assumes nothing.
+use mathlib.Core.Path.{ap, _∙_}
+use mathlib.Core.List.{List}
+use Prim.Native.Nat.{ℕ}
+use Rattle.words.specs.Record.{putNode}
+use Rattle.aiger.specs.Passes.{putPlaced, opened}
+use borrow.Author.Needs.{needs}
+use Rattle.aiger.proofs.open_words.Statement.{statement}
+use Rattle.aiger.proofs.open_words.Tie as tie
+
+clear-columns-requires : tie.Need-clear-columns-requires
+clear-columns-requires c κs = search needs
+
+store-node-requires : tie.Need-store-node-requires
+store-node-requires c κs = search needs
+
+place-at-requires : tie.Need-place-at-requires
+place-at-requires c κs = search needs
+
+same-length : tie.Need-same-length
+same-length c = search needs
+
+returns : tie.Need-returns
+unfolding opened
+returns c = c .before .before .place-at .ensures ∙ ap (λ (x : List ℕ). putPlaced x (c .before .before .before .before .before .before .before .before .before .before .before .before .before .args .m) 0 0) (c .before .before .before .before .before .before .store-node .ensures ∙ ap (λ (x : List ℕ). putNode x (c .before .before .before .before .before .before .before .before .before .before .before .before .before .args .m) 0 1 0 0) (c .before .before .before .before .before .before .before .before .before .before .clear-columns .ensures))
+
+pub open-words-spec : {M : Type 1} → statement M
+open-words-spec =
+    tie.close
+    (tie.spec clear-columns-requires store-node-requires place-at-requires same-length returns)

@@ -1,0 +1,75 @@
+-- `aiger::read_lines` meets its contract. The invariant: what the lines from here on give is what all lines give; the measure is the lines that are left.
+-- Assumes nothing.
+use borrow.Author.Needs.{needs}
+use mathlib.Core.Path.{sym, _∙_}
+use Prim.Native.Nat.{_-_}
+use native.Mathlib.Omega.{arith}
+use Rattle.aiger.specs.Lines.{dueCount}
+use Rattle.aiger.proofs.Judging.{fit-length, Rest, rest-first, rest-on, rest-stop, rest-end}
+use Rattle.aiger.proofs.read_lines.Statement.{statement}
+use Rattle.aiger.proofs.read_lines.Tie as tie
+
+abbrev Inv-loop : tie.InvT-loop
+Inv-loop s work₀ h count at₀ k₀ work at k = Rest s h work₀ k at work
+
+abbrev μ-loop : tie.MeasureT-loop
+μ-loop s work₀ h count at₀ k₀ work at k = dueCount h - k
+
+add-count : tie.Need-add-count Inv-loop μ-loop
+add-count c = search needs
+
+add-count-2 : tie.Need-add-count-2 Inv-loop μ-loop
+add-count-2 c = search needs
+
+loop-holds : tie.Need-loop-holds Inv-loop μ-loop
+loop-holds c = rest-first _ _ _
+
+turn-at-requires : tie.Need-turn-at-requires Inv-loop μ-loop
+turn-at-requires c κs = (fit-length (c .before .before .before .before .before .before .before .args .h) (c .before .before .before .before .before .before .before .args .work .now) _ (c .before .before .before .before .before .before .before .pre) (c .before .before .loop .inv .long), omega arith)
+
+enum-known-next : tie.Need-enum-known-next Inv-loop μ-loop
+enum-known-next c = search needs
+
+enum-known-n : tie.Need-enum-known-n Inv-loop μ-loop
+enum-known-n c = search needs
+
+same-length : tie.Need-same-length Inv-loop μ-loop
+same-length c = search needs
+
+returns : tie.Need-returns Inv-loop μ-loop
+returns c = rest-stop _ _ _ _ _ _ (c .before .before .before .before .before .before .before .before .loop .inv) (c .before .before .before .before .before .before .before .loop-test .taken) _ _ _ (sym (c .before .before .before .before .before .turn-at .ensures .0) ∙ c .before .n .given .1) (c .before .before .before .before .before .turn-at .ensures .1)
+
+add-k : tie.Need-add-k Inv-loop μ-loop
+add-k c = search needs
+
+loop-less : tie.Need-loop-less Inv-loop μ-loop
+loop-less c = search needs
+
+loop-again : tie.Need-loop-again Inv-loop μ-loop
+loop-again c = rest-on _ _ _ _ _ _ (c .before .before .before .before .before .before .before .before .loop .inv) (c .before .before .before .before .before .before .before .loop-test .taken) _ _ (sym (c .before .before .before .before .before .turn-at .ensures .0) ∙ c .before .next .given .1) (c .before .before .before .before .before .turn-at .ensures .1) (search needs)
+
+same-length-2 : tie.Need-same-length-2 Inv-loop μ-loop
+same-length-2 c = search needs
+
+returns-2 : tie.Need-returns-2 Inv-loop μ-loop
+returns-2 c = rest-end _ _ _ _ _ _ (c .before .loop .inv) (c .loop-test .left)
+
+pub read-lines-spec : {M : Type 1} → statement M
+read-lines-spec =
+    tie.close
+    (tie.spec
+    Inv-loop
+    μ-loop
+    add-count
+    add-count-2
+    loop-holds
+    turn-at-requires
+    enum-known-next
+    enum-known-n
+    same-length
+    returns
+    add-k
+    loop-less
+    loop-again
+    same-length-2
+    returns-2)

@@ -1,0 +1,68 @@
+-- `aiger::read_three` meets its contract: each return knows what the reads that led there found.
+-- Assumes nothing.
+use mathlib.Core.Path.{sym, _∙_}
+use Rattle.aiger.specs.Lines.{threeAt}
+use borrow.Author.Needs.{needs}
+use Rattle.aiger.proofs.read_three.Statement.{statement}
+use Rattle.aiger.proofs.read_three.Tie as tie
+
+number-then-requires : tie.Need-number-then-requires
+number-then-requires c κs = search needs
+
+enum-known-a : tie.Need-enum-known-a
+enum-known-a c = search needs
+
+number-then-requires-2 : tie.Need-number-then-requires-2
+number-then-requires-2 c κs = search needs
+
+enum-known-b : tie.Need-enum-known-b
+enum-known-b c = search needs
+
+number-then-requires-3 : tie.Need-number-then-requires-3
+number-then-requires-3 c κs = search needs
+
+enum-known-d : tie.Need-enum-known-d
+enum-known-d c = search needs
+
+enum-told : tie.Need-enum-told
+enum-told c = search needs
+
+enum-told-2 : tie.Need-enum-told-2
+enum-told-2 c = search needs
+
+enum-told-3 : tie.Need-enum-told-3
+enum-told-3 c = search needs
+
+returns : tie.Need-returns
+unfolding threeAt
+returns c = rw (sym (c .before .before .before .before .before .before .before .before .before .before .before .number-then .ensures) ∙ c .before .before .before .before .before .before .before .before .before .a .given .1, sym (c .before .before .before .before .before .before .before .number-then2 .ensures) ∙ c .before .before .before .before .before .b .given .1, sym (c .before .before .before .number-then3 .ensures) ∙ c .before .d .given .1)
+
+returns-2 : tie.Need-returns-2
+unfolding threeAt
+returns-2 c = rw (sym (c .before .before .before .before .before .before .before .before .before .before .number-then .ensures) ∙ c .before .before .before .before .before .before .before .before .a .given .1, sym (c .before .before .before .before .before .before .number-then2 .ensures) ∙ c .before .before .before .before .b .given .1, sym (c .before .before .number-then3 .ensures) ∙ c .enum-told .given .1)
+
+returns-3 : tie.Need-returns-3
+unfolding threeAt
+returns-3 c = rw (sym (c .before .before .before .before .before .before .number-then .ensures) ∙ c .before .before .before .before .a .given .1, sym (c .before .before .number-then2 .ensures) ∙ c .enum-told2 .given .1)
+
+returns-4 : tie.Need-returns-4
+unfolding threeAt
+returns-4 c = rw (sym (c .before .before .number-then .ensures) ∙ c .enum-told3 .given .1)
+
+pub read-three-spec : {M : Type 1} → statement M
+read-three-spec =
+    tie.close
+    (tie.spec
+    number-then-requires
+    enum-known-a
+    number-then-requires-2
+    enum-known-b
+    number-then-requires-3
+    enum-known-d
+    enum-told
+    enum-told-2
+    enum-told-3
+    returns
+    returns-2
+    returns-3
+    returns-4)

@@ -1,0 +1,29 @@
+-- `aiger::store_input` meets its contract, by those of the two stores.
+-- Assumes nothing.
+use mathlib.Core.Path.{ap, _∙_}
+use mathlib.Core.List.{List}
+use Prim.Native.Nat.{ℕ, _+_}
+use Rattle.aiger.specs.Passes.{putPlaced, storedInput}
+use borrow.Author.Needs.{needs}
+use Rattle.aiger.proofs.store_input.Statement.{statement}
+use Rattle.aiger.proofs.store_input.Tie as tie
+
+store-node-requires : tie.Need-store-node-requires
+store-node-requires c κs = search needs
+
+add-place-at : tie.Need-add-place-at
+add-place-at c = search needs
+
+place-at-requires : tie.Need-place-at-requires
+place-at-requires c κs = search needs
+
+same-length : tie.Need-same-length
+same-length c = search needs
+
+returns : tie.Need-returns
+unfolding storedInput
+returns c = c .before .before .place-at .ensures ∙ ap (λ (x : List ℕ). putPlaced x (c .before .before .before .before .before .before .before .before .before .args .m) (c .before .before .before .before .before .before .before .before .before .args .k + 1) (c .before .before .before .before .before .before .before .before .before .args .v)) (c .before .before .before .before .before .before .store-node .ensures)
+
+pub store-input-spec : {M : Type 1} → statement M
+store-input-spec =
+    tie.close (tie.spec store-node-requires add-place-at place-at-requires same-length returns)

@@ -1,0 +1,21 @@
+-- `aiger::taken` meets its contract.
+-- Assumes nothing.
+use borrow.Author.Tests.{eq-eqb, ne-eqb}
+use Rattle.aiger.specs.Lines.{isTaken}
+use borrow.Author.Needs.{needs}
+use Rattle.aiger.proofs.taken.Statement.{statement}
+use Rattle.aiger.proofs.taken.Tie as tie
+
+returns : tie.Need-returns
+unfolding isTaken
+returns c = rw (eq-eqb _ _ (c .if1 .taken))
+
+kind-requires : tie.Need-kind-requires
+kind-requires c κs = search needs
+
+returns-2 : tie.Need-returns-2
+unfolding isTaken
+returns-2 c = rw (ne-eqb (c .before .before .before .args .kind) 0 (c .before .if1 .left), c .kind .ensures)
+
+pub taken-spec : {M : Type 1} → statement M
+taken-spec = tie.close (tie.spec returns kind-requires returns-2)

@@ -1,0 +1,34 @@
+-- `aiger::uses_known` meets its contract.
+-- Assumes nothing.
+use mathlib.Core.Path.{sym, _∙_}
+use borrow.Author.Tests.{eq-eqb, ne-eqb, not-true, not-false}
+use Rattle.aiger.specs.Lines.{usesKnown}
+use borrow.Author.Needs.{needs}
+use Rattle.aiger.proofs.uses_known.Statement.{statement}
+use Rattle.aiger.proofs.uses_known.Tie as tie
+
+known-requires : tie.Need-known-requires
+known-requires c κs = search needs
+
+returns : tie.Need-returns
+unfolding usesKnown
+returns c = rw (eq-eqb _ _ (c .before .if1 .taken)) (c .known .ensures)
+
+known-requires-2 : tie.Need-known-requires-2
+known-requires-2 c κs = search needs
+
+returns-2 : tie.Need-returns-2
+unfolding usesKnown
+returns-2 c = rw (ne-eqb (c .before .before .before .before .args .kind) 0 (c .before .before .if1 .left), sym (c .before .known2 .ensures) ∙ not-true _ (c .if2 .taken))
+
+known-requires-3 : tie.Need-known-requires-3
+known-requires-3 c κs = search needs
+
+returns-3 : tie.Need-returns-3
+unfolding usesKnown
+returns-3 c = rw (ne-eqb (c .before .before .before .before .before .args .kind) 0 (c .before .before .before .if1 .left), sym (c .before .before .known2 .ensures) ∙ not-false _ (c .before .if2 .left)) (c .known3 .ensures)
+
+pub uses-known-spec : {M : Type 1} → statement M
+uses-known-spec =
+    tie.close
+    (tie.spec known-requires returns known-requires-2 returns-2 known-requires-3 returns-3)

@@ -1,0 +1,6 @@
+-- `Lines`: what each reader of a line finds at a place of the text. `Passes`: what the passes over the due lines leave in the words.
+-- `Loaded`: the words that hold a graph, every word of them said. `Placing`: what placing the ANDs leaves in the words.
+pub mod Lines
+pub mod Passes
+pub mod Loaded
+pub mod Placing

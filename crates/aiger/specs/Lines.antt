@@ -1,0 +1,125 @@
+-- What each reader of a line finds at a place of the text, composed of what the readers of the crate text find. Assumes nothing.
+use Prim.Native.Nat.{ℕ, _+_, _*_, _/_, _%_}
+use mathlib.Core.Bool.{Bool, true, false, not, _&&_, _||_}
+use mathlib.Core.List.{List}
+use lib.Dec.{eqb, ltb, leb}
+use Rattle.model.specs.Base.{same}
+use Rattle.model.specs.Text.{text}
+use Rattle.model.specs.declared.Header.{Header}
+use Rattle.text.specs.declared.Cursor.{Cursor}
+use Rattle.text.specs.declared.Step.{Step}
+use Rattle.text.specs.declared.Step.the-variants.{Broken as NoStep}
+use Rattle.text.specs.Fields.{wordAt, endAt, onNumber, onStep, numberThen, byteAt}
+use Rattle.text.specs.Lines.{pickBool}
+use Rattle.words.specs.Layout.{kindAt}
+use Rattle.aiger.specs.declared.Literals.{Literals}
+use Rattle.aiger.specs.declared.LineRead.{LineRead}
+use Rattle.aiger.specs.declared.LineRead.the-variants.{Read as ALine, Broken as NoLine}
+use Rattle.aiger.specs.declared.Judged.{Judged}
+use Rattle.aiger.specs.declared.Judged.the-variants.{Good, Bad}
+use Rattle.aiger.specs.declared.Three.{Three}
+use Rattle.aiger.specs.declared.Three.the-variants.{Numbers, Broken as NoThree}
+use Rattle.aiger.specs.declared.HeaderForm.{HeaderForm}
+use Rattle.aiger.specs.declared.HeaderForm.the-variants.{Is, Broken as NoForm}
+
+-- ---- the header
+
+-- three numbers, the last at the end of its line
+unfoldable pub threeAt : List ℕ → ℕ → Three
+threeAt s at =
+    onNumber (numberThen s at 32) (λ a c0.
+    onNumber (numberThen s (c0 .at) 32) (λ b c1.
+    onNumber (numberThen s (c1 .at) 10) (λ d c2. Numbers a b d c2) NoThree) NoThree) NoThree
+
+abbrev pub onThree : {A : Type 0} → Three → (ℕ → ℕ → ℕ → Cursor → A) → A → A
+onThree (Numbers a b d c) f e = f a b d c
+onThree NoThree f e = e
+
+abbrev pub pickStep : Bool → Step → Step → Step
+pickStep true a b = a
+pickStep false a b = b
+
+unfoldable pub aag : List ℕ
+unfolding text
+aag = text "aag"
+
+unfoldable pub tagAt : List ℕ → Step
+tagAt s = pickStep (same (wordAt s 0) aag) (byteAt s (endAt s 0) 32) NoStep
+
+abbrev pub headerRecord : ℕ → ℕ → ℕ → ℕ → ℕ → ℕ → Header
+headerRecord size inputs latches outputs ands end =
+    record { size = size; inputs = inputs; latches = latches; outputs = outputs; ands = ands; next = end }
+
+unfoldable pub numbersForm : List ℕ → ℕ → HeaderForm
+numbersForm s at =
+    onNumber (numberThen s at 32) (λ m c0.
+    onNumber (numberThen s (c0 .at) 32) (λ i c1.
+    onThree (threeAt s (c1 .at)) (λ l o a c2. Is (headerRecord m i l o a (c2 .at))) NoForm) NoForm) NoForm
+
+unfoldable pub formAt : List ℕ → HeaderForm
+formAt s = onStep (tagAt s) (λ c. numbersForm s (c .at)) NoForm
+
+-- ---- the due lines
+
+abbrev pub pickN : Bool → ℕ → ℕ → ℕ
+pickN true a b = a
+pickN false a b = b
+
+-- due line k: 2 an input, 0 an output, 3 an AND
+abbrev pub dueCode : Header → ℕ → ℕ
+dueCode h k = pickN (ltb k (h .inputs)) 2 (pickN (ltb k (h .inputs + h .outputs)) 0 3)
+
+abbrev pub dueCount : Header → ℕ
+dueCount h = h .inputs + h .outputs + h .ands
+
+abbrev pub literals : ℕ → ℕ → ℕ → ℕ → Literals
+literals a l r end = record { first = a; left = l; right = r; next = end }
+
+unfoldable pub oneLine : List ℕ → ℕ → LineRead
+oneLine s at = onNumber (numberThen s at 10) (λ a c. ALine (literals a 0 0 (c .at))) NoLine
+
+unfoldable pub andLine : List ℕ → ℕ → LineRead
+andLine s at = onThree (threeAt s at) (λ a l r c. ALine (literals a l r (c .at))) NoLine
+
+abbrev pub pickLine : Bool → LineRead → LineRead → LineRead
+pickLine true a b = a
+pickLine false a b = b
+
+unfoldable pub lineRead : List ℕ → ℕ → ℕ → LineRead
+lineRead s at kind = pickLine (eqb kind 3) (andLine s at) (oneLine s at)
+
+abbrev pub onLine : {A : Type 0} → LineRead → (Literals → A) → A → A
+onLine (ALine l) f e = f l
+onLine NoLine f e = e
+
+-- no "literal exceeds 2M+1"
+unfoldable pub literalsFit : ℕ → Literals → Bool
+literalsFit m l = leb (l .first) (2 * m + 1) && (leb (l .left) (2 * m + 1) && leb (l .right) (2 * m + 1))
+
+-- no "input or left literal is odd or 0"
+unfoldable pub mayDefine : ℕ → ℕ → Bool
+mayDefine kind first = eqb kind 0 || (eqb (first % 2) 0 && not (eqb first 0))
+
+-- "An input or left variable is already defined."
+unfoldable pub isTaken : List ℕ → ℕ → ℕ → ℕ → Bool
+isTaken w m kind first = not (eqb kind 0) && not (eqb (kindAt w m (first / 2)) 0)
+
+abbrev pub pickJudged : Bool → Judged → Judged → Judged
+pickJudged true a b = a
+pickJudged false a b = b
+
+-- 11, 12 and 13 in this order
+unfoldable pub judgedAt : List ℕ → ℕ → List ℕ → ℕ → ℕ → Judged
+judgedAt s at w m kind =
+    onLine (lineRead s at kind) (λ l.
+    pickJudged (literalsFit m l && mayDefine kind (l .first))
+    (pickJudged (isTaken w m kind (l .first)) (Bad 13) (Good l)) (Bad 12)) (Bad 11)
+
+-- a literal's variable is defined
+unfoldable pub isKnown : List ℕ → ℕ → ℕ → Bool
+isKnown w m l = not (eqb (kindAt w m (l / 2)) 0)
+
+-- so are the variables that a line uses; an input line's second and third literals are 0
+unfoldable pub usesKnown : List ℕ → ℕ → ℕ → Literals → Bool
+unfolding isKnown
+usesKnown w m kind l = pickBool (eqb kind 0) (isKnown w m (l .first)) (isKnown w m (l .left) && isKnown w m (l .right))

@@ -1,0 +1,126 @@
+#!/usr/bin/env python3
+"""Write the standard input of this program, some hundred graph texts, and by a reader of its own the output that it must give.
+usage: cases.py"""
+import pathlib, random, re
+HERE = pathlib.Path(__file__).resolve().parent
+WORDS = 80000
+
+def number(f):
+    """0 to 65,535 in decimal without leading zeros, or None"""
+    return int(f) if re.fullmatch(rb"0|[1-9][0-9]{0,4}", f) and int(f) <= 65535 else None
+
+def line_at(t, at, count):
+    """the numbers of the line at a place, if it has so many, and the next place"""
+    end = t.find(b"\n", at)
+    if end < 0:
+        return None, 0
+    ns = [number(f) for f in t[at:end].split(b" ")]
+    return (None if len(ns) != count or None in ns else ns), end + 1
+
+def read(t):
+    if not t.startswith(b"aag "):
+        return "refused 7 0"
+    head, at = line_at(t, 4, 5)
+    if head is None:
+        return "refused 7 0"
+    m, i, l, o, a = head
+    if l:
+        return "refused 8 0"
+    if m > 4095 or o > 4096 or i + a > m:
+        return "refused 9 0"
+    if 160 * (m + 1) + o > WORDS:
+        return "refused 10 0"
+    lines, defined = [], {0}
+    for kind in "i" * i + "o" * o + "a" * a:
+        if at >= len(t):
+            return f"refused 11 {len(t)}"
+        ns, end = line_at(t, at, 3 if kind == "a" else 1)
+        if ns is None:
+            return f"refused 11 {at}"
+        if max(ns) > 2 * m + 1 or (kind != "o" and (ns[0] % 2 or ns[0] == 0)):
+            return f"refused 12 {at}"
+        if kind != "o":
+            if ns[0] // 2 in defined:
+                return f"refused 13 {at}"
+            defined.add(ns[0] // 2)
+        lines.append((kind, at, ns))
+        at = end
+    for kind, place, ns in lines:
+        if any(n // 2 not in defined for n in ([] if kind == "i" else ns if kind == "o" else ns[1:])):
+            return f"refused 14 {place}"
+    order = [0] + [ns[0] // 2 for kind, _, ns in lines if kind == "i"]
+    ands = {ns[0] // 2: ns[1:] for kind, _, ns in lines if kind == "a"}
+    placed = set(order)
+    while True:
+        ready = [v for v, ops in ands.items() if v not in placed and all(n // 2 in placed for n in ops)]
+        if not ready:
+            break
+        order.append(min(ready))
+        placed.add(min(ready))
+    left = [v for v in ands if v not in placed]
+    if left:
+        return f"refused 15 {min(left)}"
+    return " ".join(["placed"] + [str(v) for v in order] + ["outputs"] + [str(ns[0]) for kind, _, ns in lines if kind == "o"])
+
+def graph(r):
+    """a graph of random form, its AND lines in any order; now and then a literal is of a later variable, or of none"""
+    i, a, o = r.randrange(5), r.randrange(12), r.randrange(4)
+    m = i + a + r.choice([0, 0, 1, 3])
+    names = r.sample(range(1, m + 1), i + a)
+    ops = [0] + names[:i]
+    ands = []
+    for v in names[i:]:
+        pick = ops if r.random() < 0.97 else range(m + 1)
+        ands.append(b"%d %d %d\n" % (2 * v, 2 * r.choice(pick) + r.randrange(2), 2 * r.choice(pick) + r.randrange(2)))
+        ops.append(v)
+    r.shuffle(ands)
+    outs = [b"%d\n" % (2 * r.choice(ops if r.random() < 0.97 else range(m + 1)) + r.randrange(2)) for _ in range(o)]
+    return b"aag %d %d 0 %d %d\n" % (m, i, o, a) + b"".join(b"%d\n" % (2 * v) for v in names[:i]) + b"".join(outs) + b"".join(ands)
+
+def texts():
+    r = random.Random(1)
+    b_ = b"aag 3 2 0 1 1\n2\n4\n6\n6 2 4\n"
+    f_ = b"aag 6 3 0 1 3\n2\n4\n6\n12\n8 2 4\n10 8 6\n12 8 10\n"
+    j_ = b"aag 2 0 0 0 2\n2 4 4\n4 2 2\n"
+    k_ = b"aag 3 1 0 1 2\n2\n4\n4 6 6\n6 2 2\n"
+    marked = [b"aag 0 0 0 0 0\n", b_, b_.replace(b"6 2 4", b"6 3 5"), f_, b"aag 0 0 0 1 0\n1\n", j_, k_]
+    out = list(marked)
+    # a symbol table behind the last AND line, and the same cut short
+    out += [b_ + b"i0 x\no0 y\nc\n", b_ + b"\n", b_ + b"6 2 4\n", b_ + b"x"] + [b_[:n] for n in range(len(b_))]
+    # the header
+    for h in [b"", b"\n", b"aag\n", b"aag ", b"aig 0 0 0 0 0\n", b"aag  0 0 0 0 0\n", b" aag 0 0 0 0 0\n", b"aag 0 0 0 0\n", b"aag 0 0 0 0 0 0\n", b"aag 0 0 0 0 0 \n", b"aag 0 0 0 0 0",
+              b"aag 00 0 0 0 0\n", b"aag 0 0 0 0 01\n", b"aag 65536 0 0 0 0\n", b"aag 65535 0 1 0 0\n", b"aag 65535 0 0 0 0\n", b"aag 4096 0 0 0 0\n", b"aag 4095 0 0 0 0\n", b"aag 0 0 0 4096 0\n",
+              b"aag 0 0 0 4097 0\n", b"aag 1 1 0 0 1\n", b"aag 0 0 1 0 0\n", b"aag 0 0 0 0 0\r\n", b"AAG 0 0 0 0 0\n", b"aag 5 2 0 0 4\n", b"aag 498 0 0 160 0\n", b"aag 498 0 0 161 0\n", b"aag -1 0 0 0 0\n"]:
+        out.append(h)
+    # lines that break their form, literals out of range, variables defined twice or nowhere
+    for old, new in [(b"\n2\n", b"\n02\n"), (b"\n2\n", b"\n2 \n"), (b"\n2\n", b"\n\n"), (b"\n2\n", b"\n3\n"), (b"\n2\n", b"\n0\n"), (b"\n2\n", b"\n8\n"), (b"\n2\n", b"\n9\n"), (b"\n4\n", b"\n2\n"),
+                     (b"\n6\n", b"\n7\n"), (b"\n6\n", b"\n8\n"), (b"\n6\n", b"\n0\n"), (b"\n6\n", b"\n1\n"), (b"\n6\n", b"\n6 6\n"), (b"6 2 4", b"7 2 4"), (b"6 2 4", b"0 2 4"), (b"6 2 4", b"4 2 4"),
+                     (b"6 2 4", b"2 2 4"), (b"6 2 4", b"6 6 4"), (b"6 2 4", b"6 2 6"), (b"6 2 4", b"6 0 1"), (b"6 2 4", b"6 2"), (b"6 2 4", b"6 2 4 4"), (b"6 2 4", b"6 2 8"), (b"6 2 4", b"6 8 4"),
+                     (b"6 2 4", b"6  2 4"), (b"6 2 4", b"6 2 65536"), (b"aag 3 2 0 1 1", b"aag 4 2 0 1 1"), (b"aag 3 2 0 1 1", b"aag 4 2 0 1 2")]:
+        out += [b_.replace(old, new, 1), b_.replace(b"aag 3", b"aag 5", 1).replace(old, new, 1)]
+    # undefined variables: the first line that uses one, outputs before ANDs
+    out += [b"aag 5 1 0 2 1\n2\n4\n8\n4 10 2\n", b"aag 5 1 0 1 2\n2\n4\n4 2 10\n6 8 8\n", b"aag 5 1 0 1 2\n2\n0\n4 2 6\n6 8 8\n", b"aag 1 0 0 0 0\n", b"aag 9 1 0 1 1\n18\n18\n2 18 18\n"]
+    # ANDs that cannot be placed: a ring, one that feeds itself, one behind a ring
+    out += [b"aag 1 0 0 0 1\n2 2 2\n", b"aag 2 1 0 0 1\n2\n4 4 2\n", b"aag 4 1 0 1 3\n8\n2\n2 8 4\n4 6 8\n6 4 4\n", b"aag 3 0 0 1 3\n6\n6 4 4\n4 2 2\n2 0 1\n"]
+    for name in ("maxhold_n2_w4.st.shuf", "sorter16.rs.shuf", "maxhold_n2_w4.st", "mult2.st", "gt_w2.st", "prio_n4_b2.b", "cmp3_w2.rs", "satadd_w3.dc2"):
+        t = (HERE / "graphs" / (name + ".aag")).read_bytes()
+        out += [t, t[: len(t) // 2]]
+        for _ in range(4):
+            n = r.randrange(len(t))
+            out.append(t[:n] + bytes([r.choice(b"0123456789 \n")]) + t[n + 1:])
+    for _ in range(150):
+        t = graph(r)
+        out.append(t)
+        n = r.randrange(len(t))
+        out.append(t[:n] + bytes([r.choice(b"0123456789 \n")]) + t[n + 1:])
+    return out
+
+def main():
+    ts = texts()
+    assert not any(b"\0" in t for t in ts)
+    data = b"".join(t + b"\0" for t in ts)
+    assert len(data) <= 131072, len(data)
+    (HERE / "stdin").write_bytes(data)
+    (HERE / "stdout").write_text("".join(read(t) + "\n" for t in ts))
+
+main()

@@ -1,0 +1,49 @@
+-- `aiger_run::show_loaded` is safe: what `place` asks is what an accepted `load` leaves.
+-- Assumes nothing.
+use mathlib.Core.Path.{sym, _∙_}
+use Rattle.aiger.proofs.Head.{header-fit}
+use Rattle.aiger.proofs.Orders.{place-asks}
+use borrow.Author.Needs.{needs}
+use Rattle.aiger_run.proofs.show_loaded.Statement.{statement}
+use Rattle.aiger_run.proofs.show_loaded.Tie as tie
+
+load-requires : tie.Need-load-requires
+load-requires c κs = search needs
+
+enum-told : tie.Need-enum-told
+enum-told c = search needs
+
+show-placed-requires : tie.Need-show-placed-requires
+show-placed-requires c κs = place-asks (c .before .before .before .before .before .before .before .before .before .args .work .now) _ (c .before .before .before .before .before .before .before .before .before .args .text .now) (c .before .before .before .before .before .before .before .before .before .args .h) (header-fit (c .before .before .before .before .before .before .before .before .before .args .text .now) (c .before .before .before .before .before .before .before .before .before .args .h) (c .before .before .before .before .before .before .before .before .before .args .work .now) (c .before .before .before .before .before .before .before .before .before .pre .0) (c .before .before .before .before .before .before .before .before .before .pre .1)) (sym (c .before .before .before .before .before .load .ensures .0) ∙ c .before .enum-told .given .1) (c .before .before .before .before .before .load .ensures .1)
+
+enum-known-n : tie.Need-enum-known-n
+enum-known-n c = search needs
+
+refused-requires : tie.Need-refused-requires
+refused-requires c κs = search needs
+
+same-length : tie.Need-same-length
+same-length c = search needs
+
+returns : tie.Need-returns
+returns c = search needs
+
+same-length-2 : tie.Need-same-length-2
+same-length-2 c = search needs
+
+returns-2 : tie.Need-returns-2
+returns-2 c = search needs
+
+pub show-loaded-spec : {M : Type 1} → statement M
+show-loaded-spec =
+    tie.close
+    (tie.spec
+    load-requires
+    enum-told
+    show-placed-requires
+    enum-known-n
+    refused-requires
+    same-length
+    returns
+    same-length-2
+    returns-2)

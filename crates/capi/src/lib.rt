@@ -1,0 +1,52 @@
+// The call for C and Rust. A slice is a pointer and a number of elements; the answer is the five values that document 01 names.
+use model::Answer;
+ghost use mathlib.Core.Path.{_≡_};
+ghost use lib.ListN.{length};
+ghost use Rattle.model.specs.Mapper.{mapTexts, answerOf, returned, textAfter, workAfter};
+ghost use Rattle.capi.specs.Answers.{answered};
+
+// "Success returns number 0, the netlist's length and the three figures of its `# gates` line; a refusal its number, its place and zero figures".
+#[repr(C)]
+pub struct MapperAnswer {
+    pub number: u64,
+    pub value: u64,
+    pub gates: u32,
+    pub area: u32,
+    pub arrival: u32,
+}
+
+fn answer(a: Answer) -> MapperAnswer
+    ensures { λ r. ⌜ r ≡ answered (returned a) ⌝ }
+{
+    match a {
+        Answer::Mapped(n, f) => MapperAnswer {
+            number: 0,
+            value: n as u64,
+            gates: f.gates,
+            area: f.area,
+            arrival: f.arrival,
+        },
+        Answer::Refused(number, place) => MapperAnswer {
+            number: number as u64,
+            value: place as u64,
+            gates: 0,
+            area: 0,
+            arrival: 0,
+        },
+    }
+}
+
+// Maps a library text and a graph text over lent words and bytes. The same bytes and words may not be lent twice.
+#[no_mangle]
+pub extern "C" fn mapper_map(
+    cells: &[u8],
+    graph: &[u8],
+    work: &mut [u16],
+    text: &mut [u8],
+) -> MapperAnswer
+    ensures answers { λ r. ⌜ r ≡ answered (returned (answerOf (mapTexts (now (cells .entry)) (now (graph .entry)) (length (now (work .entry))) (length (now (text .entry)))))) ⌝ }
+    ensures words { λ _. ⌜ now (work .exit) ≡ workAfter (mapTexts (now (cells .entry)) (now (graph .entry)) (length (now (work .entry))) (length (now (text .entry)))) (now (work .entry)) ⌝ }
+    ensures bytes { λ _. ⌜ now (text .exit) ≡ textAfter (mapTexts (now (cells .entry)) (now (graph .entry)) (length (now (work .entry))) (length (now (text .entry)))) (now (text .entry)) ⌝ }
+{
+    answer(mapper::map_texts(cells, graph, work, text))
+}

@@ -1,0 +1,71 @@
+-- What the matches on a cut give, as the code finds it:
+--     on-best, on-none            the best of the chain of its function, or none where the chain is empty
+--     at-alone, at-cut            nothing on the variable alone
+--     from-more, from-none        one cut more, from the last to the first
+-- Assumes nothing.
+use Prim.Native.Nat.{ℕ, suc, _-_, _≤_, _<_}
+use native.Mathlib.Omega.{arith}
+use mathlib.Core.Path.{_≡_, sym, ap, _∙_}
+use mathlib.Core.Bool.{Bool, true, false, cond}
+use mathlib.Core.List.{List, [], _∷_}
+use lib.ListN.{length, getD}
+use Rattle.model.specs.Base.{same}
+use Rattle.model.specs.Cells.{cellsOf}
+use Rattle.model.specs.Matching.{phaseTable}
+use Rattle.model.specs.Choice.{noPhase, choose, earlier}
+use Rattle.model.specs.declared.Cell.{Cell}
+use Rattle.model.specs.declared.Library.{Library}
+use Rattle.words.specs.Layout.{countAt, functionAt}
+use Rattle.words.specs.Phases.{phasesAt}
+use Rattle.matching.specs.Best.{unmatched, bestOf, phaseAs}
+use Rattle.matching.proofs.Choosing.{choose-append}
+use Rattle.matching.proofs.Arriving.{phase-late}
+use Rattle.matching.proofs.Walking.{walking-none}
+use Rattle.matching.proofs.Matching.{best-match-chosen}
+use Rattle.cover.specs.Asked.{cutOf}
+use Rattle.cover.specs.Choosing.{timesAt, foundOn, foundAt, foundFrom, bestAt, Early, ChainsIn}
+use Rattle.cover.proofs.Leaves.{times-of, times-quick}
+
+module _ (lib : Library) (heads links : List ℕ) (h : ChainsIn lib heads links) (w : List ℕ) (m t : ℕ) (e : Early w m t) (small : t ≤ 4294901759)
+    (cut : List ℕ) (few : length cut ≤ 4) (inside : (j : ℕ) → j < length cut → getD cut j 0 ≤ m) (k f : ℕ) (table : f < 65536) where
+  pub on-best : phaseAs k (bestOf (cellsOf lib) (length cut) f (timesAt w m cut)) ≡ choose (foundOn (cellsOf lib) w m k cut f)
+  unfolding foundOn
+  on-best = best-match-chosen lib (phasesAt w m) cut (timesAt w m cut) k f (h .usable) table (times-of w m cut few) (times-quick w m cut t e small inside)
+
+  pub on-none : getD heads f 0 ≡ 0 → noPhase ≡ choose (foundOn (cellsOf lib) w m k cut f)
+  on-none z =
+      sym (phase-late k unmatched (omega arith))
+      ∙ ap (phaseAs k) (walking-none (cellsOf lib) heads links f (length cut) (timesAt w m cut) (h .chained) table z)
+      ∙ on-best
+
+module _ (cells : List Cell) (w : List ℕ) (m v : ℕ) (neg : Bool) where
+  pub at-alone : (k : ℕ) → same (cutOf w m v k) (v ∷ []) ≡ true → noPhase ≡ choose (foundAt cells w m v neg k)
+  unfolding foundAt choose
+  at-alone k e = sym (ap (λ (b : Bool). choose (cond b [] (foundOn cells w m k (cutOf w m v k) (phaseTable neg (functionAt w m v k))))) e)
+
+  pub at-cut : (k : ℕ) → same (cutOf w m v k) (v ∷ []) ≡ false
+      → choose (foundOn cells w m k (cutOf w m v k) (phaseTable neg (functionAt w m v k))) ≡ choose (foundAt cells w m v neg k)
+  unfolding foundAt
+  at-cut k e = sym (ap (λ (b : Bool). choose (cond b [] (foundOn cells w m k (cutOf w m v k) (phaseTable neg (functionAt w m v k))))) e)
+
+  -- the cuts from number k on, of n
+  pub from-none : (n : ℕ) → noPhase ≡ choose (foundFrom cells w m v neg n (n - n))
+  unfolding foundFrom choose
+  from-none n = let e : n - n ≡ 0 = omega arith in sym (ap (λ (i : ℕ). choose (foundFrom cells w m v neg n i)) e)
+
+  pub from-more : (k n : ℕ) → 0 < k → k ≤ n
+      → earlier (choose (foundAt cells w m v neg (k - 1))) (choose (foundFrom cells w m v neg k (n - k))) ≡ choose (foundFrom cells w m v neg (k - 1) (n - (k - 1)))
+  unfolding foundFrom
+  from-more k n p h =
+      let e : n - (k - 1) ≡ suc (n - k) = omega arith in
+      let s : k ≡ suc (k - 1) = omega arith in
+      sym (ap (λ (i : ℕ). choose (foundFrom cells w m v neg (k - 1) i)) e
+      ∙ choose-append (foundAt cells w m v neg (k - 1)) (foundFrom cells w m v neg (suc (k - 1)) (n - k))
+      ∙ ap (λ (i : ℕ). earlier (choose (foundAt cells w m v neg (k - 1))) (choose (foundFrom cells w m v neg i (n - k)))) (sym s))
+
+  pub from-all : (k : ℕ) → k ≤ 0 → choose (foundFrom cells w m v neg k (countAt w m v - k)) ≡ bestAt cells w m v neg
+  unfolding bestAt
+  from-all k h =
+      let e : k ≡ 0 = omega arith in
+      let d : countAt w m v - 0 ≡ countAt w m v = omega arith in
+      ap (λ (i : ℕ). choose (foundFrom cells w m v neg i (countAt w m v - i))) e ∙ ap (λ (i : ℕ). choose (foundFrom cells w m v neg 0 i)) d

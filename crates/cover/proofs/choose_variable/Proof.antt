@@ -1,0 +1,94 @@
+-- `cover::choose_variable` meets its contract: what is stored has room, and is the choice with inverters. Assumes nothing.
+use mathlib.Core.Path.{_≡_, sym, ap, subst, _∙_}
+use mathlib.Core.Bool.{true, false}
+use mathlib.Core.List.{List}
+use Prim.Native.Nat.{ℕ, _+_}
+use native.Mathlib.Omega.{arith}
+use lib.ListN.{length}
+use Rattle.model.specs.Cells.{cellsOf}
+use Rattle.model.specs.Choice.{joined}
+use Rattle.model.specs.declared.Phase.{Phase}
+use Rattle.words.specs.Put.{putAt}
+use Rattle.words.specs.Layout.{Room, positiveAddr, negativeAddr}
+use Rattle.words.specs.Phases.{PhaseFits, phaseWords}
+use Rattle.words.proofs.Putting.{length-put}
+use Rattle.words.proofs.Chosen.{length-phase}
+use Rattle.cover.specs.Choosing.{directAt, putPhases, chosenTurn}
+use Rattle.cover.proofs.Fitting.{Fitting, direct-fit}
+use Rattle.cover.proofs.Turning.{sooner-is, turn-fit}
+use borrow.Author.Needs.{needs}
+use Rattle.cover.proofs.choose_variable.Statement.{statement}
+use Rattle.cover.proofs.choose_variable.Tie as tie
+
+direct-requires : tie.Need-direct-requires
+direct-requires c κs = search needs
+
+direct-requires-2 : tie.Need-direct-requires-2
+direct-requires-2 c κs = search needs
+
+invert-requires : tie.Need-invert-requires
+invert-requires c κs =
+    let s = c .before .before .before .before .before in
+    let a = s .args in
+    let f : Fitting (1073741823 + 65535) (directAt (cellsOf (a .lib)) (a .work .now) (a .m) (a .v) true) = direct-fit (a .lib) (s .pre .0 .usable) (a .work .now) (a .m) 1073741823 (s .pre .1 .early) (s .pre .1 .cuts) (a .v) (s .pre .2) true in
+    omega (arith, ap (λ (p : Phase). p .arrival) (c .direct2 .ensures), f .soon)
+
+sooner-requires : tie.Need-sooner-requires
+sooner-requires c κs = search needs
+
+invert-requires-2 : tie.Need-invert-requires-2
+invert-requires-2 c κs =
+    let s = c .before .before .before .before .before .before .before in
+    let a = s .args in
+    let f : Fitting (1073741823 + 65535) (directAt (cellsOf (a .lib)) (a .work .now) (a .m) (a .v) false) = direct-fit (a .lib) (s .pre .0 .usable) (a .work .now) (a .m) 1073741823 (s .pre .1 .early) (s .pre .1 .cuts) (a .v) (s .pre .2) false in
+    omega (arith, ap (λ (p : Phase). p .arrival) (c .before .before .before .before .direct .ensures), f .soon)
+
+sooner-requires-2 : tie.Need-sooner-requires-2
+sooner-requires-2 c κs = search needs
+
+set-positive-requires : tie.Need-set-positive-requires
+set-positive-requires c κs =
+    let s = c .before .before .before .before .before .before .before .before .before .before in
+    let a = s .args in
+    (s .pre .1 .cuts .room, s .pre .2, subst PhaseFits (sym (sooner-is (cellsOf (a .lib)) (a .inv) (c .before .before .before .before .before .before .before .direct .result) (c .before .before .before .before .before .direct2 .result) (directAt (cellsOf (a .lib)) (a .work .now) (a .m) (a .v) false) (directAt (cellsOf (a .lib)) (a .work .now) (a .m) (a .v) true) (c .before .before .before .before .invert .result) (c .before .before .before .sooner .result) (s .pre .3) (c .before .before .before .before .before .before .before .direct .ensures) (c .before .before .before .before .before .direct2 .ensures) (c .before .before .before .before .invert .ensures) (c .before .before .before .sooner .ensures))) (turn-fit (a .lib) (s .pre .0 .usable) (a .work .now) (a .m) 1073741823 (s .pre .1 .cuts) (s .pre .1 .early) (a .v) (s .pre .2) false .fit))
+
+set-negative-requires : tie.Need-set-negative-requires
+set-negative-requires c κs =
+    let s = c .before .before .before .before .before .before .before .before .before .before .before .before .before .before in
+    let a = s .args in
+    let w′ : List ℕ = c .before .before .before .set-positive .last .0 in
+    let l : length w′ ≡ length (a .work .now) =
+    ap length (c .before .before .before .set-positive .ensures)
+    ∙ length-put (a .work .now) (positiveAddr (a .m) (a .v)) (phaseWords (c .before .before .before .before .before .before .before .sooner .result)) (omega (arith, s .pre .1 .cuts .room .room, length-phase (c .before .before .before .before .before .before .before .sooner .result))) in
+    let r : Room w′ (a .m) = record { small = s .pre .1 .cuts .room .small; room = omega (arith, s .pre .1 .cuts .room .room) } in
+    (r, s .pre .2, subst PhaseFits (sym (sooner-is (cellsOf (a .lib)) (a .inv) (c .before .before .before .before .before .before .before .before .before .direct2 .result) (c .before .before .before .before .before .before .before .before .before .before .before .direct .result) (directAt (cellsOf (a .lib)) (a .work .now) (a .m) (a .v) true) (directAt (cellsOf (a .lib)) (a .work .now) (a .m) (a .v) false) (c .before .before .before .before .before .before .invert2 .result) (c .before .before .before .before .before .sooner2 .result) (s .pre .3) (c .before .before .before .before .before .before .before .before .before .direct2 .ensures) (c .before .before .before .before .before .before .before .before .before .before .before .direct .ensures) (c .before .before .before .before .before .before .invert2 .ensures) (c .before .before .before .before .before .sooner2 .ensures))) (turn-fit (a .lib) (s .pre .0 .usable) (a .work .now) (a .m) 1073741823 (s .pre .1 .cuts) (s .pre .1 .early) (a .v) (s .pre .2) true .fit))
+
+same-length : tie.Need-same-length
+same-length c = search needs
+
+returns : tie.Need-returns
+unfolding chosenTurn putPhases joined
+returns c =
+    let s = c .before .before .before .before .before .before .before .before .before .before .before .before .before .before .before .before .before in
+    let a = s .args in
+    let w : List ℕ = a .work .now in
+    let one = sooner-is (cellsOf (a .lib)) (a .inv) (c .before .before .before .before .before .before .before .before .before .before .before .before .before .before .direct .result) (c .before .before .before .before .before .before .before .before .before .before .before .before .direct2 .result) (directAt (cellsOf (a .lib)) (a .work .now) (a .m) (a .v) false) (directAt (cellsOf (a .lib)) (a .work .now) (a .m) (a .v) true) (c .before .before .before .before .before .before .before .before .before .before .before .invert .result) (c .before .before .before .before .before .before .before .before .before .before .sooner .result) (s .pre .3) (c .before .before .before .before .before .before .before .before .before .before .before .before .before .before .direct .ensures) (c .before .before .before .before .before .before .before .before .before .before .before .before .direct2 .ensures) (c .before .before .before .before .before .before .before .before .before .before .before .invert .ensures) (c .before .before .before .before .before .before .before .before .before .before .sooner .ensures) in
+    let two = sooner-is (cellsOf (a .lib)) (a .inv) (c .before .before .before .before .before .before .before .before .before .before .before .before .direct2 .result) (c .before .before .before .before .before .before .before .before .before .before .before .before .before .before .direct .result) (directAt (cellsOf (a .lib)) (a .work .now) (a .m) (a .v) true) (directAt (cellsOf (a .lib)) (a .work .now) (a .m) (a .v) false) (c .before .before .before .before .before .before .before .before .before .invert2 .result) (c .before .before .before .before .before .before .before .before .sooner2 .result) (s .pre .3) (c .before .before .before .before .before .before .before .before .before .before .before .before .direct2 .ensures) (c .before .before .before .before .before .before .before .before .before .before .before .before .before .before .direct .ensures) (c .before .before .before .before .before .before .before .before .before .invert2 .ensures) (c .before .before .before .before .before .before .before .before .sooner2 .ensures) in
+    c .before .before .set-negative .ensures
+    ∙ ap (λ (x : List ℕ). putAt x (negativeAddr (a .m) (a .v)) (phaseWords (c .before .before .before .before .before .before .before .before .sooner2 .result))) (c .before .before .before .before .before .before .set-positive .ensures)
+    ∙ (λ i. putAt (putAt w (positiveAddr (a .m) (a .v)) (phaseWords (one i))) (negativeAddr (a .m) (a .v)) (phaseWords (two i)))
+
+pub choose-variable-spec : {M : Type 1} → statement M
+choose-variable-spec =
+    tie.close
+    (tie.spec
+    direct-requires
+    direct-requires-2
+    invert-requires
+    sooner-requires
+    invert-requires-2
+    sooner-requires-2
+    set-positive-requires
+    set-negative-requires
+    same-length
+    returns)

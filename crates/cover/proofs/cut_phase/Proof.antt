@@ -1,0 +1,87 @@
+-- `cover::cut_phase` meets its contract: by whether the cut is the variable alone. Assumes nothing.
+use mathlib.Core.Path.{_≡_, refl, sym, ap, subst, _∙_}
+use mathlib.Core.List.{List, [], _∷_}
+use Prim.Native.Nat.{ℕ, _≤_, _<_}
+use native.Mathlib.Omega.{arith}
+use lib.ListN.{length}
+use Rattle.model.specs.Base.{same}
+use Rattle.model.specs.Cells.{cellsOf}
+use Rattle.model.specs.Choice.{choose}
+use Rattle.model.specs.Matching.{phaseTable}
+use Rattle.model.specs.declared.Cut.{Cut}
+use Rattle.words.specs.Layout.{countAt, cutAddr}
+use Rattle.words.specs.Record.{cutAt, leavesOf}
+use Rattle.cover.specs.Asked.{LeavesIn, CutsIn}
+use Rattle.cover.specs.Choosing.{foundOn}
+use Rattle.cover.proofs.Found.{at-alone, at-cut}
+use borrow.Author.Needs.{needs}
+use Rattle.cover.proofs.cut_phase.Statement.{statement}
+use Rattle.cover.proofs.cut_phase.Tie as tie
+
+-- a cut of the words has four words for its leaves
+four : (w : List ℕ) (at : ℕ) → length (cutAt w at .leaves) ≡ 4
+unfolding cutAt
+four w at = refl
+
+loaded : (w : List ℕ) (m v k : ℕ) → CutsIn w m → v ≤ m → k < countAt w m v → LeavesIn w m (cutAt w (cutAddr m v k))
+loaded w m v k r h b = record { room = r .room; four = four w (cutAddr m v k); within = λ j i. r .within v k j h b i }
+
+load-cut-requires : tie.Need-load-cut-requires
+load-cut-requires c κs =
+    let s = c .before in
+    (s .pre .1 .cuts .room, s .pre .2, omega (arith, s .pre .3, s .pre .1 .cuts .few (s .args .v) (s .pre .2)))
+
+alone-requires : tie.Need-alone-requires
+alone-requires c κs = search needs
+
+nothing-requires : tie.Need-nothing-requires
+nothing-requires c κs = search needs
+
+returns : tie.Need-returns
+returns c =
+    let s = c .before .before .before .before .before in
+    let a = s .args in
+    c .nothing .ensures
+    ∙ at-alone (cellsOf (a .lib)) (a .work .now) (a .m) (a .v) (a .neg) (a .k)
+    (ap (λ (x : Cut). same (leavesOf x) (a .v ∷ [])) (sym (c .before .before .before .load-cut .ensures)) ∙ sym (c .before .before .alone .ensures) ∙ c .before .if1 .taken)
+
+table-requires : tie.Need-table-requires
+table-requires c κs =
+    let s = c .before .before .before .before in
+    (s .pre .1 .cuts .room, s .pre .2, omega (arith, s .pre .3, s .pre .1 .cuts .few (s .args .v) (s .pre .2)))
+
+in-phase-requires : tie.Need-in-phase-requires
+in-phase-requires c κs = search needs
+
+match-cut-requires : tie.Need-match-cut-requires
+match-cut-requires c κs =
+    let s = c .before .before .before .before .before .before in
+    let a = s .args in (
+      s .pre .0,
+      subst (LeavesIn (a .work .now) (a .m)) (sym (c .before .before .before .before .load-cut .ensures)) (loaded (a .work .now) (a .m) (a .v) (a .k) (s .pre .1 .cuts) (s .pre .2) (s .pre .3)),
+      s .pre .1 .early,
+    )
+
+returns-2 : tie.Need-returns-2
+returns-2 c =
+    let s = c .before .before .before .before .before .before .before in
+    let a = s .args in
+    c .match-cut .ensures
+    ∙ ap (λ (x : Cut). choose (foundOn (cellsOf (a .lib)) (a .work .now) (a .m) (a .k) (leavesOf x) (c .before .in-phase .result))) (c .before .before .before .before .before .load-cut .ensures)
+    ∙ ap (λ (f : ℕ). choose (foundOn (cellsOf (a .lib)) (a .work .now) (a .m) (a .k) (leavesOf (cutAt (a .work .now) (cutAddr (a .m) (a .v) (a .k)))) f))
+    (c .before .in-phase .ensures ∙ ap (phaseTable (a .neg)) (c .before .before .table .ensures))
+    ∙ at-cut (cellsOf (a .lib)) (a .work .now) (a .m) (a .v) (a .neg) (a .k)
+    (ap (λ (x : Cut). same (leavesOf x) (a .v ∷ [])) (sym (c .before .before .before .before .before .load-cut .ensures)) ∙ sym (c .before .before .before .before .alone .ensures) ∙ c .before .before .before .if1 .left)
+
+pub cut-phase-spec : {M : Type 1} → statement M
+cut-phase-spec =
+    tie.close
+    (tie.spec
+    load-cut-requires
+    alone-requires
+    nothing-requires
+    returns
+    table-requires
+    in-phase-requires
+    match-cut-requires
+    returns-2)

@@ -1,0 +1,77 @@
+-- `cover::direct` meets its contract: by what the variable is. Assumes nothing.
+use mathlib.Core.Path.{_≡_, sym, ap, _∙_}
+use mathlib.Core.Bool.{Bool}
+use mathlib.Core.List.{List}
+use mathlib.Core.Logic.{⊎-elim, inl, inr}
+use Prim.Native.Nat.{ℕ}
+use borrow.Author.Tests.{ne-eqb}
+use Rattle.model.specs.Cells.{cellsOf}
+use Rattle.model.specs.Choice.{noPhase}
+use Rattle.model.specs.declared.Cell.{Cell}
+use Rattle.words.specs.Layout.{kindAt, leftAt, rightAt}
+use Rattle.words.specs.Record.{nodeOf, nodeAt}
+use Rattle.cover.specs.Choosing.{bestAt, ownPhase, directOf, directAt}
+use borrow.Author.Needs.{needs}
+use Rattle.cover.proofs.direct.Statement.{statement}
+use Rattle.cover.proofs.direct.Tie as tie
+
+module _ (cells : List Cell) (w : List ℕ) (m v : ℕ) (neg : Bool) where
+  of-constant : kindAt w m v ≡ 1 → bestAt cells w m v neg ≡ directAt cells w m v neg
+  unfolding directAt nodeAt directOf
+  of-constant e = sym (ap (λ (k : ℕ). directOf cells w m v neg (nodeOf k (leftAt w m v) (rightAt w m v))) e)
+
+  of-and : kindAt w m v ≡ 3 → bestAt cells w m v neg ≡ directAt cells w m v neg
+  unfolding directAt nodeAt directOf
+  of-and e = sym (ap (λ (k : ℕ). directOf cells w m v neg (nodeOf k (leftAt w m v) (rightAt w m v))) e)
+
+  of-input : kindAt w m v ≡ 2 → ownPhase neg ≡ directAt cells w m v neg
+  unfolding directAt nodeAt directOf
+  of-input e = sym (ap (λ (k : ℕ). directOf cells w m v neg (nodeOf k (leftAt w m v) (rightAt w m v))) e)
+
+  of-undefined : (kindAt w m v ≡ 1 → ⊥) → (kindAt w m v ≡ 2 → ⊥) → (kindAt w m v ≡ 3 → ⊥) → noPhase ≡ directAt cells w m v neg
+  unfolding directAt nodeAt directOf
+  of-undefined a b c = rw (ne-eqb (kindAt w m v) 1 a, ne-eqb (kindAt w m v) 2 b, ne-eqb (kindAt w m v) 3 c)
+
+kind-requires : tie.Need-kind-requires
+kind-requires c κs = search needs
+
+best-phase-requires : tie.Need-best-phase-requires
+best-phase-requires c κs = search needs
+
+own-requires : tie.Need-own-requires
+own-requires c κs = search needs
+
+nothing-requires : tie.Need-nothing-requires
+nothing-requires c κs = search needs
+
+returns : tie.Need-returns
+returns c =
+    let a = c .before .before .before .before .args in
+    let k = sym (c .before .before .kind .ensures) in
+    c .best-phase .ensures
+    ∙ ⊎-elim (λ e. of-constant (cellsOf (a .lib)) (a .work .now) (a .m) (a .v) (a .neg) (k ∙ e)) (λ e. of-and (cellsOf (a .lib)) (a .work .now) (a .m) (a .v) (a .neg) (k ∙ e)) (c .before .match .keys1)
+
+returns-2 : tie.Need-returns-2
+returns-2 c =
+    let a = c .before .before .before .before .args in
+    c .own .ensures ∙ of-input (cellsOf (a .lib)) (a .work .now) (a .m) (a .v) (a .neg) (sym (c .before .before .kind .ensures) ∙ c .before .match .keys2)
+
+returns-3 : tie.Need-returns-3
+returns-3 c =
+    let a = c .before .before .before .before .args in
+    let k = c .before .before .kind .ensures in
+    let r = c .before .match .rest in
+    c .nothing .ensures
+    ∙ of-undefined (cellsOf (a .lib)) (a .work .now) (a .m) (a .v) (a .neg) (λ e. r .0 .1 (inl (k ∙ e))) (λ e. r .1 (k ∙ e)) (λ e. r .0 .1 (inr (k ∙ e)))
+
+pub direct-spec : {M : Type 1} → statement M
+direct-spec =
+    tie.close
+    (tie.spec
+    kind-requires
+    best-phase-requires
+    own-requires
+    nothing-requires
+    returns
+    returns-2
+    returns-3)

@@ -1,0 +1,112 @@
+-- `cover::mark_feeds` meets its contract: in each arm the source is known to be that arm's. Assumes nothing.
+use mathlib.Core.Path.{sym, ap, _∙_}
+use Prim.Native.Nat.{ℕ, _/_}
+use native.Mathlib.Omega.{arith}
+use Rattle.model.specs.Cells.{cellsOf}
+use Rattle.model.specs.Graph.{varOf}
+use Rattle.model.specs.declared.Phase.{Phase}
+use Rattle.theory_graph.proofs.Literals.{opposite-var}
+use Rattle.words.specs.Phases.{putNeeded}
+use Rattle.cover.specs.Marking.{putAll}
+use Rattle.cover.proofs.Marks.{feeds-matched, feeds-inverted, feeds-input, feeds-nothing}
+use borrow.Author.Needs.{needs}
+use Rattle.cover.proofs.mark_feeds.Statement.{statement}
+use Rattle.cover.proofs.mark_feeds.Tie as tie
+
+phase-requires : tie.Need-phase-requires
+phase-requires c κs = search needs
+
+enum-known-s : tie.Need-enum-known-s
+enum-known-s c = search needs
+
+mark-match-requires : tie.Need-mark-match-requires
+mark-match-requires c κs =
+    let s = c .before .before .before .before .before .before .before in
+    let a = s .args in
+    let p = c .before .before .before .before .phase in
+    let e = ap (λ (x : Phase). x .source) (sym (p .ensures)) ∙ c .before .before .s .given .1 in
+    (s .pre .0 .usable, s .pre .0 .cuts, s .pre .1, s .pre .0 .matches (a .l) (s .pre .1) (c .before .before .s .given .0 .0) e)
+
+enum-told : tie.Need-enum-told
+enum-told c = search needs
+
+other-requires : tie.Need-other-requires
+other-requires c κs = search needs
+
+mark-needed-requires : tie.Need-mark-needed-requires
+unfolding varOf
+mark-needed-requires c κs =
+    let s = c .before .before .before .before .before .before .before in
+    (s .pre .0 .cuts .room, omega (arith, ap (λ (y : ℕ). y / 2) (c .other .ensures), opposite-var (s .args .l), s .pre .1))
+
+enum-told-2 : tie.Need-enum-told-2
+enum-told-2 c = search needs
+
+enum-told-3 : tie.Need-enum-told-3
+enum-told-3 c = search needs
+
+same-length : tie.Need-same-length
+same-length c = search needs
+
+returns : tie.Need-returns
+returns c =
+    let s = c .before .before .before .before .before .before .before .before .before .before in
+    let a = s .args in
+    let x = c .before .before .before .before .before .s .given .0 .0 in
+    let e = ap (λ (p : Phase). p .source) (sym (c .before .before .before .before .before .before .before .phase .ensures)) ∙ c .before .before .before .before .before .s .given .1 in
+    c .before .before .mark-match .ensures
+    ∙ ap (putAll (a .work .now) (a .m)) (sym (feeds-matched (cellsOf (a .lib)) (a .work .now) (a .m) (a .l) x (s .pre .0 .matches (a .l) (s .pre .1) x e) e))
+
+same-length-2 : tie.Need-same-length-2
+same-length-2 c = search needs
+
+returns-2 : tie.Need-returns-2
+unfolding putAll
+returns-2 c =
+    let a = c .before .before .before .before .before .before .before .before .before .before .args in
+    let x = c .before .before .before .before .before .enum-told .given .0 .0 in
+    let e = ap (λ (p : Phase). p .source) (sym (c .before .before .before .before .before .before .before .phase .ensures)) ∙ c .before .before .before .before .before .enum-told .given .1 in
+    c .before .before .mark-needed .ensures
+    ∙ ap (putNeeded (a .work .now) (a .m)) (c .before .before .before .other .ensures)
+    ∙ ap (putAll (a .work .now) (a .m)) (sym (feeds-inverted (cellsOf (a .lib)) (a .work .now) (a .m) (a .l) x e))
+
+same-length-3 : tie.Need-same-length-3
+same-length-3 c = search needs
+
+returns-3 : tie.Need-returns-3
+unfolding putAll
+returns-3 c =
+    let a = c .before .before .before .before .before .args in
+    let e = ap (λ (p : Phase). p .source) (sym (c .before .before .phase .ensures)) ∙ c .enum-told2 .given .1 in
+    ap (putAll (a .work .now) (a .m)) (sym (feeds-input (cellsOf (a .lib)) (a .work .now) (a .m) (a .l) e))
+
+same-length-4 : tie.Need-same-length-4
+same-length-4 c = search needs
+
+returns-4 : tie.Need-returns-4
+unfolding putAll
+returns-4 c =
+    let a = c .before .before .before .before .before .args in
+    let e = ap (λ (p : Phase). p .source) (sym (c .before .before .phase .ensures)) ∙ c .enum-told3 .given .1 in
+    ap (putAll (a .work .now) (a .m)) (sym (feeds-nothing (cellsOf (a .lib)) (a .work .now) (a .m) (a .l) e))
+
+pub mark-feeds-spec : {M : Type 1} → statement M
+mark-feeds-spec =
+    tie.close
+    (tie.spec
+    phase-requires
+    enum-known-s
+    mark-match-requires
+    enum-told
+    other-requires
+    mark-needed-requires
+    enum-told-2
+    enum-told-3
+    same-length
+    returns
+    same-length-2
+    returns-2
+    same-length-3
+    returns-3
+    same-length-4
+    returns-4)

@@ -1,0 +1,103 @@
+-- `cover::mark_variable` meets its contract: by whether an inverter drives the positive phase. Assumes nothing.
+use mathlib.Core.Path.{sym, ap, subst, _∙_}
+use mathlib.Core.List.{List}
+use Prim.Native.Nat.{ℕ, _+_, _*_}
+use native.Mathlib.Omega.{arith}
+use Rattle.model.specs.Cells.{cellsOf}
+use Rattle.model.specs.Netlist.{isInverted}
+use Rattle.model.specs.declared.Phase.{Phase}
+use Rattle.cover.specs.Asked.{MatchesIn}
+use Rattle.cover.specs.Marking.{fedOnce}
+use Rattle.cover.proofs.Marks.{once-kept, needs-matches, turn-inverted, turn-direct}
+use borrow.Author.Needs.{needs}
+use Rattle.cover.proofs.mark_variable.Statement.{statement}
+use Rattle.cover.proofs.mark_variable.Tie as tie
+
+positive-requires : tie.Need-positive-requires
+positive-requires c κs = search needs
+
+by-inverter-requires : tie.Need-by-inverter-requires
+by-inverter-requires c κs = search needs
+
+mul-mark-phase : tie.Need-mul-mark-phase
+mul-mark-phase c = search needs
+
+mark-phase-requires : tie.Need-mark-phase-requires
+mark-phase-requires c κs = search needs
+
+mul-mark-phase-2 : tie.Need-mul-mark-phase-2
+mul-mark-phase-2 c = search needs
+
+add-mark-phase : tie.Need-add-mark-phase
+add-mark-phase c = search needs
+
+mark-phase-requires-2 : tie.Need-mark-phase-requires-2
+mark-phase-requires-2 c κs =
+    let s = c .before .before .before .before .before .before .before .before .before .before in
+    let a = s .args in
+    let w : List ℕ = a .work .now in
+    let w′ : List ℕ = fedOnce (cellsOf (a .lib)) w (a .m) (2 * a .v) in
+    let i : MatchesIn (a .lib) w′ (a .m) = needs-matches (a .m) (a .lib) w w′ (once-kept (a .m) (a .lib) w (2 * a .v) (s .pre .0) (omega arith)) (s .pre .0) in
+    (subst (λ (x : List ℕ). MatchesIn (a .lib) x (a .m)) (sym (c .before .before .before .mark-phase .ensures)) i, omega arith)
+
+mul-mark-phase-3 : tie.Need-mul-mark-phase-3
+mul-mark-phase-3 c = search needs
+
+add-mark-phase-2 : tie.Need-add-mark-phase-2
+add-mark-phase-2 c = search needs
+
+mark-phase-requires-3 : tie.Need-mark-phase-requires-3
+mark-phase-requires-3 c κs = search needs
+
+mul-mark-phase-4 : tie.Need-mul-mark-phase-4
+mul-mark-phase-4 c = search needs
+
+mark-phase-requires-4 : tie.Need-mark-phase-requires-4
+mark-phase-requires-4 c κs =
+    let s = c .before .before .before .before .before .before .before .before .before .before in
+    let a = s .args in
+    let w : List ℕ = a .work .now in
+    let w′ : List ℕ = fedOnce (cellsOf (a .lib)) w (a .m) (2 * a .v + 1) in
+    let i : MatchesIn (a .lib) w′ (a .m) = needs-matches (a .m) (a .lib) w w′ (once-kept (a .m) (a .lib) w (2 * a .v + 1) (s .pre .0) (omega arith)) (s .pre .0) in
+    (subst (λ (x : List ℕ). MatchesIn (a .lib) x (a .m)) (sym (c .before .before .before .mark-phase3 .ensures)) i, omega arith)
+
+same-length : tie.Need-same-length
+same-length c = search needs
+
+returns : tie.Need-returns
+returns c =
+    let a = c .before .before .before .before .before .before .before .before .before .before .before .before .before .args in
+    c .before .before .mark-phase2 .ensures
+    ∙ ap (λ (x : List ℕ). fedOnce (cellsOf (a .lib)) x (a .m) (2 * a .v + 1)) (c .before .before .before .before .before .before .mark-phase .ensures)
+    ∙ sym (turn-inverted (cellsOf (a .lib)) (a .work .now) (a .m) (a .v) (ap (λ (p : Phase). isInverted (p .source)) (sym (c .before .before .before .before .before .before .before .before .before .before .positive .ensures)) ∙ sym (c .before .before .before .before .before .before .before .before .before .by-inverter .ensures) ∙ c .before .before .before .before .before .before .before .before .if1 .taken))
+
+same-length-2 : tie.Need-same-length-2
+same-length-2 c = search needs
+
+returns-2 : tie.Need-returns-2
+returns-2 c =
+    let a = c .before .before .before .before .before .before .before .before .before .before .before .before .before .args in
+    c .before .before .mark-phase4 .ensures
+    ∙ ap (λ (x : List ℕ). fedOnce (cellsOf (a .lib)) x (a .m) (2 * a .v)) (c .before .before .before .before .before .before .mark-phase3 .ensures)
+    ∙ sym (turn-direct (cellsOf (a .lib)) (a .work .now) (a .m) (a .v) (ap (λ (p : Phase). isInverted (p .source)) (sym (c .before .before .before .before .before .before .before .before .before .before .positive .ensures)) ∙ sym (c .before .before .before .before .before .before .before .before .before .by-inverter .ensures) ∙ c .before .before .before .before .before .before .before .before .if1 .left))
+
+pub mark-variable-spec : {M : Type 1} → statement M
+mark-variable-spec =
+    tie.close
+    (tie.spec
+    positive-requires
+    by-inverter-requires
+    mul-mark-phase
+    mark-phase-requires
+    mul-mark-phase-2
+    add-mark-phase
+    mark-phase-requires-2
+    mul-mark-phase-3
+    add-mark-phase-2
+    mark-phase-requires-3
+    mul-mark-phase-4
+    mark-phase-requires-4
+    same-length
+    returns
+    same-length-2
+    returns-2)

@@ -1,0 +1,79 @@
+-- `cover::match_cut` meets its contract: an empty chain has no match, and the best of another is the choice. Assumes nothing.
+use mathlib.Core.Path.{_≡_, sym, ap, subst, _∙_}
+use Prim.Native.Nat.{ℕ, _≤_}
+use native.Mathlib.Omega.{arith}
+use lib.ListN.{length, length-take}
+use Rattle.model.specs.Cells.{cellsOf}
+use Rattle.words.specs.Record.{leavesOf}
+use Rattle.matching.specs.Best.{Timely, bestOf, phaseAs}
+use Rattle.cover.specs.Choosing.{timesAt}
+use Rattle.cover.proofs.Leaves.{times-timely}
+use Rattle.cover.proofs.Found.{on-best, on-none}
+use borrow.Author.Needs.{needs}
+use Rattle.cover.proofs.match_cut.Statement.{statement}
+use Rattle.cover.proofs.match_cut.Tie as tie
+
+mul-if1 : tie.Need-mul-if1
+mul-if1 c = search needs
+
+element-copy-out-if1 : tie.Need-element-copy-out-if1
+element-copy-out-if1 c = search needs
+
+nothing-requires : tie.Need-nothing-requires
+nothing-requires c κs = search needs
+
+returns : tie.Need-returns
+returns c =
+    let s = c .before .before .before .before in
+    let a = s .args in
+    let few : length (leavesOf (a .cut)) ≤ 4 = omega (arith, length-take (a .cut .count) (a .cut .leaves), s .pre .1 .four) in
+    c .nothing .ensures
+    ∙ on-none (a .lib) (a .heads .now) (a .links .now) (s .pre .0) (a .work .now) (a .m) 1073741823 (s .pre .2) (omega arith) (leavesOf (a .cut)) few (s .pre .1 .within)
+    (a .k) (a .f) (omega (arith, s .fits .f)) (c .before .if1 .taken)
+
+times-requires : tie.Need-times-requires
+times-requires c κs = search needs
+
+size-requires : tie.Need-size-requires
+size-requires c κs = search needs
+
+best-match-requires : tie.Need-best-match-requires
+best-match-requires c κs =
+    let s = c .before .before .before .before .before in
+    let a = s .args in (
+      s .pre .0 .usable,
+      s .pre .0 .chained,
+      subst Timely (sym (c .before .times .ensures))
+          (times-timely (a .work .now) (a .m) (leavesOf (a .cut)) 1073741823 (s .pre .2) (omega arith) (s .pre .1 .within)),
+    )
+
+phase-as-requires : tie.Need-phase-as-requires
+phase-as-requires c κs = search needs
+
+returns-2 : tie.Need-returns-2
+returns-2 c =
+    let s = c .before .before .before .before .before .before .before in
+    let a = s .args in
+    let few : length (leavesOf (a .cut)) ≤ 4 = omega (arith, length-take (a .cut .count) (a .cut .leaves), s .pre .1 .four) in
+    let b : c .before .best-match .result ≡ bestOf (cellsOf (a .lib)) (length (leavesOf (a .cut))) (a .f) (timesAt (a .work .now) (a .m) (leavesOf (a .cut))) =
+    c .before .best-match .ensures
+    ∙ ap (λ (n : ℕ). bestOf (cellsOf (a .lib)) n (a .f) (c .before .before .before .times .result)) (c .before .before .size .ensures)
+    ∙ ap (bestOf (cellsOf (a .lib)) (length (leavesOf (a .cut))) (a .f)) (c .before .before .before .times .ensures) in
+    c .phase-as .ensures
+    ∙ ap (phaseAs (a .k)) b
+    ∙ on-best (a .lib) (a .heads .now) (a .links .now) (s .pre .0) (a .work .now) (a .m) 1073741823 (s .pre .2) (omega arith) (leavesOf (a .cut)) few (s .pre .1 .within)
+    (a .k) (a .f) (omega (arith, s .fits .f))
+
+pub match-cut-spec : {M : Type 1} → statement M
+match-cut-spec =
+    tie.close
+    (tie.spec
+    mul-if1
+    element-copy-out-if1
+    nothing-requires
+    returns
+    times-requires
+    size-requires
+    best-match-requires
+    phase-as-requires
+    returns-2)

@@ -1,0 +1,24 @@
+-- `cover::other` meets its contract: by the literal's phase. Assumes nothing.
+use native.Mathlib.Omega.{arith}
+use borrow.Author.Tests.{eq-eqb, ne-eqb}
+use Rattle.model.specs.Graph.{opposite, literal, negated, varOf}
+use borrow.Author.Needs.{needs}
+use Rattle.cover.proofs.other.Statement.{statement}
+use Rattle.cover.proofs.other.Tie as tie
+
+sub-result : tie.Need-sub-result
+sub-result c = search needs
+
+add-result : tie.Need-add-result
+add-result c = search needs
+
+returns : tie.Need-returns
+unfolding opposite literal negated varOf
+returns c = rw (eq-eqb _ _ (c .if1 .taken)) (omega arith)
+
+returns-2 : tie.Need-returns-2
+unfolding opposite literal negated varOf
+returns-2 c = rw (ne-eqb _ _ (c .if1 .left)) (omega arith)
+
+pub other-spec : {M : Type 1} → statement M
+other-spec = tie.close (tie.spec sub-result add-result returns returns-2)

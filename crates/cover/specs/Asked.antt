@@ -1,0 +1,64 @@
+-- What is asked of the words, so that every access lies among them and every record that is read is one. Assumes nothing.
+use Prim.Native.Nat.{ℕ, _+_, _/_, _≤_, _<_}
+use mathlib.Core.Path.{_≡_}
+use mathlib.Core.List.{List}
+use lib.Dec.{T}
+use lib.ListN.{length, getD}
+use Rattle.model.specs.Limits.{cutLimit}
+use Rattle.model.specs.Cells.{cellAt, cellsOf}
+use Rattle.model.specs.declared.Cell.{Cell}
+use Rattle.model.specs.declared.Cut.{Cut}
+use Rattle.model.specs.declared.Library.{Library}
+use Rattle.model.specs.declared.Match.{Match}
+use Rattle.model.specs.declared.Source.the-variants.{Cell as Matched}
+use Rattle.words.specs.Layout.{Room, RoomFor, slotAt, countAt, outputAt, cutAddr}
+use Rattle.words.specs.Record.{cutAt, leavesOf}
+use Rattle.words.specs.Phases.{phaseAt}
+use Rattle.truth.specs.Variant.{placesOf, placesBelow}
+use Rattle.matching.specs.Variants.{Usable}
+
+-- the leaves of cut k of v
+abbrev pub cutOf : List ℕ → ℕ → ℕ → ℕ → List ℕ
+cutOf w m v k = leavesOf (cutAt w (cutAddr m v k))
+
+-- each output is a literal of the graph
+pub record OutputsIn (w : List ℕ) (m o : ℕ) : Type 0 where
+  pub room : RoomFor w m o
+  pub within : (i : ℕ) → i < o → outputAt w m i / 2 ≤ m
+
+-- each of the n placed variables is one of the graph
+pub record SlotsIn (w : List ℕ) (m n : ℕ) : Type 0 where
+  pub room : Room w m
+  pub few : n ≤ m + 1
+  pub within : (i : ℕ) → i < n → slotAt w m i ≤ m
+
+-- a cut of the words, each leaf of it a variable of the graph
+pub record LeavesIn (w : List ℕ) (m : ℕ) (c : Cut) : Type 0 where
+  pub room : Room w m
+  pub four : length (c .leaves) ≡ 4
+  pub within : (j : ℕ) → j < length (leavesOf c) → getD (leavesOf c) j 0 ≤ m
+
+-- each list has few enough cuts, and each leaf is a variable of the graph
+pub record CutsIn (w : List ℕ) (m : ℕ) : Type 0 where
+  pub room : Room w m
+  pub few : (v : ℕ) → v ≤ m → countAt w m v ≤ cutLimit
+  pub within : (v k j : ℕ) → v ≤ m → k < countAt w m v → j < length (cutOf w m v k) → getD (cutOf w m v k) j 0 ≤ m
+
+-- a match of v: one of its cuts, a cell of the library, an order, and a leaf for each pin
+pub record MatchIn (cells : List Cell) (w : List ℕ) (m v : ℕ) (x : Match) : Type 0 where
+  pub cut : x .cut < countAt w m v
+  pub cell : x .cell < length cells
+  pub order : x .order < 24
+  pub places : T (placesBelow (cellAt cells (x .cell) .pins) (placesOf (x .order)) (length (cutOf w m v (x .cut))))
+
+-- each pin of a cell under an order has a leaf that is a variable of the graph
+pub record PinsIn (leaves : List ℕ) (m order pins : ℕ) : Type 0 where
+  pub known : order < 24
+  pub four : pins ≤ 4
+  pub within : (j : ℕ) → j < pins → getD leaves (getD (placesOf order) j 0) 0 ≤ m
+
+-- every matched cell of the words is such a match
+pub record MatchesIn (lib : Library) (w : List ℕ) (m : ℕ) : Type 0 where
+  pub usable : Usable lib
+  pub cuts : CutsIn w m
+  pub matches : (l : ℕ) → l / 2 ≤ m → (x : Match) → phaseAt w m l .source ≡ Matched x → MatchIn (cellsOf lib) w m (l / 2) x

@@ -1,0 +1,6 @@
+-- `Asked`: what is asked of the words. `Missing`: the first output without a source. `Marking`: the needed phases, marked in the words.
+-- `Choosing`: the choice, from the words and into them.
+pub mod Asked
+pub mod Missing
+pub mod Marking
+pub mod Choosing

@@ -1,0 +1,495 @@
+// The cover: the choice for both phases of every variable, refusal 17, and the needed phases.
+use matching::Inverter;
+use model::Cut;
+use model::Header;
+use model::Library;
+use model::Match;
+use model::Phase;
+use model::Source;
+use model::Verdict;
+ghost use mathlib.Core.Path.{_≡_};
+ghost use mathlib.Core.Bool.{true, false};
+ghost use Prim.Native.Nat.{_+_, _*_, _/_, _<_, _≤_};
+ghost use lib.Dec.{eqb};
+ghost use lib.ListN.{length};
+ghost use mathlib.Core.List.{_∷_, []};
+ghost use Rattle.model.specs.Base.{same};
+ghost use Rattle.model.specs.Cells.{cellsOf};
+ghost use Rattle.model.specs.Choice.{absent, noPhase, earlier, choose};
+ghost use Rattle.model.specs.Graph.{opposite};
+ghost use Rattle.model.specs.Matching.{matchNets, fedNets};
+ghost use Rattle.model.specs.Netlist.{isInverted};
+ghost use Rattle.model.specs.Limits.{cutLimit};
+ghost use Rattle.words.specs.Layout.{Room, outputAt, countAt, functionAt};
+ghost use Rattle.words.specs.Record.{leavesOf};
+ghost use Rattle.words.specs.Phases.{phaseAt};
+ghost use Rattle.truth.specs.Variant.{placesOf};
+ghost use Rattle.cover.specs.Asked.{cutOf, PinsIn, LeavesIn, OutputsIn, SlotsIn, CutsIn, MatchIn, MatchesIn};
+ghost use Rattle.matching.specs.Variants.{Usable};
+ghost use Rattle.matching.specs.Best.{timeOf};
+ghost use Rattle.matching.specs.Inverters.{inverterOf, inverted};
+ghost use Rattle.matching.specs.declared.Inverter.the-variants.{Is};
+ghost use Rattle.cover.specs.Choosing.{leafTime, timesAt, foundOn, foundAt, bestAt, ownPhase, directAt, chosenTurn, chosenUp, Early, ChainsIn, Choosable, Unchosen};
+ghost use Rattle.cover.specs.Missing.{missing};
+ghost use Rattle.cover.specs.Marking.{netOf, putAll, putOutputs, feedsAt, fedOnce, fedTurn, fedDown, marked};
+
+// ---- used throughout
+
+// A word as an index.
+fn wide(x: u16) -> usize
+    ensures { λ r. ⌜ (r ≡ x) × (r < 65536) ⌝ }
+{
+    x as usize
+}
+
+// Whether a phase has no source.
+fn sourceless(p: Phase) -> bool
+    ensures { λ r. ⌜ r ≡ absent (p .source) ⌝ }
+{
+    let s = p.source;
+    match s {
+        Source::Input => false,
+        Source::Cell(_) => false,
+        Source::Inverter(_) => false,
+        Source::Nothing => true,
+    }
+}
+
+// ---- the choice
+
+fn nothing() -> Phase
+    ensures { λ r. ⌜ r ≡ noPhase ⌝ }
+{
+    Phase {
+        source: Source::Nothing,
+        arrival: 0,
+    }
+}
+
+// "earliest arrival": the first, unless the second is strictly earlier.
+fn sooner(a: Phase, b: Phase) -> Phase
+    ensures { λ r. ⌜ r ≡ earlier a b ⌝ }
+{
+    if sourceless(a) {
+        return b;
+    }
+    if sourceless(b) {
+        return a;
+    }
+    if b.arrival < a.arrival { b } else { a }
+}
+
+// The arrival of a phase, NEVER where it has no source.
+fn time(p: Phase) -> u32
+    ensures { λ r. ⌜ r ≡ timeOf p ⌝ }
+{
+    if sourceless(p) {
+        matching::NEVER
+    } else {
+        p.arrival
+    }
+}
+
+// How many leaves a cut has: at most four.
+fn size(cut: Cut) -> usize
+    requires { ⌜ length (cut .leaves) ≡ 4 ⌝ }
+    ensures { λ r. ⌜ r ≡ length (leavesOf cut) ⌝ }
+{
+    if cut.count < 4 { cut.count } else { 4 }
+}
+
+// Whether a cut is "the variable alone".
+fn alone(cut: Cut, v: usize) -> bool
+    requires { ⌜ length (cut .leaves) ≡ 4 ⌝ }
+    ensures { λ r. ⌜ r ≡ same (leavesOf cut) (v ∷ []) ⌝ }
+{
+    let leaves = cut.leaves;
+    if cut.count == 1 {
+        wide(leaves[0]) == v
+    } else {
+        false
+    }
+}
+
+// The arrival of leaf i in a phase.
+fn leaf_time(work: &[u16], m: usize, cut: Cut, i: usize, neg: usize) -> u32
+    requires { ⌜ LeavesIn (now work) m cut × (i < 4) × (neg < 2) ⌝ }
+    ensures { λ r. ⌜ r ≡ leafTime (now (work .entry)) m (leavesOf cut) i (eqb neg 1) ⌝ }
+{
+    if i < size(cut) {
+        let leaves = cut.leaves;
+        time(words::phase(work, m, 2 * wide(leaves[i]) + neg))
+    } else {
+        matching::NEVER
+    }
+}
+
+// The arrivals of the leaves of a cut: leaf i's at 2 i, positive, and 2 i + 1, negative.
+fn times(work: &[u16], m: usize, cut: Cut) -> [u32; 8]
+    requires { ⌜ LeavesIn (now work) m cut ⌝ }
+    ensures { λ r. ⌜ r ≡ timesAt (now (work .entry)) m (leavesOf cut) ⌝ }
+{
+    [
+        leaf_time(work, m, cut, 0, 0),
+        leaf_time(work, m, cut, 0, 1),
+        leaf_time(work, m, cut, 1, 0),
+        leaf_time(work, m, cut, 1, 1),
+        leaf_time(work, m, cut, 2, 0),
+        leaf_time(work, m, cut, 2, 1),
+        leaf_time(work, m, cut, 3, 0),
+        leaf_time(work, m, cut, 3, 1),
+    ]
+}
+
+// The best match on a cut, f its function in the phase. Most functions are no cell's: then the leaves are not looked at.
+fn match_cut(
+    work: &[u16],
+    lib: Library,
+    m: usize,
+    k: usize,
+    cut: Cut,
+    f: u16,
+    heads: &[u16; 65536],
+    links: &[u16; 12288],
+) -> Phase
+    requires { ⌜ ChainsIn lib (now heads) (now links) × LeavesIn (now work) m cut × Early (now work) m 1073741823 ⌝ }
+    ensures { λ r. ⌜ r ≡ choose (foundOn (cellsOf lib) (now (work .entry)) m k (leavesOf cut) f) ⌝ }
+{
+    if heads[f as usize] == 0 {
+        return nothing();
+    }
+    let t = times(work, m, cut);
+    matching::phase_as(k, matching::best_match(lib, heads, links, f, size(cut), t))
+}
+
+// The function of cut number k of v.
+fn table(work: &[u16], m: usize, v: usize, k: usize) -> u16
+    requires { ⌜ Room (now work) m × (v ≤ m) × (k < cutLimit) ⌝ }
+    ensures { λ r. ⌜ r ≡ functionAt (now (work .entry)) m v k ⌝ }
+{
+    words::function(work, m, v, k) as u16
+}
+
+// The best match on cut number k of v, "a cut other than the variable alone".
+fn cut_phase(
+    work: &[u16],
+    lib: Library,
+    m: usize,
+    v: usize,
+    neg: bool,
+    k: usize,
+    heads: &[u16; 65536],
+    links: &[u16; 12288],
+) -> Phase
+    requires { ⌜ ChainsIn lib (now heads) (now links) × Choosable (now work) m × (v ≤ m) × (k < countAt (now work) m v) ⌝ }
+    ensures { λ r. ⌜ r ≡ choose (foundAt (cellsOf lib) (now (work .entry)) m v neg k) ⌝ }
+{
+    let cut = words::load_cut(work, m, v, k);
+    if alone(cut, v) {
+        return nothing();
+    }
+    let f = truth::in_phase(neg, table(work, m, v, k));
+    match_cut(work, lib, m, k, cut, f, heads, links)
+}
+
+// The best match of v, from its last cut to its first: of equal arrivals the lowest cut's.
+fn best_phase(
+    work: &[u16],
+    lib: Library,
+    m: usize,
+    v: usize,
+    neg: bool,
+    heads: &[u16; 65536],
+    links: &[u16; 12288],
+) -> Phase
+    requires { ⌜ ChainsIn lib (now heads) (now links) × Choosable (now work) m × (v ≤ m) ⌝ }
+    ensures { λ r. ⌜ r ≡ bestAt (cellsOf lib) (now (work .entry)) m v neg ⌝ }
+{
+    let mut b = nothing();
+    let mut k = words::count(work, m, v);
+    while k > 0 {
+        k -= 1;
+        b = sooner(cut_phase(work, lib, m, v, neg, k, heads, links), b);
+    }
+    b
+}
+
+// "an input's own positive net"
+fn own(neg: bool) -> Phase
+    ensures { λ r. ⌜ r ≡ ownPhase neg ⌝ }
+{
+    if neg {
+        nothing()
+    } else {
+        Phase {
+            source: Source::Input,
+            arrival: 0,
+        }
+    }
+}
+
+// A phase of v without inverters: "for an input's positive phase its own net, otherwise earliest arrival".
+fn direct(
+    work: &[u16],
+    lib: Library,
+    m: usize,
+    v: usize,
+    neg: bool,
+    heads: &[u16; 65536],
+    links: &[u16; 12288],
+) -> Phase
+    requires { ⌜ ChainsIn lib (now heads) (now links) × Choosable (now work) m × (v ≤ m) ⌝ }
+    ensures { λ r. ⌜ r ≡ directAt (cellsOf lib) (now (work .entry)) m v neg ⌝ }
+{
+    match words::kind(work, m, v) {
+        1 | 3 => best_phase(work, lib, m, v, neg, heads, links),
+        2 => own(neg),
+        _ => nothing(),
+    }
+}
+
+// An inverter, if there is something to feed it.
+fn inverter_phase(line: usize, d: u16, from: Phase) -> Phase
+    requires { ⌜ from .arrival ≤ 4294901759 ⌝ }
+    ensures { λ r. ⌜ r ≡ inverted (Is line d) from ⌝ }
+{
+    if sourceless(from) {
+        return nothing();
+    }
+    Phase {
+        source: Source::Inverter(line),
+        arrival: from.arrival + d as u32,
+    }
+}
+
+// "a one-pin cell with table 0001 fed by the opposite phase of that variable"
+fn invert(inv: Inverter, from: Phase) -> Phase
+    requires { ⌜ from .arrival ≤ 4294901759 ⌝ }
+    ensures { λ r. ⌜ r ≡ inverted inv from ⌝ }
+{
+    match inv {
+        Inverter::Is(line, d) => inverter_phase(line, d, from),
+        Inverter::Missing => nothing(),
+    }
+}
+
+// Both phases of v: "then a matched cell before the inverter". Both are known before an inverter is tried, so none feeds an inverter.
+fn choose_variable(
+    work: &mut [u16],
+    lib: Library,
+    m: usize,
+    v: usize,
+    inv: Inverter,
+    heads: &[u16; 65536],
+    links: &[u16; 12288],
+)
+    requires { ⌜ ChainsIn lib (now heads) (now links) × Choosable (now work) m × (v ≤ m) × (inv ≡ inverterOf (cellsOf lib)) ⌝ }
+    ensures { λ _. ⌜ now (work .exit) ≡ chosenTurn (cellsOf lib) (now (work .entry)) m v ⌝ }
+{
+    let p = direct(work, lib, m, v, false, heads, links);
+    let n = direct(work, lib, m, v, true, heads, links);
+    let positive = sooner(p, invert(inv, n));
+    let negative = sooner(n, invert(inv, p));
+    words::set_positive(work, m, v, positive);
+    words::set_negative(work, m, v, negative);
+}
+
+// In placing order.
+fn choose_variables(
+    work: &mut [u16],
+    lib: Library,
+    m: usize,
+    n: usize,
+    inv: Inverter,
+    heads: &[u16; 65536],
+    links: &[u16; 12288],
+)
+    requires { ⌜ ChainsIn lib (now heads) (now links) × Unchosen (now work) m n × (inv ≡ inverterOf (cellsOf lib)) ⌝ }
+    ensures { λ _. ⌜ now (work .exit) ≡ chosenUp (cellsOf lib) (now (work .entry)) m n ⌝ }
+{
+    let mut i: usize = 0;
+    while i < n {
+        let v = words::slot(work, m, i);
+        choose_variable(work, lib, m, v, inv, heads, links);
+        i += 1;
+    }
+}
+
+// The choice for both phases of every variable.
+pub fn choose(work: &mut [u16], lib: Library, h: Header)
+    requires { ⌜ Usable lib × Unchosen (now work) (h .size) (h .inputs + h .ands + 1) ⌝ }
+    ensures { λ _. ⌜ now (work .exit) ≡ chosenUp (cellsOf lib) (now (work .entry)) (h .size) (h .inputs + h .ands + 1) ⌝ }
+{
+    let mut heads = matching::no_heads();
+    let mut links = matching::no_links();
+    matching::build(lib, &mut heads, &mut links);
+    let inv = matching::inverter_of(lib);
+    choose_variables(
+        work,
+        lib,
+        h.size,
+        h.inputs + h.ands + 1,
+        inv,
+        &heads,
+        &links,
+    );
+}
+
+// ---- refusal 17
+
+// Whether output k has no source.
+fn lacks_source(work: &[u16], m: usize, outputs: usize, k: usize) -> bool
+    requires { ⌜ OutputsIn (now work) m outputs × (k < outputs) ⌝ }
+    ensures { λ r. ⌜ r ≡ absent (phaseAt (now (work .entry)) m (outputAt (now (work .entry)) m k) .source) ⌝ }
+{
+    let l = words::output(work, m, outputs, k);
+    sourceless(words::phase(work, m, l))
+}
+
+// "An output has no cover; place, the lowest such index, from 0."
+pub fn uncovered(work: &[u16], h: Header) -> Verdict
+    requires { ⌜ OutputsIn (now work) (h .size) (h .outputs) ⌝ }
+    ensures { λ r. ⌜ r ≡ missing (now (work .entry)) (h .size) (h .outputs) ⌝ }
+{
+    let m = h.size;
+    let n = h.outputs;
+    let mut k: usize = 0;
+    while k < n {
+        if lacks_source(work, m, n, k) {
+            return Verdict::Refused(17, k);
+        }
+        k += 1;
+    }
+    Verdict::Accepted
+}
+
+// ---- the needed phases
+
+// The net that feeds pin j: "each pin needing its leaf in the mask's phase".
+fn net(leaves: [u16; 4], order: usize, mask: usize, j: usize) -> usize
+    requires { ⌜ (order < 24) × (j < 4) ⌝ }
+    ensures { λ r. ⌜ r ≡ netOf leaves order mask j ⌝ }
+{
+    let place = truth::place(order, j);
+    2 * wide(leaves[place]) + (mask >> j) % 2
+}
+
+// The nets that feed the pins of a cell under an order and a mask are needed.
+fn mark_pins(work: &mut [u16], m: usize, leaves: [u16; 4], order: usize, mask: usize, pins: usize)
+    requires { ⌜ Room (now work) m × PinsIn leaves m order pins ⌝ }
+    ensures { λ _. ⌜ now (work .exit) ≡ putAll (now (work .entry)) m (fedNets pins (placesOf order) mask leaves) ⌝ }
+{
+    let mut j: usize = 0;
+    while j < pins {
+        words::mark_needed(work, m, net(leaves, order, mask, j));
+        j += 1;
+    }
+}
+
+// The nets that feed a match are needed.
+fn mark_match(work: &mut [u16], lib: Library, m: usize, v: usize, x: Match)
+    requires { ⌜ Usable lib × CutsIn (now work) m × (v ≤ m) × MatchIn (cellsOf lib) (now work) m v x ⌝ }
+    ensures { λ _. ⌜ now (work .exit) ≡ putAll (now (work .entry)) m (matchNets (cellsOf lib) (cutOf (now (work .entry)) m v (x .cut)) x) ⌝ }
+{
+    let cut = words::load_cut(work, m, v, x.cut);
+    let leaves = cut.leaves;
+    let cells = lib.cells;
+    let line = x.cell;
+    let c = cells[line];
+    mark_pins(work, m, leaves, x.order, x.mask, wide(c.pins));
+}
+
+// The other phase of a literal's variable.
+fn other(l: usize) -> usize
+    requires { ⌜ l < 65536 ⌝ }
+    ensures { λ r. ⌜ r ≡ opposite l ⌝ }
+{
+    if l % 2 == 1 { l - 1 } else { l + 1 }
+}
+
+// What feeds a phase is needed.
+fn mark_feeds(work: &mut [u16], lib: Library, m: usize, l: usize)
+    requires { ⌜ MatchesIn lib (now work) m × (l / 2 ≤ m) ⌝ }
+    ensures { λ _. ⌜ now (work .exit) ≡ putAll (now (work .entry)) m (feedsAt (cellsOf lib) (now (work .entry)) m l) ⌝ }
+{
+    let p = words::phase(work, m, l);
+    let s = p.source;
+    match s {
+        Source::Cell(x) => mark_match(work, lib, m, l / 2, x),
+        Source::Inverter(_) => words::mark_needed(work, m, other(l)),
+        Source::Input => {}
+        Source::Nothing => {}
+    }
+}
+
+// "the source of a needed phase is fed by it"
+fn mark_phase(work: &mut [u16], lib: Library, m: usize, l: usize)
+    requires { ⌜ MatchesIn lib (now work) m × (l / 2 ≤ m) ⌝ }
+    ensures { λ _. ⌜ now (work .exit) ≡ fedOnce (cellsOf lib) (now (work .entry)) m l ⌝ }
+{
+    if words::is_needed(work, m, l) {
+        mark_feeds(work, lib, m, l);
+    }
+}
+
+fn by_inverter(p: Phase) -> bool
+    ensures { λ r. ⌜ r ≡ isInverted (p .source) ⌝ }
+{
+    let s = p.source;
+    match s {
+        Source::Input => false,
+        Source::Cell(_) => false,
+        Source::Inverter(_) => true,
+        Source::Nothing => false,
+    }
+}
+
+// Both phases of a variable: one that an inverter drives before the one that feeds it.
+fn mark_variable(work: &mut [u16], lib: Library, m: usize, v: usize)
+    requires { ⌜ MatchesIn lib (now work) m × (v ≤ m) ⌝ }
+    ensures { λ _. ⌜ now (work .exit) ≡ fedTurn (cellsOf lib) (now (work .entry)) m v ⌝ }
+{
+    if by_inverter(words::positive(work, m, v)) {
+        mark_phase(work, lib, m, 2 * v);
+        mark_phase(work, lib, m, 2 * v + 1);
+    } else {
+        mark_phase(work, lib, m, 2 * v + 1);
+        mark_phase(work, lib, m, 2 * v);
+    }
+}
+
+// "A phase is needed if an output is that phase".
+fn mark_outputs(work: &mut [u16], m: usize, outputs: usize)
+    requires { ⌜ OutputsIn (now work) m outputs ⌝ }
+    ensures { λ _. ⌜ now (work .exit) ≡ putOutputs (now (work .entry)) m 0 outputs ⌝ }
+{
+    let mut k: usize = 0;
+    while k < outputs {
+        let l = words::output(work, m, outputs, k);
+        words::mark_needed(work, m, l);
+        k += 1;
+    }
+}
+
+// "or the source of a needed phase is fed by it": each variable after all that it can feed.
+fn mark_variables(work: &mut [u16], lib: Library, m: usize, n: usize)
+    requires { ⌜ MatchesIn lib (now work) m × SlotsIn (now work) m n ⌝ }
+    ensures { λ _. ⌜ now (work .exit) ≡ fedDown (cellsOf lib) (now (work .entry)) m n ⌝ }
+{
+    let mut i = n;
+    while i > 0 {
+        i -= 1;
+        let v = words::slot(work, m, i);
+        mark_variable(work, lib, m, v);
+    }
+}
+
+// The needed phases.
+pub fn mark(work: &mut [u16], lib: Library, h: Header)
+    requires { ⌜ MatchesIn lib (now work) (h .size) × OutputsIn (now work) (h .size) (h .outputs) × SlotsIn (now work) (h .size) (h .inputs + h .ands + 1) ⌝ }
+    ensures { λ _. ⌜ now (work .exit) ≡ marked (cellsOf lib) (now (work .entry)) (h .size) (h .outputs) (h .inputs + h .ands + 1) ⌝ }
+{
+    let m = h.size;
+    mark_outputs(work, m, h.outputs);
+    mark_variables(work, lib, m, h.inputs + h.ands + 1);
+}

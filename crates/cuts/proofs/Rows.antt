@@ -1,0 +1,75 @@
+-- What the loops of `row` and `cross` go by: a pair of cuts adds its union, or nothing.
+--     leaves-rising               a good cut ascends
+--     at-hand                     the list from a cut on begins with that cut
+--     row-narrow, row-wide        a pair more, whose union has at most four leaves, or more
+--     key-padded                  the key of four leaves with zeros past the last
+-- Assumes nothing.
+use mathlib.Core.Path.{_≡_, refl, sym, ap, _∙_, subst}
+use mathlib.Core.List.{List, [], _∷_, _++_, append-nil}
+use Prim.Native.Nat.{ℕ, suc, _+_, _≤_, _<_, compare}
+use native.Mathlib.Omega.{arith}
+use lib.ListN.{length, drop, length-append}
+use lib.Seq.{drop-cons, drop-length}
+use borrow.Author.Tests.{le-leb, lt-leb}
+use Rattle.model.specs.Base.{union}
+use Rattle.words.specs.Layout.{countAt, listAddr, cutAddr}
+use Rattle.words.specs.Record.{leavesOf, cutAt, padded, cutsAt, Leaves, Good, Sound}
+use Rattle.words.proofs.Stored.{list-get, list-length, good-get}
+use Rattle.cuts.specs.Keys.{Rising, keyFrom, key, added, addedCut, rowKeys}
+
+pub leaves-rising : (lo : ℕ) (xs : List ℕ) → Leaves lo xs → Rising lo xs
+leaves-rising lo [] h = tt
+leaves-rising lo (x ∷ xs) h = (h .0, leaves-rising (suc x) xs (h .2))
+
+pub key-padded : (n : ℕ) (ls : List ℕ) → length ls ≤ 4 → keyFrom 4 n (padded ls) ≡ keyFrom 4 n ls
+unfolding keyFrom
+key-padded n [] h = refl
+key-padded n (a ∷ []) h = refl
+key-padded n (a ∷ b ∷ []) h = refl
+key-padded n (a ∷ b ∷ c ∷ []) h = refl
+key-padded n (a ∷ b ∷ c ∷ d ∷ []) h = refl
+key-padded n (a ∷ b ∷ c ∷ d ∷ e ∷ ls) h = absurd (omega arith)
+
+-- the key that is computed of the four leaves of a cut and their number
+pub key-is : (U ls out : List ℕ) (k : ℕ) → U ≡ ls ++ [] → length ls ≡ k → k ≤ 4 → out ≡ padded ls → (keyFrom 4 k out ≡ key U) × (length U ≤ 4)
+unfolding key
+key-is U ls out k e l h o =
+    let same : U ≡ ls = e ∙ append-nil ls in
+    let n : length U ≡ k = ap length same ∙ l in (
+      ap (keyFrom 4 k) o ∙ key-padded k ls (omega arith) ∙ (λ i. keyFrom 4 (sym n i) (sym same i)),
+      omega arith,
+    )
+
+pub too-long : (U ls : List ℕ) (v : ℕ) (more : List ℕ) → U ≡ ls ++ (v ∷ more) → length ls ≡ 4 → 4 < length U
+too-long U ls v more e l =
+    let n : length U ≡ length ls + length (v ∷ more) = ap length e ∙ length-append ls (v ∷ more) in
+    omega arith
+
+pub row-narrow : (c d : List ℕ) (ds : List (List ℕ)) (ks : List ℕ) → length (union compare c d) ≤ 4
+    → rowKeys c (d ∷ ds) ks ≡ added (key (union compare c d)) (rowKeys c ds ks)
+unfolding rowKeys addedCut
+row-narrow c d ds ks h = rw (le-leb (length (union compare c d)) 4 h)
+
+pub row-wide : (c d : List ℕ) (ds : List (List ℕ)) (ks : List ℕ) → 4 < length (union compare c d) → rowKeys c (d ∷ ds) ks ≡ rowKeys c ds ks
+unfolding rowKeys addedCut
+row-wide c d ds ks h = rw (lt-leb (length (union compare c d)) 4 h)
+
+-- the cuts of v in the words w, by number
+module _ (w : List ℕ) (m v : ℕ) where
+  pub count-is : length (cutsAt w m v) ≡ countAt w m v
+  unfolding cutsAt
+  count-is = list-length w (listAddr m v) (countAt w m v)
+
+  pub at-hand : (j : ℕ) → j < countAt w m v → drop j (cutsAt w m v) ≡ leavesOf (cutAt w (cutAddr m v j)) ∷ drop (suc j) (cutsAt w m v)
+  unfolding cutsAt
+  at-hand j h =
+      drop-cons (cutsAt w m v) j [] (omega (arith, count-is))
+      ∙ ap (λ (c : List ℕ). c ∷ drop (suc j) (cutsAt w m v)) (list-get w (listAddr m v) (countAt w m v) j h)
+
+  pub cut-good : Sound w m v → (j : ℕ) → j < countAt w m v → Good (leavesOf (cutAt w (cutAddr m v j)))
+  unfolding cutsAt
+  cut-good s j h =
+      subst Good (list-get w (listAddr m v) (countAt w m v) j h) (good-get (cutsAt w m v) j (s .good) (omega (arith, count-is)))
+
+  pub none-left : drop (countAt w m v) (cutsAt w m v) ≡ []
+  none-left = rw (← count-is) (drop-length (cutsAt w m v))

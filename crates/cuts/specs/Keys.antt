@@ -1,0 +1,102 @@
+-- A cut as one number, its key: its size and its four leaves, the first highest, so that "by size, then by ascending leaves compared left to right" is the order of the keys.
+-- A list being built has room for one cut more than the limit; what comes after that is left out. Assumes nothing.
+use mathlib.Core.Bool.{Bool, true, false, cond}
+use mathlib.Core.List.{List, [], _∷_, _++_}
+use Prim.Native.Nat.{ℕ, zero, suc, _+_, _*_, _/_, _%_, _≤_, compare}
+use lib.Dec.{ltb, leb, eqb}
+use lib.ListN.{length, take, getD}
+use mathlib.Core.Path.{_≡_}
+use Rattle.model.specs.Base.{insert, union}
+use Rattle.model.specs.Graph.{Node, constant, input, undefined, both, varOf}
+use Rattle.model.specs.Limits.{cutLimit}
+use Rattle.words.specs.Put.{putAt}
+use Rattle.words.specs.Layout.{countAddr, listAddr}
+use Rattle.cuts.specs.declared.Keys.{Keys}
+
+-- n leaves more, in base 4096: a leaf is a variable, and "M exceeds 4,095" is turned back
+unfoldable pub keyFrom : ℕ → ℕ → List ℕ → ℕ
+keyFrom zero acc ls = acc
+keyFrom (suc n) acc [] = keyFrom n (acc * 4096 + 0) []
+keyFrom (suc n) acc (x ∷ xs) = keyFrom n (acc * 4096 + x) xs
+
+unfoldable pub key : List ℕ → ℕ
+unfolding keyFrom
+key c = keyFrom 4 (length c) c
+
+-- the size and the leaves that a key has in it
+unfoldable pub keyWords : ℕ → List ℕ
+keyWords k =
+    k / 4096 / 4096 / 4096 / 4096 ∷ k / 4096 / 4096 / 4096 % 4096 ∷ k / 4096 / 4096 % 4096 ∷ k / 4096 % 4096 ∷ k % 4096 ∷ []
+
+-- the words of a list of keys
+unfoldable pub flatKeys : List ℕ → List ℕ
+unfolding keyWords
+flatKeys [] = []
+flatKeys (k ∷ ks) = keyWords k ++ flatKeys ks
+
+-- the words with the cuts that keys stand for stored for a variable
+unfoldable pub putKeys : List ℕ → ℕ → ℕ → List ℕ → List ℕ
+unfolding flatKeys
+putKeys w m v ks = putAt (putAt w (countAddr m v) (length ks ∷ [])) (listAddr m v) (flatKeys ks)
+
+-- one cut more than the limit
+abbrev pub keyRoom : ℕ
+keyRoom = cutLimit + 1
+
+-- the keys of a list being built
+abbrev pub keysOf : Keys → List ℕ
+keysOf l = take (l .n) (l .keys)
+
+-- strictly ascending, from lo on
+abbrev pub Rising : ℕ → List ℕ → Type 0
+Rising lo [] = Unit {0}
+Rising lo (x ∷ xs) = (lo ≤ x) × Rising (suc x) xs
+
+-- a list that can be added to
+pub record Building (l : Keys) : Type 0 where
+  pub fits : l .n ≤ keyRoom
+  pub rising : Rising 0 (keysOf l)
+
+-- "Equal sets count once"; past the room nothing is added
+unfoldable pub added : ℕ → List ℕ → List ℕ
+unfolding insert
+added k ks = cond (ltb (length ks) keyRoom) (insert compare k ks) ks
+
+-- "that has at most four members"
+unfoldable pub addedCut : List ℕ → List ℕ → List ℕ
+unfolding added key
+addedCut z ks = cond (leb (length z) 4) (added (key z) ks) ks
+
+-- the unions of a cut with each of a list
+unfoldable pub rowKeys : List ℕ → List (List ℕ) → List ℕ → List ℕ
+unfolding addedCut union
+rowKeys c [] ks = ks
+rowKeys c (d ∷ ds) ks = addedCut (union compare c d) (rowKeys c ds ks)
+
+-- "every union of a cut of one operand's variable with a cut of the other's"
+unfoldable pub crossKeys : List (List ℕ) → List (List ℕ) → List ℕ
+unfolding rowKeys
+crossKeys [] ds = []
+crossKeys (c ∷ cs) ds = rowKeys c ds (crossKeys cs ds)
+
+-- "The cut set of variable 0 is {∅}; of input i, {{i}}; of AND n, {{n}} and every union"
+unfoldable pub nodeKeys : (ℕ → List (List ℕ)) → ℕ → Node → List ℕ
+unfolding crossKeys added key varOf
+nodeKeys cuts v constant = key [] ∷ []
+nodeKeys cuts v input = key (v ∷ []) ∷ []
+nodeKeys cuts v undefined = []
+nodeKeys cuts v (both l r) = added (key (v ∷ [])) (crossKeys (cuts (varOf l)) (cuts (varOf r)))
+
+abbrev pub bumpBy : Bool → ℕ
+bumpBy true = 1
+bumpBy false = 0
+
+-- one where the two are equal
+unfoldable pub bump : ℕ → ℕ → ℕ
+bump u v = bumpBy (eqb u v)
+
+-- r is the leaf at p of the first n, or 65536 past the last
+pub record Head (leaves : List ℕ) (n p r : ℕ) : Type 0 where
+  pub is : r ≡ getD (take n leaves) p 65536
+  pub small : r ≤ 65536
+  pub ends : r ≡ 65536 → n ≤ p

@@ -1,0 +1,47 @@
+-- What joins the two passes of the layer:
+--     ready-filling               what `lists` leaves is what `functions` asks for
+--     after-accepted, -refused    what both leave
+-- Assumes nothing.
+use mathlib.Core.Path.{_≡_, sym, ap, _∙_, subst}
+use mathlib.Core.List.{List}
+use Prim.Native.Nat.{ℕ, _<_}
+use native.Mathlib.Omega.{arith}
+use Rattle.model.specs.declared.Verdict.{Verdict}
+use Rattle.model.specs.declared.Verdict.the-variants.{Accepted, Refused}
+use Rattle.words.specs.Layout.{slotAt, slotAddr, placeAt}
+use Rattle.cuts.specs.Listing as lists
+use Rattle.cuts.proofs.Listings.{Held}
+use Rattle.cuts.proofs.Model.{all-held}
+use Rattle.cones.specs.Filling as filling
+use Rattle.cones.proofs.Walks.{placed-kept, same-place}
+use Rattle.cutting.specs.Enumerated.{Ready, filledAfter, enumerated}
+
+pub ready-filling : (w : List ℕ) (m n : ℕ) → Ready w m n → filling.Ready (lists.stored w m (lists.listing w m n .known)) m n
+ready-filling w m n r =
+    record {
+      placed = placed-kept w m out (r .placed) (held .long) (held .below);
+      within = r .lists .placed;
+      slots = λ i h. omega (arith, r .lists .slots i h, held .below (slotAddr m i) (omega (arith, r .lists .placed)));
+      alive =
+          λ i h.
+          let s : slotAt out m i ≡ slotAt w m i = held .below (slotAddr m i) (omega (arith, r .lists .placed)) in
+          let a : placeAt out m (slotAt w m i) ≡ placeAt w m (slotAt w m i) = same-place w m out (r .placed) (held .long) (held .below) (slotAt w m i) (r .lists .slots i h) in
+          subst (λ (x : ℕ). 0 < placeAt out m x) (sym s) (omega (arith, r .alive i h));
+      sound = held .sound;
+      clean = λ i h l. held .middle i (omega arith) (omega arith) ∙ r .clean i h l;
+    }
+  where
+    out : List ℕ
+    out = lists.stored w m (lists.listing w m n .known)
+
+    held : Held w m (lists.listing w m n .known) out
+    held = all-held w m n (r .lists)
+
+module _ (w : List ℕ) (m n : ℕ) where
+  pub after-accepted : lists.listing w m n .answer ≡ Accepted → enumerated w m n ≡ filling.filled (lists.stored w m (lists.listing w m n .known)) m n
+  unfolding enumerated filledAfter
+  after-accepted e = ap (λ (a : Verdict). filledAfter a (lists.stored w m (lists.listing w m n .known)) m n) e
+
+  pub after-refused : (number place : ℕ) → lists.listing w m n .answer ≡ Refused number place → enumerated w m n ≡ lists.stored w m (lists.listing w m n .known)
+  unfolding enumerated filledAfter
+  after-refused number place e = ap (λ (a : Verdict). filledAfter a (lists.stored w m (lists.listing w m n .known)) m n) e

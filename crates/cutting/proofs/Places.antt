@@ -1,0 +1,116 @@
+-- In the words that represent an accepted graph each AND is placed behind its operands:
+--     and-placed, operands-in     an AND and its operands' variables are placed
+--     operands-small              an operand is a literal of the graph
+--     place-of                    a variable's place is 1 and its index in the placing order
+--     placed                      what the walks over cones ask for
+-- Assumes nothing.
+use mathlib.Core.Path.{_≡_, refl, sym, ap, _∙_, subst}
+use mathlib.Core.Logic.{_⊎_, inl, inr}
+use mathlib.Core.List.{List, [], _∷_, _++_, append-assoc, List·Memᴰ, List·Memᴰ·head, List·Memᴰ·tail, List·Memᴰ·not-nil, List·Memᴰ·append-cases, Memᴰ·append-right}
+use Prim.Native.Nat.{ℕ, _+_, _*_, _/_, _≤_, _<_}
+use native.Mathlib.Omega.{arith}
+use lib.ListN.{length, getD, length-append}
+use lib.Seq.{getD-append-add}
+use Rattle.model.specs.Graph.{Graph, And, node, both, varOf, placingOrder}
+use Rattle.model.specs.Demands.{Distinct}
+use Rattle.theory_graph.proofs.Accepted.{Accepted, andVars}
+use Rattle.theory_graph.proofs.Lists.{map-in, each-in}
+use Rattle.theory_graph.proofs.Placing.{order-once, order-small, defined-placed}
+use Rattle.theory_graph.proofs.Values.{Found, node-and, Closed, order-closed, operands-before}
+use Rattle.theory_order.proofs.Splits.{split-at}
+use Rattle.words.specs.Layout.{kindAt, leftAt, rightAt, placeAt}
+use Rattle.words.specs.Record.{nodeOf, nodeAt}
+use Rattle.cuts.specs.Represents.{Represents}
+use Rattle.cones.specs.Table.{Placed}
+
+-- an AND of an accepted graph
+module _ (g : Graph) (ok : Accepted g) (v l r : ℕ) (e : node g v ≡ both l r) where
+  found : Found (g .ands) v l r
+  found = node-and g v l r e
+
+  pub and-placed : List·Memᴰ v (placingOrder g)
+  and-placed =
+      defined-placed g ok v
+      (List·Memᴰ·tail (Memᴰ·append-right (g .inputs)
+      (subst (λ (x : ℕ). List·Memᴰ x (andVars g)) (found .isVar) (map-in (λ (a : And). a .var) (found .isLine)))))
+
+  used-placed : (x : ℕ) → List·Memᴰ x (found .line .left ∷ found .line .right ∷ []) → List·Memᴰ (varOf x) (placingOrder g)
+  used-placed x there =
+      defined-placed g ok (varOf x)
+      (ok .used x (Memᴰ·append-right (g .outputs) (each-in (λ (a : And). a .left ∷ a .right ∷ []) (found .isLine) there)))
+
+  pub operands-in : List·Memᴰ (varOf l) (placingOrder g) × List·Memᴰ (varOf r) (placingOrder g)
+  operands-in = (
+    subst (λ (x : ℕ). List·Memᴰ (varOf x) (placingOrder g)) (found .isLeft) (used-placed (found .line .left) (List·Memᴰ·head refl)),
+    subst (λ (x : ℕ). List·Memᴰ (varOf x) (placingOrder g)) (found .isRight) (used-placed (found .line .right) (List·Memᴰ·tail (List·Memᴰ·head refl))),
+  )
+
+  -- "A literal exceeds 2M+1" is turned back
+  pub operands-small : (l ≤ 2 * g .size + 1) × (r ≤ 2 * g .size + 1)
+  unfolding varOf
+  operands-small =
+      let a : l / 2 ≤ g .size = order-small g ok (varOf l) (operands-in .0) in
+      let b : r / 2 ≤ g .size = order-small g ok (varOf r) (operands-in .1) in
+      (omega arith, omega arith)
+
+-- what is placed and does not come after v comes before it
+in-front : (xs pre : List ℕ) (v : ℕ) (post : List ℕ) → xs ≡ pre ++ (v ∷ post) → (x : ℕ) → List·Memᴰ x xs → ¬ List·Memᴰ x (v ∷ post) → List·Memᴰ x pre
+in-front xs pre v post s x there out = go (List·Memᴰ·append-cases pre (subst (λ (ys : List ℕ). List·Memᴰ x ys) s there))
+  where
+    go : List·Memᴰ x pre ⊎ List·Memᴰ x (v ∷ post) → List·Memᴰ x pre
+    go (inl h) = h
+    go (inr h) = absurd (out h)
+
+module _ (w : List ℕ) (m n : ℕ) (g : Graph) (rep : Represents w m n g) (ok : Accepted g) where
+  pub place-of : (pre : List ℕ) (v : ℕ) (post : List ℕ) → placingOrder g ≡ pre ++ (v ∷ post) → placeAt w m v ≡ length pre + 1
+  place-of pre v post e =
+      let long : length (placingOrder g) ≡ length pre + length (v ∷ post) = ap length e ∙ length-append pre (v ∷ post) in
+      let zero-more : length pre ≡ length pre + 0 = omega arith in
+      let here : getD (placingOrder g) (length pre) 0 ≡ v =
+      (λ i. getD (e i) (zero-more i) 0) ∙ getD-append-add pre (v ∷ post) 0 0 in
+      ap (placeAt w m) (sym here) ∙ rep .places (length pre) (omega (arith, rep .long))
+
+  earlier : (pre : List ℕ) (v : ℕ) (post : List ℕ) → placingOrder g ≡ pre ++ (v ∷ post) → (x : ℕ) → List·Memᴰ x pre
+      → (0 < placeAt w m x) × (placeAt w m x < placeAt w m v)
+  earlier pre v post e x there =
+      let s = split-at pre there in
+      let first : List ℕ = s .0 in
+      let second : List ℕ = s .1 in
+      let whole : placingOrder g ≡ first ++ (x ∷ (second ++ (v ∷ post))) =
+      e ∙ ap (λ (l : List ℕ). l ++ (v ∷ post)) (s .2) ∙ append-assoc first (x ∷ second) (v ∷ post) in
+      let long : length pre ≡ length first + length (x ∷ second) = ap length (s .2) ∙ length-append first (x ∷ second) in
+      let px : placeAt w m x ≡ length first + 1 = place-of first x (second ++ (v ∷ post)) whole in
+      let pv : placeAt w m v ≡ length pre + 1 = place-of pre v post e in
+      (omega arith, omega arith)
+
+  -- an operand's variable stands before the AND
+  pub operands-placed : (v l r : ℕ) → node g v ≡ both l r
+      → ((0 < placeAt w m (varOf l)) × (placeAt w m (varOf l) < placeAt w m v)) × ((0 < placeAt w m (varOf r)) × (placeAt w m (varOf r) < placeAt w m v))
+  operands-placed v l r e =
+      let s = split-at (placingOrder g) (and-placed g ok v l r e) in
+      let pre : List ℕ = s .0 in
+      let post : List ℕ = s .1 in
+      let o =
+      operands-before g ok pre v post [] (subst (Closed g []) (s .2) (order-closed g ok)) (subst Distinct (s .2) (order-once g ok)) (λ x h. absurd (List·Memᴰ·not-nil h)) l r e in
+      let there = operands-in g ok v l r e in (
+        earlier pre v post (s .2) (varOf l) (in-front (placingOrder g) pre v post (s .2) (varOf l) (there .0) (o .0)),
+        earlier pre v post (s .2) (varOf r) (in-front (placingOrder g) pre v post (s .2) (varOf r) (there .1) (o .1)),
+      )
+
+  -- what the words call an AND is one
+  and-here : (v : ℕ) → v ≤ m → kindAt w m v ≡ 3 → node g v ≡ both (leftAt w m v) (rightAt w m v)
+  unfolding nodeAt
+  and-here v h k = sym (rep .nodes v h) ∙ ap (λ (x : ℕ). nodeOf x (leftAt w m v) (rightAt w m v)) k
+
+  pub placed : Placed w m
+  unfolding varOf
+  placed =
+      record {
+        room = rep .room;
+        lefts = rep .lefts;
+        rights = rep .rights;
+        left-placed = λ v h k. operands-placed v (leftAt w m v) (rightAt w m v) (and-here v h k) .0 .0;
+        right-placed = λ v h k. operands-placed v (leftAt w m v) (rightAt w m v) (and-here v h k) .1 .0;
+        left-first = λ v h k. operands-placed v (leftAt w m v) (rightAt w m v) (and-here v h k) .0 .1;
+        right-first = λ v h k. operands-placed v (leftAt w m v) (rightAt w m v) (and-here v h k) .1 .1;
+      }

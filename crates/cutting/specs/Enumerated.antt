@@ -1,0 +1,35 @@
+-- What the cut layer asks of the words and what it leaves: the cut lists, and then the functions of the cuts, unless there are too many.
+-- Assumes nothing.
+use mathlib.Core.Path.{_≡_}
+use mathlib.Core.List.{List}
+use Prim.Native.Nat.{ℕ, _+_, _≤_, _<_}
+use lib.ListN.{getD}
+use Rattle.model.specs.declared.Header.{Header}
+use Rattle.model.specs.declared.Verdict.{Verdict}
+use Rattle.model.specs.declared.Verdict.the-variants.{Accepted, Refused}
+use Rattle.words.specs.Layout.{placeAt, slotAt, notesFrom, notesTo}
+use Rattle.cuts.specs.Listing as lists
+use Rattle.cones.specs.Table.{Placed}
+use Rattle.cones.specs.Filling.{filled}
+
+-- variable 0, the inputs and the ANDs: all are placed
+abbrev pub placedOf : Header → ℕ
+placedOf h = h .inputs + h .ands + 1
+
+-- the words hold a placed graph of which n variables are placed, no cuts, and no notes
+pub record Ready (w : List ℕ) (m n : ℕ) : Type 0 where
+  pub lists : lists.Ready w m n
+  pub placed : Placed w m
+  pub alive : (i : ℕ) → i < n → 0 < placeAt w m (slotAt w m i)
+  pub clean : (i : ℕ) → notesFrom m ≤ i → i < notesTo m → getD w i 0 ≡ 0
+
+-- the functions join the lists, unless there was a refusal
+unfoldable pub filledAfter : Verdict → List ℕ → ℕ → ℕ → List ℕ
+unfolding filled
+filledAfter Accepted w m n = filled w m n
+filledAfter (Refused number place) w m n = w
+
+-- the words after the layer: those of the entry with the lists of all variables up to the first that is turned back, and with the functions if none is
+unfoldable pub enumerated : List ℕ → ℕ → ℕ → List ℕ
+unfolding filledAfter lists.listing lists.stored
+enumerated w m n = filledAfter (lists.listing w m n .answer) (lists.stored w m (lists.listing w m n .known)) m n

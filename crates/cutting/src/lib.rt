@@ -1,0 +1,24 @@
+// Layer three: the cut lists of all placed variables and the functions of their cuts, or refusal 16.
+use model::Header;
+use model::Verdict;
+ghost use mathlib.Core.Path.{_≡_};
+ghost use Rattle.cuts.specs.Listing.{listing};
+ghost use Rattle.cutting.specs.Enumerated.{placedOf, Ready, enumerated};
+
+// "16. An AND, used or not, has more than 24 cuts; place, the first such variable in placing order."
+pub fn enumerate(work: &mut [u16], h: Header) -> Verdict
+    requires { ⌜ Ready (now work) (h .size) (placedOf h) ⌝ }
+    ensures { λ r. ⌜ r ≡ listing (now (work .entry)) (h .size) (placedOf h) .answer ⌝ }
+    ensures { λ _. ⌜ now (work .exit) ≡ enumerated (now (work .entry)) (h .size) (placedOf h) ⌝ }
+{
+    let m = h.size;
+    let placed = h.inputs + h.ands + 1;
+    let verdict = cuts::lists(work, m, placed);
+    match verdict {
+        Verdict::Accepted => {
+            cones::functions(work, m, placed);
+            Verdict::Accepted
+        }
+        Verdict::Refused(number, place) => Verdict::Refused(number, place),
+    }
+}

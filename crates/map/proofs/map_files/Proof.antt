@@ -1,0 +1,75 @@
+-- `map::map_files` is safe: the netlist's length is within text memory, as `map_texts` ensures. Assumes nothing.
+use Prim.Native.Nat.{_≤_}
+use native.Mathlib.Omega.{arith}
+use mathlib.Core.Path.{subst}
+use lib.ListN.{length, length-take}
+use Rattle.model.specs.declared.Answer.{Answer}
+use Rattle.mapper.specs.Stages.{Fits}
+use borrow.Author.Needs.{needs}
+use Rattle.map.proofs.map_files.Statement.{statement}
+use Rattle.map.proofs.map_files.Tie as tie
+
+map-texts-requires : tie.Need-map-texts-requires
+map-texts-requires c κs = search needs
+
+enum-known-n : tie.Need-enum-known-n
+enum-known-n c = search needs
+
+slice-reshare-prefix-write-all : tie.Need-slice-reshare-prefix-write-all
+slice-reshare-prefix-write-all c =
+    let m = c .before .before .before .before .before .before .before .map-texts in
+    let h : c .before .n .given .0 .0 ≤ length (c .before .before .before .before .before .before .before .before .before .before .before .before .before .before .args .text .now) =
+    subst (λ (a : Answer). Fits a (length (c .before .before .before .before .before .before .before .before .before .before .before .before .before .before .args .text .now))) (c .before .n .given .1) (m .ensures .1 .1 .1) in
+    omega arith
+
+slice-aggregate-write-all : tie.Need-slice-aggregate-write-all
+slice-aggregate-write-all c =
+    let m = c .before .before .before .before .before .before .before .before .map-texts in
+    let h : c .before .before .n .given .0 .0 ≤ length (c .before .before .before .before .before .before .before .before .before .before .before .before .before .before .before .args .text .now) =
+    subst (λ (a : Answer). Fits a (length (c .before .before .before .before .before .before .before .before .before .before .before .before .before .before .before .args .text .now))) (c .before .before .n .given .1) (m .ensures .1 .1 .1) in
+    omega (arith, length-take (c .before .before .n .given .0 .0) (m .last .1 .1 .1 .0))
+
+write-all-requires : tie.Need-write-all-requires
+write-all-requires c κs = search needs
+
+enum-known-number : tie.Need-enum-known-number
+enum-known-number c = search needs
+
+refused-requires : tie.Need-refused-requires
+refused-requires c κs = search needs
+
+same-length : tie.Need-same-length
+same-length c = search needs
+
+same-length-2 : tie.Need-same-length-2
+same-length-2 c = search needs
+
+returns : tie.Need-returns
+returns c = search needs
+
+same-length-3 : tie.Need-same-length-3
+same-length-3 c = search needs
+
+same-length-4 : tie.Need-same-length-4
+same-length-4 c = search needs
+
+returns-2 : tie.Need-returns-2
+returns-2 c = search needs
+
+pub map-files-spec : {M : Type 1} → statement M
+map-files-spec =
+    tie.close
+    (tie.spec
+    map-texts-requires
+    enum-known-n
+    slice-reshare-prefix-write-all
+    slice-aggregate-write-all
+    write-all-requires
+    enum-known-number
+    refused-requires
+    same-length
+    same-length-2
+    returns
+    same-length-3
+    same-length-4
+    returns-2)

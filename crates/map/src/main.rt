@@ -1,0 +1,46 @@
+// The program: `cells.txt` and `graph.aag` of the current folder mapped, the netlist or one line of `refused`, number and place printed.
+use libc::STDOUT_FILENO;
+use model::Answer;
+ghost use Rattle.io.specs.Counts.{Counts};
+
+// The file's first bytes, at most buf's length; none where the file is absent: "an absent file counts as empty". The buffers have room for one
+// byte more than 65,536, so that "one over 65,536 bytes brings refusal 1".
+fn load(path: &[u8], buf: &mut [u8]) -> usize
+    ensures { λ r. ⌜ Counts r (now (buf .exit)) ⌝ }
+{
+    let fd = os::open_read(path);
+    if fd < 0 {
+        return io::count(0, buf);
+    }
+    let n = io::read_full(fd, buf);
+    libc::close(fd);
+    n
+}
+
+fn refused(number: usize, place: usize) {
+    io::write_all(STDOUT_FILENO, b"refused ");
+    io::print_decimal(STDOUT_FILENO, number as u64);
+    io::write_all(STDOUT_FILENO, b" ");
+    io::print_decimal(STDOUT_FILENO, place as u64);
+    io::write_all(STDOUT_FILENO, b"\n");
+}
+
+fn map_files(cells: &[u8], graph: &[u8], work: &mut [u16], text: &mut [u8]) {
+    match mapper::map_texts(cells, graph, work, text) {
+        Answer::Mapped(n, _) => {
+            io::write_all(STDOUT_FILENO, &text[..n]);
+        }
+        Answer::Refused(number, place) => refused(number, place),
+    }
+}
+
+// "It lends 32,768 words and 65,536 bytes."
+fn main() {
+    let mut cells = [0u8; 65537];
+    let mut graph = [0u8; 65537];
+    let mut work = [0u16; 32768];
+    let mut text = [0u8; 65536];
+    let n = load(b"cells.txt", &mut cells);
+    let m = load(b"graph.aag", &mut graph);
+    map_files(&cells[..n], &graph[..m], &mut work, &mut text);
+}

@@ -1,0 +1,70 @@
+-- The header's answer, the need of words, and what a call leaves. Assumes nothing.
+use Prim.Native.Nat.{ℕ, _≤_, _<_}
+use native.Mathlib.Omega.{arith}
+use mathlib.Core.Path.{_≡_, refl, sym, _∙_, ap, subst}
+use mathlib.Core.Bool.{Bool, true, false}
+use mathlib.Core.List.{List}
+use lib.Dec.{T, leb, leb→le, le→leb}
+use lib.ListN.{length, replicate}
+use Rattle.model.specs.Limits.{need}
+use Rattle.model.specs.Reading.{Read, holds, fault, next, unless}
+use Rattle.model.specs.GraphText.{readHeader, headerAnswer}
+use Rattle.model.specs.Netlist.{Outcome, refused}
+use Rattle.model.specs.Mapper.{Design, mapDesign}
+use Rattle.model.specs.declared.Library.{Library}
+use Rattle.model.specs.declared.Header.{Header}
+use Rattle.model.specs.declared.HeaderAnswer.{HeaderAnswer}
+use Rattle.model.specs.declared.HeaderAnswer.the-variants.{Read as WasRead, Refused}
+use Rattle.model.specs.declared.Answer.{Answer}
+use Rattle.model.specs.declared.Answer.the-variants.{Refused as Turned}
+use Rattle.aiger.proofs.Head.{header-read}
+use Rattle.mapper.specs.Stages.{Told, Left, designOf, graphFor, headerFor}
+use Rattle.mapper.proofs.Printing.{told-refused}
+use Rattle.mapper.proofs.Turns.{told-as}
+use Rattle.mapper.proofs.Numbers.{Early, work-early, work-late, header-early, graph-for-late}
+
+header-fault : (r : Read Header) (n k : ℕ) → headerAnswer r ≡ Refused n k → r ≡ fault n k
+unfolding headerAnswer
+header-fault (holds h) n k e = let z : _≡_ {A = ℕ} 0 1 = cc in absurd (omega arith)
+header-fault (fault m j) n k e = let x : m ≡ n = cc in let y : j ≡ k = cc in (λ i. fault (x i) (y i))
+
+-- a refusal up to 10 leaves both memories as they were
+pub left-early : (n k : ℕ) (work text : List ℕ) → Early n → Left (refused n k) work text (Turned n k) work text
+left-early n k work text e = record { told = told-refused n k text; words = work-early n k work e }
+
+pub left-as : {o p : Outcome} {work text : List ℕ} {a : Answer} {y u : List ℕ} → p ≡ o → Left o work text a y u → Left p work text a y u
+left-as {work = work} {text = text} {a = a} {y = y} {u = u} e l = subst (λ (x : Outcome). Left x work text a y u) (sym e) l
+
+module _ (lib : Library) (s : List ℕ) (work text : List ℕ) where
+  pub header-stops : (r : HeaderAnswer) → r ≡ headerAnswer (readHeader s) → (n k : ℕ) → r ≡ Refused n k → Left (headerFor lib s (length work) (length text)) work text (Turned n k) work text
+  unfolding headerFor next mapDesign
+  header-stops r told n k e =
+      let f = header-fault (readHeader s) n k (sym told ∙ e) in
+      left-as (ap (λ (x : Read Header). mapDesign (length text) (next x (λ h. unless (leb (need (h .size) (h .outputs)) (length work)) 10 0 (designOf lib s h)))) f)
+      (left-early n k work text (header-early s .number n k f))
+
+  module _ (h : Header) (d : readHeader s ≡ holds h) where
+    through : headerFor lib s (length work) (length text) ≡ mapDesign (length text) (unless (leb (need (h .size) (h .outputs)) (length work)) 10 0 (designOf lib s h))
+    unfolding headerFor next
+    through = ap (λ (x : Read Header). mapDesign (length text) (next x (λ k. unless (leb (need (k .size) (k .outputs)) (length work)) 10 0 (designOf lib s k)))) d
+
+    -- "Work memory has fewer than 160(M+1) + O 16-bit words."
+    pub header-short : length work < need (h .size) (h .outputs) → Left (headerFor lib s (length work) (length text)) work text (Turned 10 0) work text
+    unfolding unless mapDesign
+    header-short l = left-as (through ∙ go (leb (need (h .size) (h .outputs)) (length work)) (leb→le (need (h .size) (h .outputs)) (length work))) (left-early 10 0 work text refl)
+      where
+        go : (b : Bool) → (T b → need (h .size) (h .outputs) ≤ length work) → mapDesign (length text) (unless b 10 0 (designOf lib s h)) ≡ refused 10 0
+        go true y = absurd (let z : need (h .size) (h .outputs) ≤ length work = y tt in omega arith)
+        go false y = refl
+
+    -- "all zero after a later one and after success"
+    pub header-done : need (h .size) (h .outputs) ≤ length work → (a : Answer) (u y z : List ℕ) → Told (graphFor lib s h (length text)) text a u → length y ≡ length work
+        → z ≡ replicate (length y) 0 → Left (headerFor lib s (length work) (length text)) work text a z u
+    unfolding unless graphFor
+    header-done l a u y z t e c =
+        left-as (through ∙ go (leb (need (h .size) (h .outputs)) (length work)) (le→leb (need (h .size) (h .outputs)) (length work) l))
+        (record { told = t; words = c ∙ ap (λ (n : ℕ). replicate n 0) e ∙ work-late (graphFor lib s h (length text)) work (graph-for-late lib s h (length text)) })
+      where
+        go : (b : Bool) → T b → mapDesign (length text) (unless b 10 0 (designOf lib s h)) ≡ graphFor lib s h (length text)
+        go true y = refl
+        go false y = absurd y

@@ -1,0 +1,147 @@
+-- What each function of the call has once the layer below has answered: the next layer's premise, or the outcome. Assumes nothing.
+use Prim.Native.Nat.{ℕ, _+_, _≤_, _<_}
+use native.Mathlib.Omega.{arith}
+use mathlib.Core.Path.{_≡_, refl, sym, _∙_, ap, subst}
+use mathlib.Core.Option.{Option, none, some}
+use mathlib.Core.List.{List, [], _∷_}
+use lib.ListN.{length}
+use Rattle.model.specs.Base.{lowest}
+use Rattle.model.specs.Reading.{Read, holds, fault, next, verdictOf, refusedAt, firstOf}
+use Rattle.model.specs.Cells.{cellsOf}
+use Rattle.model.specs.Graph.{Graph, unplaced}
+use Rattle.model.specs.Cuts.{crowded}
+use Rattle.model.specs.Choice.{choices}
+use Rattle.model.specs.GraphText.{readHeader, readGraph}
+use Rattle.model.specs.Netlist.{Outcome, refused, coverVerdict, cutsVerdict, placingVerdict, mapCut, mapPlaced, mapGraph}
+use Rattle.model.specs.Mapper.{Design, within, mapDesign}
+use Rattle.model.specs.declared.Library.{Library}
+use Rattle.model.specs.declared.Header.{Header}
+use Rattle.model.specs.declared.Answer.{Answer}
+use Rattle.model.specs.declared.Answer.the-variants.{Refused as Turned}
+use Rattle.model.specs.declared.Verdict.{Verdict}
+use Rattle.model.specs.declared.Verdict.the-variants.{Accepted, Refused}
+use Rattle.netlist.specs.Mapped.{Mapped}
+use Rattle.aiger.specs.Passes.{Fit, loadedWords}
+use Rattle.aiger.specs.Placing.{placedVerdict, placedWords}
+use Rattle.aiger.proofs.Orders.{place-verdict}
+use Rattle.cuts.specs.Listing as lists
+use Rattle.cutting.specs.Enumerated.{placedOf, Ready, enumerated}
+use Rattle.cutting.proofs.Whole.{enumerate-ready, enumerate-verdict}
+use Rattle.cover.specs.Asked.{OutputsIn, SlotsIn, MatchesIn}
+use Rattle.cover.specs.Missing.{missing}
+use Rattle.cover.specs.Marking.{marked}
+use Rattle.cover.specs.Choosing.{chosenUp}
+use Rattle.cover.proofs.Needing.{mark-asked}
+use Rattle.cover.proofs.Missed.{uncovered-asked}
+use Rattle.mapper.specs.Stages.{Told, LibraryOk, Loaded, Placed, Cut, printedFor, cutFor, placedFor, loadedFor, designOf, graphFor}
+use Rattle.mapper.proofs.Printing.{told-refused}
+use Rattle.mapper.proofs.Handing.{loaded-after, placed-after, all-placed, none-crowded, represents, uncut, placed-accepted, cut-after}
+use Rattle.mapper.proofs.Covering.{cut-printed, cut-refused, chosen-covered, chosen-verdict, marked-mapped}
+
+-- what is told of one outcome is told of an equal one
+pub told-as : {o p : Outcome} {t u : List ℕ} {a : Answer} → p ≡ o → Told o t a u → Told p t a u
+told-as {t = t} {u = u} {a = a} e d = subst (λ (x : Outcome). Told x t a u) (sym e) d
+
+-- ---- after the choice, whose words are y
+
+module _ (w : List ℕ) (lib : Library) (h : Header) (g : Graph) (c : Cut w lib h g) (y : List ℕ) (e : y ≡ chosenUp (cellsOf lib) w (h .size) (h .inputs + h .ands + 1)) where
+  pub chosen-outputs : OutputsIn y (h .size) (h .outputs)
+  chosen-outputs =
+      subst (λ (x : List ℕ). OutputsIn x (h .size) (h .outputs)) (sym e)
+      (uncovered-asked (chosenUp (cellsOf lib) w (h .size) (h .inputs + h .ands + 1)) h g (c .given .header) (chosen-covered w lib h g c .held))
+
+  pub chosen-asks : MatchesIn lib y (h .size) × OutputsIn y (h .size) (h .outputs) × SlotsIn y (h .size) (h .inputs + h .ands + 1)
+  chosen-asks =
+      subst (λ (x : List ℕ). MatchesIn lib x (h .size) × OutputsIn x (h .size) (h .outputs) × SlotsIn x (h .size) (h .inputs + h .ands + 1)) (sym e)
+      (mark-asked (chosenUp (cellsOf lib) w (h .size) (h .inputs + h .ands + 1)) lib h g (c .given .header) (chosen-covered w lib h g c))
+
+  module _ (r : Verdict) (told : r ≡ missing y (h .size) (h .outputs)) where
+    cover-is : r ≡ coverVerdict (cellsOf lib) g
+    cover-is = told ∙ ap (λ (x : List ℕ). missing x (h .size) (h .outputs)) e ∙ chosen-verdict w lib h g c
+
+    pub cover-mapped : r ≡ Accepted → (z : List ℕ) → z ≡ marked (cellsOf lib) y (h .size) (h .outputs) (h .inputs + h .ands + 1) → Mapped z lib h g
+    cover-mapped a z f =
+        subst (λ (x : List ℕ). Mapped x lib h g) (sym (f ∙ ap (λ (x : List ℕ). marked (cellsOf lib) x (h .size) (h .outputs) (h .inputs + h .ands + 1)) e))
+        (marked-mapped w lib h g c (sym cover-is ∙ a))
+
+    pub cover-goes : r ≡ Accepted → (bytes : ℕ) → cutFor lib g bytes ≡ printedFor lib g bytes
+    cover-goes a bytes = cut-printed lib g bytes (sym cover-is ∙ a)
+
+    pub cover-stops : (n k : ℕ) → r ≡ Refused n k → (t : List ℕ) → Told (cutFor lib g (length t)) t (Turned n k) t
+    cover-stops n k a t = told-as (cut-refused lib g (length t) n k (sym cover-is ∙ a)) (told-refused n k t)
+
+-- ---- after the cuts
+
+module _ (w : List ℕ) (lib : Library) (h : Header) (g : Graph) (p : Placed w lib h g) where
+  pub placed-asks : Ready w (h .size) (placedOf h)
+  placed-asks = enumerate-ready w (h .size) (placedOf h) g (represents w lib h g p) (placed-accepted w lib h g p) (uncut w lib h g p)
+
+  module _ (r : Verdict) (told : r ≡ lists.listing w (h .size) (placedOf h) .answer) where
+    cuts-is : r ≡ cutsVerdict g
+    cuts-is = told ∙ enumerate-verdict w (h .size) (placedOf h) g (represents w lib h g p) (placed-accepted w lib h g p) (uncut w lib h g p)
+
+    pub cuts-cut : r ≡ Accepted → (y : List ℕ) → y ≡ enumerated w (h .size) (placedOf h) → Cut y lib h g
+    cuts-cut a y e = subst (λ (x : List ℕ). Cut x lib h g) (sym e) (cut-after w lib h g p (sym cuts-is ∙ a))
+
+    pub cuts-go : r ≡ Accepted → (bytes : ℕ) → placedFor lib g bytes ≡ cutFor lib g bytes
+    unfolding mapCut
+    cuts-go a bytes = ap (λ (vs : List ℕ). within bytes (mapCut (cellsOf lib) g vs)) (none-crowded g (sym cuts-is ∙ a))
+
+    pub cuts-stop : (n k : ℕ) → r ≡ Refused n k → (t : List ℕ) → Told (placedFor lib g (length t)) t (Turned n k) t
+    unfolding mapCut cutsVerdict refusedAt firstOf within
+    cuts-stop n k a t = told-as (go (crowded g) (sym cuts-is ∙ a)) (told-refused n k t)
+      where
+        go : (vs : List ℕ) → refusedAt 16 (firstOf vs) ≡ Refused n k → within (length t) (mapCut (cellsOf lib) g vs) ≡ refused n k
+        go [] q = absurd (let z : _≡_ {A = ℕ} 0 1 = cc in omega arith)
+        go (v ∷ vs) q = let x : _≡_ {A = ℕ} 16 n = cc in let y : v ≡ k = cc in (λ i. refused (x i) (y i))
+
+-- ---- after the placing
+
+module _ (w : List ℕ) (lib : Library) (h : Header) (g : Graph) (l : Loaded w lib h g) (r : Verdict) (told : r ≡ placedVerdict w h) where
+  placing-is : r ≡ placingVerdict g
+  placing-is = told ∙ place-verdict (l .before) h (l .fit) w g (l .holding)
+
+  pub placing-placed : r ≡ Accepted → (y : List ℕ) → y ≡ placedWords w h → Placed y lib h g
+  placing-placed a y e = subst (λ (x : List ℕ). Placed x lib h g) (sym e) (placed-after w lib h g l (sym placing-is ∙ a))
+
+  pub placing-goes : r ≡ Accepted → (bytes : ℕ) → loadedFor lib g bytes ≡ placedFor lib g bytes
+  unfolding mapGraph mapPlaced lowest
+  placing-goes a bytes = ap (λ (us : List ℕ). within bytes (mapPlaced (cellsOf lib) g (lowest us))) (all-placed g (sym placing-is ∙ a))
+
+  pub placing-stops : (n k : ℕ) → r ≡ Refused n k → (t : List ℕ) → Told (loadedFor lib g (length t)) t (Turned n k) t
+  unfolding mapGraph mapPlaced placingVerdict refusedAt within
+  placing-stops n k a t = told-as (go (lowest (unplaced g)) (sym placing-is ∙ a)) (told-refused n k t)
+    where
+      go : (o : Option ℕ) → refusedAt 15 o ≡ Refused n k → within (length t) (mapPlaced (cellsOf lib) g o) ≡ refused n k
+      go none q = absurd (let z : _≡_ {A = ℕ} 0 1 = cc in omega arith)
+      go (some v) q = let x : _≡_ {A = ℕ} 15 n = cc in let y : v ≡ k = cc in (λ i. refused (x i) (y i))
+
+-- ---- after the reading of the graph
+
+pub record Reads (lib : Library) (s : List ℕ) (h : Header) (y : List ℕ) : Type 0 where
+  pub graph : Graph
+  pub loaded : Loaded y lib h graph
+  pub outcome : (bytes : ℕ) → graphFor lib s h bytes ≡ loadedFor lib graph bytes
+
+module _ (lib : Library) (ok : LibraryOk lib) (s : List ℕ) (h : Header) (w : List ℕ) (fit : Fit h w) (d : readHeader s ≡ holds h) (r : Verdict) (told : r ≡ verdictOf (readGraph s h)) where
+  pub reading-loaded : r ≡ Accepted → (y : List ℕ) → y ≡ loadedWords w s h → Reads lib s h y
+  unfolding verdictOf graphFor mapDesign next
+  reading-loaded a y e = go (readGraph s h) refl (sym told ∙ a)
+    where
+      go : (x : Read Graph) → readGraph s h ≡ x → verdictOf x ≡ Accepted → Reads lib s h y
+      go (holds g) q z = record {
+        graph = g;
+        loaded = subst (λ (u : List ℕ). Loaded u lib h g) (sym e) (loaded-after lib ok s h w fit d g q);
+        outcome = λ bytes. ap (λ (u : Read Graph). mapDesign bytes (next u (λ k. holds (record { cells = cellsOf lib; graph = k })))) q;
+      }
+      go (fault n k) q z = absurd (let x : _≡_ {A = ℕ} 0 1 = cc in omega arith)
+
+  pub reading-stops : (n k : ℕ) → r ≡ Refused n k → (t : List ℕ) → Told (graphFor lib s h (length t)) t (Turned n k) t
+  unfolding verdictOf graphFor mapDesign next
+  reading-stops n k a t = go (readGraph s h) refl (sym told ∙ a)
+    where
+      go : (x : Read Graph) → readGraph s h ≡ x → verdictOf x ≡ Refused n k → Told (mapDesign (length t) (designOf lib s h)) t (Turned n k) t
+      go (holds g) q z = absurd (let x : _≡_ {A = ℕ} 0 1 = cc in omega arith)
+      go (fault m j) q z =
+          let x : m ≡ n = cc in let y : j ≡ k = cc in
+          told-as (ap (λ (u : Read Graph). mapDesign (length t) (next u (λ i. holds (record { cells = cellsOf lib; graph = i })))) q ∙ (λ i. refused (x i) (y i))) (told-refused n k t)

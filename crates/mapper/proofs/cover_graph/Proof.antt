@@ -1,0 +1,84 @@
+-- `mapper::cover_graph` meets its contract: the choice, 17, and the marking, each from what the one before left. Assumes nothing.
+use native.Mathlib.Omega.{arith}
+use Rattle.cover.proofs.Choices.{choose-asked}
+use Rattle.mapper.proofs.Turns.{told-as, chosen-outputs, chosen-asks, cover-mapped, cover-goes, cover-stops}
+use borrow.Author.Needs.{needs}
+use Rattle.mapper.proofs.cover_graph.Statement.{statement}
+use Rattle.mapper.proofs.cover_graph.Tie as tie
+
+choose-requires : tie.Need-choose-requires
+choose-requires c κs =
+    let s = c .before .before .before in
+    let p = s .pre in
+    choose-asked (s .args .work .now) (s .args .lib) (s .args .h) (p .0) (p .1 .given .header) (p .1 .held) (p .1 .given .library .usable) (λ i a b. p .1 .zero i (omega arith) b)
+
+uncovered-requires : tie.Need-uncovered-requires
+uncovered-requires c κs =
+    let s = c .before .before .before .before .before .before .before in
+    let y = c .before .before .before .choose in
+    chosen-outputs (s .args .work .now) (s .args .lib) (s .args .h) (s .pre .0) (s .pre .1) (y .last .0) (y .ensures)
+
+enum-told : tie.Need-enum-told
+enum-told c = search needs
+
+mark-requires : tie.Need-mark-requires
+mark-requires c κs =
+    let s = c .before .before .before .before .before .before .before .before .before .before .before in
+    let y = c .before .before .before .before .before .before .before .choose in
+    chosen-asks (s .args .work .now) (s .args .lib) (s .args .h) (s .pre .0) (s .pre .1) (y .last .0) (y .ensures)
+
+print-requires : tie.Need-print-requires
+print-requires c κs =
+    let s = c .before .before .before .before .before .before .before .before .before .before .before .before .before .before .before .before in
+    let y = c .before .before .before .before .before .before .before .before .before .before .before .before .choose in
+    let r = c .before .before .before .before .before .before .before .before .uncovered in
+    let z = c .before .before .before .before .mark in (
+      s .pre .0,
+      cover-mapped (s .args .work .now) (s .args .lib) (s .args .h) (s .pre .0) (s .pre .1) (y .last .0) (y .ensures) (r .result) (r .ensures) (c .before .before .before .before .before .before .enum-told .given .1) (z .last .0) (z .ensures),
+    )
+
+enum-known-number : tie.Need-enum-known-number
+enum-known-number c = search needs
+
+same-length : tie.Need-same-length
+same-length c = search needs
+
+same-length-2 : tie.Need-same-length-2
+same-length-2 c = search needs
+
+returns : tie.Need-returns
+returns c =
+    let s = c .before .before .before .before .before .before .before .before .before .before .before .before .before .before .before .before .before .before .before in
+    let y = c .before .before .before .before .before .before .before .before .before .before .before .before .before .before .before .choose in
+    let r = c .before .before .before .before .before .before .before .before .before .before .before .uncovered in
+    let z = c .before .before .before .before .before .before .before .mark in
+    let a = c .before .before .before .before .before .before .before .before .before .enum-told .given .1 in
+    λ g p.
+    told-as (cover-goes (s .args .work .now) (s .args .lib) (s .args .h) g p (y .last .0) (y .ensures) (r .result) (r .ensures) a _)
+    (c .before .before .print .ensures g (cover-mapped (s .args .work .now) (s .args .lib) (s .args .h) g p (y .last .0) (y .ensures) (r .result) (r .ensures) a (z .last .0) (z .ensures)))
+
+same-length-3 : tie.Need-same-length-3
+same-length-3 c = search needs
+
+returns-2 : tie.Need-returns-2
+returns-2 c =
+    let s = c .before .before .before .before .before .before .before .before .before .before .before in
+    let y = c .before .before .before .before .before .before .before .choose in
+    let r = c .before .before .before .uncovered in
+    λ g p. cover-stops (s .args .work .now) (s .args .lib) (s .args .h) g p (y .last .0) (y .ensures) (r .result) (r .ensures) _ _ (c .before .number .given .1) (s .args .text .now)
+
+pub cover-graph-spec : {M : Type 1} → statement M
+cover-graph-spec =
+    tie.close
+    (tie.spec
+    choose-requires
+    uncovered-requires
+    enum-told
+    mark-requires
+    print-requires
+    enum-known-number
+    same-length
+    same-length-2
+    returns
+    same-length-3
+    returns-2)

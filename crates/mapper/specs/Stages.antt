@@ -1,0 +1,109 @@
+-- What the words hold between the layers, and the outcome from each layer on, in terms of `model`. Assumes nothing.
+use mathlib.Core.Path.{_≡_}
+use mathlib.Core.List.{List, [], _∷_}
+use Prim.Native.Nat.{ℕ, _≤_, _<_}
+use lib.Dec.{T, leb}
+use lib.ListN.{getD}
+use Rattle.model.specs.Limits.{need}
+use Rattle.model.specs.Reading.{Read, holds, next, unless}
+use Rattle.model.specs.Cells.{cellsOf}
+use Rattle.model.specs.Graph.{Graph, placingOrder, unplaced}
+use Rattle.model.specs.Cuts.{crowded}
+use Rattle.model.specs.Choice.{choices}
+use Rattle.model.specs.GraphText.{readHeader, readGraph}
+use Rattle.model.specs.Netlist.{Outcome, mapped, mapGraph, mapCut, mapChosen}
+use Rattle.model.specs.Mapper.{Design, within, mapDesign, answerOf, textAfter, workAfter}
+use Rattle.model.specs.Demands.{choiceText, choiceFigures}
+use Rattle.model.specs.declared.Library.{Library}
+use Rattle.model.specs.declared.Header.{Header}
+use Rattle.model.specs.declared.Answer.{Answer}
+use Rattle.model.specs.declared.Answer.the-variants.{Mapped as IsMapped, Refused as Turned}
+use Rattle.words.specs.Layout.{neededAddr, listsFrom}
+use Rattle.theory_graph.proofs.Accepted.{Accepted, libraryFits}
+use Rattle.theory_text.proofs.ReadGraph.{GraphFits}
+use Rattle.matching.specs.Variants.{Usable}
+use Rattle.aiger.specs.Passes.{Fit}
+use Rattle.aiger.proofs.Loads.{Holding}
+use Rattle.cover.proofs.Held.{HeaderOf, Held}
+
+-- ---- what is told of an outcome
+
+-- an answer and what it leaves of text memory
+pub record Told (o : Outcome) (before : List ℕ) (answer : Answer) (after : List ℕ) : Type 0 where
+  pub answers : answer ≡ answerOf o
+  pub bytes : after ≡ textAfter o before
+
+-- and of work memory
+pub record Left (o : Outcome) (work text : List ℕ) (answer : Answer) (workLeft textLeft : List ℕ) : Type 0 where
+  pub told : Told o text answer textLeft
+  pub words : workLeft ≡ workAfter o work
+
+-- the netlist's length is within so many bytes
+abbrev pub Fits : Answer → ℕ → Type 0
+Fits (IsMapped n f) bytes = n ≤ bytes
+Fits (Turned n k) bytes = Unit {0}
+
+-- ---- what the words hold
+
+-- a library that was read
+pub record LibraryOk (lib : Library) : Type 0 where
+  pub fits : T (libraryFits (cellsOf lib))
+  pub usable : Usable lib
+
+-- library, header and graph that were read: none of the refusals 1 to 14 applies
+pub record Given (lib : Library) (h : Header) (g : Graph) : Type 0 where
+  pub library : LibraryOk lib
+  pub header : HeaderOf h g
+  pub fits : GraphFits g
+  pub accepted : unplaced g ≡ [] → Accepted g
+
+-- after `load`
+pub record Loaded (w : List ℕ) (lib : Library) (h : Header) (g : Graph) : Type 0 where
+  pub given : Given lib h g
+  pub before : List ℕ
+  pub fit : Fit h before
+  pub holding : Holding before h w g (0 ∷ g .inputs)
+
+-- after `place`
+pub record Placed (w : List ℕ) (lib : Library) (h : Header) (g : Graph) : Type 0 where
+  pub given : Given lib h g
+  pub placed : unplaced g ≡ []
+  pub before : List ℕ
+  pub fit : Fit h before
+  pub holding : Holding before h w g (placingOrder g)
+
+-- after `enumerate`: no phase is chosen yet, and none is needed
+pub record Cut (w : List ℕ) (lib : Library) (h : Header) (g : Graph) : Type 0 where
+  pub given : Given lib h g
+  pub held : Held w g
+  pub zero : (a : ℕ) → neededAddr (g .size) 0 ≤ a → a < listsFrom (g .size) → getD w a 0 ≡ 0
+
+-- ---- the outcome
+
+-- the choice's netlist, or 18
+abbrev pub printedFor : Library → Graph → ℕ → Outcome
+printedFor lib g bytes = within bytes (mapped (choiceText (cellsOf lib) g) (choiceFigures (cellsOf lib) g))
+
+-- 17 before it
+abbrev pub cutFor : Library → Graph → ℕ → Outcome
+cutFor lib g bytes = within bytes (mapChosen (cellsOf lib) g (choices (cellsOf lib) g))
+
+-- 16 before it
+abbrev pub placedFor : Library → Graph → ℕ → Outcome
+placedFor lib g bytes = within bytes (mapCut (cellsOf lib) g (crowded g))
+
+-- 15 before it
+abbrev pub loadedFor : Library → Graph → ℕ → Outcome
+loadedFor lib g bytes = within bytes (mapGraph (cellsOf lib) g)
+
+-- what is read of a graph behind a header
+abbrev pub designOf : Library → List ℕ → Header → Read Design
+designOf lib s h = next (readGraph s h) (λ g. holds (record { cells = cellsOf lib; graph = g }))
+
+-- 11 to 14 before it
+unfoldable pub graphFor : Library → List ℕ → Header → ℕ → Outcome
+graphFor lib s h bytes = mapDesign bytes (designOf lib s h)
+
+-- 7 to 10 before it
+unfoldable pub headerFor : Library → List ℕ → ℕ → ℕ → Outcome
+headerFor lib s words bytes = mapDesign bytes (next (readHeader s) (λ h. unless (leb (need (h .size) (h .outputs)) words) 10 0 (designOf lib s h)))

@@ -1,0 +1,122 @@
+// The whole call: two texts and lent memory in, a netlist or the first refusal out, "in checking order".
+use model::Answer;
+use model::Header;
+use model::HeaderAnswer;
+use model::Library;
+use model::Verdict;
+ghost use mathlib.Core.Path.{_≡_};
+ghost use Prim.Native.Nat.{_≤_};
+ghost use lib.ListN.{length};
+ghost use Rattle.model.specs.Limits.{need};
+ghost use Rattle.model.specs.Reading.{holds};
+ghost use Rattle.model.specs.Graph.{Graph};
+ghost use Rattle.model.specs.GraphText.{readHeader};
+ghost use Rattle.model.specs.Demands.{Memory, Values, Earliest};
+ghost use Rattle.netlist.specs.Mapped.{Mapped};
+ghost use Rattle.mapper.specs.Stages.{Fits, Told, Left, LibraryOk, Loaded, Placed, Cut, printedFor, cutFor, placedFor, loadedFor, graphFor, headerFor};
+
+// 18, and the netlist: "Text memory is shorter than the netlist; place, the length needed."
+fn print(work: &[u16], lib: Library, h: Header, text: &mut [u8]) -> Answer
+    requires { ⌜ ((g : Graph) × Mapped (now work) lib h g) ⌝ }
+    ensures { λ r. ⌜ ((g : Graph) → Mapped (now (work .entry)) lib h g → Told (printedFor lib g (length (now (text .entry)))) (now (text .entry)) r (now (text .exit))) ⌝ }
+{
+    let m = netlist::measure(work, lib, h);
+    let length = m.length;
+    let figures = m.figures;
+    if text.len() < length {
+        return Answer::Refused(18, length);
+    }
+    netlist::write(work, lib, h, figures, text);
+    Answer::Mapped(length, figures)
+}
+
+// The choice, 17, and the needed phases.
+fn cover_graph(work: &mut [u16], lib: Library, h: Header, text: &mut [u8]) -> Answer
+    requires { ⌜ ((g : Graph) × Cut (now work) lib h g) ⌝ }
+    ensures { λ r. ⌜ ((g : Graph) → Cut (now (work .entry)) lib h g → Told (cutFor lib g (length (now (text .entry)))) (now (text .entry)) r (now (text .exit))) ⌝ }
+{
+    cover::choose(work, lib, h);
+    match cover::uncovered(work, h) {
+        Verdict::Accepted => {
+            cover::mark(work, lib, h);
+            print(work, lib, h, text)
+        }
+        Verdict::Refused(number, place) => Answer::Refused(number, place),
+    }
+}
+
+// The cuts, and 16.
+fn cut_graph(work: &mut [u16], lib: Library, h: Header, text: &mut [u8]) -> Answer
+    requires { ⌜ ((g : Graph) × Placed (now work) lib h g) ⌝ }
+    ensures { λ r. ⌜ ((g : Graph) → Placed (now (work .entry)) lib h g → Told (placedFor lib g (length (now (text .entry)))) (now (text .entry)) r (now (text .exit))) ⌝ }
+{
+    match cutting::enumerate(work, h) {
+        Verdict::Accepted => cover_graph(work, lib, h, text),
+        Verdict::Refused(number, place) => Answer::Refused(number, place),
+    }
+}
+
+// The placing order, and 15.
+fn place_graph(work: &mut [u16], lib: Library, h: Header, text: &mut [u8]) -> Answer
+    requires { ⌜ ((g : Graph) × Loaded (now work) lib h g) ⌝ }
+    ensures { λ r. ⌜ ((g : Graph) → Loaded (now (work .entry)) lib h g → Told (loadedFor lib g (length (now (text .entry)))) (now (text .entry)) r (now (text .exit))) ⌝ }
+{
+    match aiger::place(work, h) {
+        Verdict::Accepted => cut_graph(work, lib, h, text),
+        Verdict::Refused(number, place) => Answer::Refused(number, place),
+    }
+}
+
+// The graph behind its header, and 11 to 14.
+fn load_graph(graph: &[u8], h: Header, lib: Library, work: &mut [u16], text: &mut [u8]) -> Answer
+    requires { ⌜ LibraryOk lib × (readHeader (now graph) ≡ holds h) × (need (h .size) (h .outputs) ≤ length (now work)) ⌝ }
+    ensures { λ r. ⌜ Told (graphFor lib (now (graph .entry)) h (length (now (text .entry)))) (now (text .entry)) r (now (text .exit)) ⌝ }
+{
+    match aiger::load(graph, h, work) {
+        Verdict::Accepted => place_graph(work, lib, h, text),
+        Verdict::Refused(number, place) => Answer::Refused(number, place),
+    }
+}
+
+// The header, 7 to 10, and the clearing: "Work memory is unchanged by every refusal tried up to 10, and all zero after a later one and after success."
+fn map_header(graph: &[u8], lib: Library, work: &mut [u16], text: &mut [u8]) -> Answer
+    requires { ⌜ LibraryOk lib ⌝ }
+    ensures { λ r. ⌜ Left (headerFor lib (now (graph .entry)) (length (now (work .entry))) (length (now (text .entry)))) (now (work .entry)) (now (text .entry)) r (now (work .exit)) (now (text .exit)) ⌝ }
+{
+    match aiger::header(graph) {
+        HeaderAnswer::Read(h) => {
+            if work.len() < words::need_words(h.size, h.outputs) {
+                return Answer::Refused(10, 0);
+            }
+            let a = load_graph(graph, h, lib, work, text);
+            words::clear_all(work);
+            a
+        }
+        HeaderAnswer::Refused(number, place) => Answer::Refused(number, place),
+    }
+}
+
+// A library text and a graph text mapped: the netlist at the start of text memory, or the first refusal that applies. The clauses carry the
+// names of the demands; `fits` says that the netlist's length is within text memory.
+pub fn map_texts(cells: &[u8], graph: &[u8], work: &mut [u16], text: &mut [u8]) -> Answer
+    ensures memory { λ r. ⌜ Memory (now (cells .entry)) (now (graph .entry)) (now (work .entry)) (now (text .entry)) r (now (work .exit)) (now (text .exit)) ⌝ }
+    ensures values { λ _. ⌜ Values (now (cells .entry)) (now (graph .entry)) (length (now (work .entry))) (length (now (text .entry))) ⌝ }
+    ensures earliest { λ _. ⌜ Earliest (now (cells .entry)) (now (graph .entry)) (length (now (work .entry))) (length (now (text .entry))) ⌝ }
+    ensures fits { λ r. ⌜ Fits r (length (now (text .entry))) ⌝ }
+{
+    if cells.len() > 65536 {
+        return Answer::Refused(1, 0);
+    }
+    if graph.len() > 65536 {
+        return Answer::Refused(1, 0);
+    }
+    let l = library::read(cells);
+    let v = l.verdict;
+    match v {
+        Verdict::Accepted => {
+            let lib = l.library;
+            map_header(graph, lib, work, text)
+        }
+        Verdict::Refused(number, place) => Answer::Refused(number, place),
+    }
+}

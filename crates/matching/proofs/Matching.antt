@@ -1,0 +1,118 @@
+-- The best variant of a cut's function is 01's choice among the cut's matches.
+--     best-chosen         the phase of the best variant is the first of the earliest over the variants
+--     best-match-chosen   and so over the matches of the cut
+-- Assumes nothing.
+use Prim.Native.Nat.{ℕ, _<_, _≤_}
+use mathlib.Core.Path.{_≡_, refl, sym, ap, _∙_}
+use mathlib.Core.Bool.{Bool, true, false, cond}
+use mathlib.Core.List.{List, [], _∷_, map}
+use native.Mathlib.Omega.{arith}
+use lib.ListN.{length}
+use borrow.Author.Tests.{lt-ltb, le-ltb}
+use Rattle.model.specs.Base.{keep}
+use Rattle.model.specs.Cells.{cellsOf}
+use Rattle.model.specs.Choice.{Phases, absent, earlier, choose, noPhase, matchPhase, cutMatches}
+use Rattle.model.specs.declared.Cell.{Cell}
+use Rattle.model.specs.declared.Library.{Library}
+use Rattle.model.specs.declared.Phase.{Phase}
+use Rattle.model.specs.declared.Source.the-variants.{Cell as Matched}
+use Rattle.theory_graph.proofs.Lists.{map-map, map-same}
+use Rattle.matching.specs.declared.Best.{Best}
+use Rattle.matching.specs.Variants.{Usable, lineOf, matchOf, placesAt, variants}
+use Rattle.matching.specs.Best.{never, TimesOf, Quick, arrivalAt, unmatched, better, bestFrom, bestOf, phaseAs}
+use Rattle.matching.proofs.Choosing.{by-bool, by-less, none-absent, earlier-none, earlier-assoc, earlier-first, earlier-strict, earlier-tie, choose-kept}
+use Rattle.matching.proofs.Listing.{variant-matches}
+use Rattle.matching.proofs.Arriving.{ofVariant, phase-late, phase-timely, variant-past, variant-phase}
+
+-- ---- one variant more
+
+-- the phase of a match
+matched : ℕ → Best → Phase
+matched k b = record { source = Matched (matchOf k (b .variant)); arrival = b .arrival }
+
+matched-present : (k : ℕ) (b : Best) → absent (matched k b .source) ≡ false
+unfolding matched absent
+matched-present k b = refl
+
+matched-arrival : (k : ℕ) (b : Best) → matched k b .arrival ≡ b .arrival
+unfolding matched
+matched-arrival k b = refl
+
+timely : (k : ℕ) (b : Best) → b .arrival < never → phaseAs k b ≡ matched k b
+unfolding matched
+timely k b h = phase-timely k b h
+
+better-strict : (b : Best) (x a : ℕ) → a < b .arrival → better b x a ≡ record { variant = x; arrival = a }
+unfolding better
+better-strict b x a h = rw (lt-ltb a (b .arrival) h)
+
+better-not : (b : Best) (x a : ℕ) → b .arrival ≤ a → better b x a ≡ b
+unfolding better
+better-not b x a h = rw (le-ltb a (b .arrival) h)
+
+module _ (k : ℕ) (b : Best) where
+  -- the best stays where nothing comes after it; so `Settled`
+  pub phase-end : phaseAs k b ≡ earlier (phaseAs k b) noPhase
+  phase-end = by-less (b .arrival) never
+      (λ h. timely k b h ∙ sym (ap (λ (z : Phase). earlier z noPhase) (timely k b h) ∙ earlier-first (matched k b) noPhase (matched-present k b) none-absent))
+      (λ h. phase-late k b h ∙ sym (ap (λ (z : Phase). earlier z noPhase) (phase-late k b h) ∙ earlier-none noPhase))
+
+  module _ (x a : ℕ) where
+    one : Best
+    one = record { variant = x; arrival = a }
+
+    phase-better : phaseAs k (better b x a) ≡ earlier (phaseAs k b) (phaseAs k (record { variant = x; arrival = a }))
+    unfolding one
+    phase-better = by-less a (b .arrival)
+        (λ h. ap (phaseAs k) (better-strict b x a h) ∙ by-less (b .arrival) never
+        (λ l. let q : phaseAs k one ≡ matched k one = timely k one (omega arith) in
+        q ∙ sym (ap (λ (z : Phase). earlier z (phaseAs k one)) (timely k b l) ∙ ap (earlier (matched k b)) q
+        ∙ earlier-strict (matched k b) (matched k one) (matched-present k b) (matched-present k one) (omega (arith, matched-arrival k b, matched-arrival k one))))
+        (λ l. sym (ap (λ (z : Phase). earlier z (phaseAs k one)) (phase-late k b l) ∙ earlier-none (phaseAs k one))))
+        (λ h. ap (phaseAs k) (better-not b x a h) ∙ by-less a never
+        (λ l. let q : phaseAs k one ≡ matched k one = timely k one l in
+        let r : phaseAs k b ≡ matched k b = timely k b (omega arith) in
+        r ∙ sym (ap (λ (z : Phase). earlier z (phaseAs k one)) r ∙ ap (earlier (matched k b)) q
+        ∙ earlier-tie (matched k b) (matched k one) (matched-present k b) (matched-present k one) (omega (arith, matched-arrival k b, matched-arrival k one))))
+        (λ l. phase-end ∙ sym (ap (earlier (phaseAs k b)) (phase-late k one l))))
+
+-- ---- all variants
+
+module _ (cells : List Cell) (leaves : ℕ) (times : List ℕ) (k : ℕ) where
+  from-best : (xs : List ℕ) (b : Best)
+      → phaseAs k (bestFrom cells leaves times b xs) ≡ earlier (phaseAs k b) (choose (map (λ (x : ℕ). phaseAs k (ofVariant cells leaves times x)) xs))
+  unfolding bestFrom choose
+  from-best [] b = phase-end k b
+  from-best (x ∷ xs) b =
+      from-best xs (better b x (arrivalAt cells leaves times x))
+      ∙ ap (λ (z : Phase). earlier z (choose (map (λ (x : ℕ). phaseAs k (ofVariant cells leaves times x)) xs))) (phase-better k b x (arrivalAt cells leaves times x))
+      ∙ earlier-assoc (phaseAs k b) (phaseAs k (ofVariant cells leaves times x)) (choose (map (λ (x : ℕ). phaseAs k (ofVariant cells leaves times x)) xs))
+
+  pub best-chosen : (f : ℕ) → phaseAs k (bestOf cells leaves f times) ≡ choose (map (λ (x : ℕ). phaseAs k (ofVariant cells leaves times x)) (variants cells f))
+  unfolding bestOf
+  best-chosen f =
+      from-best (variants cells f) unmatched
+      ∙ ap (λ (z : Phase). earlier z (choose (map (λ (x : ℕ). phaseAs k (ofVariant cells leaves times x)) (variants cells f)))) (phase-late k unmatched (omega arith))
+      ∙ earlier-none (choose (map (λ (x : ℕ). phaseAs k (ofVariant cells leaves times x)) (variants cells f)))
+
+-- the best match of a cut is the choice among its matches
+pub best-match-chosen : (l : Library) (known : ℕ → Phases) (cut times : List ℕ) (k f : ℕ) → Usable l → f < 65536 → TimesOf known cut times → Quick known cut
+    → phaseAs k (bestOf (cellsOf l) (length cut) f times)
+    ≡ choose (map (matchPhase (cellsOf l) known cut) (cutMatches (cellsOf l) 0 k (length cut) f))
+best-match-chosen l known cut times k f usable small timed quick =
+    best-chosen cells (length cut) times k f
+    ∙ ap choose (map-same (λ (x : ℕ). phaseAs k (ofVariant cells (length cut) times x)) (λ (x : ℕ). cond (placesAt cells (length cut) x) (given x) noPhase) (variants cells f) (λ x m. same x))
+    ∙ sym (choose-kept given (placesAt cells (length cut)) (variants cells f))
+    ∙ ap choose (sym (map-map (matchPhase cells known cut) (matchOf k) (keep (placesAt cells (length cut)) (variants cells f)))
+    ∙ ap (map (matchPhase cells known cut)) (variant-matches cells k (length cut) f small (usable .pins)))
+  where
+    cells : List Cell
+    cells = cellsOf l
+
+    given : ℕ → Phase
+    given x = matchPhase cells known cut (matchOf k x)
+
+    same : (x : ℕ) → phaseAs k (ofVariant cells (length cut) times x) ≡ cond (placesAt cells (length cut) x) (given x) noPhase
+    same x = by-bool (placesAt cells (length cut) x)
+        (λ e. variant-phase cells k x (usable .pins (lineOf x)) known cut times timed quick (usable .delays (lineOf x)) e ∙ sym (ap (λ (b : Bool). cond b (given x) noPhase) e))
+        (λ e. variant-past cells k x (usable .pins (lineOf x)) (length cut) times e ∙ sym (ap (λ (b : Bool). cond b (given x) noPhase) e))

@@ -1,0 +1,26 @@
+-- `matching::phase_as` meets its contract, by the test.
+-- Assumes nothing.
+use borrow.Author.Tests.{lt-ltb, le-ltb}
+use borrow.Author.Needs.{needs}
+use Rattle.model.specs.Choice.{noPhase}
+use Rattle.matching.specs.Best.{phaseAs, never}
+use Rattle.matching.proofs.phase_as.Statement.{statement}
+use Rattle.matching.proofs.phase_as.Tie as tie
+
+match-of-requires : tie.Need-match-of-requires
+match-of-requires c κs = search needs
+
+returns : tie.Need-returns
+unfolding phaseAs
+returns c =
+    let a = c .before .before .before .args in
+    rw (lt-ltb (a .b .arrival) never (c .before .if1 .taken), c .match-of .ensures)
+
+returns-2 : tie.Need-returns-2
+unfolding phaseAs noPhase
+returns-2 c =
+    let a = c .before .before .args in
+    rw (le-ltb (a .b .arrival) never (c .if1 .left))
+
+pub phase-as-spec : {M : Type 1} → statement M
+phase-as-spec = tie.close (tie.spec match-of-requires returns returns-2)

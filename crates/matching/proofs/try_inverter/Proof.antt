@@ -1,0 +1,32 @@
+-- `matching::try_inverter` meets its contract, by the two tests.
+-- Assumes nothing.
+use mathlib.Core.Path.{sym, _∙_}
+use borrow.Author.Needs.{needs}
+use Rattle.matching.proofs.Inverting.{tried-inverter, tried-pins, tried-table}
+use Rattle.matching.proofs.try_inverter.Statement.{statement}
+use Rattle.matching.proofs.try_inverter.Tie as tie
+
+array-read-sooner : tie.Need-array-read-sooner
+array-read-sooner c = search needs
+
+sooner-requires : tie.Need-sooner-requires
+sooner-requires c κs = search needs
+
+returns : tie.Need-returns
+returns c =
+    let a = c .before .before .before .before .before .before .args in
+    c .sooner .ensures ∙ sym (tried-inverter (a .best) (a .c) (a .line) (c .before .before .before .if1 .taken) (c .before .if2 .taken))
+
+returns-2 : tie.Need-returns-2
+returns-2 c =
+    let a = c .before .before .before .before .before .args in
+    sym (tried-table (a .best) (a .c) (a .line) (c .before .before .if1 .taken) (c .if2 .left))
+
+returns-3 : tie.Need-returns-3
+returns-3 c =
+    let a = c .before .before .before .args in
+    sym (tried-pins (a .best) (a .c) (a .line) (c .if1 .left))
+
+pub try-inverter-spec : {M : Type 1} → statement M
+try-inverter-spec =
+    tie.close (tie.spec array-read-sooner sooner-requires returns returns-2 returns-3)

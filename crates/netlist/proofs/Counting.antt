@@ -1,0 +1,294 @@
+-- Lengths of names, pins and lines, and figures of gates.
+-- Assumes nothing.
+use mathlib.Core.Path.{_≡_, refl, sym, ap, ap₂, _∙_}
+use mathlib.Core.Bool.{Bool, true, false, cond}
+use mathlib.Core.List.{List, [], _∷_, _++_, map, append-assoc, append-nil}
+use Prim.Native.Nat.{ℕ, suc, _+_, _-_, _*_, _/_, _^_, _≤_, _<_, max}
+use native.Mathlib.Nat.{add-zero}
+use native.Mathlib.Numerals.{add-one}
+use native.Mathlib.Omega.{arith}
+use lib.ListN.{length, take, drop, getD, length-append, drop-of-length-le}
+use lib.Seq.{drop-cons, length-take-le, getD-take}
+use Rattle.model.specs.Base.{from, each}
+use Rattle.model.specs.Text.{text, decimal}
+use Rattle.model.specs.Cells.{nameOf}
+use Rattle.model.specs.Graph.{varOf}
+use Rattle.model.specs.Netlist.{Gate, netName, pinWords, gateLine, sum, largest}
+use Rattle.model.specs.declared.Cell.{Cell}
+use Rattle.model.specs.declared.Library.{Library}
+use Rattle.model.specs.declared.Header.{Header}
+use Rattle.model.specs.declared.Figures.{Figures}
+use Rattle.words.specs.Phases.{phaseAt, isNeeded}
+use Rattle.text.proofs.Decimal.{dec-below}
+use Rattle.netlist.specs.declared.Driver.{Driver}
+use Rattle.netlist.specs.declared.Tally.{Tally}
+use Rattle.netlist.specs.declared.Measured.{Measured}
+use Rattle.netlist.specs.Lines.{lineOf, gateBy, gateAt, gatesFrom, gatesOf, tallied, noTally, netAt, netsFrom, spaced, latestFrom, frameText, figuresText, gatesIn, figuresIn, textIn, measuredIn}
+
+-- ---- names
+
+pub net-length : (l : ℕ) → length (netName l) ≡ length (decimal (l / 2)) + 1
+unfolding netName varOf
+net-length l = sym (add-one (length (decimal (l / 2))))
+
+-- the digits of a number below 2 ^ 32
+pub ten-digits : (n : ℕ) → n < 4294967296 → length (decimal n) ≤ 10
+ten-digits n h = dec-below 9 n (omega arith)
+
+-- ---- pins
+
+-- one pin's word, and those of more pins behind it
+pub pin-cons : (b l : ℕ) (ls : List ℕ) → pinWords b (l ∷ ls) ≡ pinWords b (l ∷ []) ++ pinWords (b + 1) ls
+unfolding pinWords
+pin-cons b l ls =
+    ap (λ (k : ℕ). 32 ∷ b ∷ 61 ∷ netName l ++ pinWords k ls) (sym (add-one b))
+    ∙ ap (λ (x : List ℕ). 32 ∷ b ∷ 61 ∷ x ++ pinWords (b + 1) ls) (sym (append-nil (netName l)))
+
+pub pin-one : (b l : ℕ) → pinWords b (l ∷ []) ≡ 32 ∷ b ∷ 61 ∷ netName l
+unfolding pinWords
+pin-one b l = ap (λ (x : List ℕ). 32 ∷ b ∷ 61 ∷ x) (append-nil (netName l))
+
+pub pin-length : (b l : ℕ) → length (pinWords b (l ∷ [])) ≡ 3 + length (netName l)
+pin-length b l = let e : length (pinWords b (l ∷ [])) ≡ suc (suc (suc (length (netName l)))) = ap length (pin-one b l) in omega arith
+
+-- the pins from number j on
+pub pins-at : (b : ℕ) (ls : List ℕ) (j : ℕ) → j < length ls
+    → pinWords (b + j) (drop j ls) ≡ pinWords (b + j) (getD ls j 0 ∷ []) ++ pinWords (b + (j + 1)) (drop (j + 1) ls)
+pins-at b ls j h =
+    let e : b + j + 1 ≡ b + (j + 1) = omega arith in
+    ap (pinWords (b + j)) (drop-cons ls j 0 h ∙ ap (λ (k : ℕ). getD ls j 0 ∷ drop k ls) (sym (add-one j)))
+    ∙ pin-cons (b + j) (getD ls j 0) (drop (j + 1) ls)
+    ∙ ap (λ (k : ℕ). pinWords (b + j) (getD ls j 0 ∷ []) ++ pinWords k (drop (j + 1) ls)) e
+
+-- those of an array's first pins
+module _ (nets : List ℕ) (count : ℕ) (four : length nets ≡ 4) (few : count ≤ 4) where
+  long : length (take count nets) ≡ count
+  long = length-take-le count nets (omega arith)
+
+  pub pins-next : (j : ℕ) → j < count
+      → pinWords (65 + j) (drop j (take count nets)) ≡ pinWords (65 + j) (getD nets j 0 ∷ []) ++ pinWords (65 + (j + 1)) (drop (j + 1) (take count nets))
+  pins-next j h =
+      pins-at 65 (take count nets) j (omega (arith, long))
+      ∙ ap (λ (x : ℕ). pinWords (65 + j) (x ∷ []) ++ pinWords (65 + (j + 1)) (drop (j + 1) (take count nets))) (getD-take count nets j 0 h)
+
+  pub pins-none : (j : ℕ) → count ≤ j → pinWords (65 + j) (drop j (take count nets)) ≡ []
+  unfolding pinWords
+  pins-none j h = ap (pinWords (65 + j)) (drop-of-length-le (take count nets) {i = j} (omega (arith, long)))
+
+-- ---- gate lines
+
+pub line-is : (c : Cell) (nets : List ℕ) (net : ℕ)
+    → lineOf c nets net ≡ (46 ∷ 103 ∷ 97 ∷ 116 ∷ 101 ∷ 32 ∷ []) ++ (take (c .len) (c .name) ++ (pinWords 65 nets ++ (pinWords 79 (net ∷ []) ++ (10 ∷ []))))
+unfolding gateLine text nameOf
+line-is c nets net = refl
+
+pub line-length : (c : Cell) (nets : List ℕ) (net : ℕ)
+    → length (lineOf c nets net) ≡ length (take (c .len) (c .name)) + length (pinWords 65 nets) + length (netName net) + 10
+line-length c nets net =
+    ap length (line-is c nets net)
+    ∙ simp length-append (omega (arith, pin-length 79 net))
+
+-- ---- numbers from i on
+
+pub from-next : (i n : ℕ) → i < n → from i (n - i) ≡ i ∷ from (i + 1) (n - (i + 1))
+unfolding from
+from-next i n h =
+    let e : n - i ≡ suc (n - (i + 1)) = omega arith in
+    ap (from i) e ∙ ap (λ (k : ℕ). i ∷ from k (n - (i + 1))) (sym (add-one i))
+
+pub from-none : (i n : ℕ) → n ≤ i → from i (n - i) ≡ []
+unfolding from
+from-none i n h = let e : n - i ≡ 0 = omega arith in ap (from i) e
+
+pub from-all : (i n : ℕ) → i ≡ 0 → from i (n - i) ≡ from 0 n
+from-all i n h = let e : n - i ≡ n = omega arith in ap₂ from h e
+
+-- ---- gates
+
+module _ {A B : Type 0} (f : A → List B) where
+  pub each-append : (xs ys : List A) → each f (xs ++ ys) ≡ each f xs ++ each f ys
+  unfolding each
+  each-append [] ys = refl
+  each-append (x ∷ xs) ys = ap (λ (l : List B). f x ++ l) (each-append xs ys) ∙ sym (append-assoc (f x) (each f xs) (each f ys))
+
+pub map-append : {A B : Type 0} (f : A → B) (xs ys : List A) → map f (xs ++ ys) ≡ map f xs ++ map f ys
+map-append f [] ys = refl
+map-append f (x ∷ xs) ys = ap (λ (l : List _). f x ∷ l) (map-append f xs ys)
+
+pub sum-append : (xs ys : List ℕ) → sum (xs ++ ys) ≡ sum xs + sum ys
+unfolding sum
+sum-append [] ys = omega arith
+sum-append (x ∷ xs) ys = omega (arith, sum-append xs ys)
+
+module _ (w : List ℕ) (lib : Library) (m n : ℕ) where
+  pub gates-next : (l : ℕ) → l < n → gatesFrom w lib m l (n - l) ≡ gateAt w lib m l ++ gatesFrom w lib m (l + 1) (n - (l + 1))
+  unfolding gatesFrom each
+  gates-next l h = ap (each (gateAt w lib m)) (from-next l n h)
+
+  pub gates-none : (l : ℕ) → n ≤ l → gatesFrom w lib m l (n - l) ≡ []
+  unfolding gatesFrom each
+  gates-none l h = ap (each (gateAt w lib m)) (from-none l n h)
+
+  pub lines-next : (l : ℕ) → l < n → each gateLine (gatesFrom w lib m l (n - l)) ≡ each gateLine (gateAt w lib m l) ++ each gateLine (gatesFrom w lib m (l + 1) (n - (l + 1)))
+  lines-next l h = ap (each gateLine) (gates-next l h) ∙ each-append gateLine (gateAt w lib m l) (gatesFrom w lib m (l + 1) (n - (l + 1)))
+
+  pub lines-none : (l : ℕ) → n ≤ l → each gateLine (gatesFrom w lib m l (n - l)) ≡ []
+  unfolding each
+  lines-none l h = ap (each gateLine) (gates-none l h)
+
+-- the gate of phase l, by whether the phase is needed
+module _ (w : List ℕ) (lib : Library) (m l : ℕ) where
+  pub gate-needed : isNeeded w m l ≡ true → gateAt w lib m l ≡ gateBy w lib m l (phaseAt w m l .source)
+  unfolding gateAt
+  gate-needed e = ap (λ (b : Bool). cond b (gateBy w lib m l (phaseAt w m l .source)) []) e
+
+  pub gate-idle : isNeeded w m l ≡ false → gateAt w lib m l ≡ []
+  unfolding gateAt
+  gate-idle e = ap (λ (b : Bool). cond b (gateBy w lib m l (phaseAt w m l .source)) []) e
+
+-- the gate of a driver, by whether it is there
+module _ (d : Driver) where
+  abbrev pub gateOf : Gate
+  gateOf = record { cell = d .cell; pins = take (d .count) (d .nets); net = d .net }
+
+  pub gates-there : d .there ≡ true → gatesOf d ≡ gateOf ∷ []
+  unfolding gatesOf
+  gates-there e = ap (λ (b : Bool). cond b (gateOf ∷ []) []) e
+
+  pub gates-absent : d .there ≡ false → gatesOf d ≡ []
+  unfolding gatesOf
+  gates-absent e = ap (λ (b : Bool). cond b (gateOf ∷ []) []) e
+
+  pub lines-there : d .there ≡ true → each gateLine (gatesOf d) ≡ lineOf (d .cell) (take (d .count) (d .nets)) (d .net)
+  unfolding each
+  lines-there e = ap (each gateLine) (gates-there e) ∙ append-nil (gateLine gateOf)
+
+  pub lines-absent : d .there ≡ false → each gateLine (gatesOf d) ≡ []
+  unfolding each
+  lines-absent e = ap (each gateLine) (gates-absent e)
+
+-- what is counted one after the other
+pub tally-append : (t : Tally) (ts us : List Gate) → tallied (tallied t ts) us ≡ tallied t (ts ++ us)
+unfolding tallied
+tally-append t ts us =
+    let bytes : t .length + length (each gateLine ts) + length (each gateLine us) ≡ t .length + length (each gateLine (ts ++ us)) =
+    omega (arith, ap length (each-append gateLine ts us) ∙ length-append (each gateLine ts) (each gateLine us)) in
+    let count : t .gates + length ts + length us ≡ t .gates + length (ts ++ us) = omega (arith, length-append ts us) in
+    let area : t .area + sum (map (λ (u : Gate). u .cell .area) ts) + sum (map (λ (u : Gate). u .cell .area) us) ≡ t .area + sum (map (λ (u : Gate). u .cell .area) (ts ++ us)) =
+    omega (arith, ap sum (map-append (λ (u : Gate). u .cell .area) ts us) ∙ sum-append (map (λ (u : Gate). u .cell .area) ts) (map (λ (u : Gate). u .cell .area) us)) in
+    λ i. record { length = bytes i; gates = count i; area = area i }
+
+pub tally-none : (t : Tally) → tallied t [] ≡ t
+unfolding tallied each sum
+tally-none t = λ i. record { length = add-zero (t .length) i; gates = add-zero (t .gates) i; area = add-zero (t .area) i }
+
+pub tally-one : (t : Tally) (u : Gate) → tallied t (u ∷ []) ≡ record { length = t .length + length (gateLine u); gates = t .gates + 1; area = t .area + u .cell .area }
+unfolding tallied each sum
+tally-one t u =
+    let bytes : t .length + length (gateLine u ++ []) ≡ t .length + length (gateLine u) = ap (λ (x : List ℕ). t .length + length x) (append-nil (gateLine u)) in
+    let area : t .area + (u .cell .area + 0) ≡ t .area + u .cell .area = omega arith in
+    λ i. record { length = bytes i; gates = t .gates + 1; area = area i }
+
+-- ---- names lines
+
+module _ (w : List ℕ) (m : ℕ) (outs : Bool) (n : ℕ) where
+  pub nets-next : (i : ℕ) → i < n → netsFrom w m outs i (n - i) ≡ netAt w m outs i ∷ netsFrom w m outs (i + 1) (n - (i + 1))
+  unfolding netsFrom
+  nets-next i h = ap (map (netAt w m outs)) (from-next i n h)
+
+  pub nets-none : (i : ℕ) → n ≤ i → netsFrom w m outs i (n - i) ≡ []
+  unfolding netsFrom
+  nets-none i h = ap (map (netAt w m outs)) (from-none i n h)
+
+  pub names-next : (i : ℕ) → i < n → spaced (netsFrom w m outs i (n - i)) ≡ (32 ∷ []) ++ (netName (netAt w m outs i) ++ spaced (netsFrom w m outs (i + 1) (n - (i + 1))))
+  unfolding spaced each
+  names-next i h = ap spaced (nets-next i h)
+
+  pub names-none : (i : ℕ) → n ≤ i → spaced (netsFrom w m outs i (n - i)) ≡ []
+  unfolding spaced each
+  names-none i h = ap spaced (nets-none i h)
+
+-- ---- the latest
+
+pub max-assoc : (a b c : ℕ) → max (max a b) c ≡ max a (max b c)
+max-assoc a b c = omega arith
+
+module _ (w : List ℕ) (m n : ℕ) where
+  pub latest-next : (i : ℕ) → i < n → latestFrom w m i (n - i) ≡ max (phaseAt w m (netAt w m true i) .arrival) (latestFrom w m (i + 1) (n - (i + 1)))
+  unfolding latestFrom largest
+  latest-next i h = ap (λ (ls : List ℕ). largest (map (λ (l : ℕ). phaseAt w m l .arrival) ls)) (nets-next w m true n i h)
+
+  pub latest-none : (i : ℕ) → n ≤ i → latestFrom w m i (n - i) ≡ 0
+  unfolding latestFrom largest
+  latest-none i h = ap (λ (ls : List ℕ). largest (map (λ (l : ℕ). phaseAt w m l .arrival) ls)) (nets-none w m true n i h)
+
+-- ---- the first lines and the last
+
+-- the bytes of the fixed parts
+abbrev pub modelBytes : List ℕ
+modelBytes = 46 ∷ 109 ∷ 111 ∷ 100 ∷ 101 ∷ 108 ∷ 32 ∷ 116 ∷ 111 ∷ 112 ∷ 10 ∷ 46 ∷ 105 ∷ 110 ∷ 112 ∷ 117 ∷ 116 ∷ 115 ∷ []
+
+abbrev pub outputsBytes : List ℕ
+outputsBytes = 10 ∷ 46 ∷ 111 ∷ 117 ∷ 116 ∷ 112 ∷ 117 ∷ 116 ∷ 115 ∷ []
+
+abbrev pub endBytes : List ℕ
+endBytes = 46 ∷ 101 ∷ 110 ∷ 100 ∷ 10 ∷ 35 ∷ 32 ∷ 103 ∷ 97 ∷ 116 ∷ 101 ∷ 115 ∷ 32 ∷ []
+
+abbrev pub areaBytes : List ℕ
+areaBytes = 32 ∷ 97 ∷ 114 ∷ 101 ∷ 97 ∷ 32 ∷ []
+
+abbrev pub arrivalBytes : List ℕ
+arrivalBytes = 32 ∷ 97 ∷ 114 ∷ 114 ∷ 105 ∷ 118 ∷ 97 ∷ 108 ∷ 32 ∷ []
+
+pub frame-is : (w : List ℕ) (m inputs outputs : ℕ)
+    → frameText w m inputs outputs ≡ modelBytes ++ (spaced (netsFrom w m false 0 inputs) ++ (outputsBytes ++ (spaced (netsFrom w m true 0 outputs) ++ (10 ∷ []))))
+unfolding frameText text
+frame-is w m inputs outputs = refl
+
+pub figures-are : (f : Figures)
+    → figuresText f ≡ endBytes ++ (decimal (f .gates) ++ (areaBytes ++ (decimal (f .area) ++ (arrivalBytes ++ (decimal (f .arrival) ++ (10 ∷ []))))))
+unfolding figuresText text
+figures-are f = refl
+
+pub frame-length : (w : List ℕ) (m inputs outputs : ℕ)
+    → length (frameText w m inputs outputs) ≡ length (spaced (netsFrom w m false 0 inputs)) + length (spaced (netsFrom w m true 0 outputs)) + 28
+unfolding frameText text
+frame-length w m inputs outputs = simp length-append (omega arith)
+
+pub figures-length : (f : Figures) → length (figuresText f) ≡ length (decimal (f .gates)) + length (decimal (f .area)) + length (decimal (f .arrival)) + 29
+unfolding figuresText text
+figures-length f = simp length-append (omega arith)
+
+-- a name with the space before it, and what follows
+pub name-length : (l : ℕ) (more : List ℕ) → length ((32 ∷ []) ++ (netName l ++ more)) ≡ 1 + (length (netName l) + length more)
+name-length l more = let e : length ((32 ∷ []) ++ (netName l ++ more)) ≡ suc (length (netName l) + length more) = ap suc (length-append (netName l) more) in omega arith
+
+pub longer : (xs ys : List ℕ) → length xs ≤ length (xs ++ ys)
+longer xs ys = omega (arith, length-append xs ys)
+
+-- ---- what is measured
+
+module _ (w : List ℕ) (lib : Library) (h : Header) (t : Tally) (counted : t ≡ tallied noTally (gatesFrom w lib (h .size) 0 (2 * (h .size + 1)))) where
+  pub figures-in : (a : ℕ) → a ≡ latestFrom w (h .size) 0 (h .outputs) → _≡_ {A = Figures} (record { gates = t .gates; area = t .area; arrival = a }) (figuresIn w lib h)
+  unfolding figuresIn gatesIn tallied
+  figures-in a e =
+      let gates : t .gates ≡ length (gatesIn w lib h) = ap (λ (x : Tally). x .gates) counted ∙ omega arith in
+      let area : t .area ≡ sum (map (λ (u : Gate). u .cell .area) (gatesIn w lib h)) = ap (λ (x : Tally). x .area) counted ∙ omega arith in
+      λ i. record { gates = gates i; area = area i; arrival = e i }
+
+  pub measured-in : (f : Figures) (frame figures : ℕ) → f ≡ figuresIn w lib h → frame ≡ length (frameText w (h .size) (h .inputs) (h .outputs)) → figures ≡ length (figuresText f)
+      → _≡_ {A = Measured} (record { length = frame + t .length + figures; figures = f }) (measuredIn w lib h)
+  unfolding measuredIn textIn gatesIn tallied
+  measured-in f frame figures e p q =
+      let gates = gatesIn w lib h in
+      let lines : t .length ≡ length (each gateLine gates) = ap (λ (x : Tally). x .length) counted ∙ omega arith in
+      let parts : length (frameText w (h .size) (h .inputs) (h .outputs) ++ (each gateLine gates ++ figuresText f)) ≡ length (frameText w (h .size) (h .inputs) (h .outputs)) + (length (each gateLine gates) + length (figuresText f)) =
+      length-append (frameText w (h .size) (h .inputs) (h .outputs)) (each gateLine gates ++ figuresText f) ∙ ap (λ (n : ℕ). length (frameText w (h .size) (h .inputs) (h .outputs)) + n) (length-append (each gateLine gates) (figuresText f)) in
+      let whole : frame + t .length + figures ≡ length (frameText w (h .size) (h .inputs) (h .outputs) ++ (each gateLine gates ++ figuresText f)) = omega arith in
+      (λ i. record { length = whole i; figures = f })
+      ∙ ap (λ (x : Figures). record { length = length (frameText w (h .size) (h .inputs) (h .outputs) ++ (each gateLine gates ++ figuresText x)); figures = x }) e
+
+pub text-is : (w : List ℕ) (lib : Library) (h : Header) (f : Figures)
+    → textIn w lib h f ≡ frameText w (h .size) (h .inputs) (h .outputs) ++ (each gateLine (gatesFrom w lib (h .size) 0 (2 * (h .size + 1))) ++ figuresText f)
+unfolding textIn gatesIn
+text-is w lib h f = refl

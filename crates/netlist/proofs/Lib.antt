@@ -1,0 +1,5 @@
+-- `Progress`: writers one after the other. `Counting`: lengths and figures of lines. `Feeding`: the nets of a match. `Held`: what the words hold is what `model` defines.
+pub mod Progress
+pub mod Counting
+pub mod Feeding
+pub mod Held

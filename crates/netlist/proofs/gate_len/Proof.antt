@@ -1,0 +1,50 @@
+-- `netlist::gate_len` meets its contract.
+-- Assumes nothing.
+use mathlib.Core.Path.{_≡_, sym, ap, _∙_}
+use native.Mathlib.Omega.{arith}
+use lib.ListN.{length, take}
+use lib.Seq.{length-take-le}
+use Rattle.netlist.proofs.Counting.{line-length}
+use borrow.Author.Needs.{needs}
+use Rattle.netlist.proofs.gate_len.Statement.{statement}
+use Rattle.netlist.proofs.gate_len.Tie as tie
+
+name-len-requires : tie.Need-name-len-requires
+name-len-requires c κs = search needs
+
+pins-len-requires : tie.Need-pins-len-requires
+pins-len-requires c κs = search needs
+
+add-result : tie.Need-add-result
+add-result c = search needs
+
+net-len-requires : tie.Need-net-len-requires
+net-len-requires c κs = search needs
+
+add-result-2 : tie.Need-add-result-2
+add-result-2 c = search needs
+
+add-result-3 : tie.Need-add-result-3
+add-result-3 c = search needs
+
+returns : tie.Need-returns
+returns c =
+    let s = c .before .before .before in
+    let x = s .args .c in
+    let n = c .before .before .name-len in
+    let p = c .before .pins-len in
+    let eight : length (x .name) ≡ 8 = search needs in
+    let named : length (take (x .len) (x .name)) ≡ n .result = ap length (sym (n .ensures .1 (x .name) eight)) ∙ length-take-le (n .result) (x .name) (omega (arith, n .ensures .0)) in
+    (omega (arith, line-length x (take (s .args .count) (s .args .nets)) (s .args .net), named, p .ensures .0, c .net-len .ensures .0), omega (arith, n .ensures .0, p .ensures .1, c .net-len .ensures .1))
+
+pub gate-len-spec : {M : Type 1} → statement M
+gate-len-spec =
+    tie.close
+    (tie.spec
+    name-len-requires
+    pins-len-requires
+    add-result
+    net-len-requires
+    add-result-2
+    add-result-3
+    returns)

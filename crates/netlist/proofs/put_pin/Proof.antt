@@ -1,0 +1,38 @@
+-- `netlist::put_pin` meets its contract: a space, the pin's letter, `=` and the net.
+-- Assumes nothing.
+use mathlib.Core.Path.{refl, sym}
+use mathlib.Core.List.{_∷_, [], append-nil}
+use native.Mathlib.Omega.{arith}
+use Rattle.model.specs.Netlist.{netName, pinWords}
+use Rattle.netlist.proofs.Counting.{pin-one, pin-length}
+use Rattle.netlist.proofs.Progress.{Partly, begin, step, room, finish}
+use borrow.Author.Needs.{needs}
+use Rattle.netlist.proofs.put_pin.Statement.{statement}
+use Rattle.netlist.proofs.put_pin.Tie as tie
+
+-- what stands before the net is written
+one : (c : tie.After-put-bytes)
+    → Partly (c .before .before .before .before .args .out .now) (c .put-bytes .last .0) (c .before .before .before .before .args .at) (c .put-bytes .result) (pinWords (c .before .before .before .before .args .b) (c .before .before .before .before .args .l ∷ [])) (netName (c .before .before .before .before .args .l))
+one c =
+    step (c .before .before .before .before .pre) (begin (c .before .before .before .before .args .out .now) (c .before .before .before .before .args .at) (pin-one (c .before .before .before .before .args .b) (c .before .before .before .before .args .l))) (c .put-bytes .last .0) (c .put-bytes .result)
+    (32 ∷ c .before .before .before .before .args .b ∷ 61 ∷ []) (netName (c .before .before .before .before .args .l)) refl (c .put-bytes .ensures)
+
+slice-aggregate-put-bytes : tie.Need-slice-aggregate-put-bytes
+slice-aggregate-put-bytes c = search needs
+
+put-bytes-requires : tie.Need-put-bytes-requires
+put-bytes-requires c κs = omega (arith, pin-length (c .before .before .before .args .b) (c .before .before .before .args .l))
+
+put-net-requires : tie.Need-put-net-requires
+put-net-requires c κs = room (c .before .before .before .before .before .before .before .pre) (one (c .before .before .before)) (netName (c .before .before .before .before .before .before .before .args .l)) [] (sym (append-nil (netName (c .before .before .before .before .before .before .before .args .l))))
+
+same-length : tie.Need-same-length
+same-length c = search needs
+
+returns : tie.Need-returns
+returns c = finish (c .before .before .before .before .before .before .before .before .before .before .pre) (one (c .before .before .before .before .before .before)) (c .before .before .put-net .ensures)
+
+pub put-pin-spec : {M : Type 1} → statement M
+put-pin-spec =
+    tie.close
+    (tie.spec slice-aggregate-put-bytes put-bytes-requires put-net-requires same-length returns)

@@ -1,0 +1,86 @@
+-- `netlist::put_pins` meets its contract. The invariant: the words of the first j pins are written. The measure is the number of pins left.
+-- Assumes nothing.
+use mathlib.Core.Path.{_≡_, refl}
+use mathlib.Core.List.{_∷_, []}
+use Prim.Native.Nat.{_+_, _-_, _≤_}
+use native.Mathlib.Omega.{arith}
+use borrow.Author.Needs.{needs}
+use lib.ListN.{length, take, drop, getD}
+use Rattle.model.specs.Netlist.{pinWords}
+use Rattle.netlist.proofs.Counting.{pins-next, pins-none}
+use Rattle.netlist.proofs.Progress.{Partly, begin, step, room, kept, end}
+use Rattle.netlist.proofs.put_pins.Statement.{statement}
+use Rattle.netlist.proofs.put_pins.Tie as tie
+
+abbrev Inv-loop : tie.InvT-loop
+Inv-loop out₀ at count nets next₀ j₀ out next j = (j ≤ count) × Partly out₀ out at next (pinWords 65 (take count nets)) (pinWords (65 + j) (drop j (take count nets)))
+
+abbrev μ-loop : tie.MeasureT-loop
+μ-loop out₀ at count nets next₀ j₀ out next j = count - j
+
+loop-holds : tie.Need-loop-holds Inv-loop μ-loop
+loop-holds c = (omega arith, begin (c .before .args .out .now) (c .before .args .at) refl)
+
+cast-put-pin : tie.Need-cast-put-pin Inv-loop μ-loop
+cast-put-pin c = omega arith
+
+add-put-pin : tie.Need-add-put-pin Inv-loop μ-loop
+add-put-pin c = omega arith
+
+mul-put-pin : tie.Need-mul-put-pin Inv-loop μ-loop
+mul-put-pin c = omega arith
+
+array-read-put-pin : tie.Need-array-read-put-pin Inv-loop μ-loop
+array-read-put-pin c = omega arith
+
+put-pin-requires : tie.Need-put-pin-requires Inv-loop μ-loop
+put-pin-requires c κs =
+    let s = c .before .before .before .before in
+    let l = c .before .before .loop in
+    let four : length (s .args .t3) ≡ 4 = search needs in
+    room (s .pre .1) (l .inv .1) (pinWords (65 + l .j) (getD (s .args .t3) (l .j) 0 ∷ [])) (pinWords (65 + (l .j + 1)) (drop (l .j + 1) (take (s .args .count) (s .args .t3))))
+    (pins-next (s .args .t3) (s .args .count) four (s .pre .0) (l .j) (c .before .loop-test .taken))
+
+add-j : tie.Need-add-j Inv-loop μ-loop
+add-j c = omega arith
+
+loop-less : tie.Need-loop-less Inv-loop μ-loop
+loop-less c = omega arith
+
+loop-again : tie.Need-loop-again Inv-loop μ-loop
+loop-again c =
+    let s = c .before .before .before .before .before .before .before in
+    let l = c .before .before .before .before .before .loop in
+    let p = c .before .before .put-pin in
+    let four : length (s .args .t3) ≡ 4 = search needs in (
+      omega arith,
+      step (s .pre .1) (l .inv .1) (p .last .0) (p .result) (pinWords (65 + l .j) (getD (s .args .t3) (l .j) 0 ∷ [])) (pinWords (65 + (l .j + 1)) (drop (l .j + 1) (take (s .args .count) (s .args .t3))))
+          (pins-next (s .args .t3) (s .args .count) four (s .pre .0) (l .j) (c .before .before .before .before .loop-test .taken)) (p .ensures),
+    )
+
+same-length : tie.Need-same-length Inv-loop μ-loop
+same-length c = kept (c .before .before .before .pre .1) (c .before .loop .inv .1)
+
+returns : tie.Need-returns Inv-loop μ-loop
+returns c =
+    let s = c .before .before .before in
+    let four : length (s .args .t3) ≡ 4 = search needs in
+    end (s .pre .1) (c .before .loop .inv .1) (pins-none (s .args .t3) (s .args .count) four (s .pre .0) (c .before .loop .j) (c .loop-test .left))
+
+pub put-pins-spec : {M : Type 1} → statement M
+put-pins-spec =
+    tie.close
+    (tie.spec
+    Inv-loop
+    μ-loop
+    loop-holds
+    cast-put-pin
+    add-put-pin
+    mul-put-pin
+    array-read-put-pin
+    put-pin-requires
+    add-j
+    loop-less
+    loop-again
+    same-length
+    returns)

@@ -1,0 +1,49 @@
+-- What the lent words hold when a netlist is measured and written: a graph with its placing order, cuts, chosen and needed phases. Assumes nothing.
+use mathlib.Core.Path.{_≡_}
+use mathlib.Core.Bool.{false}
+use mathlib.Core.List.{List, [], List·Memᴰ}
+use Prim.Native.Nat.{ℕ, _≤_}
+use lib.Dec.{T}
+use lib.ListN.{length}
+use Rattle.model.specs.Cells.{cellsOf}
+use Rattle.model.specs.Graph.{Graph}
+use Rattle.model.specs.Cuts.{crowded}
+use Rattle.model.specs.Choice.{absent, chosen}
+use Rattle.model.specs.Netlist.{Gate, gates, netlistText}
+use Rattle.model.specs.Demands.{choiceText, choiceFigures}
+use Rattle.model.specs.declared.Library.{Library}
+use Rattle.model.specs.declared.Header.{Header}
+use Rattle.model.specs.declared.Figures.{Figures}
+use Rattle.words.specs.Holding.{HoldsGraph, HoldsOrder, HoldsCuts, HoldsPhases, HoldsNeeded}
+use Rattle.theory_graph.proofs.Accepted.{Accepted, libraryFits}
+use Rattle.netlist.specs.declared.Measured.{Measured}
+
+-- After refusals 1 to 17 none is left: the header's numbers are the graph's, the library and the graph are free of faults, no AND has too many
+-- cuts, every output has a cover, and each pass has left its part.
+pub record Mapped (w : List ℕ) (lib : Library) (h : Header) (g : Graph) : Type 0 where
+  pub size : h .size ≡ g .size
+  pub inputs : h .inputs ≡ length (g .inputs)
+  pub outputs : h .outputs ≡ length (g .outputs)
+  pub fewInputs : length (g .inputs) ≤ g .size
+  pub fewOutputs : length (g .outputs) ≤ 4096
+  pub fewCells : lib .n ≤ 32
+  pub library : T (libraryFits (cellsOf lib))
+  pub accepted : Accepted g
+  pub fewCuts : crowded g ≡ []
+  pub covered : (l : ℕ) → List·Memᴰ l (g .outputs) → absent (chosen (cellsOf lib) g l .source) ≡ false
+  pub graph : HoldsGraph w g
+  pub order : HoldsOrder w g
+  pub cuts : HoldsCuts w g
+  pub phases : HoldsPhases w (cellsOf lib) g
+  pub needs : HoldsNeeded w (cellsOf lib) g
+
+-- the gates of a graph, and the netlist with given figures
+abbrev pub gatesFor : Library → Graph → List Gate
+gatesFor lib g = gates (cellsOf lib) g (chosen (cellsOf lib) g)
+
+abbrev pub textFor : Library → Graph → Figures → List ℕ
+textFor lib g f = netlistText g (gatesFor lib g) f
+
+-- "the netlist's length and the three figures of its `# gates` line"
+abbrev pub measuredFor : Library → Graph → Measured
+measuredFor lib g = record { length = length (choiceText (cellsOf lib) g); figures = choiceFigures (cellsOf lib) g }

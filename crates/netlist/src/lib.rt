@@ -1,0 +1,525 @@
+// Layer six: the needed phases become the lines of a netlist, and its figures are those of the lines.
+// "Needed phases, inputs' own positive nets apart, become gates by ascending variable, `p` first." A phase is its literal, 2v positive and
+// 2v+1 negative, so that ascending literals are this order.
+use model::Cell;
+use model::Figures;
+use model::Header;
+use model::Library;
+use model::Match;
+use model::Source;
+ghost use mathlib.Core.Path.{_≡_};
+ghost use mathlib.Core.Bool.{true, false};
+ghost use mathlib.Core.List.{List, _∷_, [], _++_};
+ghost use Prim.Native.Nat.{ℕ, _+_, _*_, _/_, _≤_, _<_, max};
+ghost use lib.ListN.{length, take, drop};
+ghost use Rattle.model.specs.Base.{bit, each};
+ghost use Rattle.model.specs.Text.{decimal};
+ghost use Rattle.model.specs.Graph.{Graph, literal, opposite};
+ghost use Rattle.model.specs.Netlist.{netName, pinWords, gateLine};
+ghost use Rattle.words.specs.Layout.{Room, RoomFor, outputAt};
+ghost use Rattle.words.specs.Phases.{phaseAt};
+ghost use Rattle.truth.specs.Variant.{placesOf};
+ghost use Rattle.netlist.specs.Writing.{Wrote};
+ghost use Rattle.netlist.specs.Lines.{lineOf, pinNet, fourNets, MatchReady, SourceReady, Gated, matchedGate, invertedGate, gateBy, gateAt, gatesFrom, gatesOf, Drives, tallied, noTally, Bounded, limit, Named, netAt, netsFrom, spaced, latestFrom, frameText, figuresText, textIn, measuredIn, Small};
+ghost use Rattle.netlist.specs.Mapped.{Mapped, textFor, measuredFor};
+
+// What drives a net: a cell and, for its first `count` pins, the nets that feed it, as literals. Nothing where the net is not there.
+struct Driver {
+    there: bool,
+    cell: Cell,
+    nets: [u32; 4],
+    count: usize,
+    net: u32,
+}
+
+// The bytes, the number and the area of the gates so far.
+struct Tally {
+    length: usize,
+    gates: u32,
+    area: u32,
+}
+
+// The netlist's length and "the three figures of its `# gates` line".
+pub struct Measured {
+    pub length: usize,
+    pub figures: Figures,
+}
+
+// ---- bytes, and names of nets
+
+// "Nets are `p` or `m` (negative) and the variable": how long such a name is.
+fn net_len(l: u32) -> usize
+    ensures { λ r. ⌜ (r ≡ length (netName l)) × (r ≤ 11) ⌝ }
+{
+    text::number_len(l / 2) + 1
+}
+
+// All of `from`, from byte `at` on; the answer is the place past them.
+fn put_bytes(out: &mut [u8], at: usize, from: &[u8]) -> usize
+    requires { ⌜ at + length (now from) ≤ length (now out) ⌝ }
+    ensures { λ r. ⌜ Wrote (now (out .entry)) (now (out .exit)) at r (now (from .entry)) ⌝ }
+{
+    text::put(out, at, from);
+    at + from.len()
+}
+
+fn put_byte(out: &mut [u8], at: usize, b: u8) -> usize
+    requires { ⌜ at < length (now out) ⌝ }
+    ensures { λ r. ⌜ Wrote (now (out .entry)) (now (out .exit)) at r (b ∷ []) ⌝ }
+{
+    out[at] = b;
+    at + 1
+}
+
+// The letter of a net's phase.
+fn letter(l: u32) -> u8
+    ensures { λ r. ⌜ r ∷ decimal (l / 2) ≡ netName l ⌝ }
+{
+    if l % 2 == 1 { b'm' } else { b'p' }
+}
+
+fn put_net(out: &mut [u8], at: usize, l: u32) -> usize
+    requires { ⌜ at + length (netName l) ≤ length (now out) ⌝ }
+    ensures { λ r. ⌜ Wrote (now (out .entry)) (now (out .exit)) at r (netName l) ⌝ }
+{
+    let next = put_byte(out, at, letter(l));
+    text::put_number(out, next, l / 2)
+}
+
+// ---- pins
+
+// A pin's word: " A=net".
+fn put_pin(out: &mut [u8], at: usize, b: u8, l: u32) -> usize
+    requires { ⌜ at + length (pinWords b (l ∷ [])) ≤ length (now out) ⌝ }
+    ensures { λ r. ⌜ Wrote (now (out .entry)) (now (out .exit)) at r (pinWords b (l ∷ [])) ⌝ }
+{
+    let head = [b' ', b, b'='];
+    let next = put_bytes(out, at, &head);
+    put_net(out, next, l)
+}
+
+// "each pin in order with `=` and its net"
+fn put_pins(out: &mut [u8], at: usize, nets: [u32; 4], count: usize) -> usize
+    requires { ⌜ (count ≤ 4) × (at + length (pinWords 65 (take count nets)) ≤ length (now out)) ⌝ }
+    ensures { λ r. ⌜ Wrote (now (out .entry)) (now (out .exit)) at r (pinWords 65 (take count nets)) ⌝ }
+{
+    let mut next = at;
+    let mut j: usize = 0;
+    while j < count {
+        next = put_pin(out, next, b'A' + j as u8, nets[j]);
+        j += 1;
+    }
+    next
+}
+
+// How long they are.
+fn pins_len(nets: [u32; 4], count: usize) -> usize
+    requires { ⌜ count ≤ 4 ⌝ }
+    ensures { λ r. ⌜ (r ≡ length (pinWords 65 (take count nets))) × (r ≤ 56) ⌝ }
+{
+    let mut len: usize = 0;
+    let mut j: usize = 0;
+    while j < count {
+        len = len + 3 + net_len(nets[j]);
+        j += 1;
+    }
+    len
+}
+
+// ---- gate lines
+
+// How long a cell's name is: never past its eight bytes.
+fn name_len(len: usize) -> usize
+    ensures { λ r. ⌜ (r ≤ 8) × ((s : List ℕ) → length s ≡ 8 → take r s ≡ take len s) ⌝ }
+{
+    if len < 8 { len } else { 8 }
+}
+
+fn put_name(out: &mut [u8], at: usize, name: [u8; 8], len: usize) -> usize
+    requires { ⌜ at + length (take len name) ≤ length (now out) ⌝ }
+    ensures { λ r. ⌜ Wrote (now (out .entry)) (now (out .exit)) at r (take len name) ⌝ }
+{
+    let n = name_len(len);
+    put_bytes(out, at, &name[..n])
+}
+
+// "a gate line is `.gate`, the cell's name, each pin in order with `=` and its net, then the output likewise": "pins A to D, output O".
+fn put_gate(out: &mut [u8], at: usize, c: Cell, nets: [u32; 4], count: usize, net: u32) -> usize
+    requires { ⌜ (count ≤ 4) × (at + length (lineOf c (take count nets) net) ≤ length (now out)) ⌝ }
+    ensures { λ r. ⌜ Wrote (now (out .entry)) (now (out .exit)) at r (lineOf c (take count nets) net) ⌝ }
+{
+    let name = c.name;
+    let a = put_bytes(out, at, b".gate ");
+    let b = put_name(out, a, name, c.len);
+    let p = put_pins(out, b, nets, count);
+    let o = put_pin(out, p, b'O', net);
+    put_byte(out, o, b'\n')
+}
+
+// How long a gate line is.
+fn gate_len(c: Cell, nets: [u32; 4], count: usize, net: u32) -> usize
+    requires { ⌜ count ≤ 4 ⌝ }
+    ensures { λ r. ⌜ (r ≡ length (lineOf c (take count nets) net)) × (r ≤ 100) ⌝ }
+{
+    name_len(c.len) + pins_len(nets, count) + net_len(net) + 10
+}
+
+// ---- what drives a net
+
+// Bit j of a mask.
+fn mask_bit(mask: usize, j: usize) -> bool
+    requires { ⌜ j < 4 ⌝ }
+    ensures { λ r. ⌜ r ≡ bit mask j ⌝ }
+{
+    (mask >> j) % 2 == 1
+}
+
+// A leaf in a phase.
+fn leaf_net(v: u16, neg: bool) -> u32
+    ensures { λ r. ⌜ r ≡ literal neg v ⌝ }
+{
+    if neg { 2 * v as u32 + 1 } else { 2 * v as u32 }
+}
+
+// "each pin needing its leaf in the mask's phase"
+fn pin_net(leaves: [u16; 4], order: usize, mask: usize, j: usize) -> u32
+    requires { ⌜ (order < 24) × (j < 4) ⌝ }
+    ensures { λ r. ⌜ r ≡ pinNet (placesOf order) mask leaves j ⌝ }
+{
+    let place = truth::place(order, j);
+    leaf_net(leaves[place], mask_bit(mask, j))
+}
+
+fn four_nets(leaves: [u16; 4], order: usize, mask: usize) -> [u32; 4]
+    requires { ⌜ order < 24 ⌝ }
+    ensures { λ r. ⌜ r ≡ fourNets (placesOf order) mask leaves ⌝ }
+{
+    let a = pin_net(leaves, order, mask, 0);
+    let b = pin_net(leaves, order, mask, 1);
+    let c = pin_net(leaves, order, mask, 2);
+    let d = pin_net(leaves, order, mask, 3);
+    [a, b, c, d]
+}
+
+// No gate.
+fn no_driver() -> Driver
+    ensures { λ r. ⌜ Drives r [] ⌝ }
+{
+    let cell = Cell {
+        name: [0; 8],
+        len: 0,
+        pins: 0,
+        table: 0,
+        area: 0,
+        delays: [0; 4],
+    };
+    Driver {
+        there: false,
+        cell,
+        nets: [0; 4],
+        count: 0,
+        net: 0,
+    }
+}
+
+// A cell matched on a cut of phase l's variable.
+fn matched(work: &[u16], lib: Library, m: usize, l: usize, x: Match) -> Driver
+    requires { ⌜ Room (now work) m × (l / 2 ≤ m) × MatchReady lib x ⌝ }
+    ensures { λ r. ⌜ Drives r (matchedGate (now (work .entry)) lib m l x ∷ []) ⌝ }
+{
+    let i = x.cell;
+    let cell = lib.cells[i];
+    let cut = words::load_cut(work, m, l / 2, x.cut);
+    let leaves = cut.leaves;
+    let nets = four_nets(leaves, x.order, x.mask);
+    Driver {
+        there: true,
+        cell,
+        nets,
+        count: cell.pins as usize,
+        net: l as u32,
+    }
+}
+
+// The other phase of a literal's variable.
+fn other_phase(l: u32) -> u32
+    requires { ⌜ l < 65536 ⌝ }
+    ensures { λ r. ⌜ r ≡ opposite l ⌝ }
+{
+    if l % 2 == 1 { l - 1 } else { l + 1 }
+}
+
+// "a one-pin cell with table 0001 fed by the opposite phase of that variable"
+fn inverted(lib: Library, l: usize, i: usize) -> Driver
+    requires { ⌜ (l < 65536) × (i < 32) ⌝ }
+    ensures { λ r. ⌜ Drives r (invertedGate lib l i ∷ []) ⌝ }
+{
+    let cell = lib.cells[i];
+    let net = l as u32;
+    let fed = other_phase(net);
+    Driver {
+        there: true,
+        cell,
+        nets: [fed, 0, 0, 0],
+        count: 1,
+        net,
+    }
+}
+
+fn driver_of(work: &[u16], lib: Library, m: usize, l: usize, s: Source) -> Driver
+    requires { ⌜ Room (now work) m × (l / 2 ≤ m) × SourceReady lib s ⌝ }
+    ensures { λ r. ⌜ Drives r (gateBy (now (work .entry)) lib m l s) ⌝ }
+{
+    match s {
+        Source::Input => no_driver(),
+        Source::Cell(x) => matched(work, lib, m, l, x),
+        Source::Inverter(i) => inverted(lib, l, i),
+        Source::Nothing => no_driver(),
+    }
+}
+
+// What drives phase l, if it is needed and no input's own net.
+fn driver_at(work: &[u16], lib: Library, m: usize, l: usize) -> Driver
+    requires { ⌜ Gated (now work) lib m × (l / 2 ≤ m) ⌝ }
+    ensures { λ r. ⌜ Drives r (gateAt (now (work .entry)) lib m l) ⌝ }
+{
+    if words::is_needed(work, m, l) {
+        let p = words::phase(work, m, l);
+        let s = p.source;
+        driver_of(work, lib, m, l, s)
+    } else {
+        no_driver()
+    }
+}
+
+// ---- all gates
+
+fn put_driver(out: &mut [u8], at: usize, d: Driver) -> usize
+    requires { ⌜ (d .count ≤ 4) × (at + length (each gateLine (gatesOf d)) ≤ length (now out)) ⌝ }
+    ensures { λ r. ⌜ Wrote (now (out .entry)) (now (out .exit)) at r (each gateLine (gatesOf d)) ⌝ }
+{
+    if d.there {
+        let c = d.cell;
+        let nets = d.nets;
+        put_gate(out, at, c, nets, d.count, d.net)
+    } else {
+        at
+    }
+}
+
+// "become gates by ascending variable, `p` first"
+fn put_gates(work: &[u16], lib: Library, m: usize, out: &mut [u8], at: usize) -> usize
+    requires { ⌜ Gated (now work) lib m × (at + length (each gateLine (gatesFrom (now work) lib m 0 (2 * (m + 1)))) ≤ length (now out)) ⌝ }
+    ensures { λ r. ⌜ Wrote (now (out .entry)) (now (out .exit)) at r (each gateLine (gatesFrom (now (work .entry)) lib m 0 (2 * (m + 1)))) ⌝ }
+{
+    let mut next = at;
+    let mut l: usize = 0;
+    while l < 2 * (m + 1) {
+        let d = driver_at(work, lib, m, l);
+        next = put_driver(out, next, d);
+        l += 1;
+    }
+    next
+}
+
+fn count_driver(t: Tally, d: Driver, n: usize) -> Tally
+    requires { ⌜ (d .count ≤ 4) × Bounded t n × (n < 8192) ⌝ }
+    ensures { λ r. ⌜ (r ≡ tallied t (gatesOf d)) × Bounded r (n + 1) ⌝ }
+{
+    if d.there {
+        let c = d.cell;
+        let nets = d.nets;
+        Tally {
+            length: t.length + gate_len(c, nets, d.count, d.net),
+            gates: t.gates + 1,
+            area: t.area + c.area as u32,
+        }
+    } else {
+        t
+    }
+}
+
+// The gates counted, before a byte is written.
+fn count_gates(work: &[u16], lib: Library, m: usize) -> Tally
+    requires { ⌜ Gated (now work) lib m ⌝ }
+    ensures { λ r. ⌜ (r ≡ tallied noTally (gatesFrom (now (work .entry)) lib m 0 (2 * (m + 1)))) × Bounded r 8192 ⌝ }
+{
+    let mut t = Tally {
+        length: 0,
+        gates: 0,
+        area: 0,
+    };
+    let mut l: usize = 0;
+    while l < 2 * (m + 1) {
+        let d = driver_at(work, lib, m, l);
+        t = count_driver(t, d, l);
+        l += 1;
+    }
+    t
+}
+
+// ---- names lines
+
+// The net of input i, or of output i.
+fn net_at(work: &[u16], m: usize, outputs: usize, outs: bool, i: usize) -> u32
+    requires { ⌜ RoomFor (now work) m outputs × (i < limit m outputs outs) ⌝ }
+    ensures { λ r. ⌜ r ≡ netAt (now (work .entry)) m outs i ⌝ }
+{
+    if outs {
+        words::output(work, m, outputs, i) as u32
+    } else {
+        2 * words::slot(work, m, i + 1) as u32
+    }
+}
+
+// "Inputs and outputs keep the file's order."
+fn put_names(
+    work: &[u16],
+    m: usize,
+    outputs: usize,
+    outs: bool,
+    n: usize,
+    out: &mut [u8],
+    at: usize,
+) -> usize
+    requires { ⌜ RoomFor (now work) m outputs × (n ≤ limit m outputs outs) × (at + length (spaced (netsFrom (now work) m outs 0 n)) ≤ length (now out)) ⌝ }
+    ensures { λ r. ⌜ Wrote (now (out .entry)) (now (out .exit)) at r (spaced (netsFrom (now (work .entry)) m outs 0 n)) ⌝ }
+{
+    let mut next = at;
+    let mut i: usize = 0;
+    while i < n {
+        let net = net_at(work, m, outputs, outs, i);
+        let place = put_byte(out, next, b' ');
+        next = put_net(out, place, net);
+        i += 1;
+    }
+    next
+}
+
+fn names_len(work: &[u16], m: usize, outputs: usize, outs: bool, n: usize) -> usize
+    requires { ⌜ RoomFor (now work) m outputs × (n ≤ limit m outputs outs) × (n ≤ 4096) ⌝ }
+    ensures { λ r. ⌜ (r ≡ length (spaced (netsFrom (now (work .entry)) m outs 0 n))) × (r ≤ 12 * n) ⌝ }
+{
+    let mut len: usize = 0;
+    let mut i: usize = 0;
+    while i < n {
+        len = len + 1 + net_len(net_at(work, m, outputs, outs, i));
+        i += 1;
+    }
+    len
+}
+
+// "The first line is always `.model top`"; "With no names the second or third line is the keyword alone."
+fn put_frame(work: &[u16], m: usize, inputs: usize, outputs: usize, out: &mut [u8]) -> usize
+    requires { ⌜ Named (now work) m inputs outputs × (length (frameText (now work) m inputs outputs) ≤ length (now out)) ⌝ }
+    ensures { λ r. ⌜ Wrote (now (out .entry)) (now (out .exit)) 0 r (frameText (now (work .entry)) m inputs outputs) ⌝ }
+{
+    let a = put_bytes(out, 0, b".model top\n.inputs");
+    let b = put_names(work, m, outputs, false, inputs, out, a);
+    let c = put_bytes(out, b, b"\n.outputs");
+    let d = put_names(work, m, outputs, true, outputs, out, c);
+    put_byte(out, d, b'\n')
+}
+
+fn frame_len(work: &[u16], m: usize, inputs: usize, outputs: usize) -> usize
+    requires { ⌜ Named (now work) m inputs outputs ⌝ }
+    ensures { λ r. ⌜ (r ≡ length (frameText (now (work .entry)) m inputs outputs)) × (r ≤ 100000) ⌝ }
+{
+    let a = names_len(work, m, outputs, false, inputs);
+    let b = names_len(work, m, outputs, true, outputs);
+    a + b + 28
+}
+
+// ---- figures
+
+// "The `# gates` line has the gates written, sum of their areas, arrival of the latest output"
+fn put_figures(out: &mut [u8], at: usize, f: Figures) -> usize
+    requires { ⌜ at + length (figuresText f) ≤ length (now out) ⌝ }
+    ensures { λ r. ⌜ Wrote (now (out .entry)) (now (out .exit)) at r (figuresText f) ⌝ }
+{
+    let a = put_bytes(out, at, b".end\n# gates ");
+    let b = text::put_number(out, a, f.gates);
+    let c = put_bytes(out, b, b" area ");
+    let d = text::put_number(out, c, f.area);
+    let e = put_bytes(out, d, b" arrival ");
+    let g = text::put_number(out, e, f.arrival);
+    put_byte(out, g, b'\n')
+}
+
+fn figures_len(f: Figures) -> usize
+    ensures { λ r. ⌜ (r ≡ length (figuresText f)) × (r ≤ 59) ⌝ }
+{
+    text::number_len(f.gates) + text::number_len(f.area) + text::number_len(f.arrival) + 29
+}
+
+fn larger(a: u32, b: u32) -> u32
+    ensures { λ r. ⌜ r ≡ max a b ⌝ }
+{
+    if a < b { b } else { a }
+}
+
+// When output i arrives.
+fn output_arrival(work: &[u16], m: usize, outputs: usize, i: usize) -> u32
+    requires { ⌜ RoomFor (now work) m outputs × (i < outputs) × (outputAt (now work) m i / 2 ≤ m) ⌝ }
+    ensures { λ r. ⌜ r ≡ phaseAt (now (work .entry)) m (netAt (now (work .entry)) m true i) .arrival ⌝ }
+{
+    let l = words::output(work, m, outputs, i);
+    let p = words::phase(work, m, l);
+    p.arrival
+}
+
+// "arrival of the latest output (0 without outputs)"
+fn latest(work: &[u16], m: usize, inputs: usize, outputs: usize) -> u32
+    requires { ⌜ Named (now work) m inputs outputs ⌝ }
+    ensures { λ r. ⌜ r ≡ latestFrom (now (work .entry)) m 0 outputs ⌝ }
+{
+    let mut t: u32 = 0;
+    let mut i: usize = 0;
+    while i < outputs {
+        t = larger(t, output_arrival(work, m, outputs, i));
+        i += 1;
+    }
+    t
+}
+
+// ---- the netlist
+
+fn measure_words(work: &[u16], lib: Library, h: Header) -> Measured
+    requires { ⌜ Gated (now work) lib (h .size) × Named (now work) (h .size) (h .inputs) (h .outputs) ⌝ }
+    ensures { λ r. ⌜ (r ≡ measuredIn (now (work .entry)) lib h) × Small r ⌝ }
+{
+    let t = count_gates(work, lib, h.size);
+    let arrival = latest(work, h.size, h.inputs, h.outputs);
+    let figures = Figures {
+        gates: t.gates,
+        area: t.area,
+        arrival,
+    };
+    let length = frame_len(work, h.size, h.inputs, h.outputs) + t.length + figures_len(figures);
+    Measured { length, figures }
+}
+
+fn write_words(work: &[u16], lib: Library, h: Header, f: Figures, out: &mut [u8]) -> usize
+    requires { ⌜ Gated (now work) lib (h .size) × Named (now work) (h .size) (h .inputs) (h .outputs) × (length (textIn (now work) lib h f) ≤ length (now out)) ⌝ }
+    ensures { λ r. ⌜ Wrote (now (out .entry)) (now (out .exit)) 0 r (textIn (now (work .entry)) lib h f) ⌝ }
+{
+    let a = put_frame(work, h.size, h.inputs, h.outputs, out);
+    let b = put_gates(work, lib, h.size, out, a);
+    put_figures(out, b, f)
+}
+
+// The netlist's length and figures, before a byte is written.
+pub fn measure(work: &[u16], lib: Library, h: Header) -> Measured
+    requires { ⌜ ((g : Graph) × Mapped (now work) lib h g) ⌝ }
+    ensures { λ r. ⌜ ((g : Graph) → Mapped (now (work .entry)) lib h g → r ≡ measuredFor lib g) × Small r ⌝ }
+{
+    measure_words(work, lib, h)
+}
+
+// "On success text memory begins with the netlist and keeps its other bytes."
+pub fn write(work: &[u16], lib: Library, h: Header, f: Figures, out: &mut [u8]) -> usize
+    requires { ⌜ ((g : Graph) × Mapped (now work) lib h g × (length (textFor lib g f) ≤ length (now out))) ⌝ }
+    ensures { λ r. ⌜ ((g : Graph) → Mapped (now (work .entry)) lib h g → (r ≡ length (textFor lib g f)) × (now (out .exit) ≡ textFor lib g f ++ drop (length (textFor lib g f)) (now (out .entry)))) ⌝ }
+{
+    write_words(work, lib, h, f, out)
+}

@@ -1,0 +1,268 @@
+//! Compares the mapper under test with the reference: answers, the whole text
+//! memory and the whole work memory, over fixed and random cases.
+//!
+//! `--cases N`   so many random cases after the fixed ones
+//! `--seed S`    where the random cases come from
+//! `--only K`    the random case number K alone
+//! `--graphs D`  also every `.aag` with every library `.txt` of a folder
+//! `--out D`     where the texts of the first difference go
+//! `--trace`     name every case before it runs, to find one that ends the run
+//! `--mutant K`  with the features `self,mutants`: a mistake behind the boundary
+
+use other::gen::{self, Case, Lent, Rng};
+use other::reference::{self, Answer};
+use other::{checks, ours};
+use std::path::{Path, PathBuf};
+use std::time::{Duration, Instant};
+use std::{env, fs, process};
+
+struct Options {
+    cases: u64,
+    seed: u64,
+    only: Option<u64>,
+    graphs: Option<PathBuf>,
+    out: PathBuf,
+    trace: bool,
+    mutant: u32,
+}
+
+fn options() -> Options {
+    let mut options =
+        Options { cases: 20_000, seed: 1, only: None, graphs: None, out: "diff-out".into(), trace: false, mutant: 0 };
+    let mut arguments = env::args().skip(1);
+    while let Some(name) = arguments.next() {
+        let mut next = || arguments.next().unwrap_or_else(|| usage(&name));
+        match name.as_str() {
+            "--cases" => options.cases = next().parse().unwrap_or_else(|_| usage(&name)),
+            "--seed" => options.seed = next().parse().unwrap_or_else(|_| usage(&name)),
+            "--only" => options.only = Some(next().parse().unwrap_or_else(|_| usage(&name))),
+            "--graphs" => options.graphs = Some(next().into()),
+            "--out" => options.out = next().into(),
+            "--trace" => options.trace = true,
+            "--mutant" => options.mutant = next().parse().unwrap_or_else(|_| usage(&name)),
+            _ => usage(&name),
+        }
+    }
+    options
+}
+
+fn usage(at: &str) -> ! {
+    eprintln!("not understood: {at}\nuse: diff [--cases N] [--seed S] [--only K] [--graphs D] [--out D] [--trace] [--mutant K]");
+    process::exit(2)
+}
+
+/// Memory of a wanted length, filled by chance, between two margins that no
+/// one may touch.
+struct Memory<T> {
+    all: Vec<T>,
+    before: Vec<T>,
+    length: usize,
+}
+
+const MARGIN: usize = 32;
+
+impl<T: Copy + PartialEq> Memory<T> {
+    fn new(length: usize, mut fill: impl FnMut() -> T) -> Memory<T> {
+        let all: Vec<T> = (0..length + 2 * MARGIN).map(|_| fill()).collect();
+        Memory { before: all.clone(), all, length }
+    }
+
+    fn lent(&mut self) -> &mut [T] {
+        &mut self.all[MARGIN..MARGIN + self.length]
+    }
+
+    /// The first place that isn't as it was, after `wanted` was laid at the
+    /// front of what it was; the place counts from the lent part's start.
+    fn first_change(&self, wanted: &[T]) -> Option<isize> {
+        let mut before = self.before.clone();
+        before[MARGIN..MARGIN + wanted.len()].copy_from_slice(wanted);
+        let at = (0..before.len()).find(|&at| before[at] != self.all[at]);
+        at.map(|at| at as isize - MARGIN as isize)
+    }
+}
+
+#[derive(Default)]
+struct Tally {
+    counts: [u64; 19],
+    reference: Duration,
+    ours: Duration,
+}
+
+/// What is wrong, both answers, the netlist wanted and the text memory got.
+struct Difference {
+    wrong: String,
+    wanted: Answer,
+    got: Answer,
+    netlist: Vec<u8>,
+    text: Vec<u8>,
+}
+
+/// Work memory of any graph that is accepted, and some more.
+const MOST_WORDS: usize = 160 * 4_096 + 4_096 + 2_000;
+
+fn compare(case: &Case, rng: &mut Rng, tally: &mut Tally) -> Result<(), Difference> {
+    let words = case.words.of(reference::words_needed(&case.graph).unwrap_or(64)).min(MOST_WORDS);
+    let start = Instant::now();
+    let printed = reference::print_all(&case.cells, &case.graph, words);
+    tally.reference += start.elapsed();
+    let length = printed.as_ref().map_or(64, |printed| printed.text.len());
+    let text_len = case.text.of(length);
+    let (wanted, netlist) = reference::answer(printed, text_len);
+
+    let mut work = Memory::new(words, || rng.word() as u16);
+    let mut text = Memory::new(text_len, || rng.word() as u8);
+    let start = Instant::now();
+    let got = behind_the_boundary(case, work.lent(), text.lent());
+    tally.ours += start.elapsed();
+
+    let zeros = if (1..=10).contains(&wanted.number) { 0 } else { words };
+    let wrong = if got != wanted {
+        Some("the answers differ".to_string())
+    } else if let Some(at) = text.first_change(&netlist) {
+        Some(format!("text memory of {text_len} bytes differs at {at}"))
+    } else if let Some(at) = work.first_change(&vec![0; zeros]) {
+        Some(format!("work memory of {words} words differs at {at}"))
+    } else {
+        checks::as_expected(case, &wanted).err()
+    };
+    tally.counts[wanted.number.min(18) as usize] += 1;
+    match wrong {
+        None => Ok(()),
+        Some(wrong) => {
+            let wrong = format!("{wrong}\nlent {words} words, {text_len} bytes of text");
+            Err(Difference { wrong, wanted, got, netlist, text: text.lent().to_vec() })
+        }
+    }
+}
+
+#[cfg(not(feature = "mutants"))]
+fn behind_the_boundary(case: &Case, work: &mut [u16], text: &mut [u8]) -> Answer {
+    ours::map(&case.cells, &case.graph, work, text)
+}
+
+/// The mistake is switched on only behind the boundary.
+#[cfg(feature = "mutants")]
+fn behind_the_boundary(case: &Case, work: &mut [u16], text: &mut [u8]) -> Answer {
+    other::mutants::switch(MUTANT.with(|mutant| mutant.get()));
+    let answer = ours::map(&case.cells, &case.graph, work, text);
+    other::mutants::switch(0);
+    answer
+}
+
+#[cfg(feature = "mutants")]
+thread_local! {
+    static MUTANT: std::cell::Cell<u32> = const { std::cell::Cell::new(0) };
+}
+
+/// The marked cases' texts, every limit, every graph of two inputs and two
+/// ANDs, and every damage of a small pair.
+fn fixed() -> Vec<Case> {
+    let mut cases = gen::limits();
+    let graph = |lines: &[&str]| lines.iter().map(|line| format!("{line}\n")).collect::<String>().into_bytes();
+    let small = gen::small_library();
+    let with = |name: &str, pins, table, delay| {
+        let mut cell = gen::Cell { name: name.into(), pins, table, area: 2, delays: [0; 4] };
+        cell.delays[..pins].fill(delay);
+        gen::library_text(&[small.clone(), vec![cell]].concat())
+    };
+    let plain = gen::library_text(&small);
+    let b = graph(&["aag 3 2 0 1 1", "2", "4", "6", "6 2 4"]);
+    let c = graph(&["aag 3 2 0 1 1", "2", "4", "6", "6 3 5"]);
+    let h = graph(&["aag 0 0 0 1 0", "1"]);
+    cases.push(Case::new("A", plain.clone(), graph(&["aag 0 0 0 0 0"])).expect(0, 0));
+    cases.push(Case::new("B", plain.clone(), b.clone()).expect(0, 0));
+    for (letter, delay) in [("C", 35), ("D", 40), ("E", 41)] {
+        cases.push(Case::new(letter, with("nor2", 2, 1, delay), c.clone()).expect(0, 0));
+    }
+    let f = graph(&["aag 6 3 0 1 3", "2", "4", "6", "12", "8 2 4", "10 8 6", "12 8 10"]);
+    cases.push(Case::new("F", plain.clone(), f).expect(0, 0));
+    cases.push(Case::new("H", with("tie0", 0, 0, 0), h.clone()).expect(0, 0));
+    cases.push(Case::new("I", plain.clone(), h).expect(17, 0));
+    cases.push(Case::new("J", plain.clone(), graph(&["aag 2 0 0 0 2", "2 4 4", "4 2 2"])).expect(15, 1));
+    cases.push(Case::new("K", plain.clone(), graph(&["aag 3 1 0 1 2", "2", "4", "4 6 6", "6 2 2"])).expect(0, 0));
+    for damaged in gen::all_damage(&plain) {
+        cases.push(Case::new("damaged library", damaged, b.clone()));
+    }
+    let mut rng = Rng::new(4);
+    for graph in gen::every_small_graph() {
+        let count = gen::library_size(&mut rng);
+        cases.push(Case::new("small graph", gen::library_text(&gen::library(&mut rng, count)), graph.text()));
+    }
+    let longer = graph(&["aag 5 2 0 2 2", "4", "2", "10", "7", "10 3 4", "6 10 3", "c"]);
+    for damaged in gen::all_damage(&longer) {
+        cases.push(Case::new("damaged graph", plain.clone(), damaged));
+    }
+    cases
+}
+
+/// Every graph of a folder with every library in it.
+fn folder(path: &Path) -> Vec<Case> {
+    let mut names: Vec<PathBuf> =
+        fs::read_dir(path).expect("the folder of graphs").map(|entry| entry.expect("an entry").path()).collect();
+    names.sort();
+    let of = |ending: &str| -> Vec<&PathBuf> {
+        names.iter().filter(|name| name.to_string_lossy().ends_with(ending)).collect()
+    };
+    let mut cases = Vec::new();
+    for graph in of(".aag") {
+        for cells in of(".txt") {
+            let what = format!("{} with {}", graph.display(), cells.display());
+            let read = |name: &PathBuf| fs::read(name).expect("a text");
+            cases.push(Case::new(what, read(cells), read(graph)).words(Lent::Exact).text(Lent::Over(1)));
+        }
+    }
+    cases
+}
+
+fn main() {
+    let options = options();
+    #[cfg(feature = "mutants")]
+    MUTANT.with(|mutant| mutant.set(options.mutant));
+    if options.mutant != 0 && cfg!(not(feature = "mutants")) {
+        usage("--mutant without the feature `mutants`");
+    }
+    let mut tally = Tally::default();
+    let mut run = |name: String, case: &Case, rng: &mut Rng| {
+        if options.trace {
+            eprintln!("{name}: {}", case.what);
+        }
+        let Err(difference) = compare(case, rng, &mut tally) else { return };
+        let Difference { wrong, wanted, got, netlist, text } = difference;
+        fs::create_dir_all(&options.out).expect("the folder for the difference");
+        let write =
+            |name: &str, bytes: &[u8]| fs::write(options.out.join(name), bytes).expect("a text of the difference");
+        write("cells.txt", &case.cells);
+        write("graph.aag", &case.graph);
+        write("wanted.txt", &netlist);
+        write("text-memory.bin", &text);
+        let told = format!("{name}, {}\n{wrong}\nwanted {wanted:?}\ngot    {got:?}\n", case.what);
+        write("difference.txt", told.as_bytes());
+        println!("{told}texts in {}", options.out.display());
+        process::exit(1);
+    };
+    let mut rng = Rng::new(options.seed);
+    if options.only.is_none() {
+        for (index, case) in fixed().iter().enumerate() {
+            run(format!("fixed case {index}"), case, &mut rng);
+        }
+        for case in options.graphs.iter().flat_map(|path| folder(path)) {
+            run("folder".into(), &case, &mut rng);
+        }
+    }
+    let numbers = options.only.map_or(0..options.cases, |only| only..only + 1);
+    for number in numbers {
+        // A case depends on its number alone, so that it can be run alone.
+        let mut rng = Rng::new(options.seed.wrapping_mul(0x1_0000_0001).wrapping_add(number));
+        let case = gen::case(&mut rng);
+        run(format!("seed {} case {number}", options.seed), &case, &mut rng);
+    }
+    let counts: Vec<String> =
+        tally.counts.iter().enumerate().map(|(number, count)| format!("{number}:{count}")).collect();
+    let all: u64 = tally.counts.iter().sum();
+    println!(
+        "{all} cases, by number {}, 0 differences; reference {:.1} s, under test {:.1} s",
+        counts.join(" "),
+        tally.reference.as_secs_f64(),
+        tally.ours.as_secs_f64()
+    );
+}

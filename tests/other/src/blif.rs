@@ -1,0 +1,224 @@
+//! Reads a printed netlist and judges it by itself: form, one driver per net,
+//! no circle, only needed gates, values, arrivals and figures. It shares no
+//! code with the reference.
+
+use std::collections::{BTreeMap, BTreeSet};
+
+#[derive(Clone, Debug)]
+pub struct Kind {
+    pub pins: usize,
+    pub table: u32,
+    pub area: u64,
+    pub delays: Vec<u64>,
+}
+
+/// The cells of a good library text by name.
+pub fn kinds(text: &[u8]) -> Result<BTreeMap<String, Kind>, String> {
+    let text = std::str::from_utf8(text).map_err(|error| error.to_string())?;
+    let mut kinds = BTreeMap::new();
+    for line in text.lines().skip(1) {
+        let words: Vec<&str> = line.split(' ').collect();
+        let figure = |index: usize| words[index].parse::<u64>().map_err(|error| format!("{line}: {error}"));
+        let pins = figure(1)? as usize;
+        let kind = Kind {
+            pins,
+            table: u32::from_str_radix(words[2], 16).map_err(|error| error.to_string())?,
+            area: figure(3)?,
+            delays: (0..pins).map(|pin| figure(4 + pin)).collect::<Result<_, _>>()?,
+        };
+        kinds.insert(words[0].to_string(), kind);
+    }
+    Ok(kinds)
+}
+
+#[derive(Clone, Debug)]
+pub struct Gate {
+    pub cell: String,
+    pub pins: Vec<String>,
+    pub net: String,
+}
+
+#[derive(Clone, Debug)]
+pub struct Netlist {
+    pub inputs: Vec<String>,
+    pub outputs: Vec<String>,
+    pub gates: Vec<Gate>,
+    /// Gates, area and arrival as the last line says.
+    pub said: [u64; 3],
+}
+
+fn names(line: Option<&str>, keyword: &str) -> Result<Vec<String>, String> {
+    let mut words = line.ok_or("a line is missing")?.split(' ');
+    if words.next() != Some(keyword) {
+        return Err(format!("no {keyword}"));
+    }
+    Ok(words.map(String::from).collect())
+}
+
+/// Reads the text; it must be the very bytes that its own content prints.
+pub fn read(text: &[u8]) -> Result<Netlist, String> {
+    let string = std::str::from_utf8(text).map_err(|error| error.to_string())?;
+    let mut lines = string.lines();
+    if lines.next() != Some(".model top") {
+        return Err("the first line isn't .model top".into());
+    }
+    let inputs = names(lines.next(), ".inputs")?;
+    let outputs = names(lines.next(), ".outputs")?;
+    let mut gates = Vec::new();
+    let said = loop {
+        let line = lines.next().ok_or("no .end")?;
+        if line == ".end" {
+            let last: Vec<&str> = lines.next().ok_or("no figures")?.split(' ').collect();
+            let figure = |index: usize| last.get(index).and_then(|word| word.parse().ok()).ok_or("no figure");
+            break [figure(2)?, figure(4)?, figure(6)?];
+        }
+        let words = names(Some(line), ".gate")?;
+        let (cell, feeds) = words.split_first().ok_or("no cell name")?;
+        let nets = feeds.iter().map(|feed| feed.split_once('=').map(|(_, net)| net.to_string()));
+        let mut pins: Vec<String> = nets.collect::<Option<_>>().ok_or("a pin without =")?;
+        let net = pins.pop().ok_or("no output pin")?;
+        gates.push(Gate { cell: cell.clone(), pins, net });
+    };
+    let netlist = Netlist { inputs, outputs, gates, said };
+    if netlist.print() != text {
+        return Err("the text isn't in the form printed".into());
+    }
+    Ok(netlist)
+}
+
+impl Netlist {
+    pub fn print(&self) -> Vec<u8> {
+        let mut text = [vec![".inputs".to_string()], self.inputs.clone()].concat().join(" ");
+        text = format!(".model top\n{text}\n");
+        text += &[vec![".outputs".to_string()], self.outputs.clone()].concat().join(" ");
+        text += "\n";
+        for gate in &self.gates {
+            text += &format!(".gate {}", gate.cell);
+            for (pin, net) in gate.pins.iter().enumerate() {
+                text += &format!(" {}={net}", ["A", "B", "C", "D"].get(pin).unwrap_or(&"?"));
+            }
+            text += &format!(" O={}\n", gate.net);
+        }
+        let [gates, area, arrival] = self.said;
+        text += &format!(".end\n# gates {gates} area {area} arrival {arrival}\n");
+        text.into_bytes()
+    }
+
+    /// The gates so that each stands after those that feed it; fails on a net
+    /// driven twice or not at all, a wrong number of pins, or a circle.
+    pub fn ordered(&self, kinds: &BTreeMap<String, Kind>) -> Result<Vec<&Gate>, String> {
+        let mut driver: BTreeMap<&str, Option<usize>> = BTreeMap::new();
+        for input in &self.inputs {
+            if driver.insert(input, None).is_some() {
+                return Err(format!("input {input} stands twice"));
+            }
+        }
+        for (index, gate) in self.gates.iter().enumerate() {
+            let kind = kinds.get(&gate.cell).ok_or(format!("no cell {}", gate.cell))?;
+            if kind.pins != gate.pins.len() {
+                return Err(format!("{} has {} pins", gate.cell, kind.pins));
+            }
+            if driver.insert(&gate.net, Some(index)).is_some() {
+                return Err(format!("net {} is driven twice", gate.net));
+            }
+        }
+        // 0 untouched, 1 below the walk, 2 done
+        let mut state = vec![0; self.gates.len()];
+        let mut ordered = Vec::new();
+        for start in 0..self.gates.len() {
+            let mut walk = vec![start];
+            while let Some(&index) = walk.last() {
+                if state[index] == 2 {
+                    walk.pop();
+                    continue;
+                }
+                let first_visit = state[index] == 0;
+                state[index] = 1;
+                let mut open = false;
+                for net in &self.gates[index].pins {
+                    let feeding = driver.get(net.as_str()).ok_or(format!("net {net} isn't driven"))?;
+                    match feeding {
+                        Some(feeding) if state[*feeding] == 1 => return Err(format!("a circle through {net}")),
+                        Some(feeding) if state[*feeding] == 0 => {
+                            if !first_visit {
+                                return Err(format!("a circle through {net}"));
+                            }
+                            walk.push(*feeding);
+                            open = true;
+                        }
+                        _ => {}
+                    }
+                }
+                if !open {
+                    state[index] = 2;
+                    ordered.push(&self.gates[index]);
+                    walk.pop();
+                }
+            }
+        }
+        for output in &self.outputs {
+            if !driver.contains_key(output.as_str()) {
+                return Err(format!("output {output} isn't driven"));
+            }
+        }
+        Ok(ordered)
+    }
+
+    /// The values of the outputs where the inputs have these.
+    pub fn values(&self, kinds: &BTreeMap<String, Kind>, ordered: &[&Gate], setting: &[bool]) -> Vec<bool> {
+        let mut value: BTreeMap<&str, bool> = BTreeMap::new();
+        value.extend(self.inputs.iter().map(String::as_str).zip(setting.iter().copied()));
+        for gate in ordered {
+            let row: u32 = gate.pins.iter().enumerate().map(|(pin, net)| u32::from(value[net.as_str()]) << pin).sum();
+            value.insert(&gate.net, kinds[&gate.cell].table >> row & 1 == 1);
+        }
+        self.outputs.iter().map(|output| value[output.as_str()]).collect()
+    }
+
+    /// "0 for an input, 0 for a cell without pins, otherwise the largest of
+    /// feeding arrival plus pin delay"
+    pub fn arrivals(&self, kinds: &BTreeMap<String, Kind>, ordered: &[&Gate]) -> BTreeMap<String, u64> {
+        let mut arrivals: BTreeMap<String, u64> = self.inputs.iter().map(|input| (input.clone(), 0)).collect();
+        for gate in ordered {
+            let delays = &kinds[&gate.cell].delays;
+            let latest = gate.pins.iter().zip(delays).map(|(net, delay)| arrivals[net] + delay).max();
+            arrivals.insert(gate.net.clone(), latest.unwrap_or(0));
+        }
+        arrivals
+    }
+
+    /// The three figures, from the lines above the last one.
+    pub fn figures(&self, kinds: &BTreeMap<String, Kind>, ordered: &[&Gate]) -> [u64; 3] {
+        let arrivals = self.arrivals(kinds, ordered);
+        let latest = self.outputs.iter().map(|output| arrivals[output]).max();
+        let area = self.gates.iter().map(|gate| kinds[&gate.cell].area).sum();
+        [self.gates.len() as u64, area, latest.unwrap_or(0)]
+    }
+
+    /// Gates stand "by ascending variable, `p` first", and each feeds an
+    /// output, directly or through others.
+    pub fn gates_stand_right(&self) -> Result<(), String> {
+        let key = |gate: &Gate| -> Result<(u32, bool), String> {
+            let (phase, variable) = gate.net.split_at(1);
+            let variable = variable.parse().map_err(|_| format!("net {}", gate.net))?;
+            Ok((variable, phase == "m"))
+        };
+        let keys: Vec<(u32, bool)> = self.gates.iter().map(key).collect::<Result<_, _>>()?;
+        if keys.windows(2).any(|pair| pair[0] >= pair[1]) {
+            return Err("the gates don't ascend".into());
+        }
+        let mut feeding: BTreeMap<&str, &[String]> = BTreeMap::new();
+        feeding.extend(self.gates.iter().map(|gate| (gate.net.as_str(), &gate.pins[..])));
+        let mut asked: Vec<&str> = self.outputs.iter().map(String::as_str).collect();
+        let mut reached: BTreeSet<&str> = BTreeSet::new();
+        while let Some(net) = asked.pop() {
+            if reached.insert(net) {
+                asked.extend(feeding.get(net).into_iter().flat_map(|pins| pins.iter()).map(String::as_str));
+            }
+        }
+        match self.gates.iter().find(|gate| !reached.contains(gate.net.as_str())) {
+            Some(gate) => Err(format!("gate {} feeds no output", gate.net)),
+            None => Ok(()),
+        }
+    }
+}

@@ -1,0 +1,364 @@
+//! The checks of the reference. Each gives a line of counts, or what is wrong.
+//! They are functions and not tests, so that the mutants run through the same.
+
+use crate::gen::{self, Case, Graph, Lent, Rng};
+use crate::{blif, brute, judge, reference};
+use std::collections::BTreeMap;
+
+pub type Check = Result<String, String>;
+
+macro_rules! ensure {
+    ($condition:expr, $($message:tt)*) => {
+        if !$condition {
+            return Err(format!($($message)*));
+        }
+    };
+}
+
+fn library(lines: &[&str]) -> Vec<u8> {
+    let mut text = String::from(gen::NAMES_LINE);
+    for line in lines {
+        text += line;
+        text += "\n";
+    }
+    text.into_bytes()
+}
+
+fn text(lines: &[&str]) -> Vec<u8> {
+    lines.iter().map(|line| format!("{line}\n")).collect::<String>().into_bytes()
+}
+
+const INV: &str = "inv 1 0001 1 10 0 0 0";
+const NAND2: &str = "nand2 2 0007 2 20 20 0 0";
+
+/// The marked cases A to K.
+pub fn marked() -> Check {
+    let plain = library(&[INV, NAND2]);
+    let map = |cells: &[u8], lines: &[&str]| reference::map(cells, &text(lines), 32_768, 65_536);
+    let figures = |cells: &[u8], lines: &[&str]| {
+        let (answer, netlist) = map(cells, lines);
+        (answer.number, answer.gates, answer.arrival, String::from_utf8_lossy(&netlist).into_owned())
+    };
+
+    let (number, gates, arrival, netlist) = figures(&plain, &["aag 0 0 0 0 0"]);
+    ensure!((number, gates, arrival) == (0, 0, 0), "A: {netlist}");
+    ensure!(netlist == ".model top\n.inputs\n.outputs\n.end\n# gates 0 area 0 arrival 0\n", "A: {netlist}");
+
+    let (answer, netlist) = map(&plain, &["aag 3 2 0 1 1", "2", "4", "6", "6 2 4"]);
+    let wanted = reference::Answer { number: 0, value: gen::LISTING.len() as u32, gates: 2, area: 3, arrival: 30 };
+    ensure!(answer == wanted && netlist == gen::LISTING.as_bytes(), "B: {}", String::from_utf8_lossy(&netlist));
+
+    for (letter, delay, gates, arrival) in [("C", 35, 1, 35), ("D", 40, 1, 40), ("E", 41, 4, 40)] {
+        let nor2 = format!("nor2 2 0001 2 {delay} {delay} 0 0");
+        let got = figures(&library(&[INV, NAND2, &nor2]), &["aag 3 2 0 1 1", "2", "4", "6", "6 3 5"]);
+        ensure!((got.0, got.1, got.2) == (0, gates, arrival), "{letter}: {got:?}");
+    }
+
+    let f = text(&["aag 6 3 0 0 3", "2", "4", "6", "8 2 4", "10 8 6", "12 8 10"]);
+    let graph = reference::read_graph(&f, 32_768).map_err(|refusal| format!("F: {refusal:?}"))?;
+    let order = reference::placing_order(&graph).map_err(|refusal| format!("F: {refusal:?}"))?;
+    let cuts = reference::cut_lists(&graph, &order).map_err(|refusal| format!("F: {refusal:?}"))?;
+    let wanted: [&[u16]; 6] = [&[6], &[3, 4], &[4, 5], &[1, 2, 3], &[1, 2, 5], &[1, 2, 3, 4]];
+    ensure!(cuts[6] == wanted, "F: {:?}", cuts[6]);
+    let table = reference::function(&graph, 6, &[1, 2, 3, 4]);
+    ensure!(table == 0xf000, "F: {table:04x}");
+
+    ensure!(reference::orders()[1] == [0, 1, 3, 2] && reference::orders().len() == 24, "the orders");
+    ensure!(reference::fed_row(reference::orders()[1], 4) == 8, "G");
+
+    let h = ["aag 0 0 0 1 0", "1"];
+    let got = figures(&library(&[INV, NAND2, "tie0 0 0000 1 0 0 0 0"]), &h);
+    ensure!((got.0, got.1, got.2) == (0, 2, 10), "H: {got:?}");
+    let refused = |number, value| reference::Answer { number, value, ..Default::default() };
+    ensure!(map(&plain, &h).0 == refused(17, 0), "I: {:?}", map(&plain, &h).0);
+    let j = ["aag 2 0 0 0 2", "2 4 4", "4 2 2"];
+    ensure!(map(&plain, &j).0 == refused(15, 1), "J: {:?}", map(&plain, &j).0);
+    let got = figures(&plain, &["aag 3 1 0 1 2", "2", "4", "4 6 6", "6 2 2"]);
+    ensure!((got.0, got.1, got.2) == (0, 2, 20), "K: {got:?}");
+    Ok("A to K".into())
+}
+
+/// Runs a case through the reference with what it lends.
+pub fn run(case: &Case) -> (reference::Answer, Vec<u8>) {
+    let words = case.words.of(reference::words_needed(&case.graph).unwrap_or(64));
+    let printed = reference::print_all(&case.cells, &case.graph, words);
+    let length = printed.as_ref().map_or(64, |printed| printed.text.len());
+    reference::answer(printed, case.text.of(length))
+}
+
+/// What is known of a case from its making.
+pub fn as_expected(case: &Case, answer: &reference::Answer) -> Result<(), String> {
+    let Some((number, place)) = case.expected else { return Ok(()) };
+    let same = answer.number == number && (number == 0 || answer.value as usize == place);
+    ensure!(same, "{}: made for {number} {place}, answered {answer:?}", case.what);
+    ensure!(number == 0 || (answer.gates, answer.area, answer.arrival) == (0, 0, 0), "{}: figures", case.what);
+    Ok(())
+}
+
+/// Every limit from both sides.
+pub fn limits() -> Check {
+    let cases = gen::limits();
+    for case in &cases {
+        let (answer, netlist) = run(case);
+        as_expected(case, &answer)?;
+        if answer.number == 0 {
+            judge_netlist(case, &answer, &netlist)?;
+        }
+        if case.text == Lent::OneShort {
+            ensure!(answer.number == 18, "{}: {answer:?}", case.what);
+        }
+    }
+    Ok(format!("{} cases", cases.len()))
+}
+
+/// Cases with any number of faults: the first in checking order is answered.
+pub fn faults(cases: usize, seed: u64) -> Check {
+    let mut rng = Rng::new(seed);
+    let mut counts = [0usize; 19];
+    for _ in 0..cases {
+        let case = gen::faults(&mut rng);
+        let (answer, _) = run(&case);
+        let told = || format!("{}\n{}", String::from_utf8_lossy(&case.cells), String::from_utf8_lossy(&case.graph));
+        as_expected(&case, &answer).map_err(|wrong| format!("{wrong}\n{}", told()))?;
+        if case.expected.is_none() {
+            ensure!(answer.number == 0 || answer.number == 18, "made without a fault: {answer:?}\n{}", told());
+        }
+        counts[answer.number as usize] += 1;
+    }
+    ensure!(counts.iter().all(|&count| count > 0), "a number never comes: {counts:?}");
+    Ok(format!("{cases} cases, by number {counts:?}"))
+}
+
+/// Every damage of small texts against the loose reader.
+pub fn damage() -> Check {
+    let cells = gen::library_text(&gen::small_library());
+    let graph = text(&["aag 5 2 0 2 2", "4", "2", "10", "7", "10 3 4", "6 10 3", "c"]);
+    let mut counts = [0usize; 19];
+    for on_cells in [true, false] {
+        for damaged in gen::all_damage(if on_cells { &cells } else { &graph }) {
+            let (cells, graph) = if on_cells { (&damaged, &graph) } else { (&cells, &damaged) };
+            let words = reference::words_needed(graph).unwrap_or(0).min(160 * 200);
+            let (answer, _) = reference::map(cells, graph, words, 10_000);
+            let judged = judge::judge(cells, graph, words);
+            let same = match judged {
+                Some((number, place)) => answer.number == number && answer.value as usize == place,
+                None => answer.number == 0 || answer.number >= 15,
+            };
+            ensure!(
+                same,
+                "judged {judged:?}, answered {answer:?}\n{}\n{}",
+                String::from_utf8_lossy(cells),
+                String::from_utf8_lossy(graph)
+            );
+            counts[answer.number as usize] += 1;
+        }
+    }
+    Ok(format!("{} texts, by number {counts:?}", counts.iter().sum::<usize>()))
+}
+
+/// The netlist by its own text: form, drivers, order, need, figures, and the
+/// outputs' values for all settings of up to eight inputs (some beyond).
+pub fn judge_netlist(case: &Case, answer: &reference::Answer, netlist: &[u8]) -> Result<(), String> {
+    let told = |wrong: String| format!("{}: {wrong}\n{}", case.what, String::from_utf8_lossy(netlist));
+    let kinds = blif::kinds(&case.cells)?;
+    let read = blif::read(netlist).map_err(told)?;
+    let ordered = read.ordered(&kinds).map_err(told)?;
+    read.gates_stand_right().map_err(told)?;
+    let figures = read.figures(&kinds, &ordered);
+    let answered = [answer.gates, answer.area, answer.arrival].map(u64::from);
+    ensure!(
+        figures == read.said && figures == answered,
+        "{}",
+        told(format!("figures {figures:?}, answered {answered:?}"))
+    );
+    ensure!(answer.value as usize == netlist.len(), "{}", told("length".into()));
+
+    let graph = Graph::from_text(&good_part(&case.graph));
+    let net = |literal: usize| format!("{}{}", ["p", "m"][literal % 2], literal / 2);
+    let inputs: Vec<String> = graph.inputs.iter().map(|variable| net(2 * variable)).collect();
+    let outputs: Vec<String> = graph.outputs.iter().map(|&literal| net(literal)).collect();
+    ensure!(read.inputs == inputs && read.outputs == outputs, "{}", told("names".into()));
+    ensure!(read.gates.len() <= 2 * (graph.top + 1), "{}", told("too many gates".into()));
+
+    let placed = graph.placed().ok_or_else(|| told("a circle was mapped".into()))?;
+    let count = graph.inputs.len();
+    let mut rng = Rng::new(count as u64);
+    let settings = if count <= 8 { 1 << count } else { 16 };
+    for number in 0..settings {
+        let setting: Vec<bool> =
+            (0..count).map(|input| if count <= 8 { number >> input & 1 == 1 } else { rng.one_in(2) }).collect();
+        let same = read.values(&kinds, &ordered, &setting) == graph.values(&placed, &setting);
+        ensure!(same, "{}", told(format!("values under {setting:?}")));
+    }
+    Ok(())
+}
+
+/// The lines that are read, without what follows them.
+fn good_part(text: &[u8]) -> Vec<u8> {
+    let mut lines = text.split_inclusive(|&byte| byte == b'\n');
+    let header = lines.next().unwrap_or(b"");
+    let numbers: Vec<usize> =
+        String::from_utf8_lossy(header).split_whitespace().skip(1).map(|word| word.parse().unwrap_or(0)).collect();
+    let due = numbers[1] + numbers[3] + numbers[4];
+    [header].into_iter().chain(lines.take(due)).collect::<Vec<_>>().concat()
+}
+
+/// Random cases: printed netlists against their graphs, texts against the
+/// loose reader, and what the making knows.
+pub fn netlists(cases: usize, seed: u64) -> Check {
+    let mut rng = Rng::new(seed);
+    let mut counts = [0usize; 19];
+    let mut by_pins = [0usize; 5];
+    let mut timed = 0;
+    for _ in 0..cases {
+        let case = gen::case(&mut rng);
+        let (answer, netlist) = run(&case);
+        as_expected(&case, &answer)?;
+        counts[answer.number as usize] += 1;
+        if answer.number == 0 {
+            judge_netlist(&case, &answer, &netlist)?;
+            timed += usize::from(answer.arrival > 0);
+            for gate in blif::read(&netlist)?.gates {
+                by_pins[gate.pins.len()] += 1;
+            }
+        }
+        let words = case.words.of(reference::words_needed(&case.graph).unwrap_or(64));
+        let judged = judge::judge(&case.cells, &case.graph, words).map(|(number, place)| (number, place as u32));
+        let read = (1..15).contains(&answer.number).then_some((answer.number, answer.value));
+        ensure!(judged == read, "{}: judged {judged:?}, answered {answer:?}", case.what);
+    }
+    Ok(format!("{cases} cases, by number {counts:?}; {timed} arrive after 0; gates by pins {by_pins:?}"))
+}
+
+/// What the brute force has gone through.
+#[derive(Default)]
+struct Gone {
+    graphs: usize,
+    too_wide: usize,
+    mappings: usize,
+    bare: usize,
+}
+
+/// Tiny graphs: every phase's cover and arrival against all covers, and every
+/// printed gate against the choice.
+pub fn all_covers(cases: usize, seed: u64) -> Check {
+    let mut rng = Rng::new(seed);
+    let mut gone = Gone::default();
+    while gone.graphs < cases {
+        let count = rng.between(0, 6);
+        let cells = gen::library(&mut rng, count);
+        let ands = rng.between(1, 5);
+        let graph = gen::graph(&mut rng, 4, ands, 24);
+        against_all_covers(&cells, graph, &mut gone)?;
+    }
+    let Gone { graphs, too_wide, mappings, bare } = gone;
+    Ok(format!("{graphs} graphs ({too_wide} more too wide), {mappings} mappings, {bare} without a cover"))
+}
+
+/// The same over every graph of two inputs and two ANDs.
+pub fn every_small_graph() -> Check {
+    let mut rng = Rng::new(2);
+    let mut gone = Gone::default();
+    for graph in gen::every_small_graph() {
+        let count = rng.between(1, 6);
+        against_all_covers(&gen::library(&mut rng, count), graph, &mut gone)?;
+    }
+    let Gone { graphs, too_wide, mappings, bare } = gone;
+    Ok(format!("{graphs} graphs ({too_wide} more too wide), {mappings} mappings, {bare} without a cover"))
+}
+
+fn against_all_covers(cells: &[gen::Cell], mut graph: Graph, gone: &mut Gone) -> Result<(), String> {
+    let every = graph.ands.iter().map(|(left, _, _)| *left).chain(graph.inputs.iter().copied()).chain([0]);
+    let every: Vec<brute::Phase> = every.flat_map(|variable| [(variable, false), (variable, true)]).collect();
+    let brute = brute::Brute::new(cells, &graph);
+    let mut budget = 60_000;
+    let mut least: BTreeMap<brute::Phase, u64> = BTreeMap::new();
+    for &phase in &every {
+        // All covers with this phase as the only output.
+        let Some(found) = brute.least(&[phase], &mut budget) else {
+            gone.too_wide += 1;
+            return Ok(());
+        };
+        least.extend(found.get(&phase).map(|&arrival| (phase, arrival)));
+    }
+    gone.graphs += 1;
+    let literal = |(variable, negative): brute::Phase| 2 * variable + usize::from(negative);
+    // First each phase as the only output, then the graph as it came.
+    let own = graph.outputs.clone();
+    for outputs in every.iter().map(|&phase| vec![literal(phase)]).chain([own]) {
+        graph.outputs = outputs;
+        gone.mappings += 1;
+        let wanted: Vec<brute::Phase> = graph.outputs.iter().map(|literal| (literal / 2, literal % 2 == 1)).collect();
+        let (library, text) = (gen::library_text(cells), graph.text());
+        let (answer, netlist) = reference::map(&library, &text, graph.words(), 65_536);
+        let told = || {
+            let texts = [&library, &text, &netlist].map(|text| String::from_utf8_lossy(text));
+            texts.join("\n")
+        };
+        if let Some(index) = wanted.iter().position(|phase| !least.contains_key(phase)) {
+            gone.bare += 1;
+            let refused = (answer.number, answer.value as usize) == (17, index);
+            ensure!(refused, "output {index} has no cover: {answer:?}\n{}", told());
+            continue;
+        }
+        ensure!(answer.number == 0, "all outputs have covers: {answer:?}\n{}", told());
+        let latest = wanted.iter().map(|phase| least[phase]).max().unwrap_or(0);
+        ensure!(u64::from(answer.arrival) == latest, "earliest is {latest}\n{}", told());
+        // No cover of all outputs together gives a net an earlier arrival.
+        let together = brute.least(&wanted, &mut 20_000).unwrap_or_default();
+        for (phase, arrival) in together {
+            ensure!(arrival >= least[&phase], "brute force: {phase:?}\n{}", told());
+        }
+        let kinds = blif::kinds(&library)?;
+        let read = blif::read(&netlist)?;
+        let ordered = read.ordered(&kinds).map_err(|wrong| format!("{wrong}\n{}", told()))?;
+        let arrivals = read.arrivals(&kinds, &ordered);
+        for gate in &read.gates {
+            let (letter, variable) = gate.net.split_at(1);
+            let phase = (variable.parse().unwrap_or(0), letter == "m");
+            ensure!(arrivals[&gate.net] == least[&phase], "net {} isn't earliest\n{}", gate.net, told());
+            let source = brute.choice(phase, &least).ok_or("no source")?;
+            let name = source.cell.map(|line| &cells[line].name);
+            let net = |(variable, negative): brute::Phase| format!("{}{variable}", if negative { "m" } else { "p" });
+            let pins: Vec<String> = source.feeds.iter().map(|&(phase, _)| net(phase)).collect();
+            let chosen = name == Some(&gate.cell) && pins == gate.pins;
+            ensure!(chosen, "net {}: the choice is {source:?}\n{}", gate.net, told());
+        }
+    }
+    Ok(())
+}
+
+/// The graphs of a folder with its table `graphs.tsv`: the largest number of
+/// cuts of an AND and the verdict as told there; every netlist that its
+/// libraries give is judged by its text.
+pub fn real_graphs(folder: &std::path::Path) -> Check {
+    let read = |name: &str| std::fs::read(folder.join(name)).map_err(|error| format!("{name}: {error}"));
+    let table = String::from_utf8_lossy(&read("graphs.tsv")?).into_owned();
+    let mut mapped = 0;
+    for row in table.lines().skip(1) {
+        let columns: Vec<&str> = row.split('\t').collect();
+        let (name, cuts, verdict) = (columns[0], columns[5], columns[6]);
+        let graph = read(name)?;
+        let words = reference::words_needed(&graph).ok_or(format!("{name}: no header"))?;
+        let first = reference::read_graph(&graph, words).and_then(|graph| {
+            let lists = reference::cut_lists(&graph, &reference::placing_order(&graph)?)?;
+            Ok(lists.iter().map(Vec::len).max().unwrap_or(0))
+        });
+        let same = match first {
+            Ok(most) => verdict.starts_with("ok") && cuts == most.to_string(),
+            Err(refusal) if refusal.number == 9 => verdict == "refused 9",
+            Err(refusal) => verdict == format!("refused {} {}", refusal.number, refusal.place),
+        };
+        ensure!(same, "{name}: told {cuts} cuts, {verdict}; got {first:?}");
+        for library in ["tiny.txt", "array.txt", "full.txt"] {
+            let case = Case::new(format!("{name} with {library}"), read(library)?, graph.clone());
+            let (answer, netlist) = run(&case);
+            if verdict.starts_with("ok") {
+                ensure!(answer.number == 0, "{}: {answer:?}", case.what);
+                judge_netlist(&case, &answer, &netlist)?;
+                mapped += 1;
+            }
+        }
+    }
+    Ok(format!("{} graphs, {mapped} netlists", table.lines().count() - 1))
+}

@@ -1,0 +1,1174 @@
+//! Makes libraries, graphs, faults and damage from a fixed seed.
+
+use std::sync::OnceLock;
+
+// ---------------------------------------------------------------- chance
+
+/// A small generator of numbers: the same seed gives the same cases.
+#[derive(Clone)]
+pub struct Rng(u64);
+
+impl Rng {
+    pub fn new(seed: u64) -> Rng {
+        Rng(seed ^ 0x6a09_e667_f3bc_c908)
+    }
+
+    pub fn word(&mut self) -> u64 {
+        self.0 = self.0.wrapping_add(0x9e37_79b9_7f4a_7c15);
+        let mut x = self.0;
+        x = (x ^ x >> 30).wrapping_mul(0xbf58_476d_1ce4_e5b9);
+        x = (x ^ x >> 27).wrapping_mul(0x94d0_49bb_1331_11eb);
+        x ^ x >> 31
+    }
+
+    /// A number below `limit`, which isn't 0.
+    pub fn below(&mut self, limit: usize) -> usize {
+        (self.word() % limit as u64) as usize
+    }
+
+    pub fn between(&mut self, low: usize, high: usize) -> usize {
+        low + self.below(high - low + 1)
+    }
+
+    pub fn one_in(&mut self, many: usize) -> bool {
+        self.below(many) == 0
+    }
+
+    pub fn pick<T: Copy>(&mut self, list: &[T]) -> T {
+        list[self.below(list.len())]
+    }
+
+    pub fn shuffle<T>(&mut self, list: &mut [T]) {
+        for index in (1..list.len()).rev() {
+            list.swap(index, self.below(index + 1));
+        }
+    }
+}
+
+// ---------------------------------------------------------------- libraries
+
+#[derive(Clone, Debug, PartialEq, Eq)]
+pub struct Cell {
+    pub name: String,
+    pub pins: usize,
+    pub table: u16,
+    pub area: u16,
+    pub delays: [u16; 4],
+}
+
+impl Cell {
+    pub fn line(&self) -> String {
+        let Cell { name, pins, table, area, delays: [d0, d1, d2, d3] } = self;
+        format!("{name} {pins} {table:04x} {area} {d0} {d1} {d2} {d3}\n")
+    }
+}
+
+pub const NAMES_LINE: &str = "cell pins table area d0 d1 d2 d3\n";
+
+pub fn library_text(cells: &[Cell]) -> Vec<u8> {
+    let lines: String = cells.iter().map(Cell::line).collect();
+    format!("{NAMES_LINE}{lines}").into_bytes()
+}
+
+/// Pins and table of functions that libraries have, and of odd ones: one-pin
+/// constants, pins that the table ignores.
+#[rustfmt::skip]
+const FUNCTIONS: [(usize, u16); 52] = [
+    (0, 0x0000), (0, 0x0001), (1, 0x0000), (1, 0x0001), (1, 0x0002), (1, 0x0003),
+    (2, 0x0007), (2, 0x0001), (2, 0x0008), (2, 0x000e), (2, 0x0006), (2, 0x0009), (2, 0x0002), (2, 0x0004),
+    (2, 0x000b), (2, 0x000d), (2, 0x000a), (2, 0x000c), (2, 0x0005), (2, 0x0003), (2, 0x0000), (2, 0x000f),
+    (3, 0x007f), (3, 0x0001), (3, 0x0080), (3, 0x00fe), (3, 0x0007), (3, 0x001f), (3, 0x00ca), (3, 0x0035),
+    (3, 0x00e8), (3, 0x0017), (3, 0x0096), (3, 0x0069), (3, 0x0088), (3, 0x00a0), (3, 0x0077), (3, 0x00cc),
+    (4, 0x7fff), (4, 0x0001), (4, 0x8000), (4, 0xfffe), (4, 0x0777), (4, 0x111f), (4, 0x007f), (4, 0x1fff),
+    (4, 0x6996), (4, 0xf888), (4, 0x8888), (4, 0xff00), (4, 0x0000), (4, 0xffff),
+];
+
+/// Functions of three and four pins that often match.
+#[rustfmt::skip]
+const WIDE: [(usize, u16); 20] = [
+    (3, 0x007f), (3, 0x0001), (3, 0x0080), (3, 0x00fe), (3, 0x0007), (3, 0x001f), (3, 0x00ca), (3, 0x0035),
+    (3, 0x00e8), (3, 0x00a8), (4, 0x7fff), (4, 0x0001), (4, 0x8000), (4, 0xfffe), (4, 0x0777), (4, 0x111f),
+    (4, 0x007f), (4, 0x1fff), (4, 0xf888), (4, 0x0007),
+];
+
+fn name(rng: &mut Rng) -> String {
+    const LETTERS: &[u8] = b"abcxyzABCXYZ";
+    const REST: &[u8] = b"abcxyzABCXYZ0123456789__";
+    let length = if rng.one_in(4) { 8 } else { rng.between(1, 8) };
+    (0..length).map(|at| rng.pick(if at == 0 { LETTERS } else { REST }) as char).collect()
+}
+
+/// So many cells with different names. Delays come from a few values, so that
+/// ties are common; some libraries have no delay at all.
+pub fn library(rng: &mut Rng, count: usize) -> Vec<Cell> {
+    let delays: Vec<u16> = match rng.below(6) {
+        0 => vec![0],
+        1 => vec![10],
+        2 => vec![0, 10],
+        3 => vec![0, 1, 2, 3, 65_535],
+        4 => vec![10, 20, 30, 40],
+        _ => (0..8).map(|_| rng.below(100) as u16).collect(),
+    };
+    let useful = !rng.one_in(5);
+    let wide = rng.one_in(2);
+    let odd_names = rng.one_in(3);
+    let mut cells: Vec<Cell> = Vec::new();
+    while cells.len() < count {
+        let (pins, table) = match cells.len() {
+            0 if useful => (1, 0x0001),
+            1 if useful => rng.pick(&[(2, 0x0007), (2, 0x0001), (2, 0x0008), (2, 0x000e)]),
+            2 if useful && !rng.one_in(4) => (0, rng.below(2) as u16),
+            _ if wide && !rng.one_in(4) => rng.pick(&WIDE),
+            _ if rng.one_in(5) => {
+                let pins = rng.below(5);
+                (pins, (rng.word() & ((1 << (1 << pins)) - 1)) as u16)
+            }
+            _ if rng.one_in(6) => (1, 0x0001),
+            _ => rng.pick(&FUNCTIONS),
+        };
+        let mut cell =
+            Cell { name: String::new(), pins, table, area: rng.pick(&[0, 1, 1, 2, 3, 9, 65_535]), delays: [0; 4] };
+        let even = rng.one_in(2).then(|| rng.pick(&delays));
+        for delay in &mut cell.delays[..pins] {
+            *delay = even.unwrap_or_else(|| rng.pick(&delays));
+        }
+        cell.name = if odd_names { name(rng) } else { format!("c{}", cells.len()) };
+        if cells.iter().all(|earlier| earlier.name != cell.name) {
+            cells.push(cell);
+        }
+    }
+    rng.shuffle(&mut cells);
+    cells
+}
+
+pub fn library_size(rng: &mut Rng) -> usize {
+    match rng.below(12) {
+        0 => 0,
+        1 => 32,
+        2 => rng.between(20, 32),
+        3 | 4 => rng.between(1, 4),
+        _ => rng.between(4, 18),
+    }
+}
+
+/// What case B prints.
+pub const LISTING: &str = "\
+.model top
+.inputs p1 p2
+.outputs p3
+.gate inv A=m3 O=p3
+.gate nand2 A=p1 B=p2 O=m3
+.end
+# gates 2 area 3 arrival 30
+";
+
+/// The library of case B.
+pub fn small_library() -> Vec<Cell> {
+    let cell = |name: &str, pins, table, area, delays| Cell { name: name.into(), pins, table, area, delays };
+    vec![cell("inv", 1, 1, 1, [10, 0, 0, 0]), cell("nand2", 2, 7, 2, [20, 20, 0, 0])]
+}
+
+/// The cells of case B, both constants and all wide functions, with delays
+/// that rise with the pins: every graph has a cover.
+pub fn full_library() -> Vec<Cell> {
+    let mut cells = small_library();
+    for (pins, table) in [(0, 0x0000), (0, 0x0001), (2, 0x0006)].into_iter().chain(WIDE) {
+        let mut cell = Cell { name: format!("w{}", cells.len()), pins, table, area: 1 + pins as u16, delays: [0; 4] };
+        for (pin, delay) in cell.delays[..pins].iter_mut().enumerate() {
+            *delay = (12 * pins - 2 * pin) as u16;
+        }
+        cells.push(cell);
+    }
+    cells
+}
+
+// ---------------------------------------------------------------- shapes
+
+/// A literal of a node: its index and whether it is complemented.
+pub type End = (usize, bool);
+
+/// A graph before it has numbers: node 0 is the constant, then the inputs,
+/// then the ANDs, each over earlier nodes. At most 63 nodes, so that a cut is
+/// a set of bits.
+#[derive(Clone, Debug)]
+pub struct Shape {
+    pub inputs: usize,
+    pub ands: Vec<[End; 2]>,
+    cuts: Vec<Vec<u64>>,
+}
+
+impl Shape {
+    pub fn new(inputs: usize) -> Shape {
+        let mut cuts = vec![vec![0]];
+        cuts.extend((1..=inputs).map(|input| vec![1 << input]));
+        Shape { inputs, ands: Vec::new(), cuts }
+    }
+
+    pub fn nodes(&self) -> usize {
+        1 + self.inputs + self.ands.len()
+    }
+
+    /// The cut set that an AND of these two nodes would have.
+    fn joined(&self, a: usize, b: usize) -> Vec<u64> {
+        let mut set = vec![1u64 << self.nodes()];
+        for one in &self.cuts[a] {
+            set.extend(self.cuts[b].iter().map(|other| one | other).filter(|union| union.count_ones() <= 4));
+        }
+        set.sort_unstable();
+        set.dedup();
+        set
+    }
+
+    pub fn push(&mut self, a: End, b: End) {
+        let set = self.joined(a.0, b.0);
+        self.cuts.push(set);
+        self.ands.push([a, b]);
+    }
+
+    pub fn last_count(&self) -> usize {
+        self.cuts.last().map_or(0, Vec::len)
+    }
+}
+
+/// A random shape whose ANDs have at most `cap` cuts.
+pub fn shape(rng: &mut Rng, inputs: usize, ands: usize, cap: usize) -> Shape {
+    let mut shape = Shape::new(inputs);
+    let style = rng.below(5);
+    for _ in 0..ands.min(62 - inputs) {
+        let nodes = shape.nodes();
+        let mut best: Option<(usize, End, End)> = None;
+        for _ in 0..6 {
+            let end = |rng: &mut Rng| {
+                let node = match style {
+                    0 => rng.below(nodes),
+                    1 if nodes > 4 => nodes - 1 - rng.below(4),
+                    2 if inputs > 0 && rng.one_in(2) => rng.between(1, inputs),
+                    3 if nodes > 1 => rng.between(1, nodes - 1),
+                    _ if nodes > 6 => nodes - 1 - rng.below(6),
+                    _ => rng.below(nodes),
+                };
+                let node = if rng.one_in(20) { 0 } else { node };
+                (node, rng.one_in(2))
+            };
+            let a = end(rng);
+            let b = if rng.one_in(15) { (a.0, rng.one_in(2)) } else { end(rng) };
+            let count = shape.joined(a.0, b.0).len();
+            let better = match best {
+                None => true,
+                // The last two styles climb towards the limit.
+                Some((known, _, _)) => style >= 3 && count > known,
+            };
+            if count <= cap && better {
+                best = Some((count, a, b));
+                if style < 3 {
+                    break;
+                }
+            }
+        }
+        let (_, a, b) = best.unwrap_or((0, (0, true), (nodes.min(inputs + 1) - 1, rng.one_in(2))));
+        shape.push(a, b);
+    }
+    shape
+}
+
+/// A shape of the parts that circuits are made of: exclusive ors, selectors,
+/// majorities, chains; their functions are those that wide cells match.
+pub fn circuit(rng: &mut Rng, inputs: usize, parts: usize, cap: usize) -> Shape {
+    let mut shape = Shape::new(inputs);
+    for _ in 0..parts {
+        let before = shape.clone();
+        if shape.nodes() > 54 {
+            break;
+        }
+        let nodes = shape.nodes();
+        let mut end = || {
+            let node = if rng.one_in(3) && nodes > 5 { nodes - 1 - rng.below(4) } else { rng.between(1, nodes - 1) };
+            (node, rng.one_in(2))
+        };
+        let (a, b, c, d) = (end(), end(), end(), end());
+        let not = |(node, negative): End| (node, !negative);
+        let mut and = |a: End, b: End| {
+            shape.push(a, b);
+            (shape.nodes() - 1, false)
+        };
+        match rng.below(6) {
+            0 => {
+                let (one, other) = (and(a, not(b)), and(not(a), b));
+                and(not(one), not(other));
+            }
+            1 => {
+                let (one, other) = (and(a, b), and(not(a), c));
+                and(not(one), not(other));
+            }
+            2 => {
+                let (both, none) = (and(a, b), and(not(a), not(b)));
+                let some = and(c, not(none));
+                and(not(both), not(some));
+            }
+            3 => {
+                let (one, other) = (and(a, b), and(c, d));
+                and(not(one), not(other));
+            }
+            4 => {
+                let first = and(a, b);
+                let second = and(not(first), c);
+                and(not(second), d);
+            }
+            _ => drop(and(a, b)),
+        }
+        if shape.cuts.iter().any(|set| set.len() > cap) {
+            shape = before;
+        }
+    }
+    shape
+}
+
+/// A shape whose last AND has exactly so many cuts, and no other over 24; the
+/// smallest that a fixed search comes across.
+pub fn shape_with_cuts(wanted: usize) -> &'static Shape {
+    static FOUND: OnceLock<Vec<Shape>> = OnceLock::new();
+    let found = FOUND.get_or_init(|| (24..=25).map(search).collect());
+    &found[wanted - 24]
+}
+
+fn search(wanted: usize) -> Shape {
+    let mut rng = Rng::new(7);
+    let mut smallest: Option<Shape> = None;
+    for _ in 0..4_000 {
+        let mut shape = Shape::new(rng.between(3, 5));
+        for _ in 0..8 {
+            let nodes = shape.nodes();
+            let (a, b) = (rng.between(1, nodes - 1), rng.between(1, nodes - 1));
+            if shape.joined(a, b).len() > wanted {
+                continue;
+            }
+            shape.push((a, rng.one_in(2)), (b, rng.one_in(2)));
+            if shape.last_count() == 25 || shape.last_count() == wanted {
+                break;
+            }
+        }
+        let smaller = smallest.as_ref().is_none_or(|known| shape.nodes() < known.nodes());
+        if shape.last_count() == wanted && smaller {
+            smallest = Some(shape);
+        }
+    }
+    smallest.expect("the search finds a shape")
+}
+
+// ---------------------------------------------------------------- graphs
+
+#[derive(Clone, Debug)]
+pub struct Graph {
+    pub top: usize,
+    /// Variables, in the order of their lines.
+    pub inputs: Vec<usize>,
+    /// Literals.
+    pub outputs: Vec<usize>,
+    /// Left variable and the two right literals.
+    pub ands: Vec<(usize, usize, usize)>,
+}
+
+impl Graph {
+    pub fn text(&self) -> Vec<u8> {
+        let Graph { top, inputs, outputs, ands } = self;
+        let mut text = format!("aag {top} {} 0 {} {}\n", inputs.len(), outputs.len(), ands.len());
+        for line in self.lines() {
+            text += &line;
+        }
+        text.into_bytes()
+    }
+
+    /// The due lines.
+    pub fn lines(&self) -> Vec<String> {
+        let mut lines: Vec<String> = self.inputs.iter().map(|variable| format!("{}\n", 2 * variable)).collect();
+        lines.extend(self.outputs.iter().map(|literal| format!("{literal}\n")));
+        lines.extend(self.ands.iter().map(|(left, a, b)| format!("{} {a} {b}\n", 2 * left)));
+        lines
+    }
+
+    pub fn words(&self) -> usize {
+        160 * (self.top + 1) + self.outputs.len()
+    }
+
+    /// A good text read back.
+    pub fn from_text(text: &[u8]) -> Graph {
+        let text = std::str::from_utf8(text).expect("a good text");
+        let mut lines = text.lines().map(|line| -> Vec<usize> {
+            line.split(' ').filter(|word| *word != "aag").map(|word| word.parse().expect("a number")).collect()
+        });
+        let header = lines.next().expect("a header");
+        let mut take = |count: usize| -> Vec<Vec<usize>> { lines.by_ref().take(count).collect() };
+        Graph {
+            top: header[0],
+            inputs: take(header[1]).iter().map(|line| line[0] / 2).collect(),
+            outputs: take(header[3]).iter().map(|line| line[0]).collect(),
+            ands: take(header[4]).iter().map(|line| (line[0] / 2, line[1], line[2])).collect(),
+        }
+    }
+
+    /// The ANDs so that each stands after its operands; none on a circle.
+    pub fn placed(&self) -> Option<Vec<(usize, usize, usize)>> {
+        let mut known = vec![false; self.top + 1];
+        known[0] = true;
+        for &input in &self.inputs {
+            known[input] = true;
+        }
+        let mut waiting = self.ands.clone();
+        let mut placed = Vec::new();
+        while !waiting.is_empty() {
+            let before = placed.len();
+            waiting.retain(|&(left, a, b)| {
+                let ready = known[a / 2] && known[b / 2];
+                if ready {
+                    known[left] = true;
+                    placed.push((left, a, b));
+                }
+                !ready
+            });
+            if placed.len() == before {
+                return None;
+            }
+        }
+        Some(placed)
+    }
+
+    /// The outputs' values where the inputs have these.
+    pub fn values(&self, placed: &[(usize, usize, usize)], setting: &[bool]) -> Vec<bool> {
+        let mut value = vec![false; self.top + 1];
+        for (&input, &is) in self.inputs.iter().zip(setting) {
+            value[input] = is;
+        }
+        let literal = |value: &[bool], literal: usize| value[literal / 2] ^ (literal % 2 == 1);
+        for &(left, a, b) in placed {
+            value[left] = literal(&value, a) && literal(&value, b);
+        }
+        self.outputs.iter().map(|&output| literal(&value, output)).collect()
+    }
+}
+
+/// Numbers for a shape's nodes and an order for its lines: sometimes as they
+/// come, sometimes shuffled, with gaps where variables are defined nowhere.
+pub fn numbered(rng: &mut Rng, shape: &Shape, outputs: &[End]) -> Graph {
+    let nodes = shape.nodes() - 1;
+    let spare = if rng.one_in(2) { 0 } else { rng.below(6) };
+    let top = nodes + spare;
+    let mut variables: Vec<usize> = (1..=top).collect();
+    match rng.below(4) {
+        0 => {}
+        1 => variables.reverse(),
+        _ => rng.shuffle(&mut variables),
+    }
+    variables.insert(0, 0);
+    let literal = |(node, negative): End| 2 * variables[node] + usize::from(negative);
+    let mut inputs: Vec<usize> = variables[1..=shape.inputs].to_vec();
+    let mut ands: Vec<(usize, usize, usize)> = Vec::new();
+    for (index, &[a, b]) in shape.ands.iter().enumerate() {
+        ands.push((variables[1 + shape.inputs + index], literal(a), literal(b)));
+    }
+    if rng.one_in(2) {
+        rng.shuffle(&mut ands);
+    }
+    if rng.one_in(2) {
+        rng.shuffle(&mut inputs);
+    }
+    Graph { top, inputs, outputs: outputs.iter().map(|&end| literal(end)).collect(), ands }
+}
+
+/// Every graph of two inputs and two ANDs, up to the order of operands; the
+/// outputs are both ANDs, the second in both phases.
+pub fn every_small_graph() -> Vec<Graph> {
+    let mut graphs = Vec::new();
+    for number in 0..6 * 6 * 8 * 8 {
+        let (a, b, c, d) = (number % 6, number / 6 % 6, number / 36 % 8, number / 288);
+        if a <= b && c <= d {
+            let ands = vec![(3, a, b), (4, c, d)];
+            graphs.push(Graph { top: 4, inputs: vec![1, 2], outputs: vec![6, 8, 9], ands });
+        }
+    }
+    graphs
+}
+
+/// Some outputs: mostly late nodes, sometimes anything, constants and inputs.
+pub fn outputs(rng: &mut Rng, shape: &Shape) -> Vec<End> {
+    let nodes = shape.nodes();
+    let count = if rng.one_in(12) { 0 } else { rng.between(1, 5) };
+    let mut ends: Vec<End> = Vec::new();
+    for _ in 0..count {
+        let node = if rng.one_in(3) { rng.below(nodes) } else { nodes - 1 - rng.below(nodes.min(4)) };
+        ends.push((node, rng.one_in(2)));
+        if rng.one_in(8) {
+            ends.push((node, rng.one_in(2)));
+        }
+    }
+    ends
+}
+
+pub fn graph(rng: &mut Rng, most_inputs: usize, most_ands: usize, cap: usize) -> Graph {
+    let inputs = if rng.one_in(15) { 0 } else { rng.between(1, most_inputs) };
+    let ands = rng.below(most_ands + 1);
+    let shape = if inputs > 0 && rng.one_in(2) {
+        circuit(rng, inputs, ands.div_ceil(3), cap)
+    } else {
+        shape(rng, inputs, ands, cap)
+    };
+    let outputs = outputs(rng, &shape);
+    numbered(rng, &shape, &outputs)
+}
+
+/// Many blocks side by side over one set of inputs, up to `top` variables.
+pub fn large_graph(rng: &mut Rng, top: usize) -> Graph {
+    let inputs = rng.between(5, top.min(40));
+    let mut graph = Graph { top, inputs: (1..=inputs).collect(), outputs: Vec::new(), ands: Vec::new() };
+    let mut next = inputs + 1;
+    while next <= top {
+        let some = rng.between(2, 5);
+        let some_ands = rng.between(3, 25);
+        let block = match rng.below(4) {
+            0 => shape(rng, some, some_ands, 24),
+            _ => circuit(rng, some, some_ands.div_ceil(2), 24),
+        };
+        let mut fed: Vec<usize> = (1..=inputs).collect();
+        rng.shuffle(&mut fed);
+        let first = next;
+        let variable = |node: usize| match node {
+            0 => 0,
+            _ if node <= block.inputs => fed[node - 1],
+            _ => first + node - block.inputs - 1,
+        };
+        for (index, [a, b]) in block.ands.iter().enumerate() {
+            if next > top {
+                break;
+            }
+            let literal = |end: &End| 2 * variable(end.0) + usize::from(end.1);
+            graph.ands.push((variable(1 + block.inputs + index), literal(a), literal(b)));
+            next += 1;
+        }
+        graph.outputs.extend((next - 1 - rng.below(3).min(next - 1 - first)..next).map(|node| 2 * node + rng.below(2)));
+    }
+    if rng.one_in(2) {
+        rng.shuffle(&mut graph.ands);
+    }
+    graph.outputs.truncate(4096);
+    graph
+}
+
+// ---------------------------------------------------------------- cases
+
+/// How much is lent, measured against what is needed.
+#[derive(Clone, Copy, Debug, PartialEq, Eq)]
+pub enum Lent {
+    Exact,
+    OneShort,
+    Over(usize),
+    This(usize),
+}
+
+impl Lent {
+    pub fn of(self, need: usize) -> usize {
+        match self {
+            Lent::Exact => need,
+            Lent::OneShort => need.saturating_sub(1),
+            Lent::Over(more) => need + more,
+            Lent::This(exactly) => exactly,
+        }
+    }
+}
+
+#[derive(Clone, Debug)]
+pub struct Case {
+    pub what: String,
+    pub cells: Vec<u8>,
+    pub graph: Vec<u8>,
+    pub words: Lent,
+    pub text: Lent,
+    /// Refusal number and place, where the making knows them; number 0 is
+    /// success.
+    pub expected: Option<(u32, usize)>,
+}
+
+impl Case {
+    pub fn new(what: impl Into<String>, cells: Vec<u8>, graph: Vec<u8>) -> Case {
+        Case { what: what.into(), cells, graph, words: Lent::Over(5), text: Lent::Over(9), expected: None }
+    }
+
+    pub fn expect(mut self, number: u32, place: usize) -> Case {
+        self.expected = Some((number, place));
+        self
+    }
+
+    pub fn words(mut self, words: Lent) -> Case {
+        self.words = words;
+        self
+    }
+
+    pub fn text(mut self, text: Lent) -> Case {
+        self.text = text;
+        self
+    }
+}
+
+fn lent(rng: &mut Rng) -> Lent {
+    match rng.below(8) {
+        0..=2 => Lent::Exact,
+        3 => Lent::Over(1),
+        _ => {
+            let more = rng.below(300);
+            Lent::Over(more)
+        }
+    }
+}
+
+/// A random case of the long comparison.
+pub fn case(rng: &mut Rng) -> Case {
+    let kind = rng.below(100);
+    let count = library_size(rng);
+    let cells = library_text(&library(rng, count));
+    let mut case = match kind {
+        0..=54 => {
+            let most = rng.pick(&[3, 6, 12, 25, 40]);
+            let mut text = graph(rng, 8, most, 24).text();
+            if rng.one_in(6) {
+                let trailing: Vec<u8> = (0..rng.below(20)).map(|_| rng.word() as u8).collect();
+                text.extend(trailing);
+            }
+            Case::new("graph", cells, text)
+        }
+        55..=64 => {
+            let cap = rng.pick(&[25, 26, 100]);
+            Case::new("around 24 cuts", cells, graph(rng, 6, 20, cap).text())
+        }
+        65..=70 => {
+            let mut graph = graph(rng, 6, 12, 24);
+            make_circle(rng, &mut graph);
+            Case::new("circle", cells, graph.text())
+        }
+        71..=80 => return faults(rng),
+        81..=94 => {
+            let graph = graph(rng, 4, 6, 24).text();
+            let (cells, graph) =
+                if rng.one_in(2) { (damaged(rng, &cells), graph) } else { (cells, damaged(rng, &graph)) };
+            Case::new("damage", cells, graph)
+        }
+        95 => {
+            let cells = library_text(&library(rng, 33));
+            let offset = cells[..cells.len() - 1].iter().rposition(|&byte| byte == 10).map_or(0, |end| end + 1);
+            Case::new("33 cells", cells, graph(rng, 3, 3, 24).text()).expect(3, offset)
+        }
+        96 => {
+            let top = rng.between(60, 400);
+            let cells = if rng.one_in(3) { cells } else { library_text(&full_library()) };
+            Case::new("large", cells, large_graph(rng, top).text())
+        }
+        _ => Case::new("tiny", cells, graph(rng, 2, 2, 24).text()),
+    };
+    case.words = lent(rng);
+    case.text = lent(rng);
+    if case.expected.is_none() {
+        if rng.one_in(25) {
+            case.words = if rng.one_in(2) { Lent::OneShort } else { Lent::This(rng.below(200)) };
+        }
+        if rng.one_in(12) {
+            case.text = if rng.one_in(2) { Lent::OneShort } else { Lent::This(rng.below(60)) };
+        }
+    }
+    case
+}
+
+/// Turns an operand of some AND to any AND, and so sometimes closes a circle.
+fn make_circle(rng: &mut Rng, graph: &mut Graph) {
+    for _ in 0..rng.between(1, 3) {
+        if graph.ands.is_empty() {
+            return;
+        }
+        let (from, to) = (rng.below(graph.ands.len()), rng.below(graph.ands.len()));
+        let literal = 2 * graph.ands[to].0 + rng.below(2);
+        if rng.one_in(2) {
+            graph.ands[from].1 = literal;
+        } else {
+            graph.ands[from].2 = literal;
+        }
+    }
+}
+
+// ---------------------------------------------------------------- damage
+
+/// The bytes that damage puts in.
+pub const BYTES: &[u8] = b"\x00\t\n\r +-./0123456789:@AGZ_`afgxyz{~\x80\xff";
+
+/// One text with one to three damages at random places.
+pub fn damaged(rng: &mut Rng, text: &[u8]) -> Vec<u8> {
+    let mut text = text.to_vec();
+    for _ in 0..rng.pick(&[1, 1, 1, 2, 3]) {
+        if text.is_empty() {
+            break;
+        }
+        let at = rng.below(text.len());
+        match rng.below(8) {
+            0 | 1 => text[at] = rng.pick(BYTES),
+            2 => text[at] = rng.pick(b"0123456789"),
+            3 => text.insert(at, rng.pick(BYTES)),
+            4 => text.insert(at, rng.pick(b"0123456789")),
+            5 => drop(text.remove(at)),
+            6 => text.truncate(at),
+            _ => {
+                let other = rng.below(text.len());
+                text.swap(at, other);
+            }
+        }
+    }
+    text
+}
+
+/// Every byte removed, replaced by and followed by each of `BYTES` in turn,
+/// and every truncation.
+pub fn all_damage(text: &[u8]) -> Vec<Vec<u8>> {
+    let mut all = Vec::new();
+    for at in 0..=text.len() {
+        all.push(text[..at].to_vec());
+        for &byte in BYTES {
+            all.push([&text[..at], &[byte], &text[at..]].concat());
+            if at < text.len() {
+                all.push([&text[..at], &[byte], &text[at + 1..]].concat());
+            }
+        }
+        if at < text.len() {
+            all.push([&text[..at], &text[at + 1..]].concat());
+        }
+    }
+    all
+}
+
+// ---------------------------------------------------------------- faults
+
+/// A case with any number of faults at once; the answer is known from the
+/// making: the first in checking order.
+pub fn faults(rng: &mut Rng) -> Case {
+    let mut found: Vec<(u32, usize)> = Vec::new();
+    let wanted = |rng: &mut Rng, many: usize| rng.one_in(many);
+    // Rare faults for what comes early, so that every number comes first often.
+    let rarity = rng.pick(&[3, 8, 30, 100]);
+
+    // The library: no tie cell, so constants have no cover.
+    let mut cells = small_library();
+    let thirty_three = wanted(rng, 12 * rarity);
+    let size = if thirty_three { 33 } else { rng.between(2, 8) };
+    while cells.len() < size {
+        let twin = Cell { name: format!("n{}", cells.len()), ..cells[1].clone() };
+        cells.push(twin);
+    }
+    let mut text = String::from(NAMES_LINE);
+    if wanted(rng, 6 * rarity) {
+        text = rng
+            .pick(&[
+                "",
+                "\n",
+                "cell pins table area d0 d1 d2 d3",
+                "cell pins table area d0 d1 d2\n",
+                "cell pins table area d0 d1 d2 d3 \n",
+                "Cell pins table area d0 d1 d2 d3\n",
+            ])
+            .to_string();
+        found.push((2, 0));
+        if !text.ends_with('\n') {
+            cells.clear();
+        }
+    }
+    for (index, cell) in cells.iter().enumerate() {
+        let offset = text.len();
+        if index == 32 {
+            found.push((3, offset));
+        }
+        let mut cell = cell.clone();
+        let (five, six, four) =
+            (index > 0 && wanted(rng, 6 * rarity), wanted(rng, 6 * rarity), wanted(rng, 6 * rarity));
+        if five {
+            cell.name = cells[rng.below(index)].name.clone();
+        }
+        if six {
+            if rng.one_in(2) {
+                cell.table |= 1 << rng.between(1 << cell.pins, 15);
+            } else {
+                let pin = rng.between(cell.pins, 3);
+                cell.delays[pin] = rng.pick(&[1, 65_535]);
+            }
+        }
+        let mut line = cell.line();
+        if four {
+            let words: Vec<&str> = line.trim_end().split(' ').collect();
+            let (name, rest) = (words[0], words[1..].join(" "));
+            let table = words[2];
+            line = match rng.below(12) {
+                0 => format!("{name}  {rest}\n"),
+                1 => format!(" {name} {rest}\n"),
+                2 => format!("{name} {rest} \n"),
+                3 => format!("{name} {rest} 0\n"),
+                4 => format!("9{rest}\n"),
+                5 => format!("{name}_23456789 {rest}\n"),
+                6 => line.replace(&format!(" {table} "), " 000A "),
+                7 => line.replace(&format!(" {table} "), &format!(" 0{table} ")),
+                8 => line.trim_end().rsplit_once(' ').map_or(String::new(), |(front, _)| format!("{front} 00\n")),
+                9 => line.trim_end().rsplit_once(' ').map_or(String::new(), |(front, _)| format!("{front} 65536\n")),
+                10 => format!("{name} 0{rest}\n"),
+                _ => String::from("\n"),
+            };
+        }
+        // One line's faults in their own order; the line's order decides first.
+        found.extend(
+            [(four, 4), (five, 5), (six, 6)].iter().filter(|(is, _)| *is).map(|&(_, number)| (number, offset)).take(1),
+        );
+        text += &line;
+    }
+    let cells_text = text.into_bytes();
+    let library_fault = found.first().copied();
+
+    // The graph: inputs 1 to 5, then gadgets one after the other.
+    let mut graph = Graph { top: 5, inputs: (1..=5).collect(), outputs: vec![2, 5], ands: Vec::new() };
+    let mut places: Vec<(u32, usize)> = Vec::new();
+    let mut bad_lines: Vec<(usize, u32)> = Vec::new();
+    let mut gadgets: Vec<u32> = (14..=17).filter(|_| wanted(rng, 3)).collect();
+    rng.shuffle(&mut gadgets);
+    let mut bad_output = None;
+    let mut bad_and = None;
+    for gadget in gadgets {
+        let next = graph.top + 1;
+        match gadget {
+            14 => {
+                // A variable that no line defines.
+                graph.top += 2;
+                let undefined = 2 * next + rng.below(2);
+                if rng.one_in(3) {
+                    bad_output = bad_output.or(Some(graph.outputs.len()));
+                    graph.outputs.push(undefined);
+                    graph.top -= 1;
+                } else {
+                    bad_and = bad_and.or(Some(graph.ands.len()));
+                    let good = rng.below(12);
+                    let (a, b) = if rng.one_in(2) { (undefined, good) } else { (good, undefined) };
+                    graph.ands.push((next + 1, a, b));
+                }
+            }
+            15 => {
+                // A circle of two and an AND that waits behind it.
+                graph.top += 3;
+                let first = next + rng.below(3);
+                let second = next + (first - next + 1) % 3;
+                let third = next + (first - next + 2) % 3;
+                graph.ands.push((first, 2 * second, 2));
+                graph.ands.push((second, 4, 2 * first + 1));
+                graph.ands.push((third, 2 * second, 2 * second));
+                places.push((15, next));
+            }
+            16 => {
+                let shape = shape_with_cuts(25);
+                let variable = |node: usize| if node <= shape.inputs { node } else { next + node - shape.inputs - 1 };
+                for (index, ends) in shape.ands.iter().enumerate() {
+                    let [a, b] = ends.map(|(node, negative)| 2 * variable(node) + usize::from(negative));
+                    graph.ands.push((variable(1 + shape.inputs + index), a, b));
+                }
+                graph.top = next + shape.ands.len() - 1;
+                places.push((16, graph.top));
+            }
+            _ => {
+                places.push((17, graph.outputs.len()));
+                graph.outputs.push(rng.below(2));
+            }
+        }
+    }
+    let (inputs, outputs) = (graph.inputs.len(), graph.outputs.len());
+    let mut lines = graph.lines();
+    for (index, line) in lines.iter_mut().enumerate() {
+        let is_output = index >= inputs && index < inputs + outputs;
+        let number = rng.pick(&[11, 12, 13]);
+        if !wanted(rng, 10 * rarity) || (number == 13 && (is_output || index == 0)) {
+            continue;
+        }
+        let rest = line.trim_end().split_once(' ').map_or(String::new(), |(_, rest)| format!(" {rest}"));
+        let number_then = |first: &str| format!("{first}{rest}\n");
+        *line = match number {
+            11 => match rng.below(8) {
+                0 => format!(" {line}"),
+                1 => line.replace('\n', " \n"),
+                2 => line.replace('\n', " 2 2 2\n"),
+                3 => number_then("02"),
+                4 => number_then("65536"),
+                5 => String::from("\n"),
+                6 => line.replace('\n', "\r\n"),
+                _ => number_then("x"),
+            },
+            12 => match rng.below(4) {
+                0 if !is_output => number_then("0"),
+                1 if !is_output => number_then("3"),
+                2 => number_then("65535"),
+                _ => number_then(&(2 * graph.top + 2).to_string()),
+            },
+            _ => {
+                let earlier = rng.below(index.min(inputs));
+                number_then(&(2 * graph.inputs[earlier]).to_string())
+            }
+        };
+        bad_lines.push((index, number));
+    }
+    let mut header = [graph.top, inputs, 0, outputs, graph.ands.len()];
+    let seven = wanted(rng, 6 * rarity);
+    if wanted(rng, 4 * rarity) {
+        header[2] = rng.pick(&[1, 65_535]);
+        found.push((8, 0));
+    }
+    if wanted(rng, 4 * rarity) {
+        match rng.below(4) {
+            0 => header[0] = rng.pick(&[4_096, 65_535]),
+            1 => header[3] = rng.pick(&[4_097, 65_535]),
+            2 => header[0] = inputs + graph.ands.len() - 1,
+            _ => header[4] = 65_535,
+        }
+        found.push((9, 0));
+    }
+    let [m, i, l, o, a] = header;
+    let mut head = format!("aag {m} {i} {l} {o} {a}\n");
+    if seven {
+        head = match rng.below(8) {
+            0 => format!("aag {m} {i} {l} {o} {a} 0\n"),
+            1 => format!("aag {m} {i} {l} {o}\n"),
+            2 => format!("aig {m} {i} {l} {o} {a}\n"),
+            3 => format!("aag  {m} {i} {l} {o} {a}\n"),
+            4 => format!("aag 0{m} {i} {l} {o} {a}\n"),
+            5 => format!("aag {m} {i} {l} {o} 65536\n"),
+            6 => format!("aag {m} {i} {l} {o} {a}\r\n"),
+            _ => String::new(),
+        };
+        if head.is_empty() {
+            lines.clear();
+            bad_lines.clear();
+        }
+        found.push((7, 0));
+    }
+    let mut case = Case::new("faults", cells_text, Vec::new())
+        .words(Lent::This(160 * (graph.top + 1) + outputs))
+        .text(Lent::Exact);
+    if wanted(rng, 3 * rarity) {
+        case.words = Lent::This(if rng.one_in(2) { 160 * (graph.top + 1) + outputs - 1 } else { rng.below(900) });
+        found.push((10, 0));
+    }
+    let offsets: Vec<usize> =
+        (0..=lines.len()).map(|index| head.len() + lines[..index].iter().map(String::len).sum::<usize>()).collect();
+    let mut graph_text = (head + &lines.concat()).into_bytes();
+    if wanted(rng, 8 * rarity) && !lines.is_empty() {
+        // Cut off: in the middle of a line it is that line, between two lines
+        // the next one, at the text's end.
+        let keep = rng.between(inputs, lines.len() - 1);
+        let into = if rng.one_in(2) { 0 } else { offsets[keep + 1] - offsets[keep] - 1 };
+        graph_text.truncate(offsets[keep] + into);
+        bad_lines.retain(|&(index, _)| index < keep);
+        bad_lines.push((keep, 11));
+    }
+    if let Some(&(index, number)) = bad_lines.first() {
+        found.push((number, offsets[index]));
+    } else if !lines.is_empty() {
+        let first = bad_output.map(|output| inputs + output).or(bad_and.map(|and| inputs + outputs + and));
+        found.extend(first.map(|index| (14, offsets[index])));
+    }
+    let stage = |kinds: std::ops::RangeInclusive<u32>, found: &[(u32, usize)]| {
+        found.iter().copied().filter(|(number, _)| kinds.contains(number)).min_by_key(|&(number, _)| number)
+    };
+    if wanted(rng, 3) {
+        case.text = Lent::OneShort;
+    }
+    // The first of each stage; lines were gone through in order above.
+    let lines_fault = found.iter().copied().find(|(number, _)| (11..=14).contains(number));
+    let mut first = library_fault.or(stage(7..=10, &found)).or(lines_fault).or(stage(15..=17, &places));
+    if wanted(rng, 20 * rarity) {
+        // Bytes after the last line that is read count for refusal 1 alone.
+        graph_text.resize(65_536 + rng.below(2), b'x');
+        if graph_text.len() > 65_536 {
+            first = Some((1, 0));
+        }
+    }
+    case.graph = graph_text;
+    case.expected = first;
+    case
+}
+
+/// Every limit, just inside and just outside.
+pub fn limits() -> Vec<Case> {
+    let cells = library_text(&small_library());
+    let small = Graph { top: 3, inputs: vec![1, 2], outputs: vec![6], ands: vec![(3, 2, 4)] };
+    let mut cases = Vec::new();
+    let mut add = |case: Case| cases.push(case);
+
+    // Text lengths: bytes after the graph's last due line aren't read.
+    for length in [65_535, 65_536, 65_537] {
+        let mut graph = small.text();
+        graph.resize(length, 0);
+        let case = Case::new(format!("graph of {length} bytes"), cells.clone(), graph);
+        add(case.expect(if length > 65_536 { 1 } else { 0 }, 0));
+    }
+    for length in [65_536, 65_537] {
+        let mut long = cells.clone();
+        long.resize(length, b'x');
+        let case = Case::new(format!("library of {length} bytes"), long, small.text());
+        add(if length > 65_536 { case.expect(1, 0) } else { case.expect(4, cells.len()) });
+        let case = Case::new(format!("both of {length} bytes"), vec![b'x'; length], vec![b'x'; length]);
+        add(case.expect(if length > 65_536 { 1 } else { 2 }, 0));
+    }
+    add(Case::new("both empty", Vec::new(), Vec::new()).expect(2, 0));
+    add(Case::new("graph empty", cells.clone(), Vec::new()).expect(7, 0));
+
+    // Cells.
+    for count in [31, 32, 33] {
+        let mut many = small_library();
+        while many.len() < count {
+            let twin = Cell { name: format!("n{}", many.len()), ..many[1].clone() };
+            many.push(twin);
+        }
+        let text = library_text(&many);
+        let last = text.len() - many[count - 1].line().len();
+        let case = Case::new(format!("{count} cells"), text.clone(), small.text());
+        add(if count > 32 { case.expect(3, last) } else { case.expect(0, 0) });
+        if count == 32 {
+            for byte in [b'\n', b'x', 0] {
+                let longer = [&text[..], &[byte]].concat();
+                let case = Case::new("one byte after 32 cells", longer, small.text());
+                add(case.expect(3, text.len()));
+            }
+        }
+    }
+
+    // M, O, I + A.
+    for top in [0, 1, 4_094, 4_095, 4_096, 65_535] {
+        let graph = format!("aag {top} 0 0 0 0\n").into_bytes();
+        let case = Case::new(format!("M of {top}"), cells.clone(), graph).words(Lent::This(160 * (top.min(4_095) + 1)));
+        add(case.expect(if top > 4_095 { 9 } else { 0 }, 0));
+    }
+    for outputs in [4_095, 4_096, 4_097] {
+        let mut graph = format!("aag 1 1 0 {outputs} 0\n2\n");
+        graph += &"3\n".repeat(outputs);
+        let case = Case::new(format!("O of {outputs}"), cells.clone(), graph.into_bytes());
+        add(case.expect(if outputs > 4_096 { 9 } else { 0 }, 0));
+    }
+    for (inputs, ands) in [(3, 0), (2, 1), (0, 3), (4, 0), (0, 4), (2, 2), (65_535, 65_535)] {
+        let mut graph = format!("aag 3 {inputs} 0 0 {ands}\n");
+        let mut variable = 0;
+        for and in 0..(inputs + ands).min(4) {
+            variable += 1;
+            graph += &if and < inputs { format!("{}\n", 2 * variable) } else { format!("{} 0 1\n", 2 * variable) };
+        }
+        let case = Case::new(format!("I of {inputs}, A of {ands}, M of 3"), cells.clone(), graph.into_bytes());
+        add(case.expect(if inputs + ands > 3 { 9 } else { 0 }, 0));
+    }
+    for latches in [1, 65_535] {
+        let graph = format!("aag 1 0 {latches} 0 0\n2 2\n").into_bytes();
+        add(Case::new(format!("L of {latches}"), cells.clone(), graph).expect(8, 0));
+    }
+
+    // Work and text memory.
+    let full = large_graph(&mut Rng::new(3), 4_095);
+    let rich = library_text(&full_library());
+    for (what, graph) in [("small", &small), ("full", &full)] {
+        for (words, number) in [(Lent::Exact, 0), (Lent::OneShort, 10), (Lent::This(0), 10), (Lent::Over(1_000), 0)] {
+            let text = graph.text();
+            add(Case::new(format!("{what} graph, words {words:?}"), rich.clone(), text).words(words).expect(number, 0));
+        }
+    }
+    let small_length = LISTING.len();
+    for (text, number) in [(Lent::Exact, 0), (Lent::Over(1), 0), (Lent::OneShort, 18), (Lent::This(0), 18)] {
+        let case = Case::new(format!("small graph, text {text:?}"), cells.clone(), small.text()).text(text);
+        add(case.expect(number, if number == 18 { small_length } else { 0 }));
+    }
+    add(Case::new("full graph, text one short", rich.clone(), full.text()).text(Lent::OneShort));
+
+    // Cuts.
+    for (wanted, number) in [(24, 0), (25, 16)] {
+        let shape = shape_with_cuts(wanted);
+        let top = shape.nodes() - 1;
+        let literal = |(node, negative): End| 2 * node + usize::from(negative);
+        let ands = shape.ands.iter().enumerate();
+        let graph = Graph {
+            top,
+            inputs: (1..=shape.inputs).collect(),
+            outputs: vec![],
+            ands: ands.map(|(index, &[a, b])| (1 + shape.inputs + index, literal(a), literal(b))).collect(),
+        };
+        let case = Case::new(format!("{wanted} cuts"), cells.clone(), graph.text());
+        add(case.expect(number, if number == 16 { top } else { 0 }));
+    }
+    let (graph, place) = restart();
+    add(Case::new("two ANDs with 25 cuts", cells.clone(), graph.text()).expect(16, place));
+
+    // The largest figures: a slow chain, and an inverter on every input.
+    let slow = format!("{NAMES_LINE}inv 1 0001 65535 65535 0 0 0\nnand2 2 0007 65535 65535 65535 0 0\n");
+    let chain = Graph {
+        top: 4_095,
+        inputs: vec![1, 2, 3, 4],
+        outputs: vec![2 * 4_095],
+        ands: (5..=4_095).map(|variable| (variable, 2 * variable - 2, 2 * (1 + variable % 4))).collect(),
+    };
+    add(Case::new("a slow chain", slow.clone().into_bytes(), chain.text()).expect(0, 0));
+    let wide = Graph {
+        top: 4_095,
+        inputs: (1..=4_095).rev().collect(),
+        outputs: (1..=4_095).map(|variable| 2 * variable + 1).collect(),
+        ands: Vec::new(),
+    };
+    for text in [Lent::Exact, Lent::Over(70_000), Lent::OneShort] {
+        let case = Case::new(format!("a wide graph, text {text:?}"), slow.clone().into_bytes(), wide.text());
+        add(if text == Lent::OneShort { case } else { case.expect(0, 0) }.words(Lent::Exact).text(text));
+    }
+
+    // Offsets and indices near their largest.
+    let mut graph = String::from("aag 4095 4095 0 4096 0\n");
+    for variable in 1..=4_095 {
+        graph += &format!("{}\n", 2 * variable);
+    }
+    graph += &"8191\n".repeat(4_095);
+    let offset = graph.len();
+    add(Case::new("last output line missing", cells.clone(), graph.clone().into_bytes()).expect(11, offset));
+    add(Case::new("last output constant", cells.clone(), (graph.clone() + "1\n").into_bytes()).expect(17, 4_095));
+    add(Case::new("a large plain graph", cells.clone(), (graph + "8190\n").into_bytes()).expect(0, 0));
+    cases
+}
+
+/// Two ANDs with 25 cuts each: X waits for an AND numbered just above it, and
+/// Y, numbered higher still, is ready before that. From the lowest again X is
+/// placed first; a sweep would come to Y first.
+fn restart() -> (Graph, usize) {
+    let mut shape = shape_with_cuts(25).clone();
+    // Only what the last AND stands on.
+    let last = shape.nodes() - 1;
+    let mut used = vec![false; shape.nodes()];
+    used[last] = true;
+    for node in (1 + shape.inputs..=last).rev() {
+        if used[node] {
+            for (below, _) in shape.ands[node - 1 - shape.inputs] {
+                used[below] = true;
+            }
+        }
+    }
+    shape.cuts.clear();
+    let kept: Vec<usize> = (1 + shape.inputs..=last).filter(|&node| used[node]).collect();
+    let inner = kept.len() - 2;
+    // Inner ANDs of both copies, Y's last operand, then X, X's last operand, Y.
+    let first = 1 + shape.inputs;
+    let copy = |node: usize, inner_from: usize, operand: usize, top: usize| {
+        if node <= shape.inputs {
+            return node;
+        }
+        match kept.iter().position(|&known| known == node) {
+            Some(index) if index < inner => inner_from + index,
+            Some(index) if index == inner => operand,
+            _ => top,
+        }
+    };
+    let mut graph =
+        Graph { top: first + 2 * inner + 3, inputs: (1..first).collect(), outputs: Vec::new(), ands: Vec::new() };
+    let x = first + 2 * inner + 1;
+    let numbers = [(first, x + 1, x), (first + inner, x - 1, x + 2)];
+    for (inner_from, operand, top) in numbers {
+        for &node in &kept {
+            let ends = shape.ands[node - 1 - shape.inputs];
+            let [a, b] =
+                ends.map(|(below, negative)| 2 * copy(below, inner_from, operand, top) + usize::from(negative));
+            graph.ands.push((copy(node, inner_from, operand, top), a, b));
+        }
+    }
+    (graph, x)
+}

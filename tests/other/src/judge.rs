@@ -1,0 +1,123 @@
+//! A second reader for refusals 1 to 14, made another way round: it reads
+//! loosely, prints what it understood and compares the bytes. Used where no
+//! one knows by construction what a damaged text brings.
+
+use std::collections::BTreeSet;
+
+/// A line's text, its offset, and whether it is the wanted form.
+fn lines(text: &[u8]) -> impl Iterator<Item = (usize, &[u8])> {
+    let mut offset = 0;
+    text.split_inclusive(|&byte| byte == 10).map(move |line| {
+        offset += line.len();
+        (offset - line.len(), line)
+    })
+}
+
+fn loosely(line: &[u8]) -> Option<Vec<&str>> {
+    Some(std::str::from_utf8(line).ok()?.split_whitespace().collect())
+}
+
+struct Cell {
+    name: String,
+    pins: u8,
+    table: u16,
+    delays: [u16; 4],
+}
+
+fn cell(line: &[u8]) -> Option<Cell> {
+    let words = loosely(line)?;
+    let [name, pins, table, area, d0, d1, d2, d3] = words[..] else { return None };
+    let pins: u8 = pins.parse().ok()?;
+    let table = u16::from_str_radix(table, 16).ok()?;
+    let area: u16 = area.parse().ok()?;
+    let mut delays = [0u16; 4];
+    for (delay, word) in delays.iter_mut().zip([d0, d1, d2, d3]) {
+        *delay = word.parse().ok()?;
+    }
+    let [d0, d1, d2, d3] = delays;
+    let again = format!("{name} {pins} {table:04x} {area} {d0} {d1} {d2} {d3}\n");
+    let letters =
+        name.chars().all(|c| c == '_' || c.is_ascii_digit() || c.is_ascii_lowercase() || c.is_ascii_uppercase());
+    let starts_well = !name.starts_with(|c: char| c == '_' || c.is_ascii_digit());
+    let good = again.as_bytes() == line && pins < 5 && name.len() < 9 && letters && starts_well;
+    good.then(|| Cell { name: name.to_string(), pins, table, delays })
+}
+
+fn figures(line: &[u8], head: &str, wanted: usize) -> Option<Vec<u16>> {
+    let mut words = loosely(line)?;
+    if !head.is_empty() && (words.is_empty() || words.remove(0) != head) {
+        return None;
+    }
+    let figures: Vec<u16> = words.iter().map(|word| word.parse().ok()).collect::<Option<_>>()?;
+    let mut again: Vec<String> = figures.iter().map(u16::to_string).collect();
+    if !head.is_empty() {
+        again.insert(0, head.to_string());
+    }
+    let again = again.join(" ") + "\n";
+    (figures.len() == wanted && again.as_bytes() == line).then_some(figures)
+}
+
+/// The refusal among 1 to 14 that the texts bring, if one does.
+pub fn judge(cells: &[u8], graph: &[u8], words: usize) -> Option<(u32, usize)> {
+    if cells.len().max(graph.len()) > 65_536 {
+        return Some((1, 0));
+    }
+    if !cells.starts_with(b"cell pins table area d0 d1 d2 d3\n") {
+        return Some((2, 0));
+    }
+    let mut seen: BTreeSet<String> = BTreeSet::new();
+    for (offset, line) in lines(cells).skip(1) {
+        if seen.len() == 32 {
+            return Some((3, offset));
+        }
+        let Some(cell) = cell(line) else { return Some((4, offset)) };
+        if !seen.insert(cell.name) {
+            return Some((5, offset));
+        }
+        let rows = 1u32 << cell.pins;
+        if u32::from(cell.table) >= 1 << rows || cell.delays.iter().skip(cell.pins.into()).any(|&delay| delay > 0) {
+            return Some((6, offset));
+        }
+    }
+    let mut due = lines(graph);
+    let Some(header) = due.next().and_then(|(_, line)| figures(line, "aag", 5)) else {
+        return Some((7, 0));
+    };
+    let [m, i, l, o, a] = [0, 1, 2, 3, 4].map(|index: usize| usize::from(header[index]));
+    if l > 0 {
+        return Some((8, 0));
+    }
+    if m >= 4096 || o >= 4097 || m < i + a {
+        return Some((9, 0));
+    }
+    if words < 160 * m + 160 + o {
+        return Some((10, 0));
+    }
+    let mut defined = vec![false; m + 1];
+    defined[0] = true;
+    let mut used: Vec<(usize, usize)> = Vec::new();
+    let sorts = [(i, 1), (o, 1), (a, 3)];
+    for (sort, (count, wanted)) in sorts.into_iter().enumerate() {
+        for _ in 0..count {
+            let Some((offset, line)) = due.next() else { return Some((11, graph.len())) };
+            let Some(literals) = figures(line, "", wanted) else { return Some((11, offset)) };
+            let literals: Vec<usize> = literals.into_iter().map(usize::from).collect();
+            if literals.iter().any(|literal| literal / 2 > m) {
+                return Some((12, offset));
+            }
+            let reads = if sort == 1 {
+                &literals[..]
+            } else {
+                if literals[0] & 1 == 1 || literals[0] < 2 {
+                    return Some((12, offset));
+                }
+                if std::mem::replace(&mut defined[literals[0] / 2], true) {
+                    return Some((13, offset));
+                }
+                &literals[1..]
+            };
+            used.extend(reads.iter().map(|literal| (offset, literal / 2)));
+        }
+    }
+    used.into_iter().find(|&(_, variable)| !defined[variable]).map(|(offset, _)| (14, offset))
+}

@@ -1,0 +1,41 @@
+//! The switch for the deliberate mistakes in the reference. MUTANTS.md lists
+//! them; `tests/mutants.rs` shows that the checks catch every one.
+
+use std::cell::Cell;
+
+thread_local! {
+    static MUTANT: Cell<u32> = const { Cell::new(0) };
+}
+
+/// Switches one mutant on for this thread; 0 is none.
+pub fn switch(mutant: u32) {
+    MUTANT.with(|cell| cell.set(mutant));
+}
+
+pub fn is_on(mutant: u32) -> bool {
+    MUTANT.with(|cell| cell.get() == mutant)
+}
+
+/// Number and what is wrong.
+pub const LIST: [(u32, &str); 20] = [
+    (1, "an AND with 25 cuts is accepted"),
+    (2, "a tie between cell and inverter goes to the inverter"),
+    (3, "a cut's function walks on below a leaf whose operands are leaves too"),
+    (4, "placing goes on upwards instead of from the lowest again"),
+    (5, "only unions of at most three leaves are kept"),
+    (6, "cuts are listed by leaves first, not by size"),
+    (7, "cell line goes before cut in the choice"),
+    (8, "of equal inverters the last line is taken"),
+    (9, "arrival is that of the latest phase, not of the latest output"),
+    (10, "the area of one-pin cells is left out"),
+    (11, "refusal 15 names the highest waiting AND"),
+    (12, "leading zeros are accepted"),
+    (13, "a cell matches only where a pin is fed from the cut's last leaf"),
+    (14, "the mask's phase is dropped from the fed net"),
+    (15, "the delay of a pin is taken at its place"),
+    (16, "text memory of exactly the length is refused"),
+    (17, "I + A = M is refused"),
+    (18, "inputs are printed by number, not in the file's order"),
+    (19, "an ignored pin's delay is left out of the arrival"),
+    (20, "a repeated name is tried after the absent pins"),
+];

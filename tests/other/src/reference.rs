@@ -1,0 +1,622 @@
+//! Another mapper, plain and slow. Quoted sentences are document 01's.
+
+use std::collections::{BTreeMap, BTreeSet};
+
+#[derive(Clone, Copy, Debug, Default, PartialEq, Eq)]
+pub struct Answer {
+    pub number: u32,
+    pub value: u32,
+    pub gates: u32,
+    pub area: u32,
+    pub arrival: u32,
+}
+
+#[derive(Clone, Copy, Debug, PartialEq, Eq)]
+pub struct Refusal {
+    pub number: u32,
+    pub place: u32,
+}
+
+fn refuse<T>(number: u32, place: usize) -> Result<T, Refusal> {
+    Err(Refusal { number, place: place as u32 })
+}
+
+/// What is printed, with its three figures.
+#[derive(Clone, Debug, PartialEq, Eq)]
+pub struct Printed {
+    pub text: Vec<u8>,
+    pub gates: u32,
+    pub area: u32,
+    pub arrival: u32,
+}
+
+/// The whole mapper: the answer, and the netlist if it succeeds.
+pub fn map(cells: &[u8], graph: &[u8], words: usize, text_len: usize) -> (Answer, Vec<u8>) {
+    answer(print_all(cells, graph, words), text_len)
+}
+
+/// "Text memory is shorter than the netlist" and the form of the answer.
+pub fn answer(printed: Result<Printed, Refusal>, text_len: usize) -> (Answer, Vec<u8>) {
+    let printed = printed.and_then(|printed| {
+        let length = printed.text.len();
+        let short = plain_or!(16, text_len < length, text_len <= length);
+        if short {
+            refuse(18, length)
+        } else {
+            Ok(printed)
+        }
+    });
+    match printed {
+        Err(Refusal { number, place }) => (Answer { number, value: place, ..Answer::default() }, Vec::new()),
+        Ok(Printed { text, gates, area, arrival }) => {
+            (Answer { number: 0, value: text.len() as u32, gates, area, arrival }, text)
+        }
+    }
+}
+
+/// Refusals 1 to 17, or the netlist.
+pub fn print_all(cells: &[u8], graph: &[u8], words: usize) -> Result<Printed, Refusal> {
+    if cells.len() > 65_536 || graph.len() > 65_536 {
+        return refuse(1, 0);
+    }
+    let library = read_library(cells)?;
+    let graph = read_graph(graph, words)?;
+    let order = placing_order(&graph)?;
+    let cuts = cut_lists(&graph, &order)?;
+    let mapped = cover(&library, &graph, &order, &cuts);
+    for (index, &literal) in graph.outputs.iter().enumerate() {
+        if !mapped.contains_key(&phase_of(literal)) {
+            return refuse(17, index);
+        }
+    }
+    Ok(netlist(&library, &graph, &cuts, &mapped))
+}
+
+// ---------------------------------------------------------------- texts
+
+/// The bytes from `offset` up to the next byte 10, or none without one.
+fn line_at(text: &[u8], offset: usize) -> Option<&[u8]> {
+    let rest = &text[offset..];
+    rest.iter().position(|&byte| byte == b'\n').map(|end| &rest[..end])
+}
+
+/// The fields of a line if there are as many as wanted; two spaces in a row
+/// make an empty field, which no field's form allows.
+fn fields(line: &[u8], wanted: usize) -> Option<Vec<&[u8]>> {
+    let fields: Vec<&[u8]> = line.split(|&byte| byte == b' ').collect();
+    (fields.len() == wanted).then_some(fields)
+}
+
+/// "decimal, 0 to 65,535, without leading zeros"
+fn number(field: &[u8]) -> Option<u32> {
+    let digits = field.iter().all(|byte| byte.is_ascii_digit());
+    let leading_zero = plain_or!(12, field.len() > 1 && field[0] == b'0', false);
+    if field.is_empty() || field.len() > 5 || !digits || leading_zero {
+        return None;
+    }
+    let value = field.iter().fold(0, |value, digit| 10 * value + u32::from(digit - b'0'));
+    (value <= 65_535).then_some(value)
+}
+
+fn numbers(fields: &[&[u8]]) -> Option<Vec<u32>> {
+    fields.iter().map(|field| number(field)).collect()
+}
+
+// ---------------------------------------------------------------- library
+
+#[derive(Clone, Debug, PartialEq, Eq)]
+pub struct Cell {
+    pub name: String,
+    pub pins: usize,
+    pub table: u16,
+    pub area: u32,
+    pub delays: [u32; 4],
+}
+
+const NAMES: &[u8] = b"cell pins table area d0 d1 d2 d3";
+
+/// Refusals 2 to 6.
+pub fn read_library(text: &[u8]) -> Result<Vec<Cell>, Refusal> {
+    if line_at(text, 0) != Some(NAMES) {
+        return refuse(2, 0);
+    }
+    let mut offset = NAMES.len() + 1;
+    let mut cells: Vec<Cell> = Vec::new();
+    while offset < text.len() {
+        if cells.len() == 32 {
+            return refuse(3, offset);
+        }
+        let line = line_at(text, offset);
+        let Some(cell) = line.and_then(read_cell) else {
+            return refuse(4, offset);
+        };
+        let repeated = cells.iter().any(|earlier| earlier.name == cell.name);
+        if plain_or!(20, repeated, repeated && absent_pins_are_zero(&cell)) {
+            return refuse(5, offset);
+        }
+        if !absent_pins_are_zero(&cell) {
+            return refuse(6, offset);
+        }
+        offset += line.map_or(0, <[u8]>::len) + 1;
+        cells.push(cell);
+    }
+    Ok(cells)
+}
+
+fn read_cell(line: &[u8]) -> Option<Cell> {
+    let fields = fields(line, 8)?;
+    let [name, pins, table] = [fields[0], fields[1], fields[2]];
+    let figures = numbers(&fields[3..])?;
+    let name_is_good = (1..=8).contains(&name.len())
+        && name[0].is_ascii_alphabetic()
+        && name.iter().all(|&byte| byte.is_ascii_alphanumeric() || byte == b'_');
+    let pins_are_good = pins.len() == 1 && (b'0'..=b'4').contains(&pins[0]);
+    let table_is_good = table.len() == 4 && table.iter().all(|byte| b"0123456789abcdef".contains(byte));
+    if !name_is_good || !pins_are_good || !table_is_good {
+        return None;
+    }
+    Some(Cell {
+        name: String::from_utf8(name.to_vec()).ok()?,
+        pins: usize::from(pins[0] - b'0'),
+        table: u16::from_str_radix(std::str::from_utf8(table).ok()?, 16).ok()?,
+        area: figures[0],
+        delays: [figures[1], figures[2], figures[3], figures[4]],
+    })
+}
+
+/// "A table bit at or above row 2^pins, or the delay of an absent pin, isn't
+/// 0", turned round.
+fn absent_pins_are_zero(cell: &Cell) -> bool {
+    (1 << cell.pins..16).all(|row| cell.table >> row & 1 == 0) && (cell.pins..4).all(|pin| cell.delays[pin] == 0)
+}
+
+// ---------------------------------------------------------------- graph
+
+#[derive(Clone, Debug)]
+pub struct Graph {
+    pub top: usize,
+    /// Variables in the file's order.
+    pub inputs: Vec<u16>,
+    /// Literals in the file's order.
+    pub outputs: Vec<u32>,
+    /// The operands of the variables that are ANDs, by variable.
+    pub operands: Vec<Option<(u32, u32)>>,
+}
+
+/// M, I, L, O, A.
+fn read_header(line: &[u8]) -> Option<[usize; 5]> {
+    let fields = fields(line, 6)?;
+    let figures = numbers(&fields[1..])?;
+    let [m, i, l, o, a] = [0, 1, 2, 3, 4].map(|index: usize| figures[index] as usize);
+    (fields[0] == b"aag").then_some([m, i, l, o, a])
+}
+
+/// The words of work memory that a graph text asks for, if its header reads.
+pub fn words_needed(text: &[u8]) -> Option<usize> {
+    let [m, _, _, o, _] = line_at(text, 0).and_then(read_header)?;
+    Some(160 * (m + 1) + o)
+}
+
+/// Refusals 7 to 14.
+pub fn read_graph(text: &[u8], words: usize) -> Result<Graph, Refusal> {
+    let header = line_at(text, 0);
+    let Some([m, i, l, o, a]) = header.and_then(read_header) else {
+        return refuse(7, 0);
+    };
+    if l != 0 {
+        return refuse(8, 0);
+    }
+    if m > 4_095 || o > 4_096 || plain_or!(17, i + a > m, i + a >= m && m > 0) {
+        return refuse(9, 0);
+    }
+    if words < 160 * (m + 1) + o {
+        return refuse(10, 0);
+    }
+
+    let mut graph = Graph { top: m, inputs: Vec::new(), outputs: Vec::new(), operands: vec![None; m + 1] };
+    let mut defined: BTreeSet<u16> = BTreeSet::new();
+    let mut uses: Vec<(usize, u16)> = Vec::new();
+    let mut offset = header.map_or(0, <[u8]>::len) + 1;
+    for due in 0..i + o + a {
+        let (is_output, is_and) = (due >= i && due < i + o, due >= i + o);
+        let line = line_at(text, offset);
+        let literals = line.and_then(|line| numbers(&fields(line, if is_and { 3 } else { 1 })?));
+        let Some(literals) = literals else {
+            return refuse(11, offset);
+        };
+        let first = literals[0];
+        let variable = (first / 2) as u16;
+        if literals.iter().any(|&literal| literal as usize > 2 * m + 1) {
+            return refuse(12, offset);
+        }
+        if !is_output && (first % 2 == 1 || first == 0) {
+            return refuse(12, offset);
+        }
+        if !is_output && !defined.insert(variable) {
+            return refuse(13, offset);
+        }
+        if is_output {
+            graph.outputs.push(first);
+            uses.push((offset, variable));
+        } else if is_and {
+            graph.operands[usize::from(variable)] = Some((literals[1], literals[2]));
+            uses.push((offset, (literals[1] / 2) as u16));
+            uses.push((offset, (literals[2] / 2) as u16));
+        } else {
+            graph.inputs.push(variable);
+        }
+        offset += line.map_or(0, <[u8]>::len) + 1;
+    }
+    for (offset, variable) in uses {
+        if variable != 0 && !defined.contains(&variable) {
+            return refuse(14, offset);
+        }
+    }
+    Ok(graph)
+}
+
+/// "variable 0 and the inputs first, then again and again the lowest-numbered
+/// AND whose operands are both placed"
+pub fn placing_order(graph: &Graph) -> Result<Vec<u16>, Refusal> {
+    let mut order: Vec<u16> = vec![0];
+    order.extend(&graph.inputs);
+    let mut placed = vec![false; graph.top + 1];
+    for &variable in &order {
+        placed[usize::from(variable)] = true;
+    }
+    let mut waiting: Vec<u16> = Vec::new();
+    for variable in 1..=graph.top {
+        if graph.operands[variable].is_some() {
+            waiting.push(variable as u16);
+        }
+    }
+    loop {
+        let is_ready = |variable: &u16| {
+            let operands = graph.operands[usize::from(*variable)];
+            operands.is_some_and(|(a, b)| placed[a as usize / 2] && placed[b as usize / 2])
+        };
+        let lowest = waiting.iter().position(is_ready);
+        let next = plain_or!(4, lowest, waiting.iter().position(|v| order.last() < Some(v) && is_ready(v)).or(lowest));
+        let Some(index) = next else { break };
+        let variable = waiting.remove(index);
+        placed[usize::from(variable)] = true;
+        order.push(variable);
+    }
+    let stuck = plain_or!(11, waiting.first(), waiting.last());
+    match stuck {
+        Some(&stuck) => refuse(15, usize::from(stuck)),
+        None => Ok(order),
+    }
+}
+
+// ---------------------------------------------------------------- cuts
+
+/// A cut as it is sorted: size, then ascending leaves.
+type Cut = (usize, Vec<u16>);
+
+fn cut(leaves: BTreeSet<u16>) -> Cut {
+    (plain_or!(6, leaves.len(), 0), leaves.into_iter().collect())
+}
+
+/// The leaves of every cut of every placed variable, in the listed order;
+/// refusal 16.
+pub fn cut_lists(graph: &Graph, order: &[u16]) -> Result<Vec<Vec<Vec<u16>>>, Refusal> {
+    let mut lists: Vec<Vec<Vec<u16>>> = vec![Vec::new(); graph.top + 1];
+    for &variable in order {
+        let mut set: BTreeSet<Cut> = BTreeSet::new();
+        if variable == 0 {
+            set.insert(cut(BTreeSet::new()));
+        } else {
+            set.insert(cut(BTreeSet::from([variable])));
+        }
+        if let Some((a, b)) = graph.operands[usize::from(variable)] {
+            for one in &lists[a as usize / 2] {
+                for other in &lists[b as usize / 2] {
+                    let union: BTreeSet<u16> = one.iter().chain(other).copied().collect();
+                    if union.len() <= plain_or!(5, 4, 3) {
+                        set.insert(cut(union));
+                    }
+                }
+            }
+            if set.len() > plain_or!(1, 24, 25) {
+                return refuse(16, usize::from(variable));
+            }
+        }
+        lists[usize::from(variable)] = set.into_iter().map(|(_, leaves)| leaves).collect();
+    }
+    Ok(lists)
+}
+
+/// The 16 rows in which leaf number `place` is 1.
+fn column(place: usize) -> u16 {
+    (0..16).filter(|row| row >> place & 1 == 1).map(|row| 1 << row).sum()
+}
+
+/// A cut's function: "from the root down, a leaf gives its bit and the walk
+/// stops there; variable 0 gives 0; an AND gives the AND of its literals".
+pub fn function(graph: &Graph, root: u16, leaves: &[u16]) -> u16 {
+    walk(graph, root, leaves, &mut BTreeMap::new())
+}
+
+fn walk(graph: &Graph, variable: u16, leaves: &[u16], known: &mut BTreeMap<u16, u16>) -> u16 {
+    if let Some(place) = leaves.iter().position(|&leaf| leaf == variable) {
+        if plain_or!(3, true, !operands_are_leaves(graph, variable, leaves)) {
+            return column(place);
+        }
+    }
+    let Some((a, b)) = graph.operands[usize::from(variable)] else {
+        return 0;
+    };
+    if let Some(&rows) = known.get(&variable) {
+        return rows;
+    }
+    let mut rows = 0xffff;
+    for literal in [a, b] {
+        let below = walk(graph, (literal / 2) as u16, leaves, known);
+        rows &= if literal % 2 == 1 { !below } else { below };
+    }
+    known.insert(variable, rows);
+    rows
+}
+
+#[cfg(feature = "mutants")]
+fn operands_are_leaves(graph: &Graph, variable: u16, leaves: &[u16]) -> bool {
+    let operands = graph.operands[usize::from(variable)];
+    operands.is_some_and(|(a, b)| leaves.contains(&((a / 2) as u16)) && leaves.contains(&((b / 2) as u16)))
+}
+
+// ---------------------------------------------------------------- matching
+
+/// "The 24 orders of places 0 to 3 stand in lexicographic order"
+pub fn orders() -> Vec<[usize; 4]> {
+    let mut orders = Vec::new();
+    for number in 0..256usize {
+        let order = [number >> 6 & 3, number >> 4 & 3, number >> 2 & 3, number & 3];
+        if (0..4).all(|place| order.contains(&place)) {
+            orders.push(order);
+        }
+    }
+    orders
+}
+
+/// "the row whose bit j is the bit of r at the order's place j"
+pub fn fed_row(order: [usize; 4], row: usize) -> usize {
+    (0..4).map(|j| (row >> order[j] & 1) << j).sum()
+}
+
+/// One way to feed a cell, and how many leaves a cut must have for the places
+/// of its pins.
+struct Fed {
+    cell: usize,
+    order: usize,
+    mask: usize,
+    places: [usize; 4],
+    reach: usize,
+}
+
+/// Every cell under every order and mask, in that order, by the table that it
+/// then gives over the 16 rows of a cut.
+struct Library<'a> {
+    cells: &'a [Cell],
+    fed: BTreeMap<u16, Vec<Fed>>,
+}
+
+impl<'a> Library<'a> {
+    fn new(cells: &'a [Cell]) -> Library<'a> {
+        let mut fed: BTreeMap<u16, Vec<Fed>> = BTreeMap::new();
+        for (line, cell) in cells.iter().enumerate() {
+            for (number, &places) in orders().iter().enumerate() {
+                for mask in 0..1 << cell.pins {
+                    let gives = |row: &usize| {
+                        let pins = (fed_row(places, *row) ^ mask) % (1 << cell.pins);
+                        cell.table >> pins & 1 == 1
+                    };
+                    let table = (0..16).filter(gives).map(|row| 1 << row).sum();
+                    let reach = (0..cell.pins).map(|pin| places[pin] + 1).max().unwrap_or(0);
+                    let one = Fed { cell: line, order: number, mask, places, reach };
+                    fed.entry(table).or_default().push(one);
+                }
+            }
+        }
+        Library { cells, fed }
+    }
+
+    /// The ways that match a cut of so many leaves with this function.
+    fn matching(&self, table: u16, leaves: usize) -> impl Iterator<Item = &Fed> {
+        let all = self.fed.get(&table).map_or(&[][..], |list| list);
+        all.iter().filter(move |fed| plain_or!(13, fed.reach <= leaves, fed.reach == leaves))
+    }
+}
+
+// ---------------------------------------------------------------- cover
+
+/// A variable, and whether the phase is the negative one.
+pub type Phase = (u16, bool);
+
+pub fn phase_of(literal: u32) -> Phase {
+    ((literal / 2) as u16, literal % 2 == 1)
+}
+
+#[derive(Clone, Copy, Debug, PartialEq, Eq)]
+pub enum Source {
+    Input,
+    /// Numbers of cut, cell line, order, and the mask.
+    Cell {
+        cut: usize,
+        cell: usize,
+        order: usize,
+        mask: usize,
+    },
+    Inverter {
+        cell: usize,
+    },
+}
+
+#[derive(Clone, Copy, Debug, PartialEq, Eq)]
+pub struct Net {
+    pub arrival: u32,
+    pub source: Source,
+}
+
+/// The phases that have a source.
+pub type Mapped = BTreeMap<Phase, Net>;
+
+/// The phases that feed a source, with the delays of the pins they feed.
+pub fn feeds(cells: &[Cell], cuts: &[Vec<Vec<u16>>], phase: Phase, source: Source) -> Vec<(Phase, u32)> {
+    let (variable, negative) = phase;
+    match source {
+        Source::Input => Vec::new(),
+        Source::Inverter { cell } => vec![((variable, !negative), cells[cell].delays[0])],
+        Source::Cell { cut, cell, order, mask } => {
+            let (cell, places) = (&cells[cell], orders()[order]);
+            let leaves = &cuts[usize::from(variable)][cut];
+            let fed_by = |pin: usize| (leaves[places[pin]], mask >> pin & 1 == 1);
+            (0..cell.pins).map(|pin| (fed_by(pin), cell.delays[pin])).collect()
+        }
+    }
+}
+
+/// "In the state each phase is one of these sources with its data, or none":
+/// every phase's source by the choice, where it has one.
+pub fn cover(cells: &[Cell], graph: &Graph, order: &[u16], cuts: &[Vec<Vec<u16>>]) -> Mapped {
+    let library = Library::new(cells);
+    let inverters = cells.iter().enumerate().filter(|(_, cell)| cell.pins == 1 && cell.table == 0x0001);
+    let inverter = inverters.min_by_key(|(line, cell)| (cell.delays[0], plain_or!(8, *line, 99 - *line)));
+    let mut mapped = Mapped::new();
+    for &variable in order {
+        let lists = &cuts[usize::from(variable)];
+        let own = [false, true].map(|negative| {
+            if graph.inputs.contains(&variable) {
+                return (!negative).then_some(Net { arrival: 0, source: Source::Input });
+            }
+            matched(&library, graph, &mapped, variable, negative, lists)
+        });
+        for (negative, own, opposite) in [(false, own[0], own[1]), (true, own[1], own[0])] {
+            let inverted = opposite.zip(inverter).map(|(opposite, (line, cell))| Net {
+                arrival: opposite.arrival + cell.delays[0],
+                source: Source::Inverter { cell: line },
+            });
+            // "earliest arrival; then a matched cell before the inverter"
+            let net = match (own, inverted) {
+                (Some(own), Some(inverted))
+                    if plain_or!(2, inverted.arrival < own.arrival, inverted.arrival <= own.arrival) =>
+                {
+                    Some(inverted)
+                }
+                (own, inverted) => own.or(inverted),
+            };
+            if let Some(net) = net {
+                mapped.insert((variable, negative), net);
+            }
+        }
+    }
+    mapped
+}
+
+/// What the choice compares: arrival, cut, cell line, order number, mask.
+type Rank = (u32, usize, usize, usize, usize);
+
+/// The best matched cell on a cut other than the variable alone: "earliest
+/// arrival; [...] then cut, cell line, order number, mask, lowest first".
+fn matched(
+    library: &Library,
+    graph: &Graph,
+    mapped: &Mapped,
+    variable: u16,
+    negative: bool,
+    cuts: &[Vec<u16>],
+) -> Option<Net> {
+    let mut best: Option<(Rank, Net)> = None;
+    for (number, leaves) in cuts.iter().enumerate() {
+        if *leaves == [variable] {
+            continue;
+        }
+        let positive = function(graph, variable, leaves);
+        let table = if negative { !positive } else { positive };
+        for fed in library.matching(table, leaves.len()) {
+            let cell = &library.cells[fed.cell];
+            let mut arrival = Some(0);
+            for pin in 0..cell.pins {
+                let feeding = mapped.get(&(leaves[fed.places[pin]], fed.mask >> pin & 1 == 1));
+                let delay = plain_or!(15, cell.delays[pin], cell.delays[fed.places[pin]]);
+                let counts = plain_or!(19, true, !is_ignored(cell, pin));
+                let later = |net: &Net| net.arrival + if counts { delay } else { 0 };
+                arrival = arrival.zip(feeding).map(|(latest, net): (u32, &Net)| latest.max(later(net)));
+            }
+            let Some(arrival) = arrival else { continue };
+            let rank = plain_or!(
+                7,
+                (arrival, number, fed.cell, fed.order, fed.mask),
+                (arrival, fed.cell, number, fed.order, fed.mask)
+            );
+            if best.is_none_or(|(lowest, _)| rank < lowest) {
+                let source = Source::Cell { cut: number, cell: fed.cell, order: fed.order, mask: fed.mask };
+                best = Some((rank, Net { arrival, source }));
+            }
+        }
+    }
+    best.map(|(_, net)| net)
+}
+
+#[cfg(feature = "mutants")]
+fn is_ignored(cell: &Cell, pin: usize) -> bool {
+    (0..1 << cell.pins).all(|row| cell.table >> row & 1 == cell.table >> (row ^ 1 << pin) & 1)
+}
+
+// ---------------------------------------------------------------- netlist
+
+pub fn net_name((variable, negative): Phase) -> String {
+    format!("{}{variable}", if negative { 'm' } else { 'p' })
+}
+
+/// "A phase is needed if an output is that phase or the source of a needed
+/// phase is fed by it": the least such set.
+pub fn needed(cells: &[Cell], graph: &Graph, cuts: &[Vec<Vec<u16>>], mapped: &Mapped) -> BTreeSet<Phase> {
+    let mut needed = BTreeSet::new();
+    let mut asked: Vec<Phase> = graph.outputs.iter().map(|&literal| phase_of(literal)).collect();
+    while let Some(phase) = asked.pop() {
+        if needed.insert(phase) {
+            let feeding = feeds(cells, cuts, phase, mapped[&phase].source);
+            asked.extend(feeding.into_iter().map(|(feeding, _)| feeding));
+        }
+    }
+    needed
+}
+
+fn netlist(cells: &[Cell], graph: &Graph, cuts: &[Vec<Vec<u16>>], mapped: &Mapped) -> Printed {
+    let mut text = String::from(".model top\n.inputs");
+    let inputs = plain_or!(18, graph.inputs.clone(), Vec::from_iter(BTreeSet::from_iter(graph.inputs.clone())));
+    for &variable in &inputs {
+        text += &format!(" {}", net_name((variable, false)));
+    }
+    text += "\n.outputs";
+    for &literal in &graph.outputs {
+        text += &format!(" {}", net_name(phase_of(literal)));
+    }
+    text += "\n";
+    let (mut gates, mut area) = (0, 0);
+    let needed = needed(cells, graph, cuts, mapped);
+    for (&phase, net) in mapped {
+        let cell = match net.source {
+            Source::Input => continue,
+            Source::Cell { cell, .. } | Source::Inverter { cell } => &cells[cell],
+        };
+        if !needed.contains(&phase) {
+            continue;
+        }
+        text += &format!(".gate {}", cell.name);
+        for ((feeding, _), pin) in feeds(cells, cuts, phase, net.source).into_iter().zip("ABCD".chars()) {
+            let fed_by =
+                plain_or!(14, feeding, (feeding.0, feeding.1 && matches!(net.source, Source::Inverter { .. })));
+            text += &format!(" {pin}={}", net_name(fed_by));
+        }
+        text += &format!(" O={}\n", net_name(phase));
+        gates += 1;
+        area += plain_or!(10, cell.area, if cell.pins == 1 { 0 } else { cell.area });
+    }
+    let outputs = graph.outputs.iter().map(|&literal| mapped[&phase_of(literal)].arrival);
+    let latest = plain_or!(9, outputs.max(), mapped.values().map(|net| net.arrival).max());
+    let arrival = latest.unwrap_or(0);
+    text += &format!(".end\n# gates {gates} area {area} arrival {arrival}\n");
+    Printed { text: text.into_bytes(), gates, area, arrival }
+}

@@ -1,0 +1,37 @@
+//! Every mutant of the reference is caught by a check of `tests/document.rs`.
+
+use other::{checks, mutants};
+use std::panic::catch_unwind;
+
+type Checks = [(&'static str, fn() -> checks::Check); 7];
+
+const CHECKS: Checks = [
+    ("marked_cases", checks::marked),
+    ("limits", checks::limits),
+    ("faults", || checks::faults(8_000, 1)),
+    ("damage", checks::damage),
+    ("netlists", || checks::netlists(1_500, 1)),
+    ("every_small_graph", checks::every_small_graph),
+    ("all_covers", || checks::all_covers(1_500, 1)),
+];
+
+#[test]
+fn every_mutant_is_caught() {
+    std::panic::set_hook(Box::new(|_| {}));
+    let mut missed = Vec::new();
+    println!("| mutant | what is wrong | caught by |\n|---|---|---|");
+    for (number, what) in [(0, "nothing")].into_iter().chain(mutants::LIST) {
+        mutants::switch(number);
+        let caught: Vec<&str> = CHECKS
+            .iter()
+            .filter(|(_, check)| !matches!(catch_unwind(check), Ok(Ok(_))))
+            .map(|(name, _)| *name)
+            .collect();
+        println!("| {number} | {what} | {} |", caught.join(", "));
+        if caught.is_empty() == (number != 0) {
+            missed.push(number);
+        }
+    }
+    let _ = std::panic::take_hook();
+    assert!(missed.is_empty(), "not as it should be: {missed:?}");
+}
