@@ -1,0 +1,146 @@
+// Each case of the standard input is three parts, each ended by byte 0: four numbers a b c d, which lend 16 a + b words and 16 c + d bytes, a
+// library text and a graph text. For each the five values of the answer are printed, and then the netlist. The other mapper writes the cases and
+// what must be printed (tests/other/src/bin/cases.rs).
+use libc::STDIN_FILENO;
+use libc::STDOUT_FILENO;
+use model::Answer;
+use text::Cursor;
+use text::Number;
+ghost use Prim.Native.Nat.{_≤_};
+ghost use lib.ListN.{length};
+
+// The place of the next byte 0, or the end.
+fn part_end(s: &[u8], from: usize) -> usize
+    requires { ⌜ from ≤ length (now s) ⌝ }
+    ensures { λ r. ⌜ (from ≤ r) × (r ≤ length (now (s .entry))) ⌝ }
+{
+    let mut at = from;
+    while at < s.len() {
+        if s[at] == 0 {
+            return at;
+        }
+        at += 1;
+    }
+    at
+}
+
+fn wide(x: u16) -> usize
+    ensures { λ r. ⌜ r ≤ 65535 ⌝ }
+{
+    x as usize
+}
+
+fn show(n: u64) {
+    io::print_decimal(STDOUT_FILENO, n);
+    io::write_all(STDOUT_FILENO, b" ");
+}
+
+fn show_answer(a: Answer) {
+    match a {
+        Answer::Mapped(n, f) => {
+            show(0);
+            show(n as u64);
+            show(f.gates as u64);
+            show(f.area as u64);
+            show(f.arrival as u64);
+        }
+        Answer::Refused(number, place) => {
+            show(number as u64);
+            show(place as u64);
+            show(0);
+            show(0);
+            show(0);
+        }
+    }
+}
+
+fn show_netlist(a: Answer, text: &[u8]) {
+    match a {
+        Answer::Mapped(n, _) => {
+            if n <= text.len() {
+                io::write_all(STDOUT_FILENO, &text[..n]);
+            }
+        }
+        Answer::Refused(_, _) => {}
+    }
+}
+
+fn map_lent(cells: &[u8], graph: &[u8], work: &mut [u16], text: &mut [u8]) {
+    let a = mapper::map_texts(cells, graph, work, text);
+    show_answer(a);
+    io::write_all(STDOUT_FILENO, b"\n");
+    show_netlist(a, text);
+}
+
+// Two numbers a b, 16 a + b.
+fn amount(c: Cursor, s: &[u8]) -> Number {
+    c.number_then(s, 32)
+}
+
+fn map_case(
+    words: usize,
+    bytes: usize,
+    cells: &[u8],
+    graph: &[u8],
+    work: &mut [u16],
+    text: &mut [u8],
+) {
+    if words <= work.len() {
+        if bytes <= text.len() {
+            map_lent(cells, graph, &mut work[..words], &mut text[..bytes]);
+        }
+    }
+}
+
+fn sixteen(a: u16, b: u16) -> usize
+    ensures { λ r. ⌜ r ≤ 1114110 ⌝ }
+{
+    wide(a) * 16 + wide(b)
+}
+
+fn map_with(lent: &[u8], cells: &[u8], graph: &[u8], work: &mut [u16], text: &mut [u8]) {
+    let c = Cursor { at: 0 };
+    match amount(c, lent) {
+        Number::Value(a, c1) => match amount(c1, lent) {
+            Number::Value(b, c2) => match amount(c2, lent) {
+                Number::Value(d, c3) => match c3.number(lent) {
+                    Number::Value(e, _) => {
+                        map_case(sixteen(a, b), sixteen(d, e), cells, graph, work, text)
+                    }
+                    Number::Broken => {}
+                },
+                Number::Broken => {}
+            },
+            Number::Broken => {}
+        },
+        Number::Broken => {}
+    }
+}
+
+fn each(s: &[u8], work: &mut [u16], text: &mut [u8]) {
+    let mut from = 0;
+    while from < s.len() {
+        let a = part_end(s, from);
+        if a == s.len() {
+            return;
+        }
+        let b = part_end(s, a + 1);
+        if b == s.len() {
+            return;
+        }
+        let c = part_end(s, b + 1);
+        if c == s.len() {
+            return;
+        }
+        map_with(&s[from..a], &s[a + 1..b], &s[b + 1..c], work, text);
+        from = c + 1;
+    }
+}
+
+fn main() {
+    let mut input = [0u8; 262144];
+    let mut work = [0u16; 659456];
+    let mut text = [0u8; 65536];
+    let n = io::read_full(STDIN_FILENO, &mut input);
+    each(&input[..n], &mut work, &mut text);
+}

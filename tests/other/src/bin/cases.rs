@@ -1,0 +1,77 @@
+//! The cases of the program crate `map_run` and what it must print:
+//! `cases GRAPHS FOLDER` writes FOLDER/stdin and FOLDER/stdout.
+
+use other::reference::map;
+use std::{env, fs, path::PathBuf};
+
+const NAMES: &str = "cell pins table area d0 d1 d2 d3\n";
+const LISTED: &str = "inv 1 0001 1 10 0 0 0\nnand2 2 0007 2 20 20 0 0\n";
+
+struct Cases {
+    input: Vec<u8>,
+    printed: Vec<u8>,
+}
+
+impl Cases {
+    fn add(&mut self, cells: &str, graph: &str, words: usize, bytes: usize) {
+        let lent = format!("{} {} {} {}", words / 16, words % 16, bytes / 16, bytes % 16);
+        for part in [lent.as_bytes(), cells.as_bytes(), graph.as_bytes()] {
+            self.input.extend_from_slice(part);
+            self.input.push(0);
+        }
+        let (a, netlist) = map(cells.as_bytes(), graph.as_bytes(), words, bytes);
+        let line = format!("{} {} {} {} {} \n", a.number, a.value, a.gates, a.area, a.arrival);
+        self.printed.extend_from_slice(line.as_bytes());
+        self.printed.extend_from_slice(&netlist);
+    }
+}
+
+fn cells(n: usize) -> String {
+    (0..n).fold(NAMES.to_string(), |s, k| s + &format!("c{k} 0 0000 1 0 0 0 0\n"))
+}
+
+fn main() {
+    let mut args = env::args().skip(1).map(PathBuf::from);
+    let (graphs, folder) = (args.next().expect("GRAPHS"), args.next().expect("FOLDER"));
+    let read = |name: &str| fs::read_to_string(graphs.join(name)).expect("a graph or library");
+    let mut c = Cases { input: vec![], printed: vec![] };
+    let library = format!("{NAMES}{LISTED}");
+    let with = |line: &str| format!("{library}{line}\n");
+    let b = "aag 3 2 0 1 1\n2\n4\n6\n6 2 4\n";
+    let nor = "aag 3 2 0 1 1\n2\n4\n6\n6 3 5\n";
+    // the marked cases A to K; F and G are of the definitions, here F as a graph with outputs
+    c.add(&library, "aag 0 0 0 0 0\n", 32768, 65536);
+    c.add(&library, b, 32768, 65536);
+    for d in [35, 40, 41] {
+        c.add(&with(&format!("nor2 2 0001 2 {d} {d} 0 0")), nor, 32768, 65536);
+    }
+    c.add(&library, "aag 6 3 0 1 3\n2\n4\n6\n12\n8 2 4\n10 8 6\n12 8 10\n", 32768, 65536);
+    c.add(&with("tie0 0 0000 1 0 0 0 0"), "aag 0 0 0 1 0\n1\n", 32768, 65536);
+    c.add(&library, "aag 0 0 0 1 0\n1\n", 32768, 65536);
+    c.add(&library, "aag 2 0 0 0 2\n2 4 4\n4 2 2\n", 32768, 65536);
+    c.add(&library, "aag 3 1 0 1 2\n2\n4\n4 6 6\n6 2 2\n", 32768, 65536);
+    // the unmarked: M, cells, work and text memory, L, cuts
+    c.add(&library, "aag 4095 0 0 0 0\n", 655360, 65536);
+    c.add(&library, "aag 4095 0 0 0 0\n", 655359, 65536);
+    c.add(&library, "aag 4096 0 0 0 0\n", 659456, 65536);
+    c.add(&cells(32), b, 32768, 65536);
+    c.add(&cells(33), b, 32768, 65536);
+    for (words, bytes) in [(641, 117), (640, 117), (641, 116), (0, 0)] {
+        c.add(&library, b, words, bytes);
+    }
+    c.add(&library, "aag 1 0 1 0 0\n2 2\n", 32768, 65536);
+    c.add(&library, "aag 6 1 0 1 5\n2\n12\n4 2 2\n6 4 4\n8 6 6\n10 8 8\n12 10 8\n", 32768, 65536);
+    c.add(&library, "aag 6 1 0 1 5\n2\n12\n4 2 2\n6 4 4\n8 6 4\n10 6 8\n12 10 10\n", 32768, 65536);
+    // real graphs
+    for name in [
+        "b2g_w2.raw", "prio_n4_b2.b", "cmp3_w2.rs", "mult2.st", "gt_w2.st", "satadd_w3.dc2", "sorter4.st", "crc_w16_d4.st", "satinc_w6.rs", "alu_w2.rs",
+        "maxhold_n2_w4.st.shuf", "satinc_w10.dc2", "satadd_w8.raw", "nextpeak_n16_b4.rs", "onehot16.st", "peak_n4_w4_b2.yosys", "local_peak_n6_w4.dc2",
+    ] {
+        for library in ["tiny.txt", "array.txt", "full.txt"] {
+            c.add(&read(library), &read(&format!("{name}.aag")), 65536, 65536);
+        }
+    }
+    assert!(c.input.len() <= 262144);
+    fs::write(folder.join("stdin"), c.input).expect("stdin");
+    fs::write(folder.join("stdout"), c.printed).expect("stdout");
+}
