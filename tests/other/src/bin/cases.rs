@@ -50,6 +50,10 @@ fn main() {
     c.add(&library, "aag 0 0 0 1 0\n1\n", 32768, 65536);
     c.add(&library, "aag 2 0 0 0 2\n2 4 4\n4 2 2\n", 32768, 65536);
     c.add(&library, "aag 3 1 0 1 2\n2\n4\n4 6 6\n6 2 2\n", 32768, 65536);
+    // an AND over the last variable alone; inverters without delay, with both phases of equal arrival
+    c.add(&library, "aag 4 2 0 1 2\n2\n4\n6\n6 8 8\n8 2 4\n", 32768, 65536);
+    let free = format!("{NAMES}inv 1 0001 1 0 0 0 0\nnand2 2 0007 2 20 20 0 0\nand2 2 0008 2 20 20 0 0\n");
+    c.add(&free, "aag 3 2 0 2 1\n2\n4\n6\n7\n6 2 4\n", 32768, 65536);
     // the unmarked: M, cells, work and text memory, L, cuts
     c.add(&library, "aag 4095 0 0 0 0\n", 655360, 65536);
     c.add(&library, "aag 4095 0 0 0 0\n", 655359, 65536);
@@ -62,10 +66,56 @@ fn main() {
     c.add(&library, "aag 1 0 1 0 0\n2 2\n", 32768, 65536);
     c.add(&library, "aag 6 1 0 1 5\n2\n12\n4 2 2\n6 4 4\n8 6 6\n10 8 8\n12 10 8\n", 32768, 65536);
     c.add(&library, "aag 6 1 0 1 5\n2\n12\n4 2 2\n6 4 4\n8 6 4\n10 6 8\n12 10 10\n", 32768, 65536);
+    // refusals 2 to 7 and 11 to 15, each where the one before it does not apply, and where two apply
+    for line in [
+        "inv 1 0001 1 10 0 0 0",
+        "x 1 0001 01 10 0 0 0",
+        "x 1 0004 1 10 0 0 0",
+        "x 1 0001 1 10 0 0 1",
+        "x 1 0001 1 65536 0 0 0",
+        "x 5 0001 1 1 1 1 1",
+    ] {
+        c.add(&with(line), b, 32768, 65536);
+    }
+    c.add(&library[1..], b, 32768, 65536);
+    c.add(&library[..library.len() - 1], b, 32768, 65536);
+    for graph in [
+        "aag 3 2 0 1\n",
+        "aag 3 2 0 1 01\n2\n4\n6\n6 2 4\n",
+        "aag 3 2 0 1 1\n2\n4\n6\n6 2\n",
+        "aag 3 2 0 1 1\n2\n4\n6\n",
+        "aag 3 2 0 1 1\n2\n4\n8\n6 2 4\n",
+        "aag 3 2 0 1 1\n2\n5\n6\n6 2 4\n",
+        "aag 3 2 0 1 1\n2\n4\n6\n0 2 4\n",
+        "aag 3 2 0 1 1\n2\n2\n6\n6 2 4\n",
+        "aag 3 2 0 1 1\n2\n4\n6\n4 2 2\n",
+        "aag 4 2 0 1 1\n2\n4\n8\n6 2 4\n",
+        "aag 4 2 0 1 1\n2\n4\n6\n6 2 8\n",
+        "aag 4 2 0 2 1\n2\n4\n6\n8\n6 2 9\n",
+        "aag 4 1 0 1 3\n2\n8\n4 4 2\n6 4 4\n8 2 2\n",
+        "aag 3 2 0 1 1\n2\n4\n7\n6 2 4\nc\nwhat follows is not read",
+    ] {
+        c.add(&library, graph, 32768, 65536);
+    }
     // real graphs
     for name in [
-        "b2g_w2.raw", "prio_n4_b2.b", "cmp3_w2.rs", "mult2.st", "gt_w2.st", "satadd_w3.dc2", "sorter4.st", "crc_w16_d4.st", "satinc_w6.rs", "alu_w2.rs",
-        "maxhold_n2_w4.st.shuf", "satinc_w10.dc2", "satadd_w8.raw", "nextpeak_n16_b4.rs", "onehot16.st", "peak_n4_w4_b2.yosys", "local_peak_n6_w4.dc2",
+        "b2g_w2.raw",
+        "prio_n4_b2.b",
+        "cmp3_w2.rs",
+        "mult2.st",
+        "gt_w2.st",
+        "satadd_w3.dc2",
+        "sorter4.st",
+        "crc_w16_d4.st",
+        "satinc_w6.rs",
+        "alu_w2.rs",
+        "maxhold_n2_w4.st.shuf",
+        "satinc_w10.dc2",
+        "satadd_w8.raw",
+        "nextpeak_n16_b4.rs",
+        "onehot16.st",
+        "peak_n4_w4_b2.yosys",
+        "local_peak_n6_w4.dc2",
     ] {
         for library in ["tiny.txt", "array.txt", "full.txt"] {
             c.add(&read(library), &read(&format!("{name}.aag")), 65536, 65536);
