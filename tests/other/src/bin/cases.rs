@@ -52,6 +52,7 @@ fn main() {
     c.add(&library, "aag 3 1 0 1 2\n2\n4\n4 6 6\n6 2 2\n", 32768, 65536);
     // an AND over the last variable alone; inverters without delay, with both phases of equal arrival
     c.add(&library, "aag 4 2 0 1 2\n2\n4\n6\n6 8 8\n8 2 4\n", 32768, 65536);
+    c.add(&library, "aag 2 1 0 1 1\n4\n2\n2 4 4\n", 32768, 65536);
     let free = format!("{NAMES}inv 1 0001 1 0 0 0 0\nnand2 2 0007 2 20 20 0 0\nand2 2 0008 2 20 20 0 0\n");
     c.add(&free, "aag 3 2 0 2 1\n2\n4\n6\n7\n6 2 4\n", 32768, 65536);
     // the unmarked: M, cells, work and text memory, L, cuts
