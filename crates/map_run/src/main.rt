@@ -72,7 +72,7 @@ fn map_lent(cells: &[u8], graph: &[u8], work: &mut [u16], text: &mut [u8]) {
     show_netlist(a, text);
 }
 
-// Two numbers a b, 16 a + b.
+// A number and the space behind it.
 fn amount(c: Cursor, s: &[u8]) -> Number {
     c.number_then(s, 32)
 }
@@ -92,6 +92,7 @@ fn map_case(
     }
 }
 
+// 16 a + b: one number is at most 65,535, and 659,456 words are lent.
 fn sixteen(a: u16, b: u16) -> usize
     ensures { λ r. ⌜ r ≤ 1114110 ⌝ }
 {
