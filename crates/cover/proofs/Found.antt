@@ -17,25 +17,25 @@ use Rattle.model.specs.declared.Cell.{Cell}
 use Rattle.model.specs.declared.Library.{Library}
 use Rattle.words.specs.Layout.{countAt, functionAt}
 use Rattle.words.specs.Phases.{phasesAt}
-use Rattle.matching.specs.Best.{unmatched, bestOf, phaseAs}
+use Rattle.matching.specs.Best.{lastTime, unmatched, bestOf, phaseAs}
 use Rattle.matching.proofs.Choosing.{choose-append}
 use Rattle.matching.proofs.Arriving.{phase-late}
 use Rattle.matching.proofs.Walking.{walking-none}
 use Rattle.matching.proofs.Matching.{best-match-chosen}
 use Rattle.cover.specs.Asked.{cutOf}
-use Rattle.cover.specs.Choosing.{timesAt, foundOn, foundAt, foundFrom, bestAt, Early, ChainsIn}
+use Rattle.cover.specs.Choosing.{timesAt, foundOn, foundAt, foundFrom, bestAt, Early, SheetIn}
 use Rattle.cover.proofs.Leaves.{times-of, times-quick}
 
-module _ (lib : Library) (heads links : List ℕ) (h : ChainsIn lib heads links) (w : List ℕ) (m t : ℕ) (e : Early w m t) (small : t ≤ 4294901759)
+module _ (lib : Library) (sheet : List ℕ) (h : SheetIn lib sheet) (w : List ℕ) (m t : ℕ) (e : Early w m t) (small : t ≤ lastTime)
     (cut : List ℕ) (few : length cut ≤ 4) (inside : (j : ℕ) → j < length cut → getD cut j 0 ≤ m) (k f : ℕ) (table : f < 65536) where
-  pub on-best : phaseAs k (bestOf (cellsOf lib) (length cut) f (timesAt w m cut)) ≡ choose (foundOn (cellsOf lib) w m k cut f)
+  pub on-best : phaseAs k (bestOf (cellsOf lib) f (timesAt w m cut)) ≡ choose (foundOn (cellsOf lib) w m k cut f)
   unfolding foundOn
   on-best = best-match-chosen lib (phasesAt w m) cut (timesAt w m cut) k f (h .usable) table (times-of w m cut few) (times-quick w m cut t e small inside)
 
-  pub on-none : getD heads f 0 ≡ 0 → noPhase ≡ choose (foundOn (cellsOf lib) w m k cut f)
+  pub on-none : getD sheet f 0 ≡ 0 → noPhase ≡ choose (foundOn (cellsOf lib) w m k cut f)
   on-none z =
       sym (phase-late k unmatched (omega arith))
-      ∙ ap (phaseAs k) (walking-none (cellsOf lib) heads links f (length cut) (timesAt w m cut) (h .chained) table z)
+      ∙ ap (phaseAs k) (walking-none (cellsOf lib) sheet f (timesAt w m cut) (h .sheeted) table z)
       ∙ on-best
 
 module _ (cells : List Cell) (w : List ℕ) (m v : ℕ) (neg : Bool) where

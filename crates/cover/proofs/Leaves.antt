@@ -19,7 +19,7 @@ use Rattle.model.specs.declared.Cut.{Cut}
 use Rattle.model.specs.declared.Phase.{Phase}
 use Rattle.words.specs.Record.{leavesOf}
 use Rattle.words.specs.Phases.{phasesAt, phaseAt}
-use Rattle.matching.specs.Best.{never, timeOf, Timely, TimesOf, Quick}
+use Rattle.matching.specs.Best.{never, lastTime, timeOf, Timely, TimesOf, Quick}
 use Rattle.cover.specs.Choosing.{leafTime, timesAt, Early}
 
 pub size-few : (c : Cut) → length (c .leaves) ≡ 4 → c .count < 4 → c .count ≡ length (leavesOf c)
@@ -85,6 +85,18 @@ pub leaf-past : (w : List ℕ) (m : ℕ) (c : Cut) (i : ℕ) (neg : Bool) → le
 unfolding leafTime
 leaf-past w m c i neg h = sym (ap (λ (t : Bool). cond t (timeOf (phaseAt w m (literal neg (getD (leavesOf c) i 0)))) never) (le-ltb i (length (leavesOf c)) h))
 
+-- past the leaves there are zeros
+none : (i : ℕ) → getD (0 ∷ 0 ∷ 0 ∷ 0 ∷ 0 ∷ 0 ∷ 0 ∷ 0 ∷ []) i 0 ≤ never
+none zero = omega arith
+none (suc zero) = omega arith
+none (suc (suc zero)) = omega arith
+none (suc (suc (suc zero))) = omega arith
+none (suc (suc (suc (suc zero)))) = omega arith
+none (suc (suc (suc (suc (suc zero))))) = omega arith
+none (suc (suc (suc (suc (suc (suc zero)))))) = omega arith
+none (suc (suc (suc (suc (suc (suc (suc zero))))))) = omega arith
+none (suc (suc (suc (suc (suc (suc (suc (suc i)))))))) = omega arith
+
 module _ (w : List ℕ) (m : ℕ) (cut : List ℕ) where
   there : (i : ℕ) (neg : Bool) → i < length cut → leafTime w m cut i neg ≡ timeOf (phaseAt w m (literal neg (getD cut i 0)))
   unfolding leafTime
@@ -102,42 +114,48 @@ module _ (w : List ℕ) (m : ℕ) (cut : List ℕ) where
   times-get (suc (suc (suc zero))) true h = refl
   times-get (suc (suc (suc (suc i)))) neg h = absurd (omega arith)
 
-  pub times-of : length cut ≤ 4 → TimesOf (phasesAt w m) cut (timesAt w m cut)
-  unfolding TimesOf
-  times-of few i neg h = times-get i neg (omega arith) ∙ there i neg h
+  beyond : (i : ℕ) (neg : Bool) → length cut ≤ i → leafTime w m cut i neg ≡ never
+  unfolding leafTime
+  beyond i neg h = ap (λ (t : Bool). cond t (timeOf (phaseAt w m (literal neg (getD cut i 0)))) never) (le-ltb i (length cut) h)
 
-  module _ (t : ℕ) (e : Early w m t) (small : t ≤ 4294901759) (inside : (j : ℕ) → j < length cut → getD cut j 0 ≤ m) where
-    of-phase : (p : Phase) → p .arrival ≤ t → (timeOf p ≡ never → ⊥) → timeOf p ≤ 4294901759
+  pub times-of : length cut ≤ 4 → TimesOf (phasesAt w m) cut (timesAt w m cut)
+  times-of few = record { there = λ i neg h. times-get i neg (omega arith) ∙ there i neg h; past = λ i neg h f. times-get i neg f ∙ beyond i neg h }
+
+  module _ (t : ℕ) (e : Early w m t) (small : t ≤ lastTime) (inside : (j : ℕ) → j < length cut → getD cut j 0 ≤ m) where
+    of-phase : (p : Phase) → p .arrival ≤ t → timeOf p ≤ never
     unfolding timeOf
-    of-phase p h n = go (absent (p .source)) n
+    of-phase p h = go (absent (p .source))
       where
-        go : (b : Bool) → (cond b never (p .arrival) ≡ never → ⊥) → cond b never (p .arrival) ≤ 4294901759
-        go true d = absurd (d refl)
-        go false d = omega arith
+        go : (b : Bool) → cond b never (p .arrival) ≤ never
+        go true = omega arith
+        go false = omega arith
 
     leaf-early : (i : ℕ) (neg : Bool) → i < length cut → phaseAt w m (literal neg (getD cut i 0)) .arrival ≤ t
     leaf-early i neg h = e .early (literal neg (getD cut i 0)) (literal-small neg (getD cut i 0) m (inside i h))
 
-    leaf-timely : (i : ℕ) (neg : Bool) → (leafTime w m cut i neg ≡ never → ⊥) → leafTime w m cut i neg ≤ 4294901759
+    leaf-timely : (i : ℕ) (neg : Bool) → leafTime w m cut i neg ≤ never
     unfolding leafTime
-    leaf-timely i neg n = go (ltb i (length cut)) refl n
+    leaf-timely i neg = go (ltb i (length cut)) refl
       where
-        go : (b : Bool) → ltb i (length cut) ≡ b → (cond b (timeOf (phaseAt w m (literal neg (getD cut i 0)))) never ≡ never → ⊥)
-            → cond b (timeOf (phaseAt w m (literal neg (getD cut i 0)))) never ≤ 4294901759
-        go true q d = of-phase (phaseAt w m (literal neg (getD cut i 0))) (leaf-early i neg (ltb-true i (length cut) q)) d
-        go false q d = absurd (d refl)
+        go : (b : Bool) → ltb i (length cut) ≡ b → cond b (timeOf (phaseAt w m (literal neg (getD cut i 0)))) never ≤ never
+        go true q = of-phase (phaseAt w m (literal neg (getD cut i 0))) (leaf-early i neg (ltb-true i (length cut) q))
+        go false q = omega arith
+
+    bounded : (i : ℕ) → getD (timesAt w m cut) i 0 ≤ never
+    unfolding timesAt
+    bounded zero = leaf-timely 0 false
+    bounded (suc zero) = leaf-timely 0 true
+    bounded (suc (suc zero)) = leaf-timely 1 false
+    bounded (suc (suc (suc zero))) = leaf-timely 1 true
+    bounded (suc (suc (suc (suc zero)))) = leaf-timely 2 false
+    bounded (suc (suc (suc (suc (suc zero))))) = leaf-timely 2 true
+    bounded (suc (suc (suc (suc (suc (suc zero)))))) = leaf-timely 3 false
+    bounded (suc (suc (suc (suc (suc (suc (suc zero))))))) = leaf-timely 3 true
+    bounded (suc (suc (suc (suc (suc (suc (suc (suc i)))))))) = none i
 
     pub times-timely : Timely (timesAt w m cut)
-    unfolding Timely timesAt
-    times-timely zero n = leaf-timely 0 false n
-    times-timely (suc zero) n = leaf-timely 0 true n
-    times-timely (suc (suc zero)) n = leaf-timely 1 false n
-    times-timely (suc (suc (suc zero))) n = leaf-timely 1 true n
-    times-timely (suc (suc (suc (suc zero)))) n = leaf-timely 2 false n
-    times-timely (suc (suc (suc (suc (suc zero))))) n = leaf-timely 2 true n
-    times-timely (suc (suc (suc (suc (suc (suc zero)))))) n = leaf-timely 3 false n
-    times-timely (suc (suc (suc (suc (suc (suc (suc zero))))))) n = leaf-timely 3 true n
-    times-timely (suc (suc (suc (suc (suc (suc (suc (suc i)))))))) n = omega arith
+    unfolding timesAt
+    times-timely = record { bounded = bounded; still = refl }
 
     pub times-quick : Quick (phasesAt w m) cut
     unfolding Quick

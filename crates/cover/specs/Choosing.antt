@@ -1,5 +1,6 @@
 -- The choice for both phases of every variable, from the words and into them: `model`'s definitions, with the phases, cuts and functions that the
 -- words have. Assumes nothing.
+use mathlib.Core.Path.{_≡_}
 use Prim.Native.Nat.{ℕ, zero, suc, _+_, _*_, _≤_}
 use mathlib.Core.Bool.{Bool, true, false, cond}
 use mathlib.Core.List.{List, [], _∷_, _++_, map}
@@ -18,7 +19,10 @@ use Rattle.words.specs.Put.{putAt}
 use Rattle.words.specs.Layout.{slotAt, countAt, functionAt, positiveAddr, negativeAddr}
 use Rattle.words.specs.Record.{nodeAt}
 use Rattle.words.specs.Phases.{phaseWords, phasesAt, phaseAt}
-use Rattle.matching.specs.Variants.{Usable, Chained}
+use Rattle.matching.specs.Variants.{Usable}
+use Rattle.matching.specs.Sheet.{SheetOf}
+use Rattle.matching.specs.Inverters.{inverterOf}
+use Rattle.matching.specs.declared.Inverter.{Inverter}
 use Rattle.matching.specs.Best.{never, timeOf}
 use Rattle.cover.specs.Asked.{cutOf, SlotsIn, CutsIn}
 
@@ -29,12 +33,13 @@ unfoldable pub leafTime : List ℕ → ℕ → List ℕ → ℕ → Bool → ℕ
 unfolding timeOf
 leafTime w m cut i neg = cond (ltb i (length cut)) (timeOf (phaseAt w m (literal neg (getD cut i 0)))) never
 
--- the arrivals of up to four leaves
+-- the arrivals of up to four leaves, and what an absent pin waits for
 unfoldable pub timesAt : List ℕ → ℕ → List ℕ → List ℕ
 unfolding leafTime
 timesAt w m cut =
     leafTime w m cut 0 false ∷ leafTime w m cut 0 true ∷ leafTime w m cut 1 false ∷ leafTime w m cut 1 true
-    ∷ leafTime w m cut 2 false ∷ leafTime w m cut 2 true ∷ leafTime w m cut 3 false ∷ leafTime w m cut 3 true ∷ []
+    ∷ leafTime w m cut 2 false ∷ leafTime w m cut 2 true ∷ leafTime w m cut 3 false ∷ leafTime w m cut 3 true
+    ∷ 0 ∷ 0 ∷ 0 ∷ 0 ∷ 0 ∷ 0 ∷ 0 ∷ 0 ∷ []
 
 -- what the matches on a cut give, f its function in the phase
 unfoldable pub foundOn : List Cell → List ℕ → ℕ → ℕ → List ℕ → ℕ → List Phase
@@ -98,10 +103,15 @@ chosenUp cells w m (suc n) = chosenTurn cells (chosenUp cells w m n) m (slotAt (
 pub record Early (w : List ℕ) (m t : ℕ) : Type 0 where
   pub early : (l : ℕ) → l ≤ 2 * m + 1 → phaseAt w m l .arrival ≤ t
 
--- the library and its chains
-pub record ChainsIn (lib : Library) (heads links : List ℕ) : Type 0 where
+-- the sheet is of this library
+pub record SheetIn (lib : Library) (sheet : List ℕ) : Type 0 where
   pub usable : Usable lib
-  pub chained : Chained (cellsOf lib) heads links
+  pub sheeted : SheetOf (cellsOf lib) sheet
+
+-- and so is the inverter
+pub record ToolsIn (lib : Library) (sheet : List ℕ) (inv : Inverter) : Type 0 where
+  pub built : SheetIn lib sheet
+  pub inverter : inv ≡ inverterOf (cellsOf lib)
 
 -- the words before v is chosen: its cuts, and arrivals that leave room for two delays
 pub record Choosable (w : List ℕ) (m : ℕ) : Type 0 where

@@ -27,9 +27,10 @@ ghost use Rattle.truth.specs.Variant.{placesOf};
 ghost use Rattle.cover.specs.Asked.{cutOf, PinsIn, LeavesIn, OutputsIn, SlotsIn, CutsIn, MatchIn, MatchesIn};
 ghost use Rattle.matching.specs.Variants.{Usable};
 ghost use Rattle.matching.specs.Best.{timeOf};
-ghost use Rattle.matching.specs.Inverters.{inverterOf, inverted};
+ghost use Rattle.matching.specs.Inverters.{inverted};
+ghost use Rattle.model.specs.declared.Library.{Library};
 ghost use Rattle.matching.specs.declared.Inverter.the-variants.{Is};
-ghost use Rattle.cover.specs.Choosing.{leafTime, timesAt, foundOn, foundAt, bestAt, ownPhase, directAt, chosenTurn, chosenUp, Early, ChainsIn, Choosable, Unchosen};
+ghost use Rattle.cover.specs.Choosing.{leafTime, timesAt, foundOn, foundAt, bestAt, ownPhase, directAt, chosenTurn, chosenUp, Early, SheetIn, ToolsIn, Choosable, Unchosen};
 ghost use Rattle.cover.specs.Missing.{missing};
 ghost use Rattle.cover.specs.Marking.{netOf, putAll, putOutputs, feedsAt, fedOnce, fedTurn, fedDown, marked};
 
@@ -124,8 +125,8 @@ fn leaf_time(work: &[u16], m: usize, cut: Cut, i: usize, neg: usize) -> u32
     }
 }
 
-// The arrivals of the leaves of a cut: leaf i's at 2 i, positive, and 2 i + 1, negative.
-fn times(work: &[u16], m: usize, cut: Cut) -> [u32; 8]
+// The arrivals of the leaves of a cut: leaf i's at 2 i, positive, and 2 i + 1, negative. An absent pin waits for the 0 at 8.
+fn times(work: &[u16], m: usize, cut: Cut) -> [u32; 16]
     requires { ⌜ LeavesIn (now work) m cut ⌝ }
     ensures { λ r. ⌜ r ≡ timesAt (now (work .entry)) m (leavesOf cut) ⌝ }
 {
@@ -138,28 +139,34 @@ fn times(work: &[u16], m: usize, cut: Cut) -> [u32; 8]
         leaf_time(work, m, cut, 2, 1),
         leaf_time(work, m, cut, 3, 0),
         leaf_time(work, m, cut, 3, 1),
+        0,
+        0,
+        0,
+        0,
+        0,
+        0,
+        0,
+        0,
     ]
 }
 
 // The best match on a cut, f its function in the phase. Most functions are no cell's: then the leaves are not looked at.
 fn match_cut(
     work: &[u16],
-    lib: Library,
     m: usize,
     k: usize,
     cut: Cut,
     f: u16,
-    heads: &[u16; 65536],
-    links: &[u16; 12288],
+    sheet: &[u16; matching::SHEET],
 ) -> Phase
-    requires { ⌜ ChainsIn lib (now heads) (now links) × LeavesIn (now work) m cut × Early (now work) m 1073741823 ⌝ }
-    ensures { λ r. ⌜ r ≡ choose (foundOn (cellsOf lib) (now (work .entry)) m k (leavesOf cut) f) ⌝ }
+    requires { ⌜ ((lib : Library) × SheetIn lib (now sheet)) × LeavesIn (now work) m cut × Early (now work) m 1073741823 ⌝ }
+    ensures { λ r. ⌜ ((lib : Library) → SheetIn lib (now (sheet .entry)) → r ≡ choose (foundOn (cellsOf lib) (now (work .entry)) m k (leavesOf cut) f)) ⌝ }
 {
-    if heads[f as usize] == 0 {
+    if sheet[f as usize] == 0 {
         return nothing();
     }
     let t = times(work, m, cut);
-    matching::phase_as(k, matching::best_match(lib, heads, links, f, size(cut), t))
+    matching::phase_as(k, matching::best_match(sheet, f, &t))
 }
 
 // The function of cut number k of v.
@@ -173,43 +180,33 @@ fn table(work: &[u16], m: usize, v: usize, k: usize) -> u16
 // The best match on cut number k of v, "a cut other than the variable alone".
 fn cut_phase(
     work: &[u16],
-    lib: Library,
     m: usize,
     v: usize,
     neg: bool,
     k: usize,
-    heads: &[u16; 65536],
-    links: &[u16; 12288],
+    sheet: &[u16; matching::SHEET],
 ) -> Phase
-    requires { ⌜ ChainsIn lib (now heads) (now links) × Choosable (now work) m × (v ≤ m) × (k < countAt (now work) m v) ⌝ }
-    ensures { λ r. ⌜ r ≡ choose (foundAt (cellsOf lib) (now (work .entry)) m v neg k) ⌝ }
+    requires { ⌜ ((lib : Library) × SheetIn lib (now sheet)) × Choosable (now work) m × (v ≤ m) × (k < countAt (now work) m v) ⌝ }
+    ensures { λ r. ⌜ ((lib : Library) → SheetIn lib (now (sheet .entry)) → r ≡ choose (foundAt (cellsOf lib) (now (work .entry)) m v neg k)) ⌝ }
 {
     let cut = words::load_cut(work, m, v, k);
     if alone(cut, v) {
         return nothing();
     }
     let f = truth::in_phase(neg, table(work, m, v, k));
-    match_cut(work, lib, m, k, cut, f, heads, links)
+    match_cut(work, m, k, cut, f, sheet)
 }
 
 // The best match of v, from its last cut to its first: of equal arrivals the lowest cut's.
-fn best_phase(
-    work: &[u16],
-    lib: Library,
-    m: usize,
-    v: usize,
-    neg: bool,
-    heads: &[u16; 65536],
-    links: &[u16; 12288],
-) -> Phase
-    requires { ⌜ ChainsIn lib (now heads) (now links) × Choosable (now work) m × (v ≤ m) ⌝ }
-    ensures { λ r. ⌜ r ≡ bestAt (cellsOf lib) (now (work .entry)) m v neg ⌝ }
+fn best_phase(work: &[u16], m: usize, v: usize, neg: bool, sheet: &[u16; matching::SHEET]) -> Phase
+    requires { ⌜ ((lib : Library) × SheetIn lib (now sheet)) × Choosable (now work) m × (v ≤ m) ⌝ }
+    ensures { λ r. ⌜ ((lib : Library) → SheetIn lib (now (sheet .entry)) → r ≡ bestAt (cellsOf lib) (now (work .entry)) m v neg) ⌝ }
 {
     let mut b = nothing();
     let mut k = words::count(work, m, v);
     while k > 0 {
         k -= 1;
-        b = sooner(cut_phase(work, lib, m, v, neg, k, heads, links), b);
+        b = sooner(cut_phase(work, m, v, neg, k, sheet), b);
     }
     b
 }
@@ -229,20 +226,12 @@ fn own(neg: bool) -> Phase
 }
 
 // A phase of v without inverters: "for an input's positive phase its own net, otherwise earliest arrival".
-fn direct(
-    work: &[u16],
-    lib: Library,
-    m: usize,
-    v: usize,
-    neg: bool,
-    heads: &[u16; 65536],
-    links: &[u16; 12288],
-) -> Phase
-    requires { ⌜ ChainsIn lib (now heads) (now links) × Choosable (now work) m × (v ≤ m) ⌝ }
-    ensures { λ r. ⌜ r ≡ directAt (cellsOf lib) (now (work .entry)) m v neg ⌝ }
+fn direct(work: &[u16], m: usize, v: usize, neg: bool, sheet: &[u16; matching::SHEET]) -> Phase
+    requires { ⌜ ((lib : Library) × SheetIn lib (now sheet)) × Choosable (now work) m × (v ≤ m) ⌝ }
+    ensures { λ r. ⌜ ((lib : Library) → SheetIn lib (now (sheet .entry)) → r ≡ directAt (cellsOf lib) (now (work .entry)) m v neg) ⌝ }
 {
     match words::kind(work, m, v) {
-        1 | 3 => best_phase(work, lib, m, v, neg, heads, links),
+        1 | 3 => best_phase(work, m, v, neg, sheet),
         2 => own(neg),
         _ => nothing(),
     }
@@ -276,18 +265,16 @@ fn invert(inv: Inverter, from: Phase) -> Phase
 // Both phases of v: "then a matched cell before the inverter". Both are known before an inverter is tried, so none feeds an inverter.
 fn choose_variable(
     work: &mut [u16],
-    lib: Library,
     m: usize,
     v: usize,
     inv: Inverter,
-    heads: &[u16; 65536],
-    links: &[u16; 12288],
+    sheet: &[u16; matching::SHEET],
 )
-    requires { ⌜ ChainsIn lib (now heads) (now links) × Choosable (now work) m × (v ≤ m) × (inv ≡ inverterOf (cellsOf lib)) ⌝ }
-    ensures { λ _. ⌜ now (work .exit) ≡ chosenTurn (cellsOf lib) (now (work .entry)) m v ⌝ }
+    requires { ⌜ ((lib : Library) × ToolsIn lib (now sheet) inv) × Choosable (now work) m × (v ≤ m) ⌝ }
+    ensures { λ _. ⌜ ((lib : Library) → ToolsIn lib (now (sheet .entry)) inv → now (work .exit) ≡ chosenTurn (cellsOf lib) (now (work .entry)) m v) ⌝ }
 {
-    let p = direct(work, lib, m, v, false, heads, links);
-    let n = direct(work, lib, m, v, true, heads, links);
+    let p = direct(work, m, v, false, sheet);
+    let n = direct(work, m, v, true, sheet);
     let positive = sooner(p, invert(inv, n));
     let negative = sooner(n, invert(inv, p));
     words::set_positive(work, m, v, positive);
@@ -297,20 +284,18 @@ fn choose_variable(
 // In placing order.
 fn choose_variables(
     work: &mut [u16],
-    lib: Library,
     m: usize,
     n: usize,
     inv: Inverter,
-    heads: &[u16; 65536],
-    links: &[u16; 12288],
+    sheet: &[u16; matching::SHEET],
 )
-    requires { ⌜ ChainsIn lib (now heads) (now links) × Unchosen (now work) m n × (inv ≡ inverterOf (cellsOf lib)) ⌝ }
-    ensures { λ _. ⌜ now (work .exit) ≡ chosenUp (cellsOf lib) (now (work .entry)) m n ⌝ }
+    requires { ⌜ ((lib : Library) × ToolsIn lib (now sheet) inv) × Unchosen (now work) m n ⌝ }
+    ensures { λ _. ⌜ ((lib : Library) → ToolsIn lib (now (sheet .entry)) inv → now (work .exit) ≡ chosenUp (cellsOf lib) (now (work .entry)) m n) ⌝ }
 {
     let mut i: usize = 0;
     while i < n {
         let v = words::slot(work, m, i);
-        choose_variable(work, lib, m, v, inv, heads, links);
+        choose_variable(work, m, v, inv, sheet);
         i += 1;
     }
 }
@@ -320,19 +305,10 @@ pub fn choose(work: &mut [u16], lib: Library, h: Header)
     requires { ⌜ Usable lib × Unchosen (now work) (h .size) (h .inputs + h .ands + 1) ⌝ }
     ensures { λ _. ⌜ now (work .exit) ≡ chosenUp (cellsOf lib) (now (work .entry)) (h .size) (h .inputs + h .ands + 1) ⌝ }
 {
-    let mut heads = matching::no_heads();
-    let mut links = matching::no_links();
-    matching::build(lib, &mut heads, &mut links);
+    let mut sheet = matching::no_sheet();
+    matching::build(lib, &mut sheet);
     let inv = matching::inverter_of(lib);
-    choose_variables(
-        work,
-        lib,
-        h.size,
-        h.inputs + h.ands + 1,
-        inv,
-        &heads,
-        &links,
-    );
+    choose_variables(work, h.size, h.inputs + h.ands + 1, inv, &sheet);
 }
 
 // ---- refusal 17

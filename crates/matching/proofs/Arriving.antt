@@ -1,6 +1,5 @@
 -- The arrival of a variant is that of its match.
 --     one-bit             a bit of a mask by a shift
---     largest-down        the largest from the last pin down
 --     variant-phase       a variant whose places the cut has gives what its match does
 --     variant-past        another gives nothing
 -- Assumes nothing.
@@ -12,7 +11,7 @@ use native.Mathlib.Nat.{sub-self, add-zero}
 use native.Mathlib.Omega.{arith}
 use lib.Dec.{ltb}
 use lib.ListN.{length, getD}
-use borrow.Author.Tests.{lt-ltb, le-ltb, ne-eqb, ltb-true, ltb-false}
+use borrow.Author.Tests.{lt-ltb, le-ltb, ltb-true, ltb-false}
 use Rattle.model.specs.Base.{bit, one, all, any}
 use Rattle.model.specs.Table.{value}
 use Rattle.model.specs.Cells.{cellAt}
@@ -24,47 +23,16 @@ use Rattle.model.specs.declared.Phase.{Phase}
 use Rattle.model.specs.declared.Source.the-variants.{Cell as Matched}
 use Rattle.truth.specs.Variant.{placesOf, placesBelow}
 use Rattle.truth.proofs.Tables.{one-low, value-shift}
-use Rattle.truth.proofs.Variants.{places-four, places-fit}
+use Rattle.truth.proofs.Variants.{places-four, place-small, places-fit}
 use Rattle.matching.specs.declared.Best.{Best}
 use Rattle.matching.specs.Variants.{lineOf, orderOf, maskOf, matchOf, placesAt}
-use Rattle.matching.specs.Best.{never, lastTime, timeOf, TimesOf, Quick, largest, pinAt, pinTime, later, arrivalOf, arrivalAt, phaseAs}
+use Rattle.matching.specs.Best.{never, lastTime, timeOf, TimesOf, Quick, largest, pinAt, arrivalOf, arrivalAt, phaseAs}
 use Rattle.matching.proofs.Choosing.{by-bool}
 
 -- a bit of a mask by a shift
 pub one-bit : (mask j : ℕ) → one (bit mask j) ≡ mask / 2 ^ j % 2
 unfolding value bit
 one-bit mask j = ap one (value-shift j mask) ∙ one-low (mask / 2 ^ j)
-
--- ---- from the last pin down
-
-pub largest-down : (p : ℕ → ℕ) (j m t : ℕ) → 0 < j → j ≤ m → t ≡ largest p j (m - j) → max (p (j - 1)) t ≡ largest p (j - 1) (m - (j - 1))
-unfolding largest
-largest-down p zero m t h l e = absurd (omega arith)
-largest-down p (suc q) m t h l e =
-    let a : suc q - 1 ≡ q = omega arith in
-    let n : m - q ≡ suc (m - suc q) = omega arith in
-    rw (a, n, e)
-
-pub largest-none : (p : ℕ → ℕ) (m : ℕ) → 0 ≡ largest p m (m - m)
-unfolding largest
-largest-none p m = rw (sub-self m)
-
-pub largest-all : (p : ℕ → ℕ) (j m t : ℕ) → j ≤ 0 → t ≡ largest p j (m - j) → t ≡ largest p 0 m
-largest-all p j m t h e =
-    let z : j ≡ 0 = omega arith in
-    let n : m - 0 ≡ m = omega arith in
-    rw (z, n) at e
-
--- ---- one pin
-
-pub pin-there : (leaves : ℕ) (times : List ℕ) (place : ℕ) (neg : Bool) (d i : ℕ) → place < leaves → i ≡ 2 * place + one neg
-    → later (getD times i 0) d ≡ pinTime leaves times place neg d
-unfolding pinTime
-pin-there leaves times place neg d i h e = rw (lt-ltb place leaves h, e)
-
-pub pin-past : (leaves : ℕ) (times : List ℕ) (place : ℕ) (neg : Bool) (d : ℕ) → leaves ≤ place → never ≡ pinTime leaves times place neg d
-unfolding pinTime
-pin-past leaves times place neg d h = rw (le-ltb place leaves h)
 
 -- ---- the pins of a match
 
@@ -85,22 +53,14 @@ record Right (ps : List Phase) (ds : List ℕ) (a : ℕ) : Type 0 where
   given : lacks ps ≡ false → a ≡ latest (arrivals ps) ds
   sooner : lacks ps ≡ false → a < never
 
-later-never : (d : ℕ) → later never d ≡ never
-unfolding later
-later-never d = refl
-
-later-sum : (t d : ℕ) → t ≤ lastTime → later t d ≡ t + d
-unfolding later
-later-sum t d h = rw (ne-eqb t never (λ e. omega (arith, e)))
-
-module _ (p : Phase) (ps : List Phase) (t d a : ℕ) (feeds : t ≡ later (timeOf p) d) (quick : p .arrival ≤ lastTime) (delay : d < 65536) where
-  time-absent : absent (p .source) ≡ true → t ≡ never
+module _ (p : Phase) (ps : List Phase) (t d a : ℕ) (feeds : t ≡ timeOf p + d) (quick : p .arrival ≤ lastTime) (delay : d < 65536) where
+  time-absent : absent (p .source) ≡ true → never ≤ t
   unfolding timeOf
-  time-absent e = feeds ∙ ap (λ (b : Bool). later (cond b never (p .arrival)) d) e ∙ later-never d
+  time-absent e = let n : t ≡ never + d = feeds ∙ ap (λ (b : Bool). cond b never (p .arrival) + d) e in omega arith
 
   time-present : absent (p .source) ≡ false → t ≡ p .arrival + d
   unfolding timeOf
-  time-present e = feeds ∙ ap (λ (b : Bool). later (cond b never (p .arrival)) d) e ∙ later-sum (p .arrival) d quick
+  time-present e = feeds ∙ ap (λ (b : Bool). cond b never (p .arrival) + d) e
 
   lacks-first : absent (p .source) ≡ true → lacks (p ∷ ps) ≡ true
   unfolding lacks any
@@ -112,7 +72,7 @@ module _ (p : Phase) (ps : List Phase) (t d a : ℕ) (feeds : t ≡ later (timeO
 
   pin-joined : (ds es : List ℕ) → latest (arrivals (p ∷ ps)) es ≡ max (p .arrival + d) (latest (arrivals ps) ds) → Right ps ds a → Right (p ∷ ps) es (max t a)
   pin-joined ds es cons r = by-bool (absent (p .source))
-      (λ e. let n : t ≡ never = time-absent e in
+      (λ e. let n : never ≤ t = time-absent e in
       record { lacking = λ q. omega arith; given = λ q. absurd (false≢true (sym q ∙ lacks-first e)); sooner = λ q. absurd (false≢true (sym q ∙ lacks-first e)) })
       (λ e. let n : t ≡ p .arrival + d = time-present e in
       record {
@@ -129,17 +89,21 @@ latest-bare : (p : Phase) (ps : List Phase) → latest (arrivals (p ∷ ps)) [] 
 unfolding latest arrivals
 latest-bare p ps = ap (λ (t : ℕ). max t (latest (arrivals ps) [])) (sym (add-zero (p .arrival)))
 
-arrival-cons : (m place : ℕ) (places : List ℕ) (mask d : ℕ) (ds : List ℕ) (leaves : ℕ) (times : List ℕ)
-    → arrivalOf (suc m) (d ∷ ds) (place ∷ places) mask leaves times ≡ max (pinTime leaves times place (bit mask 0) d) (arrivalOf m ds places (mask / 2) leaves times)
-unfolding arrivalOf largest pinAt bit
-arrival-cons m place places mask d ds leaves times =
-    ap (max (pinTime leaves times place (bit mask 0) d)) (largest-shift (pinAt (d ∷ ds) (place ∷ places) mask leaves times) m 0)
+-- what a pin that is fed from a place adds
+unfoldable pinTime : List ℕ → ℕ → Bool → ℕ → ℕ
+pinTime times place neg d = getD times (2 * place + one neg) 0 + d
 
-arrival-bare : (m place : ℕ) (places : List ℕ) (mask leaves : ℕ) (times : List ℕ)
-    → arrivalOf (suc m) [] (place ∷ places) mask leaves times ≡ max (pinTime leaves times place (bit mask 0) 0) (arrivalOf m [] places (mask / 2) leaves times)
-unfolding arrivalOf largest pinAt bit
-arrival-bare m place places mask leaves times =
-    ap (max (pinTime leaves times place (bit mask 0) 0)) (largest-shift (pinAt [] (place ∷ places) mask leaves times) m 0)
+arrival-cons : (m place : ℕ) (places : List ℕ) (mask d : ℕ) (ds times : List ℕ)
+    → arrivalOf (suc m) (d ∷ ds) (place ∷ places) mask times ≡ max (pinTime times place (bit mask 0) d) (arrivalOf m ds places (mask / 2) times)
+unfolding arrivalOf largest pinAt pinTime bit
+arrival-cons m place places mask d ds times =
+    ap (max (pinTime times place (bit mask 0) d)) (largest-shift (pinAt (d ∷ ds) (place ∷ places) mask times) m 0)
+
+arrival-bare : (m place : ℕ) (places : List ℕ) (mask : ℕ) (times : List ℕ)
+    → arrivalOf (suc m) [] (place ∷ places) mask times ≡ max (pinTime times place (bit mask 0) 0) (arrivalOf m [] places (mask / 2) times)
+unfolding arrivalOf largest pinAt pinTime bit
+arrival-bare m place places mask times =
+    ap (max (pinTime times place (bit mask 0) 0)) (largest-shift (pinAt [] (place ∷ places) mask times) m 0)
 
 and-first : (a b : Bool) → (a && b) ≡ true → a ≡ true
 and-first true b e = refl
@@ -155,9 +119,9 @@ fed known cut m places mask = map (phaseOf known) (fedNets m places mask cut)
 
 module _ (known : ℕ → Phases) (cut times : List ℕ) (timed : TimesOf known cut times) (quick : Quick known cut) where
   pin-feeds : (place : ℕ) (neg : Bool) (d : ℕ) → place < length cut
-      → pinTime (length cut) times place neg d ≡ later (timeOf (phaseOf known (literal neg (getD cut place 0)))) d
-  unfolding TimesOf
-  pin-feeds place neg d h = sym (pin-there (length cut) times place neg d (2 * place + one neg) h refl) ∙ ap (λ (t : ℕ). later t d) (timed place neg h)
+      → pinTime times place neg d ≡ timeOf (phaseOf known (literal neg (getD cut place 0))) + d
+  unfolding pinTime
+  pin-feeds place neg d h = ap (λ (t : ℕ). t + d) (timed .there place neg h)
 
   pin-quick : (place : ℕ) (neg : Bool) → place < length cut → phaseOf known (literal neg (getD cut place 0)) .arrival ≤ lastTime
   unfolding Quick
@@ -179,53 +143,59 @@ module _ (known : ℕ → Phases) (cut times : List ℕ) (timed : TimesOf known 
   -- one pin more
   fed-more : (m place : ℕ) (places : List ℕ) (mask d : ℕ) (ds es : List ℕ) (a : ℕ) → placesBelow (suc m) (place ∷ places) (length cut) ≡ true → d < 65536
       → ((p : Phase) (ps : List Phase) → latest (arrivals (p ∷ ps)) es ≡ max (p .arrival + d) (latest (arrivals ps) ds))
-      → Right (fed known cut m places (mask / 2)) ds a → Right (fed known cut (suc m) (place ∷ places) mask) es (max (pinTime (length cut) times place (bit mask 0) d) a)
+      → Right (fed known cut m places (mask / 2)) ds a → Right (fed known cut (suc m) (place ∷ places) mask) es (max (pinTime times place (bit mask 0) d) a)
   fed-more m place places mask d ds es a fit small cons r =
       let h : place < length cut = fit-first m place places fit in
       let p : Phase = phaseOf known (literal (bit mask 0) (getD cut place 0)) in
       rw fed-cons
-      (pin-joined p (fed known cut m places (mask / 2)) (pinTime (length cut) times place (bit mask 0) d) d a (pin-feeds place (bit mask 0) d h) (pin-quick place (bit mask 0) h) small ds es (cons p (fed known cut m places (mask / 2))) r)
+      (pin-joined p (fed known cut m places (mask / 2)) (pinTime times place (bit mask 0) d) d a (pin-feeds place (bit mask 0) d h) (pin-quick place (bit mask 0) h) small ds es (cons p (fed known cut m places (mask / 2))) r)
 
-  fed-none : (places : List ℕ) (mask : ℕ) (ds : List ℕ) → Right (fed known cut 0 places mask) ds (arrivalOf 0 ds places mask (length cut) times)
+  fed-none : (places : List ℕ) (mask : ℕ) (ds : List ℕ) → Right (fed known cut 0 places mask) ds (arrivalOf 0 ds places mask times)
   unfolding fed fedNets arrivalOf largest latest arrivals lacks any
   fed-none places mask ds = record { lacking = λ e. absurd (false≢true e); given = λ e. refl; sooner = λ e. omega arith }
 
   fed-right : (m : ℕ) (places : List ℕ) (mask : ℕ) (ds : List ℕ) → m ≤ length places → ((j : ℕ) → getD ds j 0 < 65536) → placesBelow m places (length cut) ≡ true
-      → Right (fed known cut m places mask) ds (arrivalOf m ds places mask (length cut) times)
+      → Right (fed known cut m places mask) ds (arrivalOf m ds places mask times)
   fed-right zero places mask ds l small fit = fed-none places mask ds
   fed-right (suc m) [] mask ds l small fit = absurd (omega arith)
   fed-right (suc m) (place ∷ places) mask [] l small fit =
       rw arrival-bare
-      (fed-more m place places mask 0 [] [] (arrivalOf m [] places (mask / 2) (length cut) times) fit (omega arith) latest-bare
+      (fed-more m place places mask 0 [] [] (arrivalOf m [] places (mask / 2) times) fit (omega arith) latest-bare
       (fed-right m places (mask / 2) [] (omega arith) small (fit-rest m place places fit)))
   fed-right (suc m) (place ∷ places) mask (d ∷ ds) l small fit =
       rw arrival-cons
-      (fed-more m place places mask d ds (d ∷ ds) (arrivalOf m ds places (mask / 2) (length cut) times) fit (small 0) (latest-cons d ds)
+      (fed-more m place places mask d ds (d ∷ ds) (arrivalOf m ds places (mask / 2) times) fit (small 0) (latest-cons d ds)
       (fed-right m places (mask / 2) ds (omega arith) (λ j. small (suc j)) (fit-rest m place places fit)))
 
 -- ---- a place that the cut has not
 
-late-more : (place leaves : ℕ) (times : List ℕ) (neg : Bool) (d a : ℕ) (rest : Bool) → (ltb place leaves && rest) ≡ false → (rest ≡ false → never ≤ a)
-    → never ≤ max (pinTime leaves times place neg d) a
-late-more place leaves times neg d a rest e more = by-bool (ltb place leaves)
-    (λ q. let h : never ≤ a = more (sym (ap (λ (b : Bool). b && rest) q) ∙ e) in omega arith)
-    (λ q. let h : never ≡ pinTime leaves times place neg d = pin-past leaves times place neg d (ltb-false place leaves q) in omega arith)
+module _ (known : ℕ → Phases) (cut times : List ℕ) (timed : TimesOf known cut times) where
+  late-more : (place : ℕ) (neg : Bool) (d a : ℕ) (rest : Bool) → place < 4 → (ltb place (length cut) && rest) ≡ false → (rest ≡ false → never ≤ a)
+      → never ≤ max (pinTime times place neg d) a
+  unfolding pinTime
+  late-more place neg d a rest four e more = by-bool (ltb place (length cut))
+      (λ q. let h : never ≤ a = more (sym (ap (λ (b : Bool). b && rest) q) ∙ e) in omega arith)
+      (λ q. let h : getD times (2 * place + one neg) 0 ≡ never = timed .past place neg (ltb-false place (length cut) q) four in omega arith)
 
-late : (m : ℕ) (places : List ℕ) (mask : ℕ) (ds : List ℕ) (leaves : ℕ) (times : List ℕ) → m ≤ length places → placesBelow m places leaves ≡ false
-    → never ≤ arrivalOf m ds places mask leaves times
-unfolding placesBelow all
-late zero places mask ds leaves times l e = absurd (false≢true (sym e))
-late (suc m) [] mask ds leaves times l e = absurd (omega arith)
-late (suc m) (place ∷ places) mask [] leaves times l e =
-    rw arrival-bare (late-more place leaves times (bit mask 0) 0 (arrivalOf m [] places (mask / 2) leaves times) (placesBelow m places leaves) e (late m places (mask / 2) [] leaves times (omega arith)))
-late (suc m) (place ∷ places) mask (d ∷ ds) leaves times l e =
-    rw arrival-cons (late-more place leaves times (bit mask 0) d (arrivalOf m ds places (mask / 2) leaves times) (placesBelow m places leaves) e (late m places (mask / 2) ds leaves times (omega arith)))
+  late : (m : ℕ) (places : List ℕ) (mask : ℕ) (ds : List ℕ) → m ≤ length places → ((j : ℕ) → j < length places → getD places j 0 < 4)
+      → placesBelow m places (length cut) ≡ false → never ≤ arrivalOf m ds places mask times
+  unfolding placesBelow all
+  late zero places mask ds l small e = absurd (false≢true (sym e))
+  late (suc m) [] mask ds l small e = absurd (omega arith)
+  late (suc m) (place ∷ places) mask [] l small e =
+      rw arrival-bare
+      (late-more place (bit mask 0) 0 (arrivalOf m [] places (mask / 2) times) (placesBelow m places (length cut)) (small 0 (omega arith)) e
+      (late m places (mask / 2) [] (omega arith) (λ j h. small (suc j) (omega arith))))
+  late (suc m) (place ∷ places) mask (d ∷ ds) l small e =
+      rw arrival-cons
+      (late-more place (bit mask 0) d (arrivalOf m ds places (mask / 2) times) (placesBelow m places (length cut)) (small 0 (omega arith)) e
+      (late m places (mask / 2) ds (omega arith) (λ j h. small (suc j) (omega arith))))
 
 -- ---- a variant and its match
 
 -- variant x with its arrival
-abbrev pub ofVariant : List Cell → ℕ → List ℕ → ℕ → Best
-ofVariant cells leaves times x = record { variant = x; arrival = arrivalAt cells leaves times x }
+abbrev pub ofVariant : List Cell → List ℕ → ℕ → Best
+ofVariant cells times x = record { variant = x; arrival = arrivalAt cells times x }
 
 pub phase-late : (k : ℕ) (b : Best) → never ≤ b .arrival → phaseAs k b ≡ noPhase
 unfolding phaseAs
@@ -240,12 +210,14 @@ module _ (cells : List Cell) (k x : ℕ) (four : cellAt cells (lineOf x) .pins �
   long = omega (arith, places-four (orderOf x) (omega arith))
 
   -- a variant whose places the cut has not gives nothing
-  pub variant-past : (leaves : ℕ) (times : List ℕ) → placesAt cells leaves x ≡ false → phaseAs k (ofVariant cells leaves times x) ≡ noPhase
+  pub variant-past : (known : ℕ → Phases) (cut times : List ℕ) → TimesOf known cut times → placesAt cells (length cut) x ≡ false
+      → phaseAs k (ofVariant cells times x) ≡ noPhase
   unfolding placesAt arrivalAt
-  variant-past leaves times e =
-      phase-late k (ofVariant cells leaves times x)
-      (late (cellAt cells (lineOf x) .pins) (placesOf (orderOf x)) (maskOf x) (cellAt cells (lineOf x) .delays) leaves times long
-      (sym (places-fit (cellAt cells (lineOf x)) (placesOf (orderOf x)) leaves) ∙ e))
+  variant-past known cut times timed e =
+      phase-late k (ofVariant cells times x)
+      (late known cut times timed (cellAt cells (lineOf x) .pins) (placesOf (orderOf x)) (maskOf x) (cellAt cells (lineOf x) .delays) long
+      (λ j h. place-small (orderOf x) j (omega arith) (omega (arith, places-four (orderOf x) (omega arith))))
+      (sym (places-fit (cellAt cells (lineOf x)) (placesOf (orderOf x)) (length cut)) ∙ e))
 
   -- what a match gives, by the phases at its pins
   match-as : (known : ℕ → Phases) (cut : List ℕ) → matchPhase cells known cut (matchOf k x)
@@ -257,14 +229,14 @@ module _ (cells : List Cell) (k x : ℕ) (four : cellAt cells (lineOf x) .pins �
   -- another gives what its match does
   pub variant-phase : (known : ℕ → Phases) (cut times : List ℕ) → TimesOf known cut times → Quick known cut
       → ((j : ℕ) → getD (cellAt cells (lineOf x) .delays) j 0 < 65536) → placesAt cells (length cut) x ≡ true
-      → phaseAs k (ofVariant cells (length cut) times x) ≡ matchPhase cells known cut (matchOf k x)
+      → phaseAs k (ofVariant cells times x) ≡ matchPhase cells known cut (matchOf k x)
   unfolding arrivalAt placesAt
   variant-phase known cut times timed quick small e = by-bool (lacks ps)
       (λ q. phase-late k b (r .lacking q) ∙ sym (match-as known cut ∙ ap chosen q))
       (λ q. phase-timely k b (r .sooner q) ∙ ap (λ (t : ℕ). phase t) (r .given q) ∙ sym (match-as known cut ∙ ap chosen q))
     where
       b : Best
-      b = ofVariant cells (length cut) times x
+      b = ofVariant cells times x
 
       ps : List Phase
       ps = fed known cut (cellAt cells (lineOf x) .pins) (placesOf (orderOf x)) (maskOf x)
@@ -275,6 +247,6 @@ module _ (cells : List Cell) (k x : ℕ) (four : cellAt cells (lineOf x) .pins �
       chosen : Bool → Phase
       chosen q = cond q noPhase (phase (latest (arrivals ps) (cellAt cells (lineOf x) .delays)))
 
-      r : Right ps (cellAt cells (lineOf x) .delays) (arrivalOf (cellAt cells (lineOf x) .pins) (cellAt cells (lineOf x) .delays) (placesOf (orderOf x)) (maskOf x) (length cut) times)
+      r : Right ps (cellAt cells (lineOf x) .delays) (arrivalOf (cellAt cells (lineOf x) .pins) (cellAt cells (lineOf x) .delays) (placesOf (orderOf x)) (maskOf x) times)
       r = fed-right known cut times timed quick (cellAt cells (lineOf x) .pins) (placesOf (orderOf x)) (maskOf x) (cellAt cells (lineOf x) .delays) long small
           (sym (places-fit (cellAt cells (lineOf x)) (placesOf (orderOf x)) (length cut)) ∙ e)

@@ -7,3 +7,4 @@ pub mod Arriving
 pub mod Listing
 pub mod Matching
 pub mod Inverting
+pub mod Lending

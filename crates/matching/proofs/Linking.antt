@@ -1,19 +1,20 @@
--- The chains of a library list the variants of each table, ascending.
+-- The sheet of a library: the chain of each table lists the variants that have it, ascending, with what feeds them; the delays are the cells'.
 --     linked-lower        the lower bound of a chain may be lowered
---     linked-set          a link below a chain's variants is no part of it
---     chains-linked       the chain of each table lists the variants that have it; `build-chained`: so after `build`
+--     linked-same         what else is on the sheet is no part of a chain
+--     passed-down, listed-down        the code goes from the highest down
+--     list-sheet          after all cells the sheet is theirs; `build-sheet`: so after `build`
 --     usable-library      a library of cells with few pins and small delays may be asked
 -- Assumes nothing.
 use Prim.Native.Nat.{ℕ, zero, suc, _+_, _-_, _*_, _/_, _%_, _^_, _<_, _≤_}
-use mathlib.Core.Path.{_≡_, refl, sym, ap, ap₂, _∙_}
+use mathlib.Core.Path.{_≡_, refl, sym, ap, ap₂, subst, _∙_}
 use mathlib.Core.Bool.{Bool, true, false, cond, _&&_}
 use mathlib.Core.List.{List, [], _∷_}
-use native.Mathlib.Nat.{zero-add, sub-self}
+use native.Mathlib.Nat.{add-zero, zero-add, add-suc, suc-add, sub-self}
 use native.Mathlib.Omega.{arith}
 use lib.Dec.{eqb}
-use lib.ListN.{replicate, length, getD, set, take, length-set}
+use lib.ListN.{replicate, length, getD, set, take, drop, length-set, drop-of-length-le}
 use lib.Pow.{shl-exact}
-use lib.Seq.{take-append-seam, getD-take, getD-set-same, getD-set-other}
+use lib.Seq.{take-append-seam, getD-take, getD-set-same, getD-set-other, drop-cons}
 use borrow.Author.Tests.{eqb-true, eqb-false, ltb-true, ltb-false, lt-ltb, le-ltb}
 use Rattle.model.specs.Base.{keep, from, below}
 use Rattle.model.specs.Cells.{noCell, blank, cellAt, cellsOf, libraryOf}
@@ -22,87 +23,136 @@ use Rattle.model.specs.declared.Cell.{Cell}
 use Rattle.model.specs.Table.{value, pinRow}
 use Rattle.truth.specs.Variant.{placesOf, variantTable}
 use Rattle.truth.proofs.Tables.{table-small}
-use Rattle.matching.specs.Variants.{Usable, Blank, lineOf, orderOf, maskOf, isVariant, tableAt, hasTable, variants, Chains, both, Holds, pushed, placed, passed, chains, Linked, Chained}
+use Rattle.matching.specs.Variants.{Usable, lineOf, orderOf, maskOf, isVariant, tableAt, hasTable, variants}
+use Rattle.matching.specs.Sheet.{linkAddr, pickAddr, delayAddr, pickOf, pickAt, delayOf, pushed, placed, passed, timed, cellMatched, listMatched, Linked, SheetOf, Blank}
 use Rattle.matching.proofs.Choosing.{by-bool}
 
-pub linked-lower : (links : List ℕ) (top low lower h : ℕ) (xs : List ℕ) → lower ≤ low → Linked links top low h xs → Linked links top lower h xs
+pub linked-lower : (cells : List Cell) (s : List ℕ) (low lower h : ℕ) (xs : List ℕ) → lower ≤ low → Linked cells s low h xs → Linked cells s lower h xs
 unfolding Linked
-linked-lower links top low lower h [] l k = k
-linked-lower links top low lower h (x ∷ xs) l k = (k .0, omega (arith, k .1), k .2, k .3)
+linked-lower cells s low lower h [] l k = k
+linked-lower cells s low lower h (x ∷ xs) l k = (k .0, omega (arith, k .1), k .2, k .3, k .4)
 
-pub linked-set : (links : List ℕ) (i v top low h : ℕ) (xs : List ℕ) → i < low → Linked links top low h xs → Linked (set links i v) top low h xs
+-- two sheets have the same words for the variants from low on
+abbrev Alike : List Cell → List ℕ → List ℕ → ℕ → Type 0
+Alike cells s s′ low =
+    (y : ℕ) → low ≤ y → y < 384 * length cells → (getD s′ (linkAddr y) 0 ≡ getD s (linkAddr y) 0) × (getD s′ (pickAddr y) 0 ≡ getD s (pickAddr y) 0)
+
+pub linked-same : (cells : List Cell) (s s′ : List ℕ) (low h : ℕ) (xs : List ℕ) → Alike cells s s′ low → Linked cells s low h xs → Linked cells s′ low h xs
 unfolding Linked
-linked-set links i v top low h [] l k = k
-linked-set links i v top low h (x ∷ xs) l k =
-    let apart : ¬ (x ≡ i) = λ e. omega (arith, e, k .1) in
-    (k .0, k .1, k .2, rw (getD-set-other links i x v 0 apart) (linked-set links i v top (suc x) (getD links x 0) xs (omega (arith, k .1)) (k .3)))
+linked-same cells s s′ low h [] same k = k
+linked-same cells s s′ low h (x ∷ xs) same k = (
+  k .0,
+  k .1,
+  k .2,
+  same x (k .1) (k .2) .1 ∙ k .3,
+  rw (same x (k .1) (k .2) .0) (linked-same cells s s′ (suc x) (getD s (linkAddr x) 0) xs (λ y l. same y (omega (arith, k .1))) (k .4)),
+)
 
 -- ---- one variant
 
-pub placed-mask : (pins table x t : ℕ) (s : Chains) → maskOf x < 2 ^ pins → t ≡ variantTable pins table (placesOf (orderOf x)) (maskOf x)
-    → placed pins table x s ≡ pushed t x s
+pub placed-mask : (pins table x t p : ℕ) (s : List ℕ) → maskOf x < 2 ^ pins → t ≡ variantTable pins table (placesOf (orderOf x)) (maskOf x)
+    → p ≡ pickOf pins (placesOf (orderOf x)) (maskOf x) → placed pins table x s ≡ pushed t x p s
 unfolding placed
-placed-mask pins table x t s h e = rw (lt-ltb (maskOf x) (2 ^ pins) h, e)
+placed-mask pins table x t p s h e q = rw (lt-ltb (maskOf x) (2 ^ pins) h, e, q)
 
-pub placed-none : (pins table x : ℕ) (s : Chains) → 2 ^ pins ≤ maskOf x → placed pins table x s ≡ s
+pub placed-none : (pins table x : ℕ) (s : List ℕ) → 2 ^ pins ≤ maskOf x → placed pins table x s ≡ s
 unfolding placed
 placed-none pins table x s h = rw (le-ltb (maskOf x) (2 ^ pins) h)
-
--- ---- from the highest down
 
 -- the shift loses nothing
 pub power : (pins : ℕ) → pins ≤ 4 → 1 * 2 ^ pins % 2 ^ 64 ≡ 2 ^ pins
 power pins h = shl-exact 1 pins 64 (omega arith) (omega arith) ∙ omega arith
 
-pub holds-both : (s : Chains) (heads links : List ℕ) → Holds s heads links → both heads links ≡ s
-holds-both s heads links h = λ i. record { heads = h .heads-are i; links = h .links-are i }
+-- ---- from the highest down
 
-pub passed-more : (cells : List Cell) (x k : ℕ) (s : Chains)
-    → passed cells x (suc k) s ≡ placed (cellAt cells (lineOf x) .pins) (cellAt cells (lineOf x) .table) x (passed cells (suc x) k s)
+pub passed-down : (pins table base k n : ℕ) (s : List ℕ) → 0 < k → k ≤ n
+    → placed pins table (base + (k - 1)) (passed pins table (base + k) (n - k) s) ≡ passed pins table (base + (k - 1)) (n - (k - 1)) s
 unfolding passed
-passed-more cells x k s = refl
-
-pub passed-down : (cells : List Cell) (x top : ℕ) (s : Chains) (heads links heads′ links′ : List ℕ) → 0 < x → x ≤ top
-    → Holds (passed cells x (top - x) s) heads links
-    → Holds (placed (cellAt cells (lineOf (x - 1)) .pins) (cellAt cells (lineOf (x - 1)) .table) (x - 1) (both heads links)) heads′ links′
-    → Holds (passed cells (x - 1) (top - (x - 1)) s) heads′ links′
-passed-down cells zero top s heads links heads′ links′ l h before after = absurd (omega arith)
-passed-down cells (suc q) top s heads links heads′ links′ l h before after =
+passed-down pins table base zero n s l h = absurd (omega arith)
+passed-down pins table base (suc q) n s l h =
     let p : suc q - 1 ≡ q = omega arith in
-    let n : top - q ≡ suc (top - suc q) = omega arith in
-    rw (p, n, passed-more cells q (top - suc q) s) (rw (p, holds-both (passed cells (suc q) (top - suc q) s) heads links before) at after)
+    let e : n - q ≡ suc (n - suc q) = omega arith in
+    let b : base + suc q ≡ suc (base + q) = omega arith in
+    rw (p, e, b)
 
-pub passed-none : (cells : List Cell) (x : ℕ) (s : Chains) → Holds (passed cells x (x - x) s) (s .heads) (s .links)
+pub passed-none : (pins table base n : ℕ) (s : List ℕ) → s ≡ passed pins table (base + n) (n - n) s
 unfolding passed
-passed-none cells x s = rw (sub-self x) (record { heads-are = refl; links-are = refl })
+passed-none pins table base n s = rw (sub-self n)
+
+pub passed-all : (pins table base k n : ℕ) (s : List ℕ) → k ≤ 0 → passed pins table (base + k) (n - k) s ≡ passed pins table base n s
+passed-all pins table base k n s h =
+    let z : k ≡ 0 = omega arith in
+    let e : n - 0 ≡ n = omega arith in
+    rw (z, e, add-zero base)
+
+pub listed-down : (cells : List Cell) (i : ℕ) (s : List ℕ) → 0 < i → i ≤ length cells
+    → cellMatched (cellAt cells (i - 1)) (i - 1) (listMatched (drop i cells) i s) ≡ listMatched (drop (i - 1) cells) (i - 1) s
+unfolding listMatched cellAt
+listed-down cells zero s l h = absurd (omega arith)
+listed-down cells (suc q) s l h =
+    let p : suc q - 1 ≡ q = omega arith in
+    rw p (sym (ap (λ (cs : List Cell). listMatched cs q s) (drop-cons cells q noCell (omega arith))))
+
+pub listed-none : (cells : List Cell) (n : ℕ) (s : List ℕ) → length cells ≤ n → s ≡ listMatched (drop n cells) n s
+unfolding listMatched
+listed-none cells n s h = sym (ap (λ (cs : List Cell). listMatched cs n s) (drop-of-length-le cells h))
+
+pub listed-all : (cells : List Cell) (i : ℕ) (s : List ℕ) → i ≤ 0 → listMatched (drop i cells) i s ≡ listMatched cells 0 s
+listed-all cells i s h = let z : i ≡ 0 = omega arith in rw z
 
 -- a cell of the array, at a line that the library has
 pub cell-taken : (cells : List Cell) (n i : ℕ) → i < n → getD cells i noCell ≡ cellAt (take n cells) i
 unfolding cellAt
 cell-taken cells n i h = sym (getD-take n cells i noCell h)
 
-pub passed-all : (l : Library) (x : ℕ) (s : Chains) (heads links : List ℕ) → x ≤ 0 → length (cellsOf l) ≡ l .n
-    → Holds (passed (take (l .n * 384 / 384) (l .cells)) x (l .n * 384 - x) s) heads links → Holds (chains (cellsOf l) s) heads links
-unfolding chains cellsOf
-passed-all l x s heads links h e holds =
-    let z : x ≡ 0 = omega arith in
-    let n : l .n * 384 / 384 ≡ l .n = omega arith in
-    let k : l .n * 384 - 0 ≡ 384 * length (take (l .n) (l .cells)) = omega arith in
-    rw (z, n, k) at holds
-
 pub usable-pins : (l : Library) → Usable l → (i : ℕ) → i < l .n → getD (l .cells) i noCell .pins ≤ 4
 unfolding cellsOf
 usable-pins l u i h = rw (cell-taken (l .cells) (l .n) i h) (u .pins i)
 
+-- ---- a variant put on the sheet
+
+module _ (t x p : ℕ) (s : List ℕ) (table : t < 65536) (within : x < 12288) (long : length s ≡ 90240) where
+  linked : List ℕ
+  linked = set s (linkAddr x) (getD s t 0)
+
+  once : List ℕ
+  once = set linked t (x + 1)
+
+  once-long : length once ≡ 90240
+  unfolding once linked
+  once-long = length-set linked t (x + 1) ∙ length-set s (linkAddr x) (getD s t 0) ∙ long
+
+  pushed-long : length (pushed t x p s) ≡ 90240
+  unfolding pushed once linked
+  pushed-long = length-set once (pickAddr x) p ∙ once-long
+
+  pushed-pick : getD (pushed t x p s) (pickAddr x) 0 ≡ p
+  unfolding pushed once linked
+  pushed-pick = getD-set-same once (pickAddr x) p 0 (omega (arith, once-long))
+
+  pushed-head : getD (pushed t x p s) t 0 ≡ x + 1
+  unfolding pushed once linked
+  pushed-head = getD-set-other once (pickAddr x) t p 0 (λ e. omega (arith, e))
+      ∙ getD-set-same linked t (x + 1) 0 (omega (arith, length-set s (linkAddr x) (getD s t 0)))
+
+  pushed-link : getD (pushed t x p s) (linkAddr x) 0 ≡ getD s t 0
+  unfolding pushed once linked
+  pushed-link = getD-set-other once (pickAddr x) (linkAddr x) p 0 (λ e. omega (arith, e)) ∙ getD-set-other linked t (linkAddr x) (x + 1) 0 (λ e. omega (arith, e))
+      ∙ getD-set-same s (linkAddr x) (getD s t 0) 0 (omega arith)
+
+  pushed-other : (a : ℕ) → ¬ (a ≡ linkAddr x) → ¬ (a ≡ t) → ¬ (a ≡ pickAddr x) → getD (pushed t x p s) a 0 ≡ getD s a 0
+  unfolding pushed once linked
+  pushed-other a l h k = getD-set-other once (pickAddr x) a p 0 k ∙ getD-set-other linked t a (x + 1) 0 h ∙ getD-set-other s (linkAddr x) a (getD s t 0) 0 l
+
 -- ---- the chains
 
--- what holds after the variants from x on, k of them
-record After (cells : List Cell) (x k : ℕ) (r : Chains) : Type 0 where
-  heads-long : length (r .heads) ≡ 65536
-  links-long : length (r .links) ≡ 12288
-  listed : (t : ℕ) → t < 65536 → Linked (r .links) (384 * length cells) x (getD (r .heads) t 0) (keep (hasTable cells t) (from x k))
+-- what holds after the variants from x on, k of them, and the delays of the lines from `done` on
+record After (cells : List Cell) (done x k : ℕ) (s : List ℕ) : Type 0 where
+  long : length s ≡ 90240
+  listed : (t : ℕ) → t < 65536 → Linked cells s x (getD s t 0) (keep (hasTable cells t) (from x k))
+  delayed : (line j : ℕ) → done ≤ line → line < length cells → j < 4 → getD s (delayAddr line j) 0 ≡ delayOf (cellAt cells line .pins) (cellAt cells line .delays) j
 
-module _ (cells : List Cell) (x k : ℕ) (few : x < 384 * length cells) (fits : 384 * length cells ≤ 12288) (r : Chains) (after : After cells (suc x) k r) where
+module _ (cells : List Cell) (done x k : ℕ) (few : x < 384 * length cells) (fits : 384 * length cells ≤ 12288) (s : List ℕ) (after : After cells done (suc x) k s) where
   kept-none : isVariant cells x ≡ false → (t : ℕ) → keep (hasTable cells t) (from x (suc k)) ≡ keep (hasTable cells t) (from (suc x) k)
   unfolding keep from hasTable
   kept-none e t =
@@ -119,94 +169,205 @@ module _ (cells : List Cell) (x k : ℕ) (few : x < 384 * length cells) (fits : 
       ap₂ (λ (a b : Bool). cond (a && b) (x ∷ keep (hasTable cells t) (from (suc x) k)) (keep (hasTable cells t) (from (suc x) k))) e q
 
   -- a mask that the cell does not have
-  skipped : isVariant cells x ≡ false → After cells x (suc k) r
+  skipped : isVariant cells x ≡ false → After cells done x (suc k) s
   skipped e = record {
-    heads-long = after .heads-long;
-    links-long = after .links-long;
-    listed = λ t h.
-        rw (kept-none e t)
-        (linked-lower (r .links) (384 * length cells) (suc x) x (getD (r .heads) t 0) (keep (hasTable cells t) (from (suc x) k)) (omega arith) (after .listed t h));
+    long = after .long;
+    listed = λ t h. rw (kept-none e t) (linked-lower cells s (suc x) x (getD s t 0) (keep (hasTable cells t) (from (suc x) k)) (omega arith) (after .listed t h));
+    delayed = after .delayed;
   }
 
   small : tableAt cells x < 65536
   unfolding tableAt variantTable
   small = table-small (λ r. value (cellAt cells (lineOf x) .table) (pinRow (cellAt cells (lineOf x) .pins) (placesOf (orderOf x)) (maskOf x) r))
 
+  next : List ℕ
+  next = pushed (tableAt cells x) x (pickAt cells x) s
+
+  alike : Alike cells s next (suc x)
+  unfolding next
+  alike y l h = (
+    pushed-other (tableAt cells x) x (pickAt cells x) s small (omega arith) (after .long) (linkAddr y) (λ e. omega (arith, e)) (λ e. omega (arith, e, small)) (λ e. omega (arith, e)),
+    pushed-other (tableAt cells x) x (pickAt cells x) s small (omega arith) (after .long) (pickAddr y) (λ e. omega (arith, e)) (λ e. omega (arith, e, small)) (λ e. omega (arith, e)),
+  )
+
   -- another table
-  other : (t : ℕ) → t < 65536 → ¬ (t ≡ tableAt cells x)
-      → Linked (pushed (tableAt cells x) x r .links) (384 * length cells) x (getD (pushed (tableAt cells x) x r .heads) t 0) (keep (hasTable cells t) (from (suc x) k))
-  unfolding pushed
+  other : (t : ℕ) → t < 65536 → ¬ (t ≡ tableAt cells x) → Linked cells next x (getD next t 0) (keep (hasTable cells t) (from (suc x) k))
+  unfolding next
   other t h apart =
-      rw (getD-set-other (r .heads) (tableAt cells x) t (x + 1) 0 apart)
-      (linked-lower (set (r .links) x (getD (r .heads) (tableAt cells x) 0)) (384 * length cells) (suc x) x (getD (r .heads) t 0) (keep (hasTable cells t) (from (suc x) k)) (omega arith)
-      (linked-set (r .links) x (getD (r .heads) (tableAt cells x) 0) (384 * length cells) (suc x) (getD (r .heads) t 0) (keep (hasTable cells t) (from (suc x) k)) (omega arith) (after .listed t h)))
+      rw (pushed-other (tableAt cells x) x (pickAt cells x) s small (omega arith) (after .long) t (λ e. omega (arith, e)) apart (λ e. omega (arith, e)))
+      (linked-lower cells (pushed (tableAt cells x) x (pickAt cells x) s) (suc x) x (getD s t 0) (keep (hasTable cells t) (from (suc x) k)) (omega arith)
+      (linked-same cells s (pushed (tableAt cells x) x (pickAt cells x) s) (suc x) (getD s t 0) (keep (hasTable cells t) (from (suc x) k)) alike (after .listed t h)))
 
   -- the variant's own table
-  own : (t : ℕ) → t ≡ tableAt cells x
-      → Linked (pushed (tableAt cells x) x r .links) (384 * length cells) x (getD (pushed (tableAt cells x) x r .heads) t 0) (x ∷ keep (hasTable cells t) (from (suc x) k))
-  unfolding pushed Linked
+  own : (t : ℕ) → t ≡ tableAt cells x → Linked cells next x (getD next t 0) (x ∷ keep (hasTable cells t) (from (suc x) k))
+  unfolding next Linked
   own t e =
       rw e (
-        getD-set-same (r .heads) (tableAt cells x) (x + 1) 0 (omega (arith, small, after .heads-long)),
+        pushed-head (tableAt cells x) x (pickAt cells x) s small (omega arith) (after .long),
         omega arith,
         few,
-        rw (getD-set-same (r .links) x (getD (r .heads) (tableAt cells x) 0) 0 (omega (arith, after .links-long)))
-            (linked-set (r .links) x (getD (r .heads) (tableAt cells x) 0) (384 * length cells) (suc x) (getD (r .heads) (tableAt cells x) 0) (keep (hasTable cells (tableAt cells x)) (from (suc x) k)) (omega arith) (after .listed (tableAt cells x) small)),
+        pushed-pick (tableAt cells x) x (pickAt cells x) s small (omega arith) (after .long),
+        rw (pushed-link (tableAt cells x) x (pickAt cells x) s small (omega arith) (after .long))
+            (linked-same cells s (pushed (tableAt cells x) x (pickAt cells x) s) (suc x) (getD s (tableAt cells x) 0) (keep (hasTable cells (tableAt cells x)) (from (suc x) k)) alike (after .listed (tableAt cells x) small)),
       )
 
-  heads-kept : length (pushed (tableAt cells x) x r .heads) ≡ 65536
-  unfolding pushed
-  heads-kept = length-set (r .heads) (tableAt cells x) (x + 1) ∙ after .heads-long
-
-  links-kept : length (pushed (tableAt cells x) x r .links) ≡ 12288
-  unfolding pushed
-  links-kept = length-set (r .links) x (getD (r .heads) (tableAt cells x) 0) ∙ after .links-long
-
-  put-first : isVariant cells x ≡ true → After cells x (suc k) (pushed (tableAt cells x) x r)
+  put-first : isVariant cells x ≡ true → After cells done x (suc k) next
+  unfolding next
   put-first e = record {
-    heads-long = heads-kept;
-    links-long = links-kept;
+    long = pushed-long (tableAt cells x) x (pickAt cells x) s small (omega arith) (after .long);
     listed = λ t h. by-bool (eqb t (tableAt cells x))
         (λ q. rw (kept-own e t q) (own t (eqb-true t (tableAt cells x) q)))
         (λ q. rw (kept-other e t q) (other t h (eqb-false t (tableAt cells x) q)));
+    delayed = λ line j d l f.
+        pushed-other (tableAt cells x) x (pickAt cells x) s small (omega arith) (after .long) (delayAddr line j) (λ e. omega (arith, e)) (λ e. omega (arith, e, small)) (λ e. omega (arith, e))
+        ∙ after .delayed line j d l f;
   }
 
-  masked : isVariant cells x ≡ true → placed (cellAt cells (lineOf x) .pins) (cellAt cells (lineOf x) .table) x r ≡ pushed (tableAt cells x) x r
-  unfolding isVariant tableAt
-  masked e = placed-mask (cellAt cells (lineOf x) .pins) (cellAt cells (lineOf x) .table) x (tableAt cells x) r
-      (ltb-true (maskOf x) (2 ^ cellAt cells (lineOf x) .pins) e) refl
+  masked : isVariant cells x ≡ true → placed (cellAt cells (lineOf x) .pins) (cellAt cells (lineOf x) .table) x s ≡ next
+  unfolding isVariant tableAt pickAt next
+  masked e = placed-mask (cellAt cells (lineOf x) .pins) (cellAt cells (lineOf x) .table) x (tableAt cells x) (pickAt cells x) s
+      (ltb-true (maskOf x) (2 ^ cellAt cells (lineOf x) .pins) e) refl refl
 
-  unmasked : isVariant cells x ≡ false → placed (cellAt cells (lineOf x) .pins) (cellAt cells (lineOf x) .table) x r ≡ r
+  unmasked : isVariant cells x ≡ false → placed (cellAt cells (lineOf x) .pins) (cellAt cells (lineOf x) .table) x s ≡ s
   unfolding isVariant
-  unmasked e = placed-none (cellAt cells (lineOf x) .pins) (cellAt cells (lineOf x) .table) x r
+  unmasked e = placed-none (cellAt cells (lineOf x) .pins) (cellAt cells (lineOf x) .table) x s
       (ltb-false (maskOf x) (2 ^ cellAt cells (lineOf x) .pins) e)
 
-  one-more : After cells x (suc k) (placed (cellAt cells (lineOf x) .pins) (cellAt cells (lineOf x) .table) x r)
+  one-more : After cells done x (suc k) (placed (cellAt cells (lineOf x) .pins) (cellAt cells (lineOf x) .table) x s)
   one-more = by-bool (isVariant cells x)
       (λ e. rw (masked e) (put-first e))
       (λ e. rw (unmasked e) (skipped e))
 
-module _ (cells : List Cell) (s : Chains) (heads-long : length (s .heads) ≡ 65536) (links-long : length (s .links) ≡ 12288)
-    (blank : (t : ℕ) → t < 65536 → getD (s .heads) t 0 ≡ 0) (fits : 384 * length cells ≤ 12288) where
-  none : (x : ℕ) → After cells x 0 s
-  unfolding keep from Linked
-  none x = record { heads-long = heads-long; links-long = links-long; listed = λ t h. blank t h }
+-- ---- the delays
 
-  some : (k x : ℕ) → x + k ≡ 384 * length cells → After cells x k (passed cells x k s)
+module _ (pins : ℕ) (delays : List ℕ) (line : ℕ) (s : List ℕ) (within : line < 32) (long : length s ≡ 90240) where
+  timed-long : length (timed pins delays line s) ≡ 90240
+  unfolding timed
+  timed-long =
+      length-set (set (set (set s (delayAddr line 0) (delayOf pins delays 0)) (delayAddr line 1) (delayOf pins delays 1)) (delayAddr line 2) (delayOf pins delays 2)) (delayAddr line 3) (delayOf pins delays 3)
+      ∙ length-set (set (set s (delayAddr line 0) (delayOf pins delays 0)) (delayAddr line 1) (delayOf pins delays 1)) (delayAddr line 2) (delayOf pins delays 2)
+      ∙ length-set (set s (delayAddr line 0) (delayOf pins delays 0)) (delayAddr line 1) (delayOf pins delays 1)
+      ∙ length-set s (delayAddr line 0) (delayOf pins delays 0) ∙ long
+
+  timed-other : (a : ℕ) → ((j : ℕ) → j < 4 → ¬ (a ≡ delayAddr line j)) → getD (timed pins delays line s) a 0 ≡ getD s a 0
+  unfolding timed
+  timed-other a apart =
+      getD-set-other (set (set (set s (delayAddr line 0) (delayOf pins delays 0)) (delayAddr line 1) (delayOf pins delays 1)) (delayAddr line 2) (delayOf pins delays 2)) (delayAddr line 3) a (delayOf pins delays 3) 0 (apart 3 (omega arith))
+      ∙ getD-set-other (set (set s (delayAddr line 0) (delayOf pins delays 0)) (delayAddr line 1) (delayOf pins delays 1)) (delayAddr line 2) a (delayOf pins delays 2) 0 (apart 2 (omega arith))
+      ∙ getD-set-other (set s (delayAddr line 0) (delayOf pins delays 0)) (delayAddr line 1) a (delayOf pins delays 1) 0 (apart 1 (omega arith))
+      ∙ getD-set-other s (delayAddr line 0) a (delayOf pins delays 0) 0 (apart 0 (omega arith))
+
+  timed-own : (j : ℕ) → j < 4 → getD (timed pins delays line s) (delayAddr line j) 0 ≡ delayOf pins delays j
+  unfolding timed
+  timed-own zero h =
+      getD-set-other (set (set (set s (delayAddr line 0) (delayOf pins delays 0)) (delayAddr line 1) (delayOf pins delays 1)) (delayAddr line 2) (delayOf pins delays 2)) (delayAddr line 3) (delayAddr line 0) (delayOf pins delays 3) 0 (λ e. omega (arith, e))
+      ∙ getD-set-other (set (set s (delayAddr line 0) (delayOf pins delays 0)) (delayAddr line 1) (delayOf pins delays 1)) (delayAddr line 2) (delayAddr line 0) (delayOf pins delays 2) 0 (λ e. omega (arith, e))
+      ∙ getD-set-other (set s (delayAddr line 0) (delayOf pins delays 0)) (delayAddr line 1) (delayAddr line 0) (delayOf pins delays 1) 0 (λ e. omega (arith, e))
+      ∙ getD-set-same s (delayAddr line 0) (delayOf pins delays 0) 0 (omega arith)
+  timed-own (suc zero) h =
+      getD-set-other (set (set (set s (delayAddr line 0) (delayOf pins delays 0)) (delayAddr line 1) (delayOf pins delays 1)) (delayAddr line 2) (delayOf pins delays 2)) (delayAddr line 3) (delayAddr line 1) (delayOf pins delays 3) 0 (λ e. omega (arith, e))
+      ∙ getD-set-other (set (set s (delayAddr line 0) (delayOf pins delays 0)) (delayAddr line 1) (delayOf pins delays 1)) (delayAddr line 2) (delayAddr line 1) (delayOf pins delays 2) 0 (λ e. omega (arith, e))
+      ∙ getD-set-same (set s (delayAddr line 0) (delayOf pins delays 0)) (delayAddr line 1) (delayOf pins delays 1) 0 (omega (arith, length-set s (delayAddr line 0) (delayOf pins delays 0)))
+  timed-own (suc (suc zero)) h =
+      getD-set-other (set (set (set s (delayAddr line 0) (delayOf pins delays 0)) (delayAddr line 1) (delayOf pins delays 1)) (delayAddr line 2) (delayOf pins delays 2)) (delayAddr line 3) (delayAddr line 2) (delayOf pins delays 3) 0 (λ e. omega (arith, e))
+      ∙ getD-set-same (set (set s (delayAddr line 0) (delayOf pins delays 0)) (delayAddr line 1) (delayOf pins delays 1)) (delayAddr line 2) (delayOf pins delays 2) 0
+      (omega (arith, length-set (set s (delayAddr line 0) (delayOf pins delays 0)) (delayAddr line 1) (delayOf pins delays 1), length-set s (delayAddr line 0) (delayOf pins delays 0)))
+  timed-own (suc (suc (suc zero))) h =
+      getD-set-same (set (set (set s (delayAddr line 0) (delayOf pins delays 0)) (delayAddr line 1) (delayOf pins delays 1)) (delayAddr line 2) (delayOf pins delays 2)) (delayAddr line 3) (delayOf pins delays 3) 0
+      (omega (arith, length-set (set (set s (delayAddr line 0) (delayOf pins delays 0)) (delayAddr line 1) (delayOf pins delays 1)) (delayAddr line 2) (delayOf pins delays 2), length-set (set s (delayAddr line 0) (delayOf pins delays 0)) (delayAddr line 1) (delayOf pins delays 1), length-set s (delayAddr line 0) (delayOf pins delays 0)))
+  timed-own (suc (suc (suc (suc j)))) h = absurd (omega arith)
+
+-- ---- all cells
+
+matched-none : (line : ℕ) (s : List ℕ) → s ≡ listMatched [] line s
+unfolding listMatched
+matched-none line s = refl
+
+matched-more : (c : Cell) (cs : List Cell) (line : ℕ) (s : List ℕ) → cellMatched c line (listMatched cs (suc line) s) ≡ listMatched (c ∷ cs) line s
+unfolding listMatched
+matched-more c cs line s = refl
+
+first-cell : (c : Cell) (cs : List Cell) → cellAt (c ∷ cs) 0 ≡ c
+unfolding cellAt
+first-cell c cs = refl
+
+next-cell : (c : Cell) (cs : List Cell) (i : ℕ) → cellAt (c ∷ cs) (suc i) ≡ cellAt cs i
+unfolding cellAt
+next-cell c cs i = refl
+
+module _ (cells : List Cell) (fits : length cells ≤ 32) where
+  -- the delays of one line more
+  lined : (line k : ℕ) (s : List ℕ) → line < length cells → After cells (suc line) (384 * suc line) k s
+      → After cells line (384 * suc line) k (timed (cellAt cells line .pins) (cellAt cells line .delays) line s)
+  lined line k s h after = record {
+    long = timed-long pins delays line s within (after .long);
+    listed = λ t small.
+        rw (timed-other pins delays line s within (after .long) t (λ j l e. omega (arith, e)))
+        (linked-same cells s (timed pins delays line s) (384 * suc line) (getD s t 0) (keep (hasTable cells t) (from (384 * suc line) k)) alike (after .listed t small));
+    delayed = λ l j d i f. by-bool (eqb l line)
+        (λ q. rw (eqb-true l line q) (timed-own pins delays line s within (after .long) j f))
+        (λ q. let apart : ¬ (l ≡ line) = eqb-false l line q in
+        timed-other pins delays line s within (after .long) (delayAddr l j) (λ n b e. apart (omega (arith, e))) ∙ after .delayed l j (omega (arith, apart)) i f);
+  }
+    where
+      pins : ℕ
+      pins = cellAt cells line .pins
+
+      delays : List ℕ
+      delays = cellAt cells line .delays
+
+      within : line < 32
+      within = omega arith
+
+      alike : Alike cells s (timed pins delays line s) (384 * suc line)
+      alike y l b = (timed-other pins delays line s within (after .long) (linkAddr y) (λ j l e. omega (arith, e)), timed-other pins delays line s within (after .long) (pickAddr y) (λ j l e. omega (arith, e)))
+
+  -- the variants of a line
+  celled : (line k : ℕ) (s : List ℕ) → line < length cells → After cells line (384 * suc line) k s
+      → (n i : ℕ) → i + n ≡ 384 → After cells line (384 * line + i) (n + k) (passed (cellAt cells line .pins) (cellAt cells line .table) (384 * line + i) n s)
   unfolding passed
-  some zero x e = none x
-  some (suc k) x e = one-more cells x k (omega arith) fits (passed cells (suc x) k s) (some k (suc x) (omega arith))
+  celled line k s h after zero i e =
+      let b : 384 * line + i ≡ 384 * suc line = omega arith in
+      rw (b, zero-add k) after
+  celled line k s h after (suc n) i e =
+      let b : suc (384 * line + i) ≡ 384 * line + suc i = omega arith in
+      let o : (384 * line + i) / 384 ≡ line = omega arith in
+      let more : After cells line (suc (384 * line + i)) (n + k) (passed (cellAt cells line .pins) (cellAt cells line .table) (suc (384 * line + i)) n s) = rw b (celled line k s h after n (suc i) (omega arith)) in
+      rw (suc-add n k)
+      (rw o at (one-more cells line (384 * line + i) (n + k) (omega arith) (omega arith) (passed (cellAt cells line .pins) (cellAt cells line .table) (suc (384 * line + i)) n s) more))
 
-  pub chains-linked : Chained cells (chains cells s .heads) (chains cells s .links)
-  unfolding Chained chains variants below
-  chains-linked = some (384 * length cells) 0 (zero-add (384 * length cells)) .listed
+  matched : (line k : ℕ) (s : List ℕ) → line < length cells → After cells (suc line) (384 * suc line) k s
+      → After cells line (384 * line) (384 + k) (cellMatched (cellAt cells line) line s)
+  unfolding cellMatched
+  matched line k s h after =
+      rw add-zero at (celled line k (timed (cellAt cells line .pins) (cellAt cells line .delays) line s) h (lined line k s h after) 384 0 (zero-add 384))
 
--- after `build`, from heads that are all 0, the chain of each table lists the variants that have it
-pub build-chained : (l : Library) (heads links heads′ links′ : List ℕ) → Usable l → Blank 65536 heads → Blank 12288 links
-    → Holds (chains (cellsOf l) (both heads links)) heads′ links′ → Chained (cellsOf l) heads′ links′
-build-chained l heads links heads′ links′ u h k holds =
-    rw (holds .heads-are, holds .links-are)
-    (chains-linked (cellsOf l) (both heads links) (h .long) (k .long) (h .zeros) (omega (arith, u .whole, u .few)))
+  -- no cell, from a sheet whose chains are empty
+  none-matched : (line : ℕ) (s : List ℕ) → length cells ≤ line → length s ≡ 90240 → ((t : ℕ) → t < 65536 → getD s t 0 ≡ 0) → After cells line (384 * line) 0 s
+  unfolding keep from Linked
+  none-matched line s e long zeros = record { long = long; listed = λ t h. zeros t h; delayed = λ l j d i f. absurd (omega arith) }
+
+  all-matched : (cs : List Cell) (line : ℕ) (s : List ℕ) → line + length cs ≡ length cells → ((i : ℕ) → cellAt cs i ≡ cellAt cells (line + i))
+      → length s ≡ 90240 → ((t : ℕ) → t < 65536 → getD s t 0 ≡ 0) → After cells line (384 * line) (384 * length cs) (listMatched cs line s)
+  all-matched [] line s e same long zeros = subst (After cells line (384 * line) 0) (matched-none line s) (none-matched line s (omega arith) long zeros)
+  all-matched (c ∷ cs) line s e same long zeros =
+      let k : 384 + 384 * length cs ≡ 384 * suc (length cs) = omega arith in
+      let here : cellAt cells line ≡ c = sym (same 0 ∙ ap (cellAt cells) (add-zero line)) ∙ first-cell c cs in
+      let rest : List ℕ = listMatched cs (suc line) s in
+      subst (λ (n : ℕ). After cells line (384 * line) n (listMatched (c ∷ cs) line s)) k
+      (subst (After cells line (384 * line) (384 + 384 * length cs)) (ap (λ (d : Cell). cellMatched d line rest) here ∙ matched-more c cs line s)
+      (matched line (384 * length cs) rest (omega arith)
+      (all-matched cs (suc line) s (omega arith) (λ i. sym (next-cell c cs i) ∙ same (suc i) ∙ ap (cellAt cells) (add-suc line i ∙ sym (suc-add line i))) long zeros)))
+
+  pub list-sheet : ((c : ℕ) → cellAt cells c .pins ≤ 4) → (s : List ℕ) → Blank 90240 s → SheetOf cells (listMatched cells 0 s)
+  unfolding variants below
+  list-sheet four s blank =
+      let a = all-matched cells 0 s (zero-add (length cells)) (λ i. ap (cellAt cells) (sym (zero-add i))) (blank .long) (λ t h. blank .zeros t (omega arith)) in
+      record { few = fits; four = four; chained = a .listed; delayed = λ line j l f. a .delayed line j (omega arith) l f }
+
+-- after `build`, from a sheet with nothing on it, the sheet is the library's
+pub build-sheet : (l : Library) (s s′ : List ℕ) → Usable l → Blank 90240 s → s′ ≡ listMatched (cellsOf l) 0 s → SheetOf (cellsOf l) s′
+build-sheet l s s′ u blank e = rw e (list-sheet (cellsOf l) (omega (arith, u .whole, u .few)) (u .pins) s blank)
 
 -- ---- the library of some cells
 

@@ -22,6 +22,7 @@ use Rattle.matching.specs.Variants.{Usable, lineOf, matchOf, placesAt, v
 use Rattle.matching.specs.Best.{never, TimesOf, Quick, arrivalAt, unmatched, better, bestFrom, bestOf, phaseAs}
 use Rattle.matching.proofs.Choosing.{by-bool, by-less, none-absent, earlier-none, earlier-assoc, earlier-first, earlier-strict, earlier-tie, choose-kept}
 use Rattle.matching.proofs.Listing.{variant-matches}
+use Rattle.matching.proofs.Walking.{better-strict, better-not}
 use Rattle.matching.proofs.Arriving.{ofVariant, phase-late, phase-timely, variant-past, variant-phase}
 
 -- ---- one variant more
@@ -41,14 +42,6 @@ matched-arrival k b = refl
 timely : (k : ℕ) (b : Best) → b .arrival < never → phaseAs k b ≡ matched k b
 unfolding matched
 timely k b h = phase-timely k b h
-
-better-strict : (b : Best) (x a : ℕ) → a < b .arrival → better b x a ≡ record { variant = x; arrival = a }
-unfolding better
-better-strict b x a h = rw (lt-ltb a (b .arrival) h)
-
-better-not : (b : Best) (x a : ℕ) → b .arrival ≤ a → better b x a ≡ b
-unfolding better
-better-not b x a h = rw (le-ltb a (b .arrival) h)
 
 module _ (k : ℕ) (b : Best) where
   -- the best stays where nothing comes after it; so `Settled`
@@ -78,30 +71,30 @@ module _ (k : ℕ) (b : Best) where
 
 -- ---- all variants
 
-module _ (cells : List Cell) (leaves : ℕ) (times : List ℕ) (k : ℕ) where
+module _ (cells : List Cell) (times : List ℕ) (k : ℕ) where
   from-best : (xs : List ℕ) (b : Best)
-      → phaseAs k (bestFrom cells leaves times b xs) ≡ earlier (phaseAs k b) (choose (map (λ (x : ℕ). phaseAs k (ofVariant cells leaves times x)) xs))
+      → phaseAs k (bestFrom cells times b xs) ≡ earlier (phaseAs k b) (choose (map (λ (x : ℕ). phaseAs k (ofVariant cells times x)) xs))
   unfolding bestFrom choose
   from-best [] b = phase-end k b
   from-best (x ∷ xs) b =
-      from-best xs (better b x (arrivalAt cells leaves times x))
-      ∙ ap (λ (z : Phase). earlier z (choose (map (λ (x : ℕ). phaseAs k (ofVariant cells leaves times x)) xs))) (phase-better k b x (arrivalAt cells leaves times x))
-      ∙ earlier-assoc (phaseAs k b) (phaseAs k (ofVariant cells leaves times x)) (choose (map (λ (x : ℕ). phaseAs k (ofVariant cells leaves times x)) xs))
+      from-best xs (better b x (arrivalAt cells times x))
+      ∙ ap (λ (z : Phase). earlier z (choose (map (λ (x : ℕ). phaseAs k (ofVariant cells times x)) xs))) (phase-better k b x (arrivalAt cells times x))
+      ∙ earlier-assoc (phaseAs k b) (phaseAs k (ofVariant cells times x)) (choose (map (λ (x : ℕ). phaseAs k (ofVariant cells times x)) xs))
 
-  pub best-chosen : (f : ℕ) → phaseAs k (bestOf cells leaves f times) ≡ choose (map (λ (x : ℕ). phaseAs k (ofVariant cells leaves times x)) (variants cells f))
+  pub best-chosen : (f : ℕ) → phaseAs k (bestOf cells f times) ≡ choose (map (λ (x : ℕ). phaseAs k (ofVariant cells times x)) (variants cells f))
   unfolding bestOf
   best-chosen f =
       from-best (variants cells f) unmatched
-      ∙ ap (λ (z : Phase). earlier z (choose (map (λ (x : ℕ). phaseAs k (ofVariant cells leaves times x)) (variants cells f)))) (phase-late k unmatched (omega arith))
-      ∙ earlier-none (choose (map (λ (x : ℕ). phaseAs k (ofVariant cells leaves times x)) (variants cells f)))
+      ∙ ap (λ (z : Phase). earlier z (choose (map (λ (x : ℕ). phaseAs k (ofVariant cells times x)) (variants cells f)))) (phase-late k unmatched (omega arith))
+      ∙ earlier-none (choose (map (λ (x : ℕ). phaseAs k (ofVariant cells times x)) (variants cells f)))
 
 -- the best match of a cut is the choice among its matches
 pub best-match-chosen : (l : Library) (known : ℕ → Phases) (cut times : List ℕ) (k f : ℕ) → Usable l → f < 65536 → TimesOf known cut times → Quick known cut
-    → phaseAs k (bestOf (cellsOf l) (length cut) f times)
+    → phaseAs k (bestOf (cellsOf l) f times)
     ≡ choose (map (matchPhase (cellsOf l) known cut) (cutMatches (cellsOf l) 0 k (length cut) f))
 best-match-chosen l known cut times k f usable small timed quick =
-    best-chosen cells (length cut) times k f
-    ∙ ap choose (map-same (λ (x : ℕ). phaseAs k (ofVariant cells (length cut) times x)) (λ (x : ℕ). cond (placesAt cells (length cut) x) (given x) noPhase) (variants cells f) (λ x m. same x))
+    best-chosen cells times k f
+    ∙ ap choose (map-same (λ (x : ℕ). phaseAs k (ofVariant cells times x)) (λ (x : ℕ). cond (placesAt cells (length cut) x) (given x) noPhase) (variants cells f) (λ x m. same x))
     ∙ sym (choose-kept given (placesAt cells (length cut)) (variants cells f))
     ∙ ap choose (sym (map-map (matchPhase cells known cut) (matchOf k) (keep (placesAt cells (length cut)) (variants cells f)))
     ∙ ap (map (matchPhase cells known cut)) (variant-matches cells k (length cut) f small (usable .pins)))
@@ -112,7 +105,7 @@ best-match-chosen l known cut times k f usable small timed quick =
     given : ℕ → Phase
     given x = matchPhase cells known cut (matchOf k x)
 
-    same : (x : ℕ) → phaseAs k (ofVariant cells (length cut) times x) ≡ cond (placesAt cells (length cut) x) (given x) noPhase
+    same : (x : ℕ) → phaseAs k (ofVariant cells times x) ≡ cond (placesAt cells (length cut) x) (given x) noPhase
     same x = by-bool (placesAt cells (length cut) x)
         (λ e. variant-phase cells k x (usable .pins (lineOf x)) known cut times timed quick (usable .delays (lineOf x)) e ∙ sym (ap (λ (b : Bool). cond b (given x) noPhase) e))
-        (λ e. variant-past cells k x (usable .pins (lineOf x)) (length cut) times e ∙ sym (ap (λ (b : Bool). cond b (given x) noPhase) e))
+        (λ e. variant-past cells k x (usable .pins (lineOf x)) known cut times timed e ∙ sym (ap (λ (b : Bool). cond b (given x) noPhase) e))

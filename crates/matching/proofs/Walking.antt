@@ -1,31 +1,176 @@
 -- The walk along a chain: what is left of it leads from the best so far to the answer.
+--     swift-arrival       the arrival of a variant, from the sheet
 --     walking-within      a head that is not 0 is that of a variant
 --     walking-falls       the next head is nearer to the end
 --     walking-next        the best so far and the variant give the next best
 --     walking-end         at the end the best is the answer; `walking-none`: of an empty chain there is none
 -- Assumes nothing.
-use Prim.Native.Nat.{ℕ, zero, suc, _-_, _*_, _<_, _≤_}
-use mathlib.Core.Path.{_≡_, refl, ap}
+use Prim.Native.Nat.{ℕ, zero, suc, _+_, _-_, _*_, _/_, _%_, _<_, _≤_, max}
+use mathlib.Core.Path.{_≡_, refl, sym, ap, ap₂, subst, _∙_}
+use mathlib.Core.Bool.{Bool, true, false, cond}
 use mathlib.Core.List.{List, [], _∷_}
+use native.Mathlib.Nat.{add-zero}
 use native.Mathlib.Omega.{arith}
-use lib.ListN.{length, getD, take, length-take}
-use Rattle.model.specs.Cells.{noCell}
+use lib.Dec.{ltb}
+use lib.ListN.{length, getD}
+use borrow.Author.Tests.{lt-ltb, le-ltb}
+use Rattle.model.specs.Base.{bit, one}
+use Rattle.model.specs.Cells.{cellAt}
 use Rattle.model.specs.declared.Cell.{Cell}
 use Rattle.truth.specs.Variant.{placesOf}
+use Rattle.truth.proofs.Tables.{one-small}
+use Rattle.truth.proofs.Variants.{place-small}
 use Rattle.matching.specs.declared.Best.{Best}
-use Rattle.matching.specs.Variants.{lineOf, orderOf, maskOf, variants, Linked, Chained}
-use Rattle.matching.specs.Best.{unmatched, arrivalOf, arrivalAt, better, bestFrom, bestOf}
-use Rattle.matching.proofs.Linking.{linked-lower, cell-taken}
+use Rattle.matching.specs.Variants.{lineOf, orderOf, maskOf, variants}
+use Rattle.matching.specs.Sheet.{linkAddr, pickAddr, delayAddr, pickPin, pickOf, pickAt, delayOf, Linked, SheetOf}
+use Rattle.matching.specs.Best.{Timely, unmatched, pinAt, largest, arrivalOf, arrivalAt, waits, swiftAt, better, bestFrom, bestOf}
+use Rattle.matching.proofs.Linking.{linked-lower}
+
+-- ---- one pin
+
+pub pick-there : (pins : ℕ) (places : List ℕ) (mask j r : ℕ) → j < pins → r ≡ 2 * getD places j 0 + one (bit mask j) → r ≡ pickPin pins places mask j
+unfolding pickPin
+pick-there pins places mask j r h e = e ∙ sym (ap (λ (b : Bool). cond b (2 * getD places j 0 + one (bit mask j)) 8) (lt-ltb j pins h))
+
+pub pick-absent : (pins : ℕ) (places : List ℕ) (mask j : ℕ) → pins ≤ j → 8 ≡ pickPin pins places mask j
+unfolding pickPin
+pick-absent pins places mask j h = sym (ap (λ (b : Bool). cond b (2 * getD places j 0 + one (bit mask j)) 8) (le-ltb j pins h))
+
+pub delay-there : (pins : ℕ) (delays : List ℕ) (j : ℕ) → j < pins → getD delays j 0 ≡ delayOf pins delays j
+unfolding delayOf
+delay-there pins delays j h = sym (ap (λ (b : Bool). cond b (getD delays j 0) 0) (lt-ltb j pins h))
+
+pub delay-absent : (pins : ℕ) (delays : List ℕ) (j : ℕ) → pins ≤ j → 0 ≡ delayOf pins delays j
+unfolding delayOf
+delay-absent pins delays j h = sym (ap (λ (b : Bool). cond b (getD delays j 0) 0) (le-ltb j pins h))
+
+pub pick-small : (pins order mask j : ℕ) → order < 24 → j < 4 → pickPin pins (placesOf order) mask j ≤ 8
+unfolding pickPin
+pick-small pins order mask j h f = go (ltb j pins)
+  where
+    go : (b : Bool) → cond b (2 * getD (placesOf order) j 0 + one (bit mask j)) 8 ≤ 8
+    go true = omega (arith, place-small order j h f, one-small (bit mask j))
+    go false = omega arith
+
+four-largest : (a b c d : ℕ) → max (max a b) (max c d) ≡ max a (max b (max c (max d 0)))
+four-largest a b c d = assoc a b (max c d) ∙ ap (λ (t : ℕ). max a (max b (max c t))) nought
+  where
+    assoc : (x y z : ℕ) → max (max x y) z ≡ max x (max y z)
+    assoc x y z = omega arith
+
+    nought : d ≡ max d 0
+    nought = omega arith
+
+module _ (pins : ℕ) (delays : List ℕ) (order mask : ℕ) (times : List ℕ) (timely : Timely times) where
+  -- what pin j waits for, nothing where it is absent
+  wait : ℕ → ℕ
+  wait j = getD times (pickPin pins (placesOf order) mask j) 0 + delayOf pins delays j
+
+  wait-there : (j : ℕ) → j < pins → wait j ≡ pinAt delays (placesOf order) mask times j
+  unfolding wait pinAt
+  wait-there j h = ap₂ (λ (i d : ℕ). getD times i 0 + d) (sym (pick-there pins (placesOf order) mask j (2 * getD (placesOf order) j 0 + one (bit mask j)) h refl)) (sym (delay-there pins delays j h))
+
+  wait-absent : (j : ℕ) → pins ≤ j → wait j ≡ 0
+  unfolding wait
+  wait-absent j h =
+      ap₂ (λ (i d : ℕ). getD times i 0 + d) (sym (pick-absent pins (placesOf order) mask j h)) (sym (delay-absent pins delays j h))
+      ∙ ap (λ (t : ℕ). t + 0) (timely .still)
+
+  waits-largest : (n : ℕ) → pins ≡ n → n ≤ 4 → max (max (wait 0) (wait 1)) (max (wait 2) (wait 3)) ≡ largest (pinAt delays (placesOf order) mask times) 0 n
+  unfolding largest
+  waits-largest zero e l = rw (wait-absent 0 (omega arith), wait-absent 1 (omega arith), wait-absent 2 (omega arith), wait-absent 3 (omega arith)) (omega arith)
+  waits-largest (suc zero) e l = rw (wait-there 0 (omega arith), wait-absent 1 (omega arith), wait-absent 2 (omega arith), wait-absent 3 (omega arith)) (omega arith)
+  waits-largest (suc (suc zero)) e l = rw (wait-there 0 (omega arith), wait-there 1 (omega arith), wait-absent 2 (omega arith), wait-absent 3 (omega arith)) (omega arith)
+  waits-largest (suc (suc (suc zero))) e l = rw (wait-there 0 (omega arith), wait-there 1 (omega arith), wait-there 2 (omega arith), wait-absent 3 (omega arith)) (omega arith)
+  waits-largest (suc (suc (suc (suc zero)))) e l =
+      rw (wait-there 0 (omega arith), wait-there 1 (omega arith), wait-there 2 (omega arith), wait-there 3 (omega arith))
+      (four-largest (pin 0) (pin 1) (pin 2) (pin 3))
+    where
+      pin : ℕ → ℕ
+      pin j = pinAt delays (placesOf order) mask times j
+  waits-largest (suc (suc (suc (suc (suc n))))) e l = absurd (omega arith)
+
+  arrival-waits : pins ≤ 4 → max (max (wait 0) (wait 1)) (max (wait 2) (wait 3)) ≡ arrivalOf pins delays (placesOf order) mask times
+  unfolding arrivalOf
+  arrival-waits four = waits-largest pins refl four
+
+-- ---- the four pins of a variant
+
+-- the pick of each pin out of the word
+nibbles : (a b c d : ℕ) → a ≤ 8 → b ≤ 8 → c ≤ 8 → d ≤ 8
+    → ((a + 16 * b + 256 * c + 4096 * d) % 16 ≡ a) × ((a + 16 * b + 256 * c + 4096 * d) / 16 % 16 ≡ b) × ((a + 16 * b + 256 * c + 4096 * d) / 256 % 16 ≡ c)
+    × ((a + 16 * b + 256 * c + 4096 * d) / 4096 ≡ d)
+nibbles a b c d ha hb hc hd = (omega arith, omega arith, omega arith, omega arith)
+
+module _ (cells : List Cell) (s times : List ℕ) (sheet : SheetOf cells s) (timely : Timely times) where
+  pub swift-arrival : (x : ℕ) → x < 384 * length cells → getD s (pickAddr x) 0 ≡ pickAt cells x → swiftAt s times x ≡ arrivalAt cells times x
+  unfolding swiftAt arrivalAt pickAt pickOf wait
+  swift-arrival x h e =
+      ap (λ (q : ℕ). max (max (waits s times (q % 16) (delayAddr (lineOf x) 0)) (waits s times (q / 16 % 16) (delayAddr (lineOf x) 1)))
+      (max (waits s times (q / 256 % 16) (delayAddr (lineOf x) 2)) (waits s times (q / 4096) (delayAddr (lineOf x) 3)))) e
+      ∙ ap₂ max (ap₂ max (one-pin 0 (n .0) (omega arith)) (one-pin 1 (n .1) (omega arith))) (ap₂ max (one-pin 2 (n .2) (omega arith)) (one-pin 3 (n .3) (omega arith)))
+      ∙ arrival-waits pins delays (orderOf x) (maskOf x) times timely (sheet .four (lineOf x))
+    where
+      pins : ℕ
+      pins = cellAt cells (lineOf x) .pins
+
+      delays : List ℕ
+      delays = cellAt cells (lineOf x) .delays
+
+      pin : ℕ → ℕ
+      pin j = pickPin pins (placesOf (orderOf x)) (maskOf x) j
+
+      word : ℕ
+      word = pin 0 + 16 * pin 1 + 256 * pin 2 + 4096 * pin 3
+
+      n : (word % 16 ≡ pin 0) × (word / 16 % 16 ≡ pin 1) × (word / 256 % 16 ≡ pin 2) × (word / 4096 ≡ pin 3)
+      n = nibbles (pin 0) (pin 1) (pin 2) (pin 3) (pick-small pins (orderOf x) (maskOf x) 0 (omega arith) (omega arith)) (pick-small pins (orderOf x) (maskOf x) 1 (omega arith) (omega arith)) (pick-small pins (orderOf x) (maskOf x) 2 (omega arith) (omega arith)) (pick-small pins (orderOf x) (maskOf x) 3 (omega arith) (omega arith))
+
+      one-pin : (j : ℕ) {i : ℕ} → i ≡ pin j → j < 4 → waits s times i (delayAddr (lineOf x) j) ≡ getD times (pin j) 0 + delayOf pins delays j
+      one-pin j e f = ap₂ (λ (i d : ℕ). getD times i 0 + d) e (sheet .delayed (lineOf x) j (omega arith) f)
+
+-- ---- one variant tried
+
+pub better-not : (b : Best) (x a : ℕ) → b .arrival ≤ a → better b x a ≡ b
+unfolding better
+better-not b x a h = rw (le-ltb a (b .arrival) h)
+
+pub better-strict : (b : Best) (x a : ℕ) → a < b .arrival → better b x a ≡ record { variant = x; arrival = a }
+unfolding better
+better-strict b x a h = rw (lt-ltb a (b .arrival) h)
+
+module _ (s times : List ℕ) (x : ℕ) (b : Best) (p : ℕ) (picked : p ≡ getD s (pickAddr x) 0) where
+  -- what the four pins wait for
+  abbrev pub Four : ℕ → ℕ → ℕ → ℕ → Type 0
+  Four t u v w =
+      (t ≡ waits s times (p % 16) (90112 + 4 * lineOf x)) × (u ≡ waits s times (p / 16 % 16) (90112 + 4 * lineOf x + 1))
+      × (v ≡ waits s times (p / 256 % 16) (90112 + 4 * lineOf x + 2)) × (w ≡ waits s times (p / 4096) (90112 + 4 * lineOf x + 3))
+
+  four-swift : (t u v w : ℕ) → Four t u v w → max (max t u) (max v w) ≡ swiftAt s times x
+  unfolding swiftAt
+  four-swift t u v w f =
+      let e : 90112 + 4 * lineOf x ≡ delayAddr (lineOf x) 0 = sym (add-zero (90112 + 4 * lineOf x)) in
+      ap₂ max (ap₂ max (f .0 ∙ ap (waits s times (p % 16)) e) (f .1)) (ap₂ max (f .2) (f .3))
+      ∙ ap (λ (q : ℕ). max (max (waits s times (q % 16) (delayAddr (lineOf x) 0)) (waits s times (q / 16 % 16) (delayAddr (lineOf x) 1)))
+      (max (waits s times (q / 256 % 16) (delayAddr (lineOf x) 2)) (waits s times (q / 4096) (delayAddr (lineOf x) 3)))) picked
+
+  -- one pin that is not earlier is enough
+  pub one-late : (t u v w : ℕ) → Four t u v w → b .arrival ≤ max (max t u) (max v w) → b ≡ better b x (swiftAt s times x)
+  one-late t u v w f h = sym (better-not b x (swiftAt s times x) (omega (arith, four-swift t u v w f)))
+
+  pub all-early : (t u v w a : ℕ) → Four t u v w → a ≡ max (max t u) (max v w) → a < b .arrival → record { variant = x; arrival = a } ≡ better b x (swiftAt s times x)
+  all-early t u v w a f e h =
+      sym (better-strict b x a h) ∙ ap (better b x) (e ∙ four-swift t u v w f)
+
+-- ---- the walk
 
 -- at head h with best b: the variants that are left lead to the answer
-abbrev pub Walking : List Cell → ℕ → List ℕ → Best → List ℕ → ℕ → Best → Type 0
-Walking cells leaves times answer links h b =
-    (rest : List ℕ) × Linked links (384 * length cells) 0 h rest × (bestFrom cells leaves times b rest ≡ answer)
+abbrev pub Walking : List Cell → List ℕ → Best → List ℕ → ℕ → Best → Type 0
+Walking cells times answer s h b = (rest : List ℕ) × Linked cells s 0 h rest × (bestFrom cells times b rest ≡ answer)
 
--- for every number of cells whose chains these are: a walk may have forgotten how many there are
-abbrev pub Walks : List Cell → List ℕ → List ℕ → ℕ → ℕ → List ℕ → ℕ → Best → Type 0
-Walks cells heads links f leaves times h b =
-    (n : ℕ) → Chained (take n cells) heads links → Walking (take n cells) leaves times (bestOf (take n cells) leaves f times) links h b
+-- for every list of cells whose sheet this is
+abbrev pub Walks : List ℕ → ℕ → List ℕ → ℕ → Best → Type 0
+Walks s f times h b = (cells : List Cell) → SheetOf cells s → Walking cells times (bestOf cells f times) s h b
 
 -- how far a head is from the end
 pub togo : ℕ → ℕ
@@ -33,65 +178,59 @@ togo zero = 0
 togo (suc x) = 65536 - suc x
 
 -- the head of a chain that is not empty
-within : (links : List ℕ) (top h : ℕ) (rest : List ℕ) → Linked links top 0 h rest → 0 < h → h - 1 < top
+within : (cells : List Cell) (s : List ℕ) (h : ℕ) (rest : List ℕ) → Linked cells s 0 h rest → 0 < h → h - 1 < 384 * length cells
 unfolding Linked
-within links top h [] k l = absurd (omega (arith, k))
-within links top h (x ∷ xs) k l = omega (arith, k .0, k .2)
+within cells s h [] k l = absurd (omega (arith, k))
+within cells s h (x ∷ xs) k l = omega (arith, k .0, k .2)
 
-falls : (links : List ℕ) (top h : ℕ) (rest : List ℕ) → Linked links top 0 h rest → 0 < h → top ≤ 12288 → togo (getD links (h - 1) 0) < togo h
+falls : (cells : List Cell) (s : List ℕ) (h : ℕ) (rest : List ℕ) → Linked cells s 0 h rest → 0 < h → 384 * length cells ≤ 12288 → togo (getD s (linkAddr (h - 1)) 0) < togo h
 unfolding Linked togo
-falls links top h [] k l few = absurd (omega (arith, k))
-falls links top h (x ∷ xs) k l few =
+falls cells s h [] k l few = absurd (omega (arith, k))
+falls cells s h (x ∷ xs) k l few =
     let e : h ≡ suc x = omega (arith, k .0) in
     let p : suc x - 1 ≡ x = omega arith in
-    rw (e, p) (next xs (getD links x 0) (k .3))
+    rw (e, p) (next xs (getD s (linkAddr x) 0) (k .4))
   where
-    next : (ys : List ℕ) (g : ℕ) → Linked links top (suc x) g ys → togo g < 65536 - suc x
+    next : (ys : List ℕ) (g : ℕ) → Linked cells s (suc x) g ys → togo g < 65536 - suc x
     next [] g m = rw m (omega (arith, k .2))
     next (y ∷ ys) g m =
         let e : g ≡ suc y = omega (arith, m .0) in
         rw e (omega (arith, m .1, m .2))
 
-module _ (cells : List Cell) (leaves : ℕ) (times : List ℕ) (answer : Best) (links : List ℕ) where
-  pub walking-within : (h : ℕ) (b : Best) → Walking cells leaves times answer links h b → 0 < h → h - 1 < 384 * length cells
-  walking-within h b w l = within links (384 * length cells) h (w .0) (w .1) l
+module _ (cells : List Cell) (times : List ℕ) (answer : Best) (s : List ℕ) (sheet : SheetOf cells s) where
+  pub walking-within : (h : ℕ) (b : Best) → Walking cells times answer s h b → 0 < h → h - 1 < 12288
+  walking-within h b w l = omega (arith, within cells s h (w .0) (w .1) l, sheet .few)
 
-  pub walking-falls : (h : ℕ) (b : Best) → Walking cells leaves times answer links h b → 0 < h → 384 * length cells ≤ 12288
-      → togo (getD links (h - 1) 0) < togo h
-  walking-falls h b w l few = falls links (384 * length cells) h (w .0) (w .1) l few
+  pub walking-falls : (h : ℕ) (b : Best) → Walking cells times answer s h b → 0 < h → togo (getD s (linkAddr (h - 1)) 0) < togo h
+  walking-falls h b w l = falls cells s h (w .0) (w .1) l (omega (arith, sheet .few))
 
-  step : (h : ℕ) (b : Best) (rest : List ℕ) → 0 < h → Linked links (384 * length cells) 0 h rest → bestFrom cells leaves times b rest ≡ answer
-      → Walking cells leaves times answer links (getD links (h - 1) 0) (better b (h - 1) (arrivalAt cells leaves times (h - 1)))
+  step : Timely times → (h : ℕ) (b : Best) (rest : List ℕ) → 0 < h → Linked cells s 0 h rest → bestFrom cells times b rest ≡ answer
+      → Walking cells times answer s (getD s (linkAddr (h - 1)) 0) (better b (h - 1) (swiftAt s times (h - 1)))
   unfolding Linked bestFrom
-  step h b [] l k e = absurd (omega (arith, k))
-  step h b (x ∷ xs) l k e =
+  step timely h b [] l k e = absurd (omega (arith, k))
+  step timely h b (x ∷ xs) l k e =
       let p : h - 1 ≡ x = omega (arith, k .0) in
-      rw p (xs, linked-lower links (384 * length cells) (suc x) 0 (getD links x 0) xs (omega arith) (k .3), e)
+      rw (p, swift-arrival cells s times sheet timely x (k .2) (k .3)) (xs, linked-lower cells s (suc x) 0 (getD s (linkAddr x) 0) xs (omega arith) (k .4), e)
 
-  pub walking-next : (h : ℕ) (b : Best) → Walking cells leaves times answer links h b → 0 < h
-      → Walking cells leaves times answer links (getD links (h - 1) 0) (better b (h - 1) (arrivalAt cells leaves times (h - 1)))
-  walking-next h b w l = step h b (w .0) l (w .1) (w .2)
+  pub walking-next : Timely times → (h : ℕ) (b : Best) → Walking cells times answer s h b → 0 < h
+      → Walking cells times answer s (getD s (linkAddr (h - 1)) 0) (better b (h - 1) (swiftAt s times (h - 1)))
+  walking-next timely h b w l = step timely h b (w .0) l (w .1) (w .2)
 
-  done : (h : ℕ) (b : Best) (rest : List ℕ) → h ≤ 0 → Linked links (384 * length cells) 0 h rest → bestFrom cells leaves times b rest ≡ answer → b ≡ answer
+  done : (h : ℕ) (b : Best) (rest : List ℕ) → h ≤ 0 → Linked cells s 0 h rest → bestFrom cells times b rest ≡ answer → b ≡ answer
   unfolding Linked bestFrom
   done h b [] l k e = e
   done h b (x ∷ xs) l k e = absurd (omega (arith, k .0))
 
-  pub walking-end : (h : ℕ) (b : Best) → Walking cells leaves times answer links h b → h ≤ 0 → b ≡ answer
+  pub walking-end : (h : ℕ) (b : Best) → Walking cells times answer s h b → h ≤ 0 → b ≡ answer
   walking-end h b w l = done h b (w .0) l (w .1) (w .2)
 
--- the arrival of a variant by the cell of the array
-pub arrival-taken : (cells : List Cell) (n leaves : ℕ) (times : List ℕ) (x : ℕ) → x < 384 * length (take n cells)
-    → arrivalOf (getD cells (lineOf x) noCell .pins) (getD cells (lineOf x) noCell .delays) (placesOf (orderOf x)) (maskOf x) leaves times
-    ≡ arrivalAt (take n cells) leaves times x
-unfolding arrivalAt
-arrival-taken cells n leaves times x h =
-    ap (λ (c : Cell). arrivalOf (c .pins) (c .delays) (placesOf (orderOf x)) (maskOf x) leaves times)
-    (cell-taken cells n (lineOf x) (omega (arith, length-take n cells)))
+-- the walk begins
+pub walking-first : (cells : List Cell) (s : List ℕ) (f : ℕ) (times : List ℕ) → SheetOf cells s → f < 65536
+    → Walking cells times (bestOf cells f times) s (getD s f 0) unmatched
+unfolding bestOf
+walking-first cells s f times sheet small = (variants cells f, sheet .chained f small, refl)
 
 -- a chain with nothing in it
-pub walking-none : (cells : List Cell) (heads links : List ℕ) (f leaves : ℕ) (times : List ℕ) → Chained cells heads links → f < 65536 → getD heads f 0 ≡ 0
-    → unmatched ≡ bestOf cells leaves f times
-unfolding Chained bestOf
-walking-none cells heads links f leaves times chained small e =
-    walking-end cells leaves times (bestOf cells leaves f times) links (getD heads f 0) unmatched (variants cells f, chained f small, refl) (omega (arith, e))
+pub walking-none : (cells : List Cell) (s : List ℕ) (f : ℕ) (times : List ℕ) → SheetOf cells s → f < 65536 → getD s f 0 ≡ 0 → unmatched ≡ bestOf cells f times
+walking-none cells s f times sheet small e =
+    walking-end cells times (bestOf cells f times) s sheet (getD s f 0) unmatched (walking-first cells s f times sheet small) (omega (arith, e))

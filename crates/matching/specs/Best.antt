@@ -1,9 +1,9 @@
 -- The best match of a cut, over the arrivals of its leaves. Assumes nothing.
-use Prim.Native.Nat.{ℕ, zero, suc, _+_, _*_, _≤_, _<_, max}
+use Prim.Native.Nat.{ℕ, zero, suc, _+_, _*_, _/_, _%_, _≤_, _<_, max}
 use mathlib.Core.Path.{_≡_}
 use mathlib.Core.Bool.{Bool, cond}
 use mathlib.Core.List.{List, [], _∷_}
-use lib.Dec.{eqb, ltb}
+use lib.Dec.{ltb}
 use lib.ListN.{length, getD}
 use Rattle.model.specs.Base.{bit, one}
 use Rattle.model.specs.Cells.{cellAt}
@@ -15,50 +15,42 @@ use Rattle.model.specs.declared.Source.the-variants.{Cell as Matched}
 use Rattle.truth.specs.Variant.{placesOf}
 use Rattle.matching.specs.declared.Best.{Best}
 use Rattle.matching.specs.Variants.{lineOf, orderOf, maskOf, matchOf, variants}
+use Rattle.matching.specs.Sheet.{pickAddr, delayAddr}
 
--- the arrival of a phase that has no source: no arrival comes to it
+-- the arrival of a phase that has no source: no arrival comes to it, and a pin's delay may be added to it
 abbrev pub never : ℕ
-never = 4294967295
+never = 2147483647
 
 -- the latest arrival that leaves room for a pin's delay before that
 abbrev pub lastTime : ℕ
-lastTime = 4294901759
-
--- every arrival leaves room for a pin's delay
-unfoldable pub Timely : List ℕ → Type 0
-Timely times = (i : ℕ) → ¬ (getD times i 0 ≡ never) → getD times i 0 ≤ lastTime
+lastTime = 2147418111
 
 -- the arrival of a phase, where it has a source
 unfoldable pub timeOf : Phase → ℕ
 unfolding absent
 timeOf p = cond (absent (p .source)) never (p .arrival)
 
--- the arrivals of a cut's leaves: leaf i positive at 2 i, negative at 2 i + 1
-unfoldable pub TimesOf : (ℕ → Phases) → List ℕ → List ℕ → Type 0
-unfolding timeOf phaseOf literal one
-TimesOf known cut times =
-    (i : ℕ) (neg : Bool) → i < length cut → getD times (2 * i + one neg) 0 ≡ timeOf (phaseOf known (literal neg (getD cut i 0)))
+-- no arrival is past never, and an absent pin waits for nothing
+pub record Timely (times : List ℕ) : Type 0 where
+  pub bounded : (i : ℕ) → getD times i 0 ≤ never
+  pub still : getD times 8 0 ≡ 0
 
--- the arrivals themselves do so
+-- the arrivals of a cut's leaves: leaf i positive at 2 i, negative at 2 i + 1, never for a leaf that the cut has not
+pub record TimesOf (known : ℕ → Phases) (cut times : List ℕ) : Type 0 where
+  pub there : (i : ℕ) (neg : Bool) → i < length cut → getD times (2 * i + one neg) 0 ≡ timeOf (phaseOf known (literal neg (getD cut i 0)))
+  pub past : (i : ℕ) (neg : Bool) → length cut ≤ i → i < 4 → getD times (2 * i + one neg) 0 ≡ never
+
+-- the arrivals of the leaves leave room for a pin's delay
 unfoldable pub Quick : (ℕ → Phases) → List ℕ → Type 0
 unfolding phaseOf literal
 Quick known cut = (i : ℕ) (neg : Bool) → i < length cut → phaseOf known (literal neg (getD cut i 0)) .arrival ≤ lastTime
 
 -- ---- the arrival of a variant
 
--- "feeding arrival plus pin delay", never if there is none
-unfoldable pub later : ℕ → ℕ → ℕ
-later t d = cond (eqb t never) never (t + d)
-
--- what a pin that is fed from a place adds, never if there is no such leaf
-unfoldable pub pinTime : ℕ → List ℕ → ℕ → Bool → ℕ → ℕ
-unfolding later one
-pinTime leaves times place neg d = cond (ltb place leaves) (later (getD times (2 * place + one neg) 0) d) never
-
--- pin j's under an order and a mask
-unfoldable pub pinAt : List ℕ → List ℕ → ℕ → ℕ → List ℕ → ℕ → ℕ
-unfolding pinTime bit
-pinAt delays places mask leaves times j = pinTime leaves times (getD places j 0) (bit mask j) (getD delays j 0)
+-- "feeding arrival plus pin delay" at pin j, under an order and a mask
+unfoldable pub pinAt : List ℕ → List ℕ → ℕ → List ℕ → ℕ → ℕ
+unfolding bit one
+pinAt delays places mask times j = getD times (2 * getD places j 0 + one (bit mask j)) 0 + getD delays j 0
 
 -- "the largest" of m from the j-th on
 unfoldable pub largest : (ℕ → ℕ) → ℕ → ℕ → ℕ
@@ -66,15 +58,24 @@ largest p j zero = 0
 largest p j (suc m) = max (p j) (largest p (suc j) m)
 
 -- "Arrival": "0 for a cell without pins, otherwise the largest of feeding arrival plus pin delay"
-unfoldable pub arrivalOf : ℕ → List ℕ → List ℕ → ℕ → ℕ → List ℕ → ℕ
+unfoldable pub arrivalOf : ℕ → List ℕ → List ℕ → ℕ → List ℕ → ℕ
 unfolding largest pinAt
-arrivalOf pins delays places mask leaves times = largest (pinAt delays places mask leaves times) 0 pins
+arrivalOf pins delays places mask times = largest (pinAt delays places mask times) 0 pins
 
 -- the arrival of variant x
-unfoldable pub arrivalAt : List Cell → ℕ → List ℕ → ℕ → ℕ
+unfoldable pub arrivalAt : List Cell → List ℕ → ℕ → ℕ
 unfolding arrivalOf cellAt
-arrivalAt cells leaves times x =
-    arrivalOf (cellAt cells (lineOf x) .pins) (cellAt cells (lineOf x) .delays) (placesOf (orderOf x)) (maskOf x) leaves times
+arrivalAt cells times x = arrivalOf (cellAt cells (lineOf x) .pins) (cellAt cells (lineOf x) .delays) (placesOf (orderOf x)) (maskOf x) times
+
+-- the same, from the sheet: what one pin waits for, and the largest of four
+abbrev pub waits : List ℕ → List ℕ → ℕ → ℕ → ℕ
+waits s times select at = getD times select 0 + getD s at 0
+
+unfoldable pub swiftAt : List ℕ → List ℕ → ℕ → ℕ
+swiftAt s times x =
+    let p = getD s (pickAddr x) 0 in
+    max (max (waits s times (p % 16) (delayAddr (lineOf x) 0)) (waits s times (p / 16 % 16) (delayAddr (lineOf x) 1)))
+    (max (waits s times (p / 256 % 16) (delayAddr (lineOf x) 2)) (waits s times (p / 4096) (delayAddr (lineOf x) 3)))
 
 -- ---- the best of several
 
@@ -86,15 +87,15 @@ unmatched = record { variant = 0; arrival = never }
 unfoldable pub better : Best → ℕ → ℕ → Best
 better b x a = cond (ltb a (b .arrival)) (record { variant = x; arrival = a }) b
 
-unfoldable pub bestFrom : List Cell → ℕ → List ℕ → Best → List ℕ → Best
+unfoldable pub bestFrom : List Cell → List ℕ → Best → List ℕ → Best
 unfolding better arrivalAt
-bestFrom cells leaves times b [] = b
-bestFrom cells leaves times b (x ∷ xs) = bestFrom cells leaves times (better b x (arrivalAt cells leaves times x)) xs
+bestFrom cells times b [] = b
+bestFrom cells times b (x ∷ xs) = bestFrom cells times (better b x (arrivalAt cells times x)) xs
 
--- the best match of a cut with so many leaves, f its function in the phase
-unfoldable pub bestOf : List Cell → ℕ → ℕ → List ℕ → Best
+-- the best match of a cut, f its function in the phase
+unfoldable pub bestOf : List Cell → ℕ → List ℕ → Best
 unfolding bestFrom variants
-bestOf cells leaves f times = bestFrom cells leaves times unmatched (variants cells f)
+bestOf cells f times = bestFrom cells times unmatched (variants cells f)
 
 -- the phase that the best match on cut number k gives
 unfoldable pub phaseAs : ℕ → Best → Phase

@@ -1,22 +1,35 @@
 // The best match of the listed cells on a cut. Each cell line, order and mask is one number, a variant: (line * 24 + order) * 16 + mask. Once
 // for each library every variant is put on the chain of its 16-row table, so that a cut looks up its own table and walks the variants that
-// have it, in 01's order: "cell line, order number, mask, lowest first".
+// have it, in 01's order: "cell line, order number, mask, lowest first". The chains, what feeds each variant's pins and the cells' delays are one
+// sheet of words: what lies where is said by specs/Sheet.antt.
 use model::Cell;
 use model::Library;
 use model::Match;
 use model::Phase;
 use model::Source;
 ghost use mathlib.Core.Path.{_≡_};
+ghost use mathlib.Core.List.{List};
 ghost use Prim.Native.Nat.{_+_, _*_, _<_, _≤_, max};
-ghost use Rattle.model.specs.Base.{bit, one};
-ghost use Rattle.model.specs.Cells.{cellsOf};
+ghost use lib.ListN.{length, getD};
+ghost use Rattle.model.specs.Cells.{noCell, cellAt, cellsOf};
+ghost use Rattle.model.specs.declared.Cell.{Cell};
 ghost use Rattle.truth.specs.Variant.{placesOf};
-ghost use Rattle.matching.specs.Variants.{Usable, orderOf, maskOf, matchOf, Blank, both, Holds, pushed, placed, chains, Chained};
-ghost use Rattle.matching.specs.Best.{never, lastTime, Timely, later, pinAt, arrivalOf, better, bestOf, phaseAs};
+ghost use Rattle.matching.specs.Variants.{Usable, matchOf};
+ghost use Rattle.matching.specs.Sheet.{pickPin, pickOf, delayOf, pushed, placed, passed, timed, cellMatched, listMatched, SheetOf, Blank};
+ghost use Rattle.matching.specs.Best.{never, Timely, waits, swiftAt, better, bestOf, phaseAs};
 ghost use Rattle.matching.specs.Inverters.{quicker, tried, inverterOf};
 
 // The arrival of a phase that has no source.
-pub const NEVER: u32 = 4294967295;
+pub const NEVER: u32 = 2147483647;
+
+// The words of a sheet.
+pub const SHEET: usize = 90240;
+
+const LINKS: usize = 65536;
+
+const PICKS: usize = 77824;
+
+const DELAYS: usize = 90112;
 
 // A variant with its arrival, NEVER where there is no match.
 pub struct Best {
@@ -30,99 +43,156 @@ pub enum Inverter {
     Missing,
 }
 
-// ---- the chains
+// ---- the sheet
 
-// Heads of chains that are all empty.
-pub fn no_heads() -> [u16; 65536]
-    ensures { λ r. ⌜ Blank 65536 r ⌝ }
+// A sheet with nothing on it.
+pub fn no_sheet() -> [u16; SHEET]
+    ensures { λ r. ⌜ Blank 90240 r ⌝ }
 {
-    [0u16; 65536]
+    [0u16; SHEET]
 }
 
-// Links for them.
-pub fn no_links() -> [u16; 12288]
-    ensures { λ r. ⌜ Blank 12288 r ⌝ }
-{
-    [0u16; 12288]
-}
-
-// A variant put at the head of the chain of its table.
-fn push(t: u16, x: usize, heads: &mut [u16; 65536], links: &mut [u16; 12288])
+// A variant, with its pick, put at the head of the chain of its table.
+fn push(t: u16, x: usize, p: u16, sheet: &mut [u16; SHEET])
     requires { ⌜ x < 12288 ⌝ }
-    ensures { λ _. ⌜ Holds (pushed t x (both (now (heads .entry)) (now (links .entry)))) (now (heads .exit)) (now (links .exit)) ⌝ }
+    ensures { λ _. ⌜ now (sheet .exit) ≡ pushed t x p (now (sheet .entry)) ⌝ }
 {
     let i = t as usize;
-    links[x] = heads[i];
-    heads[i] = (x + 1) as u16;
+    sheet[LINKS + x] = sheet[i];
+    sheet[i] = (x + 1) as u16;
+    sheet[PICKS + x] = p;
+}
+
+// Where the arrival that pin j waits for stands among a cut's: "each pin needing its leaf in the mask's phase". An absent pin waits for none.
+fn pick_pin(pins: u16, order: usize, mask: usize, j: usize) -> usize
+    requires { ⌜ (order < 24) × (j < 4) ⌝ }
+    ensures { λ r. ⌜ (r ≡ pickPin pins (placesOf order) mask j) × (r ≤ 8) ⌝ }
+{
+    if j < pins as usize {
+        2 * truth::place(order, j) + (mask >> j) % 2
+    } else {
+        8
+    }
+}
+
+// Those of the four pins in one word.
+fn pick(pins: u16, order: usize, mask: usize) -> u16
+    requires { ⌜ order < 24 ⌝ }
+    ensures { λ r. ⌜ r ≡ pickOf pins (placesOf order) mask ⌝ }
+{
+    let a = pick_pin(pins, order, mask, 0);
+    let b = pick_pin(pins, order, mask, 1);
+    let c = pick_pin(pins, order, mask, 2);
+    let d = pick_pin(pins, order, mask, 3);
+    (a + 16 * b + 256 * c + 4096 * d) as u16
 }
 
 // A variant of a cell, if its mask has "no bit at or above m".
-fn put(pins: u16, table: u16, x: usize, heads: &mut [u16; 65536], links: &mut [u16; 12288])
+fn put(pins: u16, table: u16, x: usize, sheet: &mut [u16; SHEET])
     requires { ⌜ (pins ≤ 4) × (x < 12288) ⌝ }
-    ensures { λ _. ⌜ Holds (placed pins table x (both (now (heads .entry)) (now (links .entry)))) (now (heads .exit)) (now (links .exit)) ⌝ }
+    ensures { λ _. ⌜ now (sheet .exit) ≡ placed pins table x (now (sheet .entry)) ⌝ }
 {
+    let order = x / 16 % 24;
     let mask = x % 16;
     if mask < (1 << pins) {
-        push(
-            truth::variant_table(pins, table, x / 16 % 24, mask),
-            x,
-            heads,
-            links,
-        );
+        let t = truth::variant_table(pins, table, order, mask);
+        push(t, x, pick(pins, order, mask), sheet);
     }
 }
 
-// All variants of a library, from the highest number down: so that the chains ascend.
-pub fn build(lib: Library, heads: &mut [u16; 65536], links: &mut [u16; 12288])
-    requires { ⌜ Usable lib ⌝ }
-    ensures { λ _. ⌜ Holds (chains (cellsOf lib) (both (now (heads .entry)) (now (links .entry)))) (now (heads .exit)) (now (links .exit)) ⌝ }
+// The delay of pin j, none for an absent pin.
+fn delay_of(pins: u16, delays: [u16; 4], j: usize) -> u16
+    requires { ⌜ j < 4 ⌝ }
+    ensures { λ r. ⌜ r ≡ delayOf pins delays j ⌝ }
+{
+    if j < pins as usize { delays[j] } else { 0 }
+}
+
+fn put_delays(pins: u16, delays: [u16; 4], line: usize, sheet: &mut [u16; SHEET])
+    requires { ⌜ line < 32 ⌝ }
+    ensures { λ _. ⌜ now (sheet .exit) ≡ timed pins delays line (now (sheet .entry)) ⌝ }
+{
+    let at = DELAYS + 4 * line;
+    sheet[at] = delay_of(pins, delays, 0);
+    sheet[at + 1] = delay_of(pins, delays, 1);
+    sheet[at + 2] = delay_of(pins, delays, 2);
+    sheet[at + 3] = delay_of(pins, delays, 3);
+}
+
+// The variants of a line's cell, from the highest number down, so that the chains ascend.
+fn put_variants(pins: u16, table: u16, line: usize, sheet: &mut [u16; SHEET])
+    requires { ⌜ (pins ≤ 4) × (line < 32) ⌝ }
+    ensures { λ _. ⌜ now (sheet .exit) ≡ passed pins table (384 * line) 384 (now (sheet .entry)) ⌝ }
+{
+    let mut k: usize = 384;
+    while k > 0 {
+        k -= 1;
+        put(pins, table, 384 * line + k, sheet);
+    }
+}
+
+// One cell matched, by value: its delays, and each of its variants on the chain of its table.
+fn match_cell(c: Cell, line: usize, sheet: &mut [u16; SHEET])
+    requires { ⌜ (c .pins ≤ 4) × (line < 32) ⌝ }
+    ensures { λ _. ⌜ now (sheet .exit) ≡ cellMatched c line (now (sheet .entry)) ⌝ }
+{
+    let delays = c.delays;
+    put_delays(c.pins, delays, line, sheet);
+    put_variants(c.pins, c.table, line, sheet);
+}
+
+// "The cells go to the matcher as a lent list of cell records": the cell of a line, out of the list, matched by value.
+fn match_listed(cells: &[Cell], line: usize, sheet: &mut [u16; SHEET])
+    requires { ⌜ (line < length (now cells)) × (line < 32) × (cellAt (now cells) line .pins ≤ 4) ⌝ }
+    ensures { λ _. ⌜ now (sheet .exit) ≡ cellMatched (cellAt (now (cells .entry)) line) line (now (sheet .entry)) ⌝ }
+{
+    let c = cells[line];
+    match_cell(c, line, sheet);
+}
+
+// The library's cells lent as that list.
+fn match_line(lib: Library, line: usize, sheet: &mut [u16; SHEET])
+    requires { ⌜ (line < lib .n) × (lib .n ≤ 32) × (getD (lib .cells) line noCell .pins ≤ 4) ⌝ }
+    ensures { λ _. ⌜ now (sheet .exit) ≡ cellMatched (getD (lib .cells) line noCell) line (now (sheet .entry)) ⌝ }
 {
     let cells = lib.cells;
-    let mut x = lib.n * 384;
-    while x > 0 {
-        x -= 1;
-        let c = cells[x / 384];
-        put(c.pins, c.table, x, heads, links);
+    match_listed(&cells[..lib.n], line, sheet);
+}
+
+// All cells of a library, from the last line to the first.
+pub fn build(lib: Library, sheet: &mut [u16; SHEET])
+    requires { ⌜ Usable lib ⌝ }
+    ensures { λ _. ⌜ now (sheet .exit) ≡ listMatched (cellsOf lib) 0 (now (sheet .entry)) ⌝ }
+{
+    let mut i = lib.n;
+    while i > 0 {
+        i -= 1;
+        match_line(lib, i, sheet);
     }
 }
 
-// ---- the arrival of a variant
+// ---- the best match
+
+// A word as an index.
+fn wide(x: u16) -> usize
+    ensures { λ r. ⌜ (r ≡ x) × (r < 65536) ⌝ }
+{
+    x as usize
+}
+
+fn add_delay(t: u32, d: u16) -> u32
+    requires { ⌜ t ≤ never ⌝ }
+    ensures { λ r. ⌜ r ≡ t + d ⌝ }
+{
+    t + d as u32
+}
 
 // "feeding arrival plus pin delay".
-fn add_delay(t: u32, d: u16) -> u32
-    requires { ⌜ ((t ≡ never → ⊥) → t ≤ lastTime) ⌝ }
-    ensures { λ r. ⌜ r ≡ later t d ⌝ }
+fn pin_time(sheet: &[u16; SHEET], times: &[u32; 16], select: usize, at: usize) -> u32
+    requires { ⌜ (select < 16) × (at < 90240) × Timely (now times) ⌝ }
+    ensures { λ r. ⌜ r ≡ waits (now (sheet .entry)) (now (times .entry)) select at ⌝ }
 {
-    if t == NEVER { NEVER } else { t + d as u32 }
-}
-
-// Where a leaf's arrival stands: mask bit j says its phase.
-fn time_index(place: usize, mask: usize, j: usize) -> usize
-    requires { ⌜ (place < 4) × (mask < 16) × (j < 4) ⌝ }
-    ensures { λ r. ⌜ r ≡ 2 * place + one (bit mask j) ⌝ }
-{
-    2 * place + (mask >> j) % 2
-}
-
-// What pin j adds: "each pin needing its leaf in the mask's phase".
-fn pin_time(
-    delays: [u16; 4],
-    order: usize,
-    mask: usize,
-    leaves: usize,
-    times: [u32; 8],
-    j: usize,
-) -> u32
-    requires { ⌜ (order < 24) × (mask < 16) × (j < 4) × Timely times ⌝ }
-    ensures { λ r. ⌜ r ≡ pinAt delays (placesOf order) mask leaves times j ⌝ }
-{
-    let place = truth::place(order, j);
-    if place < leaves {
-        let i = time_index(place, mask, j);
-        add_delay(times[i], delays[j])
-    } else {
-        NEVER
-    }
+    add_delay(times[select], sheet[at])
 }
 
 fn larger(a: u32, b: u32) -> u32
@@ -131,104 +201,52 @@ fn larger(a: u32, b: u32) -> u32
     if a < b { b } else { a }
 }
 
-// The arrival of a cell under an order and a mask, from its last pin down.
-fn arrival(
-    pins: u16,
-    delays: [u16; 4],
-    order: usize,
-    mask: usize,
-    leaves: usize,
-    times: [u32; 8],
-) -> u32
-    requires { ⌜ (pins ≤ 4) × (order < 24) × (mask < 16) × Timely times ⌝ }
-    ensures { λ r. ⌜ r ≡ arrivalOf pins delays (placesOf order) mask leaves times ⌝ }
+// Variant x tried against the best before it, which stays unless x is strictly earlier: one pin that is not earlier is enough.
+fn try_variant(sheet: &[u16; SHEET], times: &[u32; 16], x: usize, b: Best) -> Best
+    requires { ⌜ (x < 12288) × Timely (now times) ⌝ }
+    ensures { λ r. ⌜ r ≡ better b x (swiftAt (now (sheet .entry)) (now (times .entry)) x) ⌝ }
 {
-    let mut t: u32 = 0;
-    let mut j = pins as usize;
-    while j > 0 {
-        j -= 1;
-        t = larger(pin_time(delays, order, mask, leaves, times, j), t);
+    let s = wide(sheet[PICKS + x]);
+    let at = DELAYS + 4 * (x / 384);
+    let t = pin_time(sheet, times, s % 16, at);
+    if b.arrival <= t {
+        return b;
     }
-    t
-}
-
-// ---- the best match
-
-// "earliest arrival": the one before stays unless x is strictly earlier.
-fn earlier(b: Best, x: usize, a: u32) -> Best
-    ensures { λ r. ⌜ r ≡ better b x a ⌝ }
-{
-    if a < b.arrival {
-        Best {
-            variant: x,
-            arrival: a,
-        }
-    } else {
-        b
+    let u = pin_time(sheet, times, s / 16 % 16, at + 1);
+    if b.arrival <= u {
+        return b;
+    }
+    let v = pin_time(sheet, times, s / 256 % 16, at + 2);
+    if b.arrival <= v {
+        return b;
+    }
+    let w = pin_time(sheet, times, s / 4096, at + 3);
+    if b.arrival <= w {
+        return b;
+    }
+    Best {
+        variant: x,
+        arrival: larger(larger(t, u), larger(v, w)),
     }
 }
 
-// Variant x, of cell c, tried against the best before it.
-fn try_variant(c: Cell, x: usize, leaves: usize, times: [u32; 8], b: Best) -> Best
-    requires { ⌜ (c .pins ≤ 4) × Timely times ⌝ }
-    ensures { λ r. ⌜ r ≡ better b x (arrivalOf (c .pins) (c .delays) (placesOf (orderOf x)) (maskOf x) leaves times) ⌝ }
+// The best match of a cut, f its function in the phase: leaf i's arrivals stand at 2 i, positive, and 2 i + 1, negative. The walk goes along the
+// chain of f.
+pub fn best_match(sheet: &[u16; SHEET], f: u16, times: &[u32; 16]) -> Best
+    requires { ⌜ ((cells : List Cell) × SheetOf cells (now sheet)) × Timely (now times) ⌝ }
+    ensures { λ r. ⌜ ((cells : List Cell) → SheetOf cells (now (sheet .entry)) → r ≡ bestOf cells f (now (times .entry))) ⌝ }
 {
-    let delays = c.delays;
-    earlier(
-        b,
-        x,
-        arrival(c.pins, delays, x / 16 % 24, x % 16, leaves, times),
-    )
-}
-
-// The walk along the chain of f.
-fn walk(
-    lib: Library,
-    heads: &[u16; 65536],
-    links: &[u16; 12288],
-    f: u16,
-    leaves: usize,
-    times: [u32; 8],
-) -> Best
-    requires { ⌜ Usable lib × Chained (cellsOf lib) (now heads) (now links) × Timely times ⌝ }
-    ensures { λ r. ⌜ r ≡ bestOf (cellsOf lib) leaves f times ⌝ }
-{
-    let cells = lib.cells;
     let mut b = Best {
         variant: 0,
         arrival: NEVER,
     };
-    let mut h = heads[f as usize];
+    let mut h = wide(sheet[f as usize]);
     while h > 0 {
-        let x = h as usize - 1;
-        let c = cells[x / 384];
-        b = try_variant(c, x, leaves, times, b);
-        h = links[x];
+        let x = h - 1;
+        b = try_variant(sheet, times, x, b);
+        h = wide(sheet[LINKS + x]);
     }
     b
-}
-
-// The best match of a cut with so many leaves, f its function in the phase: leaf i's arrivals stand at 2 i, positive, and 2 i + 1, negative. Most
-// functions have no variant: then the cells are not touched.
-pub fn best_match(
-    lib: Library,
-    heads: &[u16; 65536],
-    links: &[u16; 12288],
-    f: u16,
-    leaves: usize,
-    times: [u32; 8],
-) -> Best
-    requires { ⌜ Usable lib × Chained (cellsOf lib) (now heads) (now links) × Timely times ⌝ }
-    ensures { λ r. ⌜ r ≡ bestOf (cellsOf lib) leaves f times ⌝ }
-{
-    if heads[f as usize] == 0 {
-        Best {
-            variant: 0,
-            arrival: NEVER,
-        }
-    } else {
-        walk(lib, heads, links, f, leaves, times)
-    }
 }
 
 // The match on cut number k that a variant means.

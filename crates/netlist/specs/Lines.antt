@@ -2,7 +2,7 @@
 use mathlib.Core.Path.{_≡_}
 use mathlib.Core.Bool.{Bool, true, false, cond}
 use mathlib.Core.List.{List, [], _∷_, _++_, map}
-use Prim.Native.Nat.{ℕ, _+_, _*_, _/_, _≤_, _<_}
+use Prim.Native.Nat.{ℕ, zero, suc, _+_, _*_, _/_, _≤_, _<_}
 use lib.ListN.{length, getD, take}
 use Rattle.model.specs.Base.{bit, from, each}
 use Rattle.model.specs.Limits.{cutLimit}
@@ -86,6 +86,24 @@ gateBy w lib m l (Inverted c) = invertedGate lib l c ∷ []
 unfoldable pub gateAt : List ℕ → Library → ℕ → ℕ → List Gate
 unfolding gateBy
 gateAt w lib m l = cond (isNeeded w m l) (gateBy w lib m l (phaseAt w m l .source)) []
+
+-- whether a source makes a gate: "inputs' own positive nets apart"
+unfoldable pub makesGate : Source → Bool
+makesGate Input = false
+makesGate Nothing = false
+makesGate (Matched x) = true
+makesGate (Inverted c) = true
+
+-- whether phase l becomes a gate
+unfoldable pub isGateAt : List ℕ → ℕ → ℕ → Bool
+unfolding makesGate
+isGateAt w m l = cond (isNeeded w m l) (makesGate (phaseAt w m l .source)) false
+
+-- the first of n phases from l on that becomes a gate, and the end of them where none does
+unfoldable pub gateFrom : List ℕ → ℕ → ℕ → ℕ → ℕ
+unfolding isGateAt
+gateFrom w m l zero = l
+gateFrom w m l (suc n) = cond (isGateAt w m l) l (gateFrom w m (suc l) n)
 
 -- the gates of n phases from l on
 unfoldable pub gatesFrom : List ℕ → Library → ℕ → ℕ → ℕ → List Gate

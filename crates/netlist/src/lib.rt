@@ -10,7 +10,7 @@ use model::Source;
 ghost use mathlib.Core.Path.{_≡_};
 ghost use mathlib.Core.Bool.{true, false};
 ghost use mathlib.Core.List.{List, _∷_, [], _++_};
-ghost use Prim.Native.Nat.{ℕ, _+_, _*_, _/_, _≤_, _<_, max};
+ghost use Prim.Native.Nat.{ℕ, _+_, _-_, _*_, _/_, _≤_, _<_, max};
 ghost use lib.ListN.{length, take, drop};
 ghost use Rattle.model.specs.Base.{bit, each};
 ghost use Rattle.model.specs.Text.{decimal};
@@ -20,7 +20,7 @@ ghost use Rattle.words.specs.Layout.{Room, RoomFor, outputAt};
 ghost use Rattle.words.specs.Phases.{phaseAt};
 ghost use Rattle.truth.specs.Variant.{placesOf};
 ghost use Rattle.netlist.specs.Writing.{Wrote};
-ghost use Rattle.netlist.specs.Lines.{lineOf, pinNet, fourNets, MatchReady, SourceReady, Gated, matchedGate, invertedGate, gateBy, gateAt, gatesFrom, gatesOf, Drives, tallied, noTally, Bounded, limit, Named, netAt, netsFrom, spaced, latestFrom, frameText, figuresText, textIn, measuredIn, Small};
+ghost use Rattle.netlist.specs.Lines.{lineOf, pinNet, fourNets, MatchReady, SourceReady, Gated, matchedGate, invertedGate, gateBy, gateAt, makesGate, isGateAt, gateFrom, gatesFrom, gatesOf, Drives, tallied, noTally, Bounded, limit, Named, netAt, netsFrom, spaced, latestFrom, frameText, figuresText, textIn, measuredIn, Small};
 ghost use Rattle.netlist.specs.Mapped.{Mapped, textFor, measuredFor};
 
 // What drives a net: a cell and, for its first `count` pins, the nets that feed it, as literals. Nothing where the net is not there.
@@ -30,6 +30,13 @@ struct Driver {
     nets: [u32; 4],
     count: usize,
     net: u32,
+}
+
+// "A walk over the mapped gates holds the lent words and the next gate": `next` is the phase, as a literal, from which the next gate is
+// sought.
+struct Walk<'a> {
+    words: &'a [u16],
+    next: usize,
 }
 
 // The bytes, the number and the area of the gates so far.
@@ -292,6 +299,76 @@ fn driver_at(work: &[u16], lib: Library, m: usize, l: usize) -> Driver
     }
 }
 
+// ---- the walk over the gates
+
+// Whether a source makes a gate.
+fn makes_gate(s: Source) -> bool
+    ensures { λ r. ⌜ r ≡ makesGate s ⌝ }
+{
+    match s {
+        Source::Input => false,
+        Source::Cell(_) => true,
+        Source::Inverter(_) => true,
+        Source::Nothing => false,
+    }
+}
+
+// Whether phase l becomes a gate: "Needed phases, inputs' own positive nets apart, become gates".
+fn is_gate(work: &[u16], m: usize, l: usize) -> bool
+    requires { ⌜ Room (now work) m × (l / 2 ≤ m) ⌝ }
+    ensures { λ r. ⌜ r ≡ isGateAt (now (work .entry)) m l ⌝ }
+{
+    if words::is_needed(work, m, l) {
+        let p = words::phase(work, m, l);
+        let s = p.source;
+        makes_gate(s)
+    } else {
+        false
+    }
+}
+
+// The first gate at or after phase l, or the end of the phases where there is none.
+fn gate_from(work: &[u16], m: usize, l: usize) -> usize
+    requires { ⌜ Room (now work) m ⌝ }
+    ensures { λ r. ⌜ r ≡ gateFrom (now (work .entry)) m l (2 * (m + 1) - l) ⌝ }
+{
+    let mut g = l;
+    while g < 2 * (m + 1) {
+        if is_gate(work, m, g) {
+            return g;
+        }
+        g += 1;
+    }
+    g
+}
+
+// A walk from phase l on. The borrow checker covers no function that takes, makes or has a local of such a struct, so this one and the
+// next two are proved by hand.
+fn walk_from<'a>(work: &'a [u16], l: usize) -> Walk<'a>
+    ensures { λ r. ⌜ (r .words ≡ work .entry) × (r .next ≡ l) ⌝ }
+{
+    Walk {
+        words: work,
+        next: l,
+    }
+}
+
+// The gate that a walk comes to next: thin above `gate_from`, which takes the slice and the number.
+fn step<'a>(w: Walk<'a>, m: usize) -> usize
+    requires { ⌜ Room (now (w .words)) m ⌝ }
+    ensures { λ r. ⌜ r ≡ gateFrom (now (w .entry .words)) m (w .entry .next) (2 * (m + 1) - w .entry .next) ⌝ }
+{
+    gate_from(w.words, m, w.next)
+}
+
+// One step of a walk, with plain parameters: whoever calls it needs no proof by hand.
+fn next_gate(work: &[u16], m: usize, l: usize) -> usize
+    requires { ⌜ Room (now work) m ⌝ }
+    ensures { λ r. ⌜ r ≡ gateFrom (now (work .entry)) m l (2 * (m + 1) - l) ⌝ }
+{
+    step(walk_from(work, l), m)
+}
+
 // ---- all gates
 
 fn put_driver(out: &mut [u8], at: usize, d: Driver) -> usize
@@ -313,11 +390,11 @@ fn put_gates(work: &[u16], lib: Library, m: usize, out: &mut [u8], at: usize) ->
     ensures { λ r. ⌜ Wrote (now (out .entry)) (now (out .exit)) at r (each gateLine (gatesFrom (now (work .entry)) lib m 0 (2 * (m + 1)))) ⌝ }
 {
     let mut next = at;
-    let mut l: usize = 0;
+    let mut l = next_gate(work, m, 0);
     while l < 2 * (m + 1) {
         let d = driver_at(work, lib, m, l);
         next = put_driver(out, next, d);
-        l += 1;
+        l = next_gate(work, m, l + 1);
     }
     next
 }
@@ -349,11 +426,11 @@ fn count_gates(work: &[u16], lib: Library, m: usize) -> Tally
         gates: 0,
         area: 0,
     };
-    let mut l: usize = 0;
+    let mut l = next_gate(work, m, 0);
     while l < 2 * (m + 1) {
         let d = driver_at(work, lib, m, l);
         t = count_driver(t, d, l);
-        l += 1;
+        l = next_gate(work, m, l + 1);
     }
     t
 }

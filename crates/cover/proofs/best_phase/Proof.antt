@@ -4,19 +4,21 @@ use Prim.Native.Nat.{ℕ, _-_, _≤_, _<_}
 use native.Mathlib.Omega.{arith}
 use Rattle.model.specs.Cells.{cellsOf}
 use Rattle.model.specs.Choice.{choose, earlier}
+use Rattle.model.specs.declared.Library.{Library}
 use Rattle.model.specs.declared.Phase.{Phase}
 use Rattle.words.specs.Layout.{countAt}
-use Rattle.cover.specs.Choosing.{foundFrom}
+use Rattle.cover.specs.Choosing.{foundFrom, SheetIn}
 use Rattle.cover.proofs.Found.{from-none, from-more, from-all}
 use borrow.Author.Needs.{needs}
 use Rattle.cover.proofs.best_phase.Statement.{statement}
 use Rattle.cover.proofs.best_phase.Tie as tie
 
 abbrev Inv-loop : tie.InvT-loop
-Inv-loop work lib m v neg heads links b₀ k₀ b k = (k ≤ countAt work m v) × (b ≡ choose (foundFrom (cellsOf lib) work m v neg k (countAt work m v - k)))
+Inv-loop work m v neg sheet b₀ k₀ b k =
+    (k ≤ countAt work m v) × ((lib : Library) → SheetIn lib sheet → b ≡ choose (foundFrom (cellsOf lib) work m v neg k (countAt work m v - k)))
 
 abbrev μ-loop : tie.MeasureT-loop
-μ-loop work lib m v neg heads links b₀ k₀ b k = k
+μ-loop work m v neg sheet b₀ k₀ b k = k
 
 nothing-requires : tie.Need-nothing-requires Inv-loop μ-loop
 nothing-requires c κs = search needs
@@ -28,8 +30,8 @@ loop-holds : tie.Need-loop-holds Inv-loop μ-loop
 loop-holds c =
     let a = c .before .before .before .args in (
       omega (arith, c .count .ensures),
-      c .before .nothing .ensures ∙ from-none (cellsOf (a .lib)) (a .work .now) (a .m) (a .v) (a .neg) (countAt (a .work .now) (a .m) (a .v))
-          ∙ ap (λ (k : ℕ). choose (foundFrom (cellsOf (a .lib)) (a .work .now) (a .m) (a .v) (a .neg) k (countAt (a .work .now) (a .m) (a .v) - k))) (sym (c .count .ensures)),
+      λ lib sheet. c .before .nothing .ensures ∙ from-none (cellsOf lib) (a .work .now) (a .m) (a .v) (a .neg) (countAt (a .work .now) (a .m) (a .v))
+          ∙ ap (λ (k : ℕ). choose (foundFrom (cellsOf lib) (a .work .now) (a .m) (a .v) (a .neg) k (countAt (a .work .now) (a .m) (a .v) - k))) (sym (c .count .ensures)),
     )
 
 sub-k : tie.Need-sub-k Inv-loop μ-loop
@@ -53,16 +55,16 @@ loop-again c =
     let w = a .work .now in
     let h : 0 < l .loop .k = c .before .before .loop-test .taken in (
       omega (arith, l .loop .inv .0),
-      c .sooner .ensures
-          ∙ ap (λ (p : Phase). earlier p (l .loop .b)) (c .before .cut-phase .ensures)
-          ∙ ap (earlier _) (l .loop .inv .1)
-          ∙ from-more (cellsOf (a .lib)) w (a .m) (a .v) (a .neg) (l .loop .k) (countAt w (a .m) (a .v)) h (l .loop .inv .0),
+      λ lib sheet. c .sooner .ensures
+          ∙ ap (λ (p : Phase). earlier p (l .loop .b)) (c .before .cut-phase .ensures lib sheet)
+          ∙ ap (earlier _) (l .loop .inv .1 lib sheet)
+          ∙ from-more (cellsOf lib) w (a .m) (a .v) (a .neg) (l .loop .k) (countAt w (a .m) (a .v)) h (l .loop .inv .0),
     )
 
 returns : tie.Need-returns Inv-loop μ-loop
 returns c =
     let a = c .before .before .before .before .before .args in
-    c .before .loop .inv .1 ∙ from-all (cellsOf (a .lib)) (a .work .now) (a .m) (a .v) (a .neg) (c .before .loop .k) (c .loop-test .left)
+    λ lib sheet. c .before .loop .inv .1 lib sheet ∙ from-all (cellsOf lib) (a .work .now) (a .m) (a .v) (a .neg) (c .before .loop .k) (c .loop-test .left)
 
 pub best-phase-spec : {M : Type 1} → statement M
 best-phase-spec =

@@ -1,14 +1,25 @@
--- `cover::choose` meets its contract: the chains list the variants of each table. Assumes nothing.
-use Rattle.matching.proofs.Linking.{build-chained}
+-- `cover::choose` meets its contract: the sheet and the inverter are the library's. Assumes nothing.
+use mathlib.Core.Path.{_≡_}
+use mathlib.Core.List.{List}
+use Prim.Native.Nat.{ℕ}
+use Rattle.model.specs.Cells.{cellsOf}
+use Rattle.model.specs.declared.Library.{Library}
+use Rattle.matching.specs.Variants.{Usable}
+use Rattle.matching.specs.Sheet.{Blank, listMatched}
+use Rattle.matching.specs.Inverters.{inverterOf}
+use Rattle.matching.specs.declared.Inverter.{Inverter}
+use Rattle.matching.proofs.Linking.{build-sheet}
+use Rattle.cover.specs.Choosing.{ToolsIn}
 use borrow.Author.Needs.{needs}
 use Rattle.cover.proofs.choose.Statement.{statement}
 use Rattle.cover.proofs.choose.Tie as tie
 
-no-heads-requires : tie.Need-no-heads-requires
-no-heads-requires c κs = search needs
+tools : (lib : Library) (inv : Inverter) (blank sheet : List ℕ) → Usable lib → Blank 90240 blank → sheet ≡ listMatched (cellsOf lib) 0 blank → inv ≡ inverterOf (cellsOf lib)
+    → ToolsIn lib sheet inv
+tools lib inv blank sheet u z e i = record { built = record { usable = u; sheeted = build-sheet lib blank sheet u z e }; inverter = i }
 
-no-links-requires : tie.Need-no-links-requires
-no-links-requires c κs = search needs
+no-sheet-requires : tie.Need-no-sheet-requires
+no-sheet-requires c κs = search needs
 
 build-requires : tie.Need-build-requires
 build-requires c κs = search needs
@@ -24,29 +35,22 @@ add-choose-variables-2 c = search needs
 
 choose-variables-requires : tie.Need-choose-variables-requires
 choose-variables-requires c κs =
-    let s = c .before .before .before .before .before .before .before .before .before .before .before in
-    let a = s .args in
-    let b = c .before .before .before .before .before .build in (
-      record {
-        usable = s .pre .0;
-        chained = build-chained (a .lib) (c .before .before .before .before .before .before .before .before .before .no-heads .result) (c .before .before .before .before .before .before .before .before .no-links .result) (b .last .1 .0) (b .last .1 .1 .0) (s .pre .0) (c .before .before .before .before .before .before .before .before .before .no-heads .ensures) (c .before .before .before .before .before .before .before .before .no-links .ensures) (b .ensures);
-      },
-      s .pre .1,
-      c .before .before .before .before .inverter-of .ensures,
-    )
+    let a = c .before .before .before .before .before .before .before .before .args in
+    ((a .lib, tools (a .lib) (c .before .before .before .inverter-of .result) (c .before .before .before .before .before .before .no-sheet .result) (c .before .before .before .before .build .last .1 .0) (c .before .before .before .before .before .before .before .before .pre .0) (c .before .before .before .before .before .before .no-sheet .ensures) (c .before .before .before .before .build .ensures) (c .before .before .before .inverter-of .ensures)), c .before .before .before .before .before .before .before .before .pre .1)
 
 same-length : tie.Need-same-length
 same-length c = search needs
 
 returns : tie.Need-returns
-returns c = search needs
+returns c =
+    let a = c .before .before .before .before .before .before .before .before .before .before .before .args in
+    c .before .before .choose-variables .ensures (a .lib) (tools (a .lib) (c .before .before .before .before .before .before .inverter-of .result) (c .before .before .before .before .before .before .before .before .before .no-sheet .result) (c .before .before .before .before .before .before .before .build .last .1 .0) (c .before .before .before .before .before .before .before .before .before .before .before .pre .0) (c .before .before .before .before .before .before .before .before .before .no-sheet .ensures) (c .before .before .before .before .before .before .before .build .ensures) (c .before .before .before .before .before .before .inverter-of .ensures))
 
 pub choose-spec : {M : Type 1} → statement M
 choose-spec =
     tie.close
     (tie.spec
-    no-heads-requires
-    no-links-requires
+    no-sheet-requires
     build-requires
     inverter-of-requires
     add-choose-variables

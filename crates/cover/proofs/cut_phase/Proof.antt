@@ -41,8 +41,8 @@ returns : tie.Need-returns
 returns c =
     let s = c .before .before .before .before .before in
     let a = s .args in
-    c .nothing .ensures
-    ∙ at-alone (cellsOf (a .lib)) (a .work .now) (a .m) (a .v) (a .neg) (a .k)
+    λ lib sheet. c .nothing .ensures
+    ∙ at-alone (cellsOf lib) (a .work .now) (a .m) (a .v) (a .neg) (a .k)
     (ap (λ (x : Cut). same (leavesOf x) (a .v ∷ [])) (sym (c .before .before .before .load-cut .ensures)) ∙ sym (c .before .before .alone .ensures) ∙ c .before .if1 .taken)
 
 table-requires : tie.Need-table-requires
@@ -66,11 +66,11 @@ returns-2 : tie.Need-returns-2
 returns-2 c =
     let s = c .before .before .before .before .before .before .before in
     let a = s .args in
-    c .match-cut .ensures
-    ∙ ap (λ (x : Cut). choose (foundOn (cellsOf (a .lib)) (a .work .now) (a .m) (a .k) (leavesOf x) (c .before .in-phase .result))) (c .before .before .before .before .before .load-cut .ensures)
-    ∙ ap (λ (f : ℕ). choose (foundOn (cellsOf (a .lib)) (a .work .now) (a .m) (a .k) (leavesOf (cutAt (a .work .now) (cutAddr (a .m) (a .v) (a .k)))) f))
+    λ lib sheet. c .match-cut .ensures lib sheet
+    ∙ ap (λ (x : Cut). choose (foundOn (cellsOf lib) (a .work .now) (a .m) (a .k) (leavesOf x) (c .before .in-phase .result))) (c .before .before .before .before .before .load-cut .ensures)
+    ∙ ap (λ (f : ℕ). choose (foundOn (cellsOf lib) (a .work .now) (a .m) (a .k) (leavesOf (cutAt (a .work .now) (cutAddr (a .m) (a .v) (a .k)))) f))
     (c .before .in-phase .ensures ∙ ap (phaseTable (a .neg)) (c .before .before .table .ensures))
-    ∙ at-cut (cellsOf (a .lib)) (a .work .now) (a .m) (a .v) (a .neg) (a .k)
+    ∙ at-cut (cellsOf lib) (a .work .now) (a .m) (a .v) (a .neg) (a .k)
     (ap (λ (x : Cut). same (leavesOf x) (a .v ∷ [])) (sym (c .before .before .before .before .before .load-cut .ensures)) ∙ sym (c .before .before .before .before .alone .ensures) ∙ c .before .before .before .if1 .left)
 
 pub cut-phase-spec : {M : Type 1} → statement M

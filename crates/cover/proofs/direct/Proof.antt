@@ -48,21 +48,21 @@ returns : tie.Need-returns
 returns c =
     let a = c .before .before .before .before .args in
     let k = sym (c .before .before .kind .ensures) in
-    c .best-phase .ensures
-    ∙ ⊎-elim (λ e. of-constant (cellsOf (a .lib)) (a .work .now) (a .m) (a .v) (a .neg) (k ∙ e)) (λ e. of-and (cellsOf (a .lib)) (a .work .now) (a .m) (a .v) (a .neg) (k ∙ e)) (c .before .match .keys1)
+    λ lib sheet. c .best-phase .ensures lib sheet
+    ∙ ⊎-elim (λ e. of-constant (cellsOf lib) (a .work .now) (a .m) (a .v) (a .neg) (k ∙ e)) (λ e. of-and (cellsOf lib) (a .work .now) (a .m) (a .v) (a .neg) (k ∙ e)) (c .before .match .keys1)
 
 returns-2 : tie.Need-returns-2
 returns-2 c =
     let a = c .before .before .before .before .args in
-    c .own .ensures ∙ of-input (cellsOf (a .lib)) (a .work .now) (a .m) (a .v) (a .neg) (sym (c .before .before .kind .ensures) ∙ c .before .match .keys2)
+    λ lib sheet. c .own .ensures ∙ of-input (cellsOf lib) (a .work .now) (a .m) (a .v) (a .neg) (sym (c .before .before .kind .ensures) ∙ c .before .match .keys2)
 
 returns-3 : tie.Need-returns-3
 returns-3 c =
     let a = c .before .before .before .before .args in
     let k = c .before .before .kind .ensures in
     let r = c .before .match .rest in
-    c .nothing .ensures
-    ∙ of-undefined (cellsOf (a .lib)) (a .work .now) (a .m) (a .v) (a .neg) (λ e. r .0 .1 (inl (k ∙ e))) (λ e. r .1 (k ∙ e)) (λ e. r .0 .1 (inr (k ∙ e)))
+    λ lib sheet. c .nothing .ensures
+    ∙ of-undefined (cellsOf lib) (a .work .now) (a .m) (a .v) (a .neg) (λ e. r .0 .1 (inl (k ∙ e))) (λ e. r .1 (k ∙ e)) (λ e. r .0 .1 (inr (k ∙ e)))
 
 pub direct-spec : {M : Type 1} → statement M
 direct-spec =

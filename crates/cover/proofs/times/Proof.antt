@@ -34,7 +34,8 @@ unfolding timesAt
 returns c =
     λ i.
     c .before .before .before .before .before .before .before .leaf-time .ensures i ∷ c .before .before .before .before .before .before .leaf-time2 .ensures i ∷ c .before .before .before .before .before .leaf-time3 .ensures i ∷ c .before .before .before .before .leaf-time4 .ensures i
-    ∷ c .before .before .before .leaf-time5 .ensures i ∷ c .before .before .leaf-time6 .ensures i ∷ c .before .leaf-time7 .ensures i ∷ c .leaf-time8 .ensures i ∷ []
+    ∷ c .before .before .before .leaf-time5 .ensures i ∷ c .before .before .leaf-time6 .ensures i ∷ c .before .leaf-time7 .ensures i ∷ c .leaf-time8 .ensures i
+    ∷ 0 ∷ 0 ∷ 0 ∷ 0 ∷ 0 ∷ 0 ∷ 0 ∷ 0 ∷ []
 
 pub times-spec : {M : Type 1} → statement M
 times-spec =

@@ -1,0 +1,21 @@
+-- `matching::delay_of` meets its contract: by whether there is such a pin.
+-- Assumes nothing.
+use Rattle.matching.proofs.Walking.{delay-there, delay-absent}
+use borrow.Author.Needs.{needs}
+use Rattle.matching.proofs.delay_of.Statement.{statement}
+use Rattle.matching.proofs.delay_of.Tie as tie
+
+mul-result : tie.Need-mul-result
+mul-result c = search needs
+
+array-read-result : tie.Need-array-read-result
+array-read-result c = search needs
+
+returns : tie.Need-returns
+returns c = let a = c .before .args in delay-there (a .pins) (a .t2) (a .j) (c .if1 .taken)
+
+returns-2 : tie.Need-returns-2
+returns-2 c = let a = c .before .args in delay-absent (a .pins) (a .t2) (a .j) (c .if1 .left)
+
+pub delay-of-spec : {M : Type 1} → statement M
+delay-of-spec = tie.close (tie.spec mul-result array-read-result returns returns-2)

@@ -1,0 +1,109 @@
+-- The sheet: all that a match asks of the cells, once for each library. It has, by table, the head of the chain of the variants that have the
+-- table; by variant, the next one of its chain and what feeds its pins; by cell, its delays. Assumes nothing.
+use Prim.Native.Nat.{ℕ, zero, suc, _+_, _*_, _^_, _≤_, _<_, max}
+use mathlib.Core.Path.{_≡_}
+use mathlib.Core.Bool.{cond}
+use mathlib.Core.List.{List, [], _∷_}
+use lib.Dec.{ltb}
+use lib.ListN.{length, getD, set}
+use Rattle.model.specs.Base.{bit, one}
+use Rattle.model.specs.Cells.{cellAt}
+use Rattle.model.specs.declared.Cell.{Cell}
+use Rattle.truth.specs.Variant.{placesOf, variantTable}
+use Rattle.matching.specs.Variants.{lineOf, orderOf, maskOf, variants}
+
+-- ---- what lies where
+
+-- 65,536 heads, then 32 times 384 links, as many picks, and 32 times 4 delays
+abbrev pub sheetSize : ℕ
+sheetSize = 90240
+
+-- the next variant of the chain; a head and a link are one more than a variant's number, 0 at the end
+abbrev pub linkAddr : ℕ → ℕ
+linkAddr x = 65536 + x
+
+abbrev pub pickAddr : ℕ → ℕ
+pickAddr x = 77824 + x
+
+abbrev pub delayAddr : ℕ → ℕ → ℕ
+delayAddr line j = 90112 + 4 * line + j
+
+-- ---- a variant
+
+-- where the arrival that pin j waits for stands: that of its leaf in the mask's phase, and for an absent pin the one that is always 0
+unfoldable pub pickPin : ℕ → List ℕ → ℕ → ℕ → ℕ
+unfolding one bit
+pickPin pins places mask j = cond (ltb j pins) (2 * getD places j 0 + one (bit mask j)) 8
+
+-- those of the four pins, pin 0 lowest
+unfoldable pub pickOf : ℕ → List ℕ → ℕ → ℕ
+unfolding pickPin
+pickOf pins places mask =
+    pickPin pins places mask 0 + 16 * pickPin pins places mask 1 + 256 * pickPin pins places mask 2 + 4096 * pickPin pins places mask 3
+
+-- the pick of a variant
+unfoldable pub pickAt : List Cell → ℕ → ℕ
+unfolding pickOf cellAt
+pickAt cells x = pickOf (cellAt cells (lineOf x) .pins) (placesOf (orderOf x)) (maskOf x)
+
+-- the delay of pin j, none for an absent pin
+unfoldable pub delayOf : ℕ → List ℕ → ℕ → ℕ
+delayOf pins delays j = cond (ltb j pins) (getD delays j 0) 0
+
+-- ---- the sheet written
+
+-- variant x, with its pick p, at the head of the chain of table t
+unfoldable pub pushed : ℕ → ℕ → ℕ → List ℕ → List ℕ
+pushed t x p s = set (set (set s (linkAddr x) (getD s t 0)) t (x + 1)) (pickAddr x) p
+
+-- variant x of a cell at the head of the chain of its table, if its mask is one
+unfoldable pub placed : ℕ → ℕ → ℕ → List ℕ → List ℕ
+unfolding pushed variantTable pickOf
+placed pins table x s =
+    let there = pushed (variantTable pins table (placesOf (orderOf x)) (maskOf x)) x (pickOf pins (placesOf (orderOf x)) (maskOf x)) s in
+    cond (ltb (maskOf x) (2 ^ pins)) there s
+
+-- the variants from x on, k of them, from the highest down
+unfoldable pub passed : ℕ → ℕ → ℕ → ℕ → List ℕ → List ℕ
+unfolding placed
+passed pins table x zero s = s
+passed pins table x (suc k) s = placed pins table x (passed pins table (suc x) k s)
+
+-- the delays of a line's cell
+unfoldable pub timed : ℕ → List ℕ → ℕ → List ℕ → List ℕ
+unfolding delayOf
+timed pins delays line s =
+    set (set (set (set s (delayAddr line 0) (delayOf pins delays 0)) (delayAddr line 1) (delayOf pins delays 1)) (delayAddr line 2) (delayOf pins delays 2))
+    (delayAddr line 3) (delayOf pins delays 3)
+
+-- a cell matched: its delays, and each of its variants on the chain of its table
+unfoldable pub cellMatched : Cell → ℕ → List ℕ → List ℕ
+unfolding passed timed
+cellMatched c line s = passed (c .pins) (c .table) (384 * line) 384 (timed (c .pins) (c .delays) line s)
+
+-- cells from a line on, from the last to the first
+unfoldable pub listMatched : List Cell → ℕ → List ℕ → List ℕ
+unfolding cellMatched
+listMatched [] line s = s
+listMatched (c ∷ cs) line s = cellMatched c line (listMatched cs (suc line) s)
+
+-- ---- the sheet read
+
+-- what the sheet of some cells says
+unfoldable pub Linked : List Cell → List ℕ → ℕ → ℕ → List ℕ → Type 0
+unfolding pickAt
+Linked cells s low h [] = h ≡ 0
+Linked cells s low h (x ∷ xs) =
+    (h ≡ x + 1) × (low ≤ x) × (x < 384 * length cells) × (getD s (pickAddr x) 0 ≡ pickAt cells x) × Linked cells s (suc x) (getD s (linkAddr x) 0) xs
+
+-- the chain of each table lists the variants that have it, ascending; the delays are the cells'
+pub record SheetOf (cells : List Cell) (s : List ℕ) : Type 0 where
+  pub few : length cells ≤ 32
+  pub four : (c : ℕ) → cellAt cells c .pins ≤ 4
+  pub chained : (t : ℕ) → t < 65536 → Linked cells s 0 (getD s t 0) (variants cells t)
+  pub delayed : (line j : ℕ) → line < length cells → j < 4 → getD s (delayAddr line j) 0 ≡ delayOf (cellAt cells line .pins) (cellAt cells line .delays) j
+
+-- n zeros
+pub record Blank (n : ℕ) (xs : List ℕ) : Type 0 where
+  pub long : length xs ≡ n
+  pub zeros : (i : ℕ) → i < n → getD xs i 0 ≡ 0

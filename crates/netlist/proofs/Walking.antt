@@ -1,0 +1,122 @@
+-- The walk over the gates: where it comes to, and that the phases it passes over add no gate.
+--     gate-here, gate-later, gate-end     the first gate from phase l on, by whether l is one
+--     gate-from-low, gate-from-high       it lies at l or later, and not past the end
+--     gates-skip                          the gates from l on are those from the first one on
+-- Assumes nothing.
+use mathlib.Core.Path.{_≡_, refl, sym, ap, _∙_}
+use mathlib.Core.Bool.{Bool, true, false, cond, true≢false}
+use mathlib.Core.List.{List, [], _++_}
+use Prim.Native.Nat.{ℕ, zero, suc, _+_, _-_, _≤_, _<_}
+use native.Mathlib.Numerals.{add-one}
+use native.Mathlib.Omega.{arith}
+use Rattle.model.specs.Base.{from, each}
+use Rattle.model.specs.Netlist.{Gate}
+use Rattle.model.specs.declared.Library.{Library}
+use Rattle.model.specs.declared.Source.{Source}
+use Rattle.model.specs.declared.Source.the-variants.{Input, Cell as Matched, Inverter as Inverted, Nothing}
+use Rattle.words.specs.Phases.{phaseAt, isNeeded}
+use Rattle.netlist.specs.Lines.{gateBy, gateAt, makesGate, isGateAt, gateFrom, gatesFrom}
+use Rattle.netlist.proofs.Counting.{gate-needed, gate-idle}
+
+-- ---- one phase
+
+module _ (w : List ℕ) (m l : ℕ) where
+  pub is-gate-needed : isNeeded w m l ≡ true → isGateAt w m l ≡ makesGate (phaseAt w m l .source)
+  unfolding isGateAt
+  is-gate-needed e = ap (λ (b : Bool). cond b (makesGate (phaseAt w m l .source)) false) e
+
+  pub is-gate-idle : isNeeded w m l ≡ false → isGateAt w m l ≡ false
+  unfolding isGateAt
+  is-gate-idle e = ap (λ (b : Bool). cond b (makesGate (phaseAt w m l .source)) false) e
+
+-- a source that makes no gate
+none-by : (w : List ℕ) (lib : Library) (m l : ℕ) (s : Source) → makesGate s ≡ false → gateBy w lib m l s ≡ []
+unfolding makesGate gateBy
+none-by w lib m l Input e = refl
+none-by w lib m l Nothing e = refl
+none-by w lib m l (Matched x) e = absurd (true≢false e)
+none-by w lib m l (Inverted c) e = absurd (true≢false e)
+
+-- a phase that is no gate
+pub gate-none : (w : List ℕ) (lib : Library) (m l : ℕ) → isGateAt w m l ≡ false → gateAt w lib m l ≡ []
+gate-none w lib m l e = go (isNeeded w m l) refl
+  where
+    go : (b : Bool) → isNeeded w m l ≡ b → gateAt w lib m l ≡ []
+    go true n = gate-needed w lib m l n ∙ none-by w lib m l (phaseAt w m l .source) (sym (is-gate-needed w m l n) ∙ e)
+    go false n = gate-idle w lib m l n
+
+-- ---- the first gate
+
+module _ (w : List ℕ) (m : ℕ) where
+  first-here : (l n : ℕ) → isGateAt w m l ≡ true → gateFrom w m l (suc n) ≡ l
+  unfolding gateFrom
+  first-here l n e = ap (λ (b : Bool). cond b l (gateFrom w m (suc l) n)) e
+
+  first-later : (l n : ℕ) → isGateAt w m l ≡ false → gateFrom w m l (suc n) ≡ gateFrom w m (suc l) n
+  unfolding gateFrom
+  first-later l n e = ap (λ (b : Bool). cond b l (gateFrom w m (suc l) n)) e
+
+  pub gate-here : (l end : ℕ) → l < end → isGateAt w m l ≡ true → gateFrom w m l (end - l) ≡ l
+  gate-here l end h e = let k : end - l ≡ suc (end - (l + 1)) = omega arith in ap (gateFrom w m l) k ∙ first-here l (end - (l + 1)) e
+
+  pub gate-later : (l end : ℕ) → l < end → isGateAt w m l ≡ false → gateFrom w m l (end - l) ≡ gateFrom w m (l + 1) (end - (l + 1))
+  gate-later l end h e =
+      let k : end - l ≡ suc (end - (l + 1)) = omega arith in
+      ap (gateFrom w m l) k ∙ first-later l (end - (l + 1)) e ∙ ap (λ (i : ℕ). gateFrom w m i (end - (l + 1))) (sym (add-one l))
+
+  pub gate-end : (l end : ℕ) → end ≤ l → gateFrom w m l (end - l) ≡ l
+  unfolding gateFrom
+  gate-end l end h = let k : end - l ≡ 0 = omega arith in ap (gateFrom w m l) k
+
+  low : (n l : ℕ) → l ≤ gateFrom w m l n
+  unfolding gateFrom
+  low zero l = omega arith
+  low (suc n) l = go (isGateAt w m l) refl (low n (suc l))
+    where
+      go : (b : Bool) → isGateAt w m l ≡ b → suc l ≤ gateFrom w m (suc l) n → l ≤ gateFrom w m l (suc n)
+      go true e more = omega (arith, first-here l n e)
+      go false e more = omega (arith, first-later l n e)
+
+  high : (n l : ℕ) → gateFrom w m l n ≤ l + n
+  unfolding gateFrom
+  high zero l = omega arith
+  high (suc n) l = go (isGateAt w m l) refl (high n (suc l))
+    where
+      go : (b : Bool) → isGateAt w m l ≡ b → gateFrom w m (suc l) n ≤ suc l + n → gateFrom w m l (suc n) ≤ l + suc n
+      go true e more = omega (arith, first-here l n e)
+      go false e more = omega (arith, first-later l n e)
+
+-- ---- the phases passed over
+
+module _ (w : List ℕ) (lib : Library) (m : ℕ) where
+  skip : (n l : ℕ) → gatesFrom w lib m l n ≡ gatesFrom w lib m (gateFrom w m l n) (l + n - gateFrom w m l n)
+  unfolding gatesFrom gateFrom from each
+  skip zero l = let k : 0 ≡ l + 0 - l = omega arith in ap (gatesFrom w lib m l) k
+  skip (suc n) l = go (isGateAt w m l) refl (skip n (suc l))
+    where
+      go : (b : Bool) → isGateAt w m l ≡ b → gatesFrom w lib m (suc l) n ≡ gatesFrom w lib m (gateFrom w m (suc l) n) (suc l + n - gateFrom w m (suc l) n)
+          → gatesFrom w lib m l (suc n) ≡ gatesFrom w lib m (gateFrom w m l (suc n)) (l + suc n - gateFrom w m l (suc n))
+      go true e more =
+          let k : suc n ≡ l + suc n - l = omega arith in
+          ap (gatesFrom w lib m l) k ∙ ap (λ (g : ℕ). gatesFrom w lib m g (l + suc n - g)) (sym (first-here w m l n e))
+      go false e more =
+          let k : suc l + n ≡ l + suc n = omega arith in
+          ap (λ (ts : List Gate). ts ++ gatesFrom w lib m (suc l) n) (gate-none w lib m l e)
+          ∙ more
+          ∙ ap (λ (end : ℕ). gatesFrom w lib m (gateFrom w m (suc l) n) (end - gateFrom w m (suc l) n)) k
+          ∙ ap (λ (g : ℕ). gatesFrom w lib m g (l + suc n - g)) (sym (first-later w m l n e))
+
+-- g is the first gate of the phases from l up to the end
+module _ (w : List ℕ) (m l end g : ℕ) (within : l ≤ end) (first : g ≡ gateFrom w m l (end - l)) where
+  pub gate-from-low : l ≤ g
+  gate-from-low = omega (arith, low w m (end - l) l)
+
+  pub gate-from-high : g ≤ end
+  gate-from-high = omega (arith, high w m (end - l) l)
+
+  pub gates-skip : (lib : Library) → gatesFrom w lib m l (end - l) ≡ gatesFrom w lib m g (end - g)
+  gates-skip lib =
+      let k : l + (end - l) ≡ end = omega arith in
+      skip w lib m (end - l) l
+      ∙ ap (λ (x : ℕ). gatesFrom w lib m (gateFrom w m l (end - l)) (x - gateFrom w m l (end - l))) k
+      ∙ ap (λ (x : ℕ). gatesFrom w lib m x (end - x)) (sym first)

@@ -1,0 +1,66 @@
+-- `netlist::gate_from` meets its contract. The invariant: the first gate from g on is the first from l on. The measure is the number of phases left.
+-- Assumes nothing.
+use mathlib.Core.Path.{_≡_, refl, sym, _∙_}
+use Prim.Native.Nat.{_+_, _-_, _*_}
+use native.Mathlib.Omega.{arith}
+use Rattle.netlist.specs.Lines.{gateFrom}
+use Rattle.netlist.proofs.Walking.{gate-here, gate-later, gate-end}
+use Rattle.netlist.proofs.gate_from.Statement.{statement}
+use Rattle.netlist.proofs.gate_from.Tie as tie
+
+abbrev Inv-loop : tie.InvT-loop
+Inv-loop work m l g₀ g = gateFrom work m l (2 * (m + 1) - l) ≡ gateFrom work m g (2 * (m + 1) - g)
+
+abbrev μ-loop : tie.MeasureT-loop
+μ-loop work m l g₀ g = 2 * (m + 1) - g
+
+loop-holds : tie.Need-loop-holds Inv-loop μ-loop
+loop-holds c = refl
+
+add-loop : tie.Need-add-loop Inv-loop μ-loop
+add-loop c = omega (arith, c .before .before .pre .small)
+
+mul-loop : tie.Need-mul-loop Inv-loop μ-loop
+mul-loop c = omega (arith, c .before .before .pre .small)
+
+is-gate-requires : tie.Need-is-gate-requires Inv-loop μ-loop
+is-gate-requires c κs = (c .before .before .before .pre, omega (arith, c .loop-test .taken))
+
+returns : tie.Need-returns Inv-loop μ-loop
+returns c =
+    let a = c .before .before .before .before .before .args in
+    let g = c .before .before .before .loop in
+    sym (g .inv ∙ gate-here (a .work .now) (a .m) (g .g) (2 * (a .m + 1)) (c .before .before .loop-test .taken) (sym (c .before .is-gate .ensures) ∙ c .if1 .taken))
+
+add-g : tie.Need-add-g Inv-loop μ-loop
+add-g c = omega (arith, c .before .before .before .before .before .pre .small, c .before .before .loop-test .taken)
+
+loop-less : tie.Need-loop-less Inv-loop μ-loop
+loop-less c = omega arith
+
+loop-again : tie.Need-loop-again Inv-loop μ-loop
+loop-again c =
+    let a = c .before .before .before .before .before .args in
+    let g = c .before .before .before .loop in
+    g .inv ∙ gate-later (a .work .now) (a .m) (g .g) (2 * (a .m + 1)) (c .before .before .loop-test .taken) (sym (c .before .is-gate .ensures) ∙ c .if1 .left)
+
+returns-2 : tie.Need-returns-2 Inv-loop μ-loop
+returns-2 c =
+    let a = c .before .before .before .args in
+    sym (c .before .loop .inv ∙ gate-end (a .work .now) (a .m) (c .before .loop .g) (2 * (a .m + 1)) (c .loop-test .left))
+
+pub gate-from-spec : {M : Type 1} → statement M
+gate-from-spec =
+    tie.close
+    (tie.spec
+    Inv-loop
+    μ-loop
+    loop-holds
+    add-loop
+    mul-loop
+    is-gate-requires
+    returns
+    add-g
+    loop-less
+    loop-again
+    returns-2)

@@ -1,0 +1,34 @@
+-- `netlist::is_gate` meets its contract.
+-- Assumes nothing.
+use mathlib.Core.Path.{sym, ap, _∙_}
+use Rattle.model.specs.declared.Phase.{Phase}
+use Rattle.netlist.specs.Lines.{makesGate}
+use Rattle.netlist.proofs.Walking.{is-gate-needed, is-gate-idle}
+use borrow.Author.Needs.{needs}
+use Rattle.netlist.proofs.is_gate.Statement.{statement}
+use Rattle.netlist.proofs.is_gate.Tie as tie
+
+is-needed-requires : tie.Need-is-needed-requires
+is-needed-requires c κs = search needs
+
+phase-requires : tie.Need-phase-requires
+phase-requires c κs = search needs
+
+makes-gate-requires : tie.Need-makes-gate-requires
+makes-gate-requires c κs = search needs
+
+returns : tie.Need-returns
+returns c =
+    let a = c .before .before .before .before .before .args in
+    let needed = sym (c .before .before .before .is-needed .ensures) ∙ c .before .before .if1 .taken in
+    c .makes-gate .ensures ∙ ap (λ (p : Phase). makesGate (p .source)) (c .before .phase .ensures) ∙ sym (is-gate-needed (a .work .now) (a .m) (a .l) needed)
+
+returns-2 : tie.Need-returns-2
+returns-2 c =
+    let a = c .before .before .before .args in
+    let idle = sym (c .before .is-needed .ensures) ∙ c .if1 .left in
+    sym (is-gate-idle (a .work .now) (a .m) (a .l) idle)
+
+pub is-gate-spec : {M : Type 1} → statement M
+is-gate-spec =
+    tie.close (tie.spec is-needed-requires phase-requires makes-gate-requires returns returns-2)
