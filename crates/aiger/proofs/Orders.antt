@@ -23,21 +23,21 @@ use Rattle.model.specs.Graph.{And, Graph, Node, constant, input, undefined, bot
 use Rattle.model.specs.Netlist.{placingVerdict}
 use Rattle.model.specs.declared.Header.{Header}
 use Rattle.model.specs.declared.Verdict.the-variants.{Accepted, Refused}
-use Rattle.words.specs.Layout.{Room, RoomFor, kindAt, leftAt, rightAt, placeAt, placeAddr, outputAt}
+use Rattle.words.specs.Layout.{Room, RoomFor, kindAt, leftAt, rightAt, placeAt, outputAt}
 use Rattle.words.specs.Record.{nodeOf, nodeAt}
 use Rattle.words.specs.Holding.{HoldsGraph, HoldsOrder}
-use Rattle.text.proofs.Bytes.{and-left, and-right, and-false}
+use Rattle.text.proofs.Bytes.{and-left, and-right}
 use Rattle.theory_graph.proofs.Lists.{by-eqb, elem-in, elem-out, map-in, map-out, keep-in, keep-out, is-true}
 use Rattle.theory_graph.proofs.Values.{Found, node-and}
 use Rattle.aiger.specs.Passes.{Fit, putPlaced, loadedWords}
 use Rattle.aiger.proofs.Judging.{fit-length}
 use Rattle.aiger.specs.Placing.{Operands, isWaiting, isPlaced, isReady, seek, waitingFrom, nextAnd, orderWords, orderLow, placedWords, placedVerdict, pickVerdict}
 use Rattle.aiger.specs.Loaded.{kindOf, leftOf, rightOf, Ordered, Loaded}
-use Rattle.aiger.proofs.Storing.{Within, place-holds, placed-apart, place-stored, elem-snoc}
+use Rattle.aiger.proofs.Storing.{Within, place-holds, elem-snoc}
 use Rattle.aiger.proofs.Loading.{Sure, within-snoc}
 use Rattle.aiger.proofs.Loads.{Holding, load-law}
-use Rattle.aiger.proofs.Seeking.{seek-before, seek-found, seek-lowest, seek-nothing}
-use Rattle.aiger.proofs.Placed.{waits-kind, waiting-is, ready-is-seek, waiting-to, kind-placed, order-on, order-off, order-end}
+use Rattle.aiger.proofs.Seeking.{seek-under, seek-found, seek-lowest, seek-nothing}
+use Rattle.aiger.proofs.Placed.{waits-kind, waiting-is, ready-is-seek, waiting-to, waits-less, not-ready, order-on, order-off, order-end}
 
 -- ---- which variables are placed
 
@@ -142,22 +142,6 @@ pub record Went (w₀ : List ℕ) (m : ℕ) (g : Graph) (w : List ℕ) (low : �
   pub under : low ≤ m + 1
   pub below : (u : ℕ) → u < low → isWaiting w m u ≡ false
 
--- what did not wait does not wait after one more is placed
-waits-less : (w : List ℕ) (m i v : ℕ) → Room w m → i ≤ m → v ≤ m → (u : ℕ) → u ≤ m → isWaiting w m u ≡ false → isWaiting (putPlaced w m i v) m u ≡ false
-unfolding isWaiting
-waits-less w m i v fits slot within u l e =
-    by-eqb u v
-    (λ q.
-    let p : placeAt (putPlaced w m i v) m u ≡ i + 1 = ap (placeAt (putPlaced w m i v) m) q ∙ place-stored w m i v fits slot within in
-    rw (ne-eqb (placeAt (putPlaced w m i v) m u) 0 (λ z. omega arith)) (and-false (eqb (kindAt (putPlaced w m i v) m u) 3)))
-    (λ d.
-    let p : placeAt (putPlaced w m i v) m u ≡ placeAt w m u = placed-apart w m i v fits slot within (placeAddr m u) (omega arith) (omega arith) in
-    rw (kind-placed w m i v fits slot within u l, p) e)
-
-not-ready : (w : List ℕ) (m u : ℕ) → isWaiting w m u ≡ false → isReady w m u ≡ false
-unfolding isReady
-not-ready w m u e = rw e
-
 elem-both : (u v : ℕ) (placed order : List ℕ) → elem u placed ≡ elem u order → elem u (v ∷ placed) ≡ elem u (order ++ (v ∷ []))
 unfolding elem any
 elem-both u v placed order e = by-eqb u v
@@ -200,11 +184,7 @@ module _ (w₀ : List ℕ) (m : ℕ) (g : Graph) (fits : Room w₀ m) (sure : (a
     mark-under = waiting-to w m low (s .under)
 
     mark-below : (u : ℕ) → u < waitingFrom w m low → isWaiting w m u ≡ false
-    mark-below u l = go (leb low u) refl
-      where
-        go : (t : Bool) → leb low u ≡ t → isWaiting w m u ≡ false
-        go true e = seek-before (isWaiting w m) (m + 1 - low) low u (leb-true low u e) (subst (λ (x : ℕ). u < x) (waiting-is w m low) l)
-        go false e = s .below u (leb-false low u e)
+    mark-below u l = seek-under (isWaiting w m) (m + 1 - low) low u (s .below u) (subst (λ (x : ℕ). u < x) (waiting-is w m low) l)
 
     ready-below : (u : ℕ) → u < waitingFrom w m low → isReady w m u ≡ false
     ready-below u l = not-ready w m u (mark-below u l)

@@ -1,6 +1,7 @@
 -- The first number that passes a test, and the lowest of a list:
 --     seek-here, seek-past, seek-end     a turn of the loop that seeks
---     seek-from, seek-to, seek-found, seek-before     what is known of the number that is found
+--     seek-from, seek-to, seek-found, seek-before, seek-under     what is known of the number that is found
+--     below-first, below-on, below-skip     what does not pass may be skipped
 --     seek-lowest, seek-nothing     it is the lowest of a list that the test describes
 -- Assumes nothing.
 use mathlib.Core.Path.{_≡_, refl, ap, _∙_}
@@ -16,10 +17,18 @@ use Rattle.theory_graph.proofs.Lists.{by-eqb, lowest-in}
 use Rattle.aiger.specs.Lines.{pickN}
 use Rattle.aiger.specs.Placing.{seek}
 
--- ---- the first number that passes
+-- an order, by its test
+pub by-leb {ℓ} : {X : Type ℓ} (a b : ℕ) → (a ≤ b → X) → (b < a → X) → X
+by-leb {X} a b y n = go (leb a b) refl
+  where
+    go : (t : Bool) → leb a b ≡ t → X
+    go true e = y (leb-true a b e)
+    go false e = n (leb-false a b e)
 
 true-false : {b : Bool} → b ≡ true → b ≡ false → ⊥
 true-false {b} p q = let z : _≡_ {A = ℕ} 0 1 = cc in omega arith
+
+-- ---- the first number that passes
 
 module _ (p : ℕ → Bool) where
   -- a turn of the loop
@@ -72,6 +81,34 @@ module _ (p : ℕ → Bool) where
       go : (t : Bool) → p i ≡ t → u < pickN t i (seek p n (i + 1)) → (i + 1 ≤ u → u < seek p n (i + 1) → p u ≡ false) → p u ≡ false
       go true e l more = absurd (omega arith)
       go false e l more = by-eqb u i (λ q. ap p q ∙ e) (λ d. more (omega arith) l)
+
+  pub seek-under : (n i u : ℕ) → (u < i → p u ≡ false) → u < seek p n i → p u ≡ false
+  seek-under n i u below l = by-leb i u (λ a. seek-before n i u a l) below
+
+  -- what does not pass may be skipped
+  skip : (d j n i k : ℕ) → j ≡ n + d → k ≡ i + d → ((u : ℕ) → i ≤ u → u < k → p u ≡ false) → seek p j i ≡ seek p n k
+  skip zero j n i k e f h = let a : j ≡ n = omega arith in let b : i ≡ k = omega arith in rw (a, b)
+  skip (suc d) j n i k e f h = seek-past j (n + d) i (omega arith) (h i (omega arith) (omega arith)) ∙ skip d (n + d) n (i + 1) k refl (omega arith) (λ u a. h u (omega arith))
+
+-- no variable below `low` passes, variable 0 aside
+pub record Below (p : ℕ → Bool) (m low : ℕ) : Type 0 where
+  pub first : 1 ≤ low
+  pub under : low ≤ m + 1
+  pub below : (u : ℕ) → 1 ≤ u → u < low → p u ≡ false
+
+pub below-first : (p : ℕ → Bool) (m : ℕ) → Below p m 1
+below-first p m = record { first = omega arith; under = omega arith; below = λ u a b. absurd (omega arith) }
+
+module _ (p : ℕ → Bool) (m low : ℕ) (b : Below p m low) where
+  pub below-on : Below p m (seek p (m + 1 - low) low)
+  below-on = record {
+    first = omega (arith, b .first, seek-from p (m + 1 - low) low);
+    under = omega (arith, b .under, seek-to p (m + 1 - low) low);
+    below = λ u a. seek-under p (m + 1 - low) low u (b .below u a);
+  }
+
+  pub below-skip : seek p (m + 1 - 1) 1 ≡ seek p (m + 1 - low) low
+  below-skip = skip p (low - 1) (m + 1 - 1) (m + 1 - low) 1 low (omega (arith, b .first, b .under)) (omega (arith, b .first)) (b .below)
 
 -- ---- the lowest of a list
 
@@ -130,17 +167,9 @@ lowest-empty xs h = go (lowest xs) refl
 module _ (p : ℕ → Bool) (xs : List ℕ) (m low : ℕ) (inside : (u : ℕ) → List·Memᴰ u xs → (u ≤ m) × (p u ≡ true)) (outside : (u : ℕ) → u ≤ m → p u ≡ true → List·Memᴰ u xs)
     (below : (u : ℕ) → u < low → p u ≡ false) (room : low ≤ m + 1) where
   first-le : (u : ℕ) → List·Memᴰ u xs → seek p (m + 1 - low) low ≤ u
-  first-le u n = go (leb (seek p (m + 1 - low) low) u) refl
-    where
-      go : (t : Bool) → leb (seek p (m + 1 - low) low) u ≡ t → seek p (m + 1 - low) low ≤ u
-      go true e = leb-true (seek p (m + 1 - low) low) u e
-      go false e =
-          let l : u < seek p (m + 1 - low) low = leb-false (seek p (m + 1 - low) low) u e in
-          absurd (true-false (inside u n .1) (under (leb low u) refl l))
-        where
-          under : (t : Bool) → leb low u ≡ t → u < seek p (m + 1 - low) low → p u ≡ false
-          under true f l = seek-before p (m + 1 - low) low u (leb-true low u f) l
-          under false f l = below u (leb-false low u f)
+  first-le u n =
+      by-leb (seek p (m + 1 - low) low) u (λ l. l)
+      (λ l. absurd (true-false (inside u n .1) (seek-under p (m + 1 - low) low u (below u) l)))
 
   pub seek-lowest : seek p (m + 1 - low) low ≤ m → lowest xs ≡ some (seek p (m + 1 - low) low)
   seek-lowest l = lowest-is xs (seek p (m + 1 - low) low) (outside (seek p (m + 1 - low) low) l (seek-found p (m + 1 - low) low (omega arith))) first-le

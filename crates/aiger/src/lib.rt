@@ -1,7 +1,8 @@
 // AIGER's ASCII form, read: the header, the due lines into the lent words, and the placing order.
 // "`aag M I L O A`, then I input lines, O output lines and A lines `left right right`."
 ghost use mathlib.Core.Path.{_≡_};
-ghost use Prim.Native.Nat.{_+_, _*_, _≤_, _<_};
+ghost use Prim.Native.Nat.{ℕ, _+_, _*_, _≤_, _<_};
+ghost use mathlib.Core.List.{List};
 ghost use lib.ListN.{length};
 ghost use Rattle.model.specs.Limits.{need};
 ghost use Rattle.model.specs.Reading.{holds, verdictOf};
@@ -9,7 +10,8 @@ ghost use Rattle.model.specs.GraphText.{readHeader, headerAnswer, inLimits, rea
 ghost use Rattle.words.specs.Layout.{Room};
 ghost use Rattle.aiger.specs.Lines.{threeAt, tagAt, headerRecord, numbersForm, formAt, dueCode, dueCount, oneLine, andLine, lineRead, literalsFit, mayDefine, isTaken, judgedAt, isKnown, usesKnown};
 ghost use Rattle.aiger.specs.Passes.{Fit, LiteralsFit, putPlaced, storedInput, storedLine, turnAt, turnWords, linesVerdict, linesWords, checkAt, checkVerdict, opened, loadedWords};
-ghost use Rattle.aiger.specs.Placing.{Operands, isWaiting, isPlaced, isReady, waitingFrom, readyFrom, orderLow, orderWords, placedWords, placedVerdict};
+ghost use Rattle.aiger.specs.Placing.{Operands, isWaiting, isPlaced, isReady, waitingFrom, readyFrom, placedWords, placedVerdict};
+ghost use Rattle.aiger.specs.Users.{userPut, Users, seekOn};
 use model::Header;
 use model::HeaderAnswer;
 use model::Verdict;
@@ -452,6 +454,9 @@ pub fn load(s: &[u8], h: Header, work: &mut [u16]) -> Verdict
 
 // ---- the placing order
 
+// "M exceeds 4,095" is refused, and variable 0 is one more.
+const VARIABLES: usize = 4096;
+
 // An AND that is not placed.
 fn waits(work: &[u16], m: usize, v: usize) -> bool
     requires { ⌜ Room (now work) m × (v ≤ m) ⌝ }
@@ -514,25 +519,72 @@ fn first_ready(work: &[u16], m: usize, from: usize) -> usize
     u
 }
 
-// "again and again the lowest-numbered AND whose operands are both placed". Below `low` no AND waits, so a graph that is numbered in order is placed in one pass.
-fn place_ands(work: &mut [u16], h: Header) -> usize
-    requires { ⌜ Fit h (now work) × Operands (now work) (h .size) ⌝ }
-    ensures answer { λ r. ⌜ r ≡ orderLow (h .size) (h .ands) (h .inputs + 1) 1 (now (work .entry)) ⌝ }
-    ensures left { λ _. ⌜ now (work .exit) ≡ orderWords (h .size) (h .ands) (h .inputs + 1) 1 (now (work .entry)) ⌝ }
+// For each variable the lowest AND that uses it, or a number above every AND's, as here, where none is put down yet.
+fn no_users() -> [u16; VARIABLES]
+    ensures { λ r. ⌜ ((w : List ℕ) (m : ℕ) → Users w m m r) ⌝ }
+{
+    [4096u16; VARIABLES]
+}
+
+// An AND put down as the user of its operands.
+fn put_user(work: &[u16], m: usize, v: usize, users: &mut [u16; VARIABLES])
+    requires { ⌜ Room (now work) m × Operands (now work) m × (v ≤ m) ⌝ }
+    ensures { λ _. ⌜ now (users .exit) ≡ userPut (now (work .entry)) m v (now (users .entry)) ⌝ }
+{
+    if words::kind(work, m, v) == 3 {
+        let left = words::left(work, m, v) / 2;
+        let right = words::right(work, m, v) / 2;
+        users[left] = v as u16;
+        users[right] = v as u16;
+    }
+}
+
+// All ANDs put down, from the highest down, so that the lowest user stays.
+fn put_users(work: &[u16], m: usize, users: &mut [u16; VARIABLES])
+    requires { ⌜ Room (now work) m × Operands (now work) m × Users (now work) m m (now users) ⌝ }
+    ensures { λ _. ⌜ Users (now (work .entry)) m 0 (now (users .exit)) ⌝ }
+{
+    let mut v = m;
+    while v > 0 {
+        put_user(work, m, v, users);
+        v -= 1;
+    }
+}
+
+// A word as a variable's number.
+fn wide(x: u16) -> usize
+    ensures { λ r. ⌜ r ≡ x ⌝ }
+{
+    x as usize
+}
+
+// Where the next AND is sought once v is placed, below which none was ready: what that made ready uses v.
+fn seek_on(users: &[u16; VARIABLES], v: usize) -> usize
+    requires { ⌜ v < 4096 ⌝ }
+    ensures { λ r. ⌜ r ≡ seekOn (now (users .entry)) v ⌝ }
+{
+    let u = wide(users[v]);
+    if u < v { u } else { v + 1 }
+}
+
+// "again and again the lowest-numbered AND whose operands are both placed". Below `scan` none is ready, so a chain of ANDs costs one pass,
+// whichever way it is numbered.
+fn place_ands(work: &mut [u16], h: Header, users: &[u16; VARIABLES])
+    requires { ⌜ Fit h (now work) × Operands (now work) (h .size) × Users (now work) (h .size) 0 (now users) ⌝ }
+    ensures { λ _. ⌜ now (work .exit) ≡ placedWords (now (work .entry)) h ⌝ }
 {
     let end = h.inputs + 1 + h.ands;
     let mut slot = h.inputs + 1;
-    let mut low = 1;
+    let mut scan = 1;
     while slot < end {
-        low = first_waiting(work, h.size, low);
-        let v = first_ready(work, h.size, low);
+        let v = first_ready(work, h.size, scan);
         if v > h.size {
-            return low;
+            return;
         }
         place_at(work, h.size, slot, v);
+        scan = seek_on(users, v);
         slot += 1;
     }
-    low
 }
 
 // "Some AND can't be placed; place, the lowest such variable."
@@ -541,8 +593,10 @@ pub fn place(work: &mut [u16], h: Header) -> Verdict
     ensures answer { λ r. ⌜ r ≡ placedVerdict (now (work .entry)) h ⌝ }
     ensures left { λ _. ⌜ now (work .exit) ≡ placedWords (now (work .entry)) h ⌝ }
 {
-    let low = place_ands(work, h);
-    let v = first_waiting(work, h.size, low);
+    let mut users = no_users();
+    put_users(work, h.size, &mut users);
+    place_ands(work, h, &users);
+    let v = first_waiting(work, h.size, 1);
     if v > h.size {
         Verdict::Accepted
     } else {

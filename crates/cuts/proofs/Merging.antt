@@ -107,6 +107,20 @@ bump-small u v = by (eqb u v)
     by true = omega arith
     by false = omega arith
 
+-- the union of two lists that are not empty, where the first head is the lesser, and where the heads are the same
+first-less : (x y : ℕ) (A B : List ℕ) → x < y → Rising (suc x) A → Rising (suc y) B → union compare (x ∷ A) (y ∷ B) ≡ x ∷ union compare A (y ∷ B)
+unfolding union
+first-less x y A B less r s = insert-first x (union compare A (y ∷ B)) (union-rising (suc x) A (y ∷ B) r (less, s))
+
+first-same : (x y : ℕ) (A B : List ℕ) → x ≡ y → Rising (suc x) A → union compare (x ∷ A) (y ∷ B) ≡ y ∷ union compare A B
+unfolding union
+first-same x y A B same r =
+    ap (insert compare x) (union-past y A B (rising-from A (omega arith) r)) ∙ insert-same x y (union compare A B) same
+
+of-nil : (B : List ℕ) → length B ≤ length (union compare [] B)
+unfolding union
+of-nil B = omega arith
+
 -- two lists that are not empty, by the order of their heads x and y
 both : (x y : ℕ) (A B : List ℕ) (m : ℕ) → m ≡ min x y → Rising (suc x) A → Rising (suc y) B
     → union compare (x ∷ A) (y ∷ B) ≡ m ∷ union compare (drop (bump x m) (x ∷ A)) (drop (bump y m) (y ∷ B))
@@ -117,15 +131,12 @@ both x y A B m e r s =
     let here : x ≡ m = omega arith in
     let other : (y ≡ m) → ⊥ = λ z. omega arith in
     rw (bump-same x m here, bump-other y m other)
-    (insert-first x (union compare A (y ∷ B)) (union-rising (suc x) A (y ∷ B) r (less, s))
-    ∙ ap (λ (z : ℕ). z ∷ union compare A (y ∷ B)) here))
+    (first-less x y A B less r s ∙ ap (λ (z : ℕ). z ∷ union compare A (y ∷ B)) here))
     (λ same.
     let here : x ≡ m = omega arith in
     let there : y ≡ m = omega arith in
     rw (bump-same x m here, bump-same y m there)
-    (ap (insert compare x) (union-past y A B (rising-from A (omega arith) r))
-    ∙ insert-same x y (union compare A B) same
-    ∙ ap (λ (z : ℕ). z ∷ union compare A B) there))
+    (first-same x y A B same r ∙ ap (λ (z : ℕ). z ∷ union compare A B) there))
     (λ more.
     let here : y ≡ m = omega arith in
     let other : (x ≡ m) → ⊥ = λ z. omega arith in
@@ -153,6 +164,26 @@ step lo (x ∷ A) (y ∷ B) u w m ra rb eu ew e h =
     let u-x : u ≡ x = eu in
     let w-y : w ≡ y = ew in
     rw (u-x, w-y) (both x y A B m (omega arith) (ra .1) (rb .1))
+
+-- a union is no shorter than either list
+pub union-long : (lo : ℕ) (A B : List ℕ) → Rising lo A → Rising lo B → (length A ≤ length (union compare A B)) × (length B ≤ length (union compare A B))
+union-long lo A B ra rb = go (length A + length B) lo A B (omega arith) ra rb
+  where
+    go : (n lo : ℕ) (A B : List ℕ) → length A + length B ≤ n → Rising lo A → Rising lo B → (length A ≤ length (union compare A B)) × (length B ≤ length (union compare A B))
+    go n lo [] B h ra rb = (omega arith, of-nil B)
+    go n lo (x ∷ A) [] h ra rb = let e = ap length (union-nil lo (x ∷ A) ra) in (omega (arith, e), omega arith)
+    go zero lo (x ∷ A) (y ∷ B) h ra rb = absurd (omega arith)
+    go (suc n) lo (x ∷ A) (y ∷ B) h ra rb =
+        three x y
+        (λ less. let e = ap length (first-less x y A B less (ra .1) (rb .1)) in
+        let r = go n (suc x) A (y ∷ B) (omega arith) (ra .1) (less, rb .1) in
+        (omega (arith, e, r .0), omega (arith, e, r .1)))
+        (λ same. let e = ap length (first-same x y A B same (ra .1)) in
+        let r = go n (suc x) A B (omega arith) (ra .1) (rising-from B (omega arith) (rb .1)) in
+        (omega (arith, e, r .0), omega (arith, e, r .1)))
+        (λ more. let e = ap length (union-past y (x ∷ A) B (more, ra .1)) in
+        let r = go n (suc y) (x ∷ A) B (omega arith) (more, ra .1) (rb .1) in
+        (omega (arith, e, r .0), omega (arith, e, r .1)))
 
 pub rising-drop : (lo n : ℕ) (xs : List ℕ) → Rising lo xs → Rising lo (drop n xs)
 rising-drop lo zero xs r = r

@@ -3,19 +3,24 @@
 --     at-hand                     the list from a cut on begins with that cut
 --     row-narrow, row-wide        a pair more, whose union has at most four leaves, or more
 --     key-padded                  the key of four leaves with zeros past the last
+--     left-wide, right-wide       what is left of either cut is in the union
+--     head-past                   a place goes on only where a leaf stands
 -- Assumes nothing.
 use mathlib.Core.Path.{_≡_, refl, sym, ap, _∙_, subst}
 use mathlib.Core.List.{List, [], _∷_, _++_, append-nil}
-use Prim.Native.Nat.{ℕ, suc, _+_, _≤_, _<_, compare}
+use mathlib.Core.Bool.{Bool, true, false}
+use Prim.Native.Nat.{ℕ, suc, _+_, _-_, _≤_, _<_, compare}
 use native.Mathlib.Omega.{arith}
-use lib.ListN.{length, drop, length-append}
-use lib.Seq.{drop-cons, drop-length}
-use borrow.Author.Tests.{le-leb, lt-leb}
+use lib.Dec.{ltb}
+use lib.ListN.{length, take, drop, length-append, length-drop, List·getD-eq-default}
+use lib.Seq.{drop-cons, drop-length, length-take-le}
+use borrow.Author.Tests.{le-leb, lt-leb, ltb-true, ltb-false}
 use Rattle.model.specs.Base.{union}
 use Rattle.words.specs.Layout.{countAt, listAddr, cutAddr}
 use Rattle.words.specs.Record.{leavesOf, cutAt, padded, cutsAt, Leaves, Good, Sound}
 use Rattle.words.proofs.Stored.{list-get, list-length, good-get}
-use Rattle.cuts.specs.Keys.{Rising, keyFrom, key, added, addedCut, rowKeys}
+use Rattle.cuts.specs.Keys.{Rising, keyFrom, key, added, addedCut, rowKeys, bump, Head}
+use Rattle.cuts.proofs.Merging.{bump-small, bump-other, union-long}
 
 pub leaves-rising : (lo : ℕ) (xs : List ℕ) → Leaves lo xs → Rising lo xs
 leaves-rising lo [] h = tt
@@ -40,10 +45,31 @@ key-is U ls out k e l h o =
       omega arith,
     )
 
-pub too-long : (U ls : List ℕ) (v : ℕ) (more : List ℕ) → U ≡ ls ++ (v ∷ more) → length ls ≡ 4 → 4 < length U
-too-long U ls v more e l =
-    let n : length U ≡ length ls + length (v ∷ more) = ap length e ∙ length-append ls (v ∷ more) in
-    omega arith
+-- what is left of a cut, past place p
+pub left-of : (xs : List ℕ) (n p : ℕ) → n ≤ length xs → length (drop p (take n xs)) ≡ n - p
+left-of xs n p h = length-drop p (take n xs) ∙ ap (λ (k : ℕ). k - p) (length-take-le n xs h)
+
+-- a union that what is left of either cut makes too long
+module _ (U ls : List ℕ) (v : ℕ) (A B : List ℕ) (e : U ≡ ls ++ (v ∷ union compare A B)) (ra : Rising 0 A) (rb : Rising 0 B) where
+  size : length U ≡ length ls + suc (length (union compare A B))
+  size = ap length e ∙ length-append ls (v ∷ union compare A B)
+
+  pub left-wide : 4 ≤ length ls + length A → 4 < length U
+  left-wide h = omega (arith, size, union-long 0 A B ra rb .0)
+
+  pub right-wide : 4 ≤ length ls + length B → 4 < length U
+  right-wide h = omega (arith, size, union-long 0 A B ra rb .1)
+
+-- a place goes on only where a leaf stands
+pub head-past : (p n u v r : ℕ) {leaves : List ℕ} → Head leaves n p u → n ≤ length leaves → p ≤ n → r ≡ p + bump u v → v < 65536 → r ≤ n
+head-past p n u v r {leaves} h long within e small = go (ltb p n) refl
+  where
+    go : (t : Bool) → ltb p n ≡ t → r ≤ n
+    go true q = omega (arith, bump-small u v, ltb-true p n q)
+    go false q =
+        let past : n ≤ p = ltb-false p n q in
+        let end : u ≡ 65536 = h .is ∙ List·getD-eq-default (take n leaves) 65536 (omega (arith, length-take-le n leaves long)) in
+        omega (arith, bump-other u v (λ z. omega (arith, z)))
 
 pub row-narrow : (c d : List ℕ) (ds : List (List ℕ)) (ks : List ℕ) → length (union compare c d) ≤ 4
     → rowKeys c (d ∷ ds) ks ≡ added (key (union compare c d)) (rowKeys c ds ks)

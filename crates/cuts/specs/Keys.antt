@@ -11,7 +11,6 @@ use Rattle.model.specs.Graph.{Node, constant, input, undefined, both, varOf}
 use Rattle.model.specs.Limits.{cutLimit}
 use Rattle.words.specs.Put.{putAt}
 use Rattle.words.specs.Layout.{countAddr, listAddr}
-use Rattle.cuts.specs.declared.Keys.{Keys}
 
 -- n leaves more, in base 4096: a leaf is a variable, and "M exceeds 4,095" is turned back
 unfoldable pub keyFrom : ℕ → ℕ → List ℕ → ℕ
@@ -43,19 +42,16 @@ putKeys w m v ks = putAt (putAt w (countAddr m v) (length ks ∷ [])) (listAddr 
 abbrev pub keyRoom : ℕ
 keyRoom = cutLimit + 1
 
--- the keys of a list being built
-abbrev pub keysOf : Keys → List ℕ
-keysOf l = take (l .n) (l .keys)
-
 -- strictly ascending, from lo on
 abbrev pub Rising : ℕ → List ℕ → Type 0
 Rising lo [] = Unit {0}
 Rising lo (x ∷ xs) = (lo ≤ x) × Rising (suc x) xs
 
--- a list that can be added to
-pub record Building (l : Keys) : Type 0 where
-  pub fits : l .n ≤ keyRoom
-  pub rising : Rising 0 (keysOf l)
+-- a list that can be added to: the first n keys
+pub record Building (keys : List ℕ) (n : ℕ) : Type 0 where
+  pub room : length keys ≡ keyRoom
+  pub fits : n ≤ keyRoom
+  pub rising : Rising 0 (take n keys)
 
 -- "Equal sets count once"; past the room nothing is added
 unfoldable pub added : ℕ → List ℕ → List ℕ

@@ -5,28 +5,28 @@ use model::Verdict;
 ghost use mathlib.Core.Path.{_≡_};
 ghost use mathlib.Core.List.{_∷_, []};
 ghost use Prim.Native.Nat.{ℕ, _+_, _*_, _/_, _≤_, _<_, min, max};
-ghost use lib.ListN.{getD};
+ghost use lib.ListN.{length, take, getD};
 ghost use Rattle.model.specs.Limits.{cutLimit};
 ghost use Rattle.words.specs.Layout.{Room, leftAt, rightAt};
 ghost use Rattle.words.specs.Record.{leavesOf, Good, Sound, cutsAt, nodeAt};
-ghost use Rattle.cuts.specs.Keys.{keyRoom, keyFrom, key, keyWords, keysOf, Building, added, rowKeys, crossKeys, nodeKeys, putKeys, bump, Head};
+ghost use Rattle.cuts.specs.Keys.{keyRoom, keyFrom, key, keyWords, Building, added, rowKeys, crossKeys, nodeKeys, putKeys, bump, Head};
 ghost use Rattle.cuts.specs.Listing.{Ready, Operands, few, listed, listing, stored};
 
-// One cut more than the limit.
+// Cuts being listed are keys in ascending order: at most one more than the limit, which then says that there are too many.
 const ROOM: usize = words::LIMIT + 1;
 
-// Cuts being listed, as keys in ascending order: at most one more than the limit, which then says that there are too many.
-pub struct Keys {
-    pub keys: [u64; ROOM],
-    pub n: usize,
+fn wide(x: u16) -> u32
+    ensures { λ r. ⌜ (r ≡ x) × (r < 65536) ⌝ }
+{
+    x as u32
 }
 
 // The leaf at p, or 65536 past the last.
-fn head(leaves: [u16; 4], n: usize, p: usize) -> u32
-    requires { ⌜ n ≤ 4 ⌝ }
-    ensures { λ r. ⌜ Head leaves n p r ⌝ }
+fn head(leaves: &[u16], n: usize, p: usize) -> u32
+    requires { ⌜ n ≤ length (now leaves) ⌝ }
+    ensures { λ r. ⌜ Head (now (leaves .entry)) n p r ⌝ }
 {
-    if p < n { leaves[p] as u32 } else { 65536 }
+    if p < n { wide(leaves[p]) } else { 65536 }
 }
 
 fn lesser(u: u32, w: u32) -> u32
@@ -86,39 +86,38 @@ fn high(x: u64, y: u64) -> u64
     if x < y { y } else { x }
 }
 
-// A key put into its place; "Equal sets count once", and past the room nothing is added.
-fn insert(l: Keys, k: u64) -> Keys
-    requires { ⌜ Building l ⌝ }
-    ensures { λ r. ⌜ (keysOf r ≡ added k (keysOf l)) × (r .n ≤ keyRoom) ⌝ }
+// A key put into its place; "Equal sets count once", and past the room nothing is added. The answer is how many keys there are then.
+fn insert(keys: &mut [u64], n: usize, k: u64) -> usize
+    requires { ⌜ Building (now keys) n ⌝ }
+    ensures { λ r. ⌜ (take r (now (keys .exit)) ≡ added k (take n (now (keys .entry)))) × (r ≤ keyRoom) ⌝ }
 {
-    let n = l.n;
-    let mut keys = l.keys;
     if n == ROOM {
-        return Keys { keys, n };
+        return n;
     }
     let mut x = k;
     let mut i = 0;
     while i < n {
         let y = keys[i];
         if x == y {
-            return Keys { keys, n };
+            return n;
         }
         keys[i] = low(x, y);
         x = high(x, y);
         i += 1;
     }
     keys[n] = x;
-    Keys { keys, n: n + 1 }
+    n + 1
 }
 
-// The unions of the cut x with each cut of v, from the last to the first. "A union is dropped the moment a fifth leaf turns up": on to the next pair.
-fn row(work: &[u16], m: usize, x: Cut, v: usize, l: Keys) -> Keys
-    requires { ⌜ Room (now work) m × (v ≤ m) × Sound (now work) m v × (x .count ≤ 4) × Good (leavesOf x) × Building l ⌝ }
-    ensures { λ r. ⌜ (keysOf r ≡ rowKeys (leavesOf x) (cutsAt (now (work .entry)) m v) (keysOf l)) × (r .n ≤ keyRoom) ⌝ }
+// The unions of the cut x with each cut of v, from the last to the first, put to the keys that were there. "A union is dropped the moment a fifth
+// leaf turns up": what is left of either cut is in the union too, so that it turns up as soon as there is no room for that. Then on to the next pair.
+fn row(work: &[u16], m: usize, x: Cut, v: usize, keys: &mut [u64], had: usize) -> usize
+    requires { ⌜ Room (now work) m × (v ≤ m) × Sound (now work) m v × (x .count ≤ 4) × Good (leavesOf x) × Building (now keys) had ⌝ }
+    ensures { λ r. ⌜ (take r (now (keys .exit)) ≡ rowKeys (leavesOf x) (cutsAt (now (work .entry)) m v) (take had (now (keys .entry)))) × (r ≤ keyRoom) ⌝ }
 {
     let xs = x.leaves;
     let xn = x.count;
-    let mut list = l;
+    let mut n = had;
     let mut j = words::count(work, m, v);
     'pairs: while 0 < j {
         j -= 1;
@@ -130,87 +129,82 @@ fn row(work: &[u16], m: usize, x: Cut, v: usize, l: Keys) -> Keys
         let mut p: usize = 0;
         let mut q: usize = 0;
         loop {
-            let u = head(xs, xn, p);
-            let w = head(ys, yn, q);
+            let u = head(&xs, xn, p);
+            let w = head(&ys, yn, q);
             let leaf = lesser(u, w);
             if leaf == 65536 {
                 break;
             }
-            if k == 4 {
+            p = past(p, u, leaf);
+            q = past(q, w, leaf);
+            if k + xn >= 4 + p {
+                continue 'pairs;
+            }
+            if k + yn >= 4 + q {
                 continue 'pairs;
             }
             out[k] = leaf as u16;
             k += 1;
-            p = past(p, u, leaf);
-            q = past(q, w, leaf);
         }
-        list = insert(list, key_of(k, out));
+        n = insert(keys, n, key_of(k, out));
     }
-    list
+    n
 }
 
 // "every union of a cut of one operand's variable with a cut of the other's".
-fn cross(work: &[u16], m: usize, a: usize, b: usize) -> Keys
-    requires { ⌜ Room (now work) m × (a ≤ m) × (b ≤ m) × Sound (now work) m a × Sound (now work) m b ⌝ }
-    ensures { λ r. ⌜ (keysOf r ≡ crossKeys (cutsAt (now (work .entry)) m a) (cutsAt (now (work .entry)) m b)) × (r .n ≤ keyRoom) ⌝ }
+fn cross(work: &[u16], m: usize, a: usize, b: usize, keys: &mut [u64]) -> usize
+    requires { ⌜ Room (now work) m × (a ≤ m) × (b ≤ m) × Sound (now work) m a × Sound (now work) m b × (length (now keys) ≡ keyRoom) ⌝ }
+    ensures { λ r. ⌜ (take r (now (keys .exit)) ≡ crossKeys (cutsAt (now (work .entry)) m a) (cutsAt (now (work .entry)) m b)) × (r ≤ keyRoom) ⌝ }
 {
-    let mut list = Keys {
-        keys: [0u64; ROOM],
-        n: 0,
-    };
+    let mut n: usize = 0;
     let mut i = words::count(work, m, a);
     while 0 < i {
         i -= 1;
         let x = words::load_cut(work, m, a, i);
-        list = row(work, m, x, b, list);
+        n = row(work, m, x, b, keys, n);
     }
-    list
+    n
 }
 
 // A list of one.
-fn single(k: u64) -> Keys
-    ensures { λ r. ⌜ (keysOf r ≡ k ∷ []) × (r .n ≤ keyRoom) ⌝ }
+fn single(keys: &mut [u64], k: u64) -> usize
+    requires { ⌜ length (now keys) ≡ keyRoom ⌝ }
+    ensures { λ r. ⌜ (take r (now (keys .exit)) ≡ k ∷ []) × (r ≤ keyRoom) ⌝ }
 {
-    let mut keys = [0u64; ROOM];
     keys[0] = k;
-    Keys { keys, n: 1 }
+    1
 }
 
 // "of AND n, {{n}} and every union".
-fn and_keys(work: &[u16], m: usize, v: usize) -> Keys
-    requires { ⌜ Operands (now work) m × (v ≤ m) ⌝ }
-    ensures { λ r. ⌜ (keysOf r ≡ added (key (v ∷ [])) (crossKeys (cutsAt (now (work .entry)) m (leftAt (now (work .entry)) m v / 2)) (cutsAt (now (work .entry)) m (rightAt (now (work .entry)) m v / 2)))) × (r .n ≤ keyRoom) ⌝ }
+fn and_keys(work: &[u16], m: usize, v: usize, keys: &mut [u64]) -> usize
+    requires { ⌜ Operands (now work) m × (v ≤ m) × (length (now keys) ≡ keyRoom) ⌝ }
+    ensures { λ r. ⌜ (take r (now (keys .exit)) ≡ added (key (v ∷ [])) (crossKeys (cutsAt (now (work .entry)) m (leftAt (now (work .entry)) m v / 2)) (cutsAt (now (work .entry)) m (rightAt (now (work .entry)) m v / 2)))) × (r ≤ keyRoom) ⌝ }
 {
     let a = words::left(work, m, v) / 2;
     let b = words::right(work, m, v) / 2;
-    let list = cross(work, m, a, b);
-    insert(list, key_of(1, [v as u16, 0, 0, 0]))
+    let n = cross(work, m, a, b, keys);
+    insert(keys, n, key_of(1, [v as u16, 0, 0, 0]))
 }
 
 // "of variable 0 is {∅}; of input i, {{i}}", or those of an AND.
-fn node_keys(work: &[u16], m: usize, v: usize) -> Keys
-    requires { ⌜ Operands (now work) m × (v ≤ m) ⌝ }
-    ensures { λ r. ⌜ (keysOf r ≡ nodeKeys (cutsAt (now (work .entry)) m) v (nodeAt (now (work .entry)) m v)) × (r .n ≤ keyRoom) ⌝ }
+fn node_keys(work: &[u16], m: usize, v: usize, keys: &mut [u64]) -> usize
+    requires { ⌜ Operands (now work) m × (v ≤ m) × (length (now keys) ≡ keyRoom) ⌝ }
+    ensures { λ r. ⌜ (take r (now (keys .exit)) ≡ nodeKeys (cutsAt (now (work .entry)) m) v (nodeAt (now (work .entry)) m v)) × (r ≤ keyRoom) ⌝ }
 {
     let kind = words::kind(work, m, v);
     match kind {
-        1 => single(0),
-        2 => single(key_of(1, [v as u16, 0, 0, 0])),
-        3 => and_keys(work, m, v),
-        _ => Keys {
-            keys: [0u64; ROOM],
-            n: 0,
-        },
+        1 => single(keys, 0),
+        2 => single(keys, key_of(1, [v as u16, 0, 0, 0])),
+        3 => and_keys(work, m, v, keys),
+        _ => 0,
     }
 }
 
 // The first n keys, stored as the cuts of v.
-fn store_keys(work: &mut [u16], m: usize, v: usize, l: Keys)
-    requires { ⌜ Room (now work) m × (v ≤ m) × (l .n ≤ cutLimit) × ((i : ℕ) → i < l .n → getD (l .keys) i 0 / 4096 / 4096 / 4096 / 4096 ≤ 4) ⌝ }
-    ensures { λ _. ⌜ now (work .exit) ≡ putKeys (now (work .entry)) m v (keysOf l) ⌝ }
+fn store_keys(work: &mut [u16], m: usize, v: usize, keys: &[u64], n: usize)
+    requires { ⌜ Room (now work) m × (v ≤ m) × (n ≤ cutLimit) × (length (now keys) ≡ keyRoom) × ((i : ℕ) → i < n → getD (now keys) i 0 / 4096 / 4096 / 4096 / 4096 ≤ 4) ⌝ }
+    ensures { λ _. ⌜ now (work .exit) ≡ putKeys (now (work .entry)) m v (take n (now (keys .entry))) ⌝ }
 {
-    let n = l.n;
-    let keys = l.keys;
     words::set_count(work, m, v, n);
     let mut i = 0;
     while i < n {
@@ -226,12 +220,12 @@ fn list_node(work: &mut [u16], m: usize, v: usize) -> bool
     ensures { λ r. ⌜ r ≡ few (now (work .entry)) m v ⌝ }
     ensures { λ _. ⌜ now (work .exit) ≡ listed (now (work .entry)) m v ⌝ }
 {
-    let l = node_keys(work, m, v);
-    let n = l.n;
+    let mut keys = [0u64; ROOM];
+    let n = node_keys(work, m, v, &mut keys);
     if n > words::LIMIT {
         return false;
     }
-    store_keys(work, m, v, l);
+    store_keys(work, m, v, &keys, n);
     true
 }
 

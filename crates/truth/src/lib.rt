@@ -1,11 +1,13 @@
 // Truth tables of up to four inputs, 16 rows each: "bit r is the cell's value in row r, where bit j of r is pin j".
 ghost use mathlib.Core.Path.{_≡_};
-ghost use Prim.Native.Nat.{_+_, _*_, _<_, _≤_};
+ghost use Prim.Native.Nat.{_+_, _*_, _%_, _^_, _<_, _≤_};
+ghost use mathlib.Core.List.{map};
+ghost use lib.Bits.{bitXor};
 ghost use mathlib.Core.Bool.{true, _&&_};
 ghost use lib.Dec.{ltb};
 ghost use lib.ListN.{getD};
-ghost use Rattle.model.specs.Base.{one};
-ghost use Rattle.model.specs.Table.{value, pinRow, rowMap};
+ghost use Rattle.model.specs.Base.{one, below};
+ghost use Rattle.model.specs.Table.{value, rowMap};
 ghost use Rattle.model.specs.Matching.{phaseTable};
 ghost use Rattle.truth.specs.Variant.{placesOf, variantTable, leafTable, placesBelow};
 
@@ -75,12 +77,12 @@ fn wide(x: u8) -> usize
     x as usize
 }
 
-// The row that an order makes of row r.
-pub fn row(order: usize, r: usize) -> usize
-    requires { ⌜ (order < 24) × (r < 16) ⌝ }
-    ensures { λ x. ⌜ x ≡ rowMap (placesOf order) r ⌝ }
+// The rows that an order makes of rows 0 to 15.
+pub fn rows(order: usize) -> [u8; 16]
+    requires { ⌜ order < 24 ⌝ }
+    ensures { λ x. ⌜ x ≡ map (rowMap (placesOf order)) (below 16) ⌝ }
 {
-    wide(ROWS[order][r])
+    ROWS[order]
 }
 
 // An order's place j.
@@ -99,20 +101,20 @@ pub fn bit(table: u16, r: usize) -> bool
     (table >> r) % 2 == 1
 }
 
-// The row of a cell's pins: "pin j fed from its place, complemented where mask bit j is 1".
-fn pin_row(pins: u16, order: usize, mask: usize, r: usize) -> usize
-    requires { ⌜ (pins ≤ 4) × (order < 24) × (r < 16) ⌝ }
-    ensures { λ x. ⌜ x ≡ pinRow pins (placesOf order) mask r ⌝ }
+// The row of a cell's pins, from the row that the order makes: "pin j fed from its place, complemented where mask bit j is 1".
+fn pin_row(pins: u16, row: usize, mask: usize) -> usize
+    requires { ⌜ pins ≤ 4 ⌝ }
+    ensures { λ x. ⌜ (x ≡ bitXor row mask % 2 ^ pins) × (x < 16) ⌝ }
 {
-    (row(order, r) ^ mask) % (1 << pins)
+    (row ^ mask) % (1 << pins)
 }
 
-// The value of a cell under an order and a mask.
-pub fn cell_value(pins: u16, table: u16, order: usize, mask: usize, r: usize) -> bool
-    requires { ⌜ (pins ≤ 4) × (order < 24) × (r < 16) ⌝ }
-    ensures { λ x. ⌜ x ≡ value table (pinRow pins (placesOf order) mask r) ⌝ }
+// The value of a cell there.
+fn value_at(pins: u16, table: u16, row: usize, mask: usize) -> bool
+    requires { ⌜ pins ≤ 4 ⌝ }
+    ensures { λ x. ⌜ x ≡ value table (bitXor row mask % 2 ^ pins) ⌝ }
 {
-    bit(table, pin_row(pins, order, mask, r))
+    bit(table, pin_row(pins, row, mask))
 }
 
 // A table with a row put below those that it has.
@@ -128,11 +130,12 @@ pub fn variant_table(pins: u16, table: u16, order: usize, mask: usize) -> u16
     requires { ⌜ (pins ≤ 4) × (order < 24) ⌝ }
     ensures { λ x. ⌜ x ≡ variantTable pins table (placesOf order) mask ⌝ }
 {
+    let rs = rows(order);
     let mut t: u16 = 0;
     let mut r: usize = 16;
     while r > 0 {
         r -= 1;
-        t = with_row(cell_value(pins, table, order, mask, r), t);
+        t = with_row(value_at(pins, table, wide(rs[r]), mask), t);
     }
     t
 }

@@ -1,25 +1,19 @@
--- `cuts::cross` meets its contract. The invariant: the list is `crossKeys` over the cuts of a from the i-th on. The measure is the number of cuts that are left.
+-- `cuts::cross` meets its contract. The invariant: the keys are `crossKeys` over the cuts of a from the i-th on. The measure is the number of cuts that are left.
 -- Assumes nothing.
 use mathlib.Core.Path.{_≡_, refl, sym, ap, _∙_, subst}
 use mathlib.Core.List.{List, [], _∷_}
 use Prim.Native.Nat.{ℕ, suc, _-_, _≤_}
 use native.Mathlib.Omega.{arith}
-use borrow.Author.Needs.{needs}
-use lib.ListN.{drop, getD}
+use lib.ListN.{length, take, drop, getD}
 use Rattle.model.specs.declared.Cut.{Cut}
 use Rattle.words.specs.Layout.{countAt, cutAddr}
 use Rattle.words.specs.Record.{leavesOf, cutAt, cutsAt, Good}
-use Rattle.cuts.specs.Keys.{keysOf, rowKeys, crossKeys, keyRoom}
+use Rattle.cuts.specs.Keys.{rowKeys, crossKeys, keyRoom}
 use Rattle.cuts.proofs.Inserting.{cross-rising}
 use Rattle.cuts.proofs.Rows.{at-hand, cut-good, none-left}
+use borrow.Author.Needs.{needs}
 use Rattle.cuts.proofs.cross.Statement.{statement}
 use Rattle.cuts.proofs.cross.Tie as tie
-
-abbrev Inv-loop : tie.InvT-loop
-Inv-loop work m a b list₀ i₀ list i = (i ≤ countAt work m a) × (list .n ≤ keyRoom) × (keysOf list ≡ crossKeys (drop i (cutsAt work m a)) (cutsAt work m b))
-
-abbrev μ-loop : tie.MeasureT-loop
-μ-loop work m a b list₀ i₀ list i = i
 
 none-yet : (cs ds : List (List ℕ)) → cs ≡ [] → [] ≡ crossKeys cs ds
 unfolding crossKeys
@@ -29,18 +23,24 @@ cross-more : (c : List ℕ) (cs ds : List (List ℕ)) → rowKeys c ds (crossKey
 unfolding crossKeys
 cross-more c cs ds = refl
 
+abbrev Inv-loop : tie.InvT-loop
+Inv-loop work m a b keys₀ n₀ i₀ keys n i = (i ≤ countAt work m a) × (n ≤ keyRoom) × (length keys ≡ keyRoom) × (take n keys ≡ crossKeys (drop i (cutsAt work m a)) (cutsAt work m b))
+
+abbrev μ-loop : tie.MeasureT-loop
+μ-loop work m a b keys₀ n₀ i₀ keys n i = i
+
 count-requires : tie.Need-count-requires Inv-loop μ-loop
 count-requires c κs = search needs
 
 loop-holds : tie.Need-loop-holds Inv-loop μ-loop
 loop-holds c =
-    let s = c .before .before in
+    let s = c .before .before .before in
     let w : List ℕ = s .args .work .now in
     let e : drop (c .count .result) (cutsAt w (s .args .m) (s .args .a)) ≡ [] = rw (c .count .ensures) (none-left w (s .args .m) (s .args .a)) in
-    (omega arith, omega arith, none-yet _ _ e)
+    (omega (arith, c .count .ensures), omega arith, s .pre .5, none-yet _ _ e)
 
 sub-i : tie.Need-sub-i Inv-loop μ-loop
-sub-i c = search needs
+sub-i c = omega (arith, c .loop-test .taken)
 
 load-cut-requires : tie.Need-load-cut-requires Inv-loop μ-loop
 load-cut-requires c κs = search needs
@@ -48,27 +48,27 @@ load-cut-requires c κs = search needs
 row-requires : tie.Need-row-requires Inv-loop μ-loop
 unfolding cutAt
 row-requires c κs =
-    let l = c .before .before in
-    let s = l .before .before .before in
+    let l = c .before .before .before in
+    let s = c .before .before .before .before .before .before .before in
     let w : List ℕ = s .args .work .now in
     let i : ℕ = l .loop .i - 1 in
-    let e : c .load-cut .result .count ≡ getD w (cutAddr (s .args .m) (s .args .a) i) 0 = ap (λ (z : Cut). z .count) (c .load-cut .ensures) in (
+    let e : c .before .load-cut .result .count ≡ getD w (cutAddr (s .args .m) (s .args .a) i) 0 = ap (λ (z : Cut). z .count) (c .before .load-cut .ensures) in (
       s .pre .0,
       s .pre .2,
       s .pre .4,
       omega (arith, s .pre .3 .narrow i (omega arith)),
-      subst (λ (z : Cut). Good (leavesOf z)) (sym (c .load-cut .ensures)) (cut-good w (s .args .m) (s .args .a) (s .pre .3) i (omega arith)),
-      record { fits = l .loop .inv .1; rising = rw (l .loop .inv .2) (cross-rising _ _) },
+      subst (λ (z : Cut). Good (leavesOf z)) (sym (c .before .load-cut .ensures)) (cut-good w (s .args .m) (s .args .a) (s .pre .3) i (omega arith)),
+      record { room = l .loop .inv .2; fits = l .loop .inv .1; rising = rw (l .loop .inv .3) (cross-rising _ _) },
     )
 
 loop-less : tie.Need-loop-less Inv-loop μ-loop
-loop-less c = search needs
+loop-less c = omega (arith, c .before .before .before .before .before .loop-test .taken)
 
 loop-again : tie.Need-loop-again Inv-loop μ-loop
 loop-again c =
-    let y = c .before in
-    let l = y .before .before in
-    let s = l .before .before .before in
+    let y = c .before .before .before .before in
+    let l = c .before .before .before .before .before .before in
+    let s = c .before .before .before .before .before .before .before .before .before .before in
     let w : List ℕ = s .args .work .now in
     let i : ℕ = l .loop .i - 1 in
     let e : suc i ≡ l .loop .i = omega arith in
@@ -77,20 +77,24 @@ loop-again c =
     let more : drop i cs ≡ leavesOf (y .load-cut .result) ∷ drop (l .loop .i) cs =
     at-hand w (s .args .m) (s .args .a) i (omega arith) ∙ (λ j. leavesOf (sym (y .load-cut .ensures) j) ∷ drop (e j) cs) in (
       omega arith,
-      c .row .ensures .1,
-      c .row .ensures .0
-          ∙ ap (rowKeys (leavesOf (y .load-cut .result)) ds) (l .loop .inv .2)
+      c .before .before .row .ensures .1,
+      c .before .before .row .kept .1 .1 .1 .1 .0 ∙ l .loop .inv .2,
+      c .before .before .row .ensures .0
+          ∙ ap (rowKeys (leavesOf (y .load-cut .result)) ds) (l .loop .inv .3)
           ∙ cross-more _ _ _
           ∙ ap (λ (q : List (List ℕ)). crossKeys q ds) (sym more),
     )
 
+same-length : tie.Need-same-length Inv-loop μ-loop
+same-length c = c .before .loop .inv .2 ∙ sym (c .before .before .before .before .before .pre .5)
+
 returns : tie.Need-returns Inv-loop μ-loop
 returns c =
     let l = c .before in
-    let s = l .before .before .before in
+    let s = c .before .before .before .before .before in
     let w : List ℕ = s .args .work .now in
-    let zero-left : l .loop .i ≡ 0 = omega arith in
-    (l .loop .inv .2 ∙ ap (λ (i : ℕ). crossKeys (drop i (cutsAt w (s .args .m) (s .args .a))) (cutsAt w (s .args .m) (s .args .b))) zero-left, l .loop .inv .1)
+    let zero-left : l .loop .i ≡ 0 = omega (arith, c .loop-test .left) in
+    (l .loop .inv .3 ∙ ap (λ (i : ℕ). crossKeys (drop i (cutsAt w (s .args .m) (s .args .a))) (cutsAt w (s .args .m) (s .args .b))) zero-left, l .loop .inv .1)
 
 pub cross-spec : {M : Type 1} → statement M
 cross-spec =
@@ -105,4 +109,5 @@ cross-spec =
     row-requires
     loop-less
     loop-again
+    same-length
     returns)

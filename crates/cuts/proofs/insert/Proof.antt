@@ -16,45 +16,45 @@ use Rattle.cuts.proofs.insert.Statement.{statement}
 use Rattle.cuts.proofs.insert.Tie as tie
 
 abbrev Inv-loop : tie.InvT-loop
-Inv-loop k n keys₀ x₀ i₀ keys x i =
+Inv-loop keys₀ n k x₀ i₀ keys x i =
     (i ≤ n) × (n < keyRoom) × (length keys ≡ keyRoom) × Rising 0 (drop i (take n keys))
     × (insert compare k (take n keys₀) ≡ take i (take n keys) ++ insert compare x (drop i (take n keys)))
 
 abbrev μ-loop : tie.MeasureT-loop
-μ-loop k n keys₀ x₀ i₀ keys x i = n - i
-
-long : (c : tie.Start Inv-loop μ-loop) → length (c .args .l .keys) ≡ keyRoom
-long c = search needs
+μ-loop keys₀ n k x₀ i₀ keys x i = n - i
 
 returns : tie.Need-returns Inv-loop μ-loop
 returns c =
     let s = c .before .before in
-    let a = s .args .l in
-    let n : length (take (a .n) (a .keys)) ≡ a .n = length-take-le (a .n) (a .keys) (omega (arith, long s)) in
-    (sym (added-full (s .args .k) (take (a .n) (a .keys)) (omega arith)), s .pre .fits)
+    let a = s .args in
+    let n : length (take (a .n) (a .keys .now)) ≡ a .n = length-take-le (a .n) (a .keys .now) (omega (arith, s .pre .room)) in
+    (sym (added-full (s .args .k) (take (a .n) (a .keys .now)) (omega arith)), s .pre .fits)
 
 loop-holds : tie.Need-loop-holds Inv-loop μ-loop
 loop-holds c =
     let s = c .before .before in
-    (omega arith, omega (arith, s .pre .fits, c .if1 .left), long s, s .pre .rising, refl)
+    (omega arith, omega (arith, s .pre .fits, c .if1 .left), s .pre .room, s .pre .rising, refl)
 
 mul-y : tie.Need-mul-y Inv-loop μ-loop
 mul-y c = search needs
 
-array-read-y : tie.Need-array-read-y Inv-loop μ-loop
-array-read-y c = search needs
+slice-read-y : tie.Need-slice-read-y Inv-loop μ-loop
+slice-read-y c = search needs
+
+same-length : tie.Need-same-length Inv-loop μ-loop
+same-length c = c .before .before .before .loop .inv .2 ∙ sym (c .before .before .before .before .before .before .pre .room)
 
 returns-2 : tie.Need-returns-2 Inv-loop μ-loop
 returns-2 c =
-    let l = c .before .before in
+    let l = c .before .before .before in
     let s = l .before .before .before in
-    let a = s .args .l in
+    let a = s .args in
     let ks : List ℕ = take (a .n) (l .loop .keys) in
     let n : length ks ≡ a .n = length-take-le (a .n) (l .loop .keys) (omega arith) in
-    let n₀ : length (take (a .n) (a .keys)) ≡ a .n = length-take-le (a .n) (a .keys) (omega (arith, long s)) in
-    let y : getD ks (l .loop .i) 0 ≡ getD (l .loop .keys) (l .loop .i) 0 = getD-take (a .n) (l .loop .keys) (l .loop .i) 0 (c .before .loop-test .taken) in
+    let n₀ : length (take (a .n) (a .keys .now)) ≡ a .n = length-take-le (a .n) (a .keys .now) (omega (arith, s .pre .room)) in
+    let y : getD ks (l .loop .i) 0 ≡ getD (l .loop .keys) (l .loop .i) 0 = getD-take (a .n) (l .loop .keys) (l .loop .i) 0 (c .before .before .loop-test .taken) in
     let same : l .loop .x ≡ getD ks (l .loop .i) 0 = c .if2 .taken ∙ sym y in
-    (sym (added-room (s .args .k) (take (a .n) (a .keys)) (omega arith) ∙ l .loop .inv .4 ∙ found ks (l .loop .i) (omega arith) (l .loop .inv .3) (l .loop .x) same), s .pre .fits)
+    (sym (added-room (s .args .k) (take (a .n) (a .keys .now)) (omega arith) ∙ l .loop .inv .4 ∙ found ks (l .loop .i) (omega arith) (l .loop .inv .3) (l .loop .x) same), s .pre .fits)
 
 low-requires : tie.Need-low-requires Inv-loop μ-loop
 low-requires c κs = search needs
@@ -62,8 +62,8 @@ low-requires c κs = search needs
 mul-keys : tie.Need-mul-keys Inv-loop μ-loop
 mul-keys c = search needs
 
-array-write-keys : tie.Need-array-write-keys Inv-loop μ-loop
-array-write-keys c = search needs
+slice-write-keys : tie.Need-slice-write-keys Inv-loop μ-loop
+slice-write-keys c = search needs
 
 high-requires : tie.Need-high-requires Inv-loop μ-loop
 high-requires c κs = search needs
@@ -77,18 +77,18 @@ loop-less c = search needs
 loop-again : tie.Need-loop-again Inv-loop μ-loop
 loop-again c =
     let called = c .before .before in
-    let l = called .before .before in
+    let l = called .before .before .before in
     let s = l .before .before .before in
-    let a = s .args .l in
+    let a = s .args in
     let i : ℕ = l .loop .i in
     let ks : List ℕ = take (a .n) (l .loop .keys) in
     let n : length ks ≡ a .n = length-take-le (a .n) (l .loop .keys) (omega arith) in
-    let y : getD ks i 0 ≡ getD (l .loop .keys) i 0 = getD-take (a .n) (l .loop .keys) i 0 (called .before .loop-test .taken) in
+    let y : getD ks i 0 ≡ getD (l .loop .keys) i 0 = getD-take (a .n) (l .loop .keys) i 0 (called .before .before .loop-test .taken) in
     let other : (l .loop .x ≡ getD ks i 0) → ⊥ = λ e. called .if2 .left (e ∙ y) in
     let v : c .before .low .result ≡ min (l .loop .x) (getD ks i 0) = c .before .low .ensures ∙ ap (min (l .loop .x)) (sym y) in
     let x : c .high .result ≡ max (l .loop .x) (getD ks i 0) = c .high .ensures ∙ ap (max (l .loop .x)) (sym y) in
     let inner : set ks i (c .before .low .result) ≡ take (a .n) (set (l .loop .keys) i (c .before .low .result)) =
-    sym (take-set-lt (a .n) (l .loop .keys) i (c .before .low .result) (called .before .loop-test .taken)) in
+    sym (take-set-lt (a .n) (l .loop .keys) i (c .before .low .result) (called .before .before .loop-test .taken)) in
     let h : i < length ks = omega arith in (
       omega arith,
       l .loop .inv .1,
@@ -102,25 +102,30 @@ loop-again c =
 mul-keys-2 : tie.Need-mul-keys-2 Inv-loop μ-loop
 mul-keys-2 c = search needs
 
-array-write-keys-2 : tie.Need-array-write-keys-2 Inv-loop μ-loop
-array-write-keys-2 c = search needs
+slice-write-keys-2 : tie.Need-slice-write-keys-2 Inv-loop μ-loop
+slice-write-keys-2 c = search needs
 
-add-t18 : tie.Need-add-t18 Inv-loop μ-loop
-add-t18 c = search needs
+add-result : tie.Need-add-result Inv-loop μ-loop
+add-result c = search needs
+
+same-length-2 : tie.Need-same-length-2 Inv-loop μ-loop
+same-length-2 c =
+    let l = c .before in
+    length-set (l .loop .keys) (l .before .before .before .args .n) (l .loop .x) ∙ l .loop .inv .2 ∙ sym (l .before .before .before .pre .room)
 
 returns-3 : tie.Need-returns-3 Inv-loop μ-loop
 returns-3 c =
     let l = c .before in
     let s = l .before .before .before in
-    let a = s .args .l in
+    let a = s .args in
     let ks : List ℕ = take (a .n) (l .loop .keys) in
     let n : length ks ≡ a .n = length-take-le (a .n) (l .loop .keys) (omega arith) in
-    let n₀ : length (take (a .n) (a .keys)) ≡ a .n = length-take-le (a .n) (a .keys) (omega (arith, long s)) in
+    let n₀ : length (take (a .n) (a .keys .now)) ≡ a .n = length-take-le (a .n) (a .keys .now) (omega (arith, s .pre .room)) in
     let stored : take (a .n + 1) (set (l .loop .keys) (a .n) (l .loop .x)) ≡ ks ++ (l .loop .x ∷ []) =
     rw add-one (take-suc-set (l .loop .keys) (a .n) (l .loop .x) (omega arith)) in (
       stored
           ∙ sym (last ks (l .loop .i) (l .loop .x) (omega arith))
-          ∙ sym (added-room (s .args .k) (take (a .n) (a .keys)) (omega arith) ∙ l .loop .inv .4),
+          ∙ sym (added-room (s .args .k) (take (a .n) (a .keys .now)) (omega arith) ∙ l .loop .inv .4),
       omega arith,
     )
 
@@ -133,16 +138,18 @@ insert-spec =
     returns
     loop-holds
     mul-y
-    array-read-y
+    slice-read-y
+    same-length
     returns-2
     low-requires
     mul-keys
-    array-write-keys
+    slice-write-keys
     high-requires
     add-i
     loop-less
     loop-again
     mul-keys-2
-    array-write-keys-2
-    add-t18
+    slice-write-keys-2
+    add-result
+    same-length-2
     returns-3)

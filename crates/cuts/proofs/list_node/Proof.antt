@@ -1,14 +1,30 @@
 -- `cuts::list_node` meets its contract: a list of 25 keys says that there are too many cuts, and a shorter one has them all.
 -- Assumes nothing.
 use mathlib.Core.Path.{_≡_, _∙_}
+use mathlib.Core.List.{List}
+use Prim.Native.Nat.{ℕ}
 use native.Mathlib.Omega.{arith}
-use lib.ListN.{length, getD}
+use lib.ListN.{length, take, getD}
 use lib.Seq.{length-take-le, getD-take}
-use Rattle.cuts.specs.Keys.{keysOf, keyRoom}
+use Rattle.cuts.specs.Keys.{keyRoom}
 use Rattle.cuts.proofs.Nodes.{too-many, few-enough, keys-small}
 use borrow.Author.Needs.{needs}
 use Rattle.cuts.proofs.list_node.Statement.{statement}
 use Rattle.cuts.proofs.list_node.Tie as tie
+
+-- the keys that `node_keys` leaves, and how many there are
+made : tie.After-node-keys → List ℕ
+made k = k .node-keys .last .1 .1 .1 .0
+
+room : (k : tie.After-node-keys) → length (made k) ≡ keyRoom
+unfolding made
+room k = k .node-keys .kept .1 .1 .1 .0
+
+counted : (k : tie.After-node-keys) → length (take (k .node-keys .result) (made k)) ≡ k .node-keys .result
+counted k = length-take-le (k .node-keys .result) (made k) (omega (arith, room k, k .node-keys .ensures .1))
+
+slice-aggregate-node-keys : tie.Need-slice-aggregate-node-keys
+slice-aggregate-node-keys c = search needs
 
 node-keys-requires : tie.Need-node-keys-requires
 node-keys-requires c κs = search needs
@@ -16,45 +32,51 @@ node-keys-requires c κs = search needs
 same-length : tie.Need-same-length
 same-length c = search needs
 
-counted : (k : tie.After-node-keys) → length (keysOf (k .node-keys .result)) ≡ k .node-keys .result .n
-counted k =
-    let long : length (k .node-keys .result .keys) ≡ keyRoom = search needs in
-    length-take-le (k .node-keys .result .n) (k .node-keys .result .keys) (omega (arith, k .node-keys .ensures .1))
-
 returns : tie.Need-returns
+unfolding made
 returns c =
-    let k = c .before in
-    let s = k .before .before .before in
-    let n : length (keysOf (k .node-keys .result)) ≡ k .node-keys .result .n = counted k in
-    too-many (s .args .work .now) (s .args .m) (s .args .v) (s .pre .0) (s .pre .1) _ (k .node-keys .ensures .0) (omega arith)
+    let k = c .before .before in
+    let s = c .before .before .before .before .before .before in
+    too-many (s .args .work .now) (s .args .m) (s .args .v) (s .pre .0) (s .pre .1) _ (k .node-keys .ensures .0) (omega (arith, counted k, c .if1 .taken))
+
+slice-aggregate-store-keys : tie.Need-slice-aggregate-store-keys
+slice-aggregate-store-keys c = search needs
 
 store-keys-requires : tie.Need-store-keys-requires
+unfolding made
 store-keys-requires c κs =
-    let k = c .before .before in
-    let s = k .before .before .before in
-    let l = k .node-keys .result in
-    let n : length (keysOf l) ≡ l .n = counted k in (
+    let k = c .before .before .before .before in
+    let s = c .before .before .before .before .before .before .before .before in
+    let n : ℕ = k .node-keys .result in (
       s .pre .0 .room,
       s .pre .1,
-      omega (arith, k .node-keys .ensures .1),
+      omega (arith, c .before .before .if1 .left),
+      room k,
       λ i h.
-          let e : getD (keysOf l) i 0 ≡ getD (l .keys) i 0 = getD-take (l .n) (l .keys) i 0 h in
-          rw e at (keys-small (s .args .work .now) (s .args .m) (s .args .v) (s .pre .0) (s .pre .1) (keysOf l) (k .node-keys .ensures .0) i (omega arith)),
+          let e : getD (take n (made k)) i 0 ≡ getD (made k) i 0 = getD-take n (made k) i 0 h in
+          rw e at (keys-small (s .args .work .now) (s .args .m) (s .args .v) (s .pre .0) (s .pre .1) (take n (made k)) (k .node-keys .ensures .0) i (omega (arith, counted k))),
     )
 
 same-length-2 : tie.Need-same-length-2
 same-length-2 c = search needs
 
 returns-2 : tie.Need-returns-2
+unfolding made
 returns-2 c =
-    let stored = c .before .before in
-    let k = stored .before .before .before in
-    let s = k .before .before .before in
-    let n : length (keysOf (k .node-keys .result)) ≡ k .node-keys .result .n = counted k in
-    let few = few-enough (s .args .work .now) (s .args .m) (s .args .v) (s .pre .0) (s .pre .1) _ (k .node-keys .ensures .0) (omega (arith, k .node-keys .ensures .1, stored .before .before .if1 .left)) in
-    (few .0, stored .store-keys .ensures ∙ few .1)
+    let k = c .before .before .before .before .before .before .before in
+    let s = c .before .before .before .before .before .before .before .before .before .before .before in
+    let few = few-enough (s .args .work .now) (s .args .m) (s .args .v) (s .pre .0) (s .pre .1) _ (k .node-keys .ensures .0) (omega (arith, counted k, c .before .before .before .before .before .if1 .left)) in
+    (few .0, c .before .before .store-keys .ensures ∙ few .1)
 
 pub list-node-spec : {M : Type 1} → statement M
 list-node-spec =
     tie.close
-    (tie.spec node-keys-requires same-length returns store-keys-requires same-length-2 returns-2)
+    (tie.spec
+    slice-aggregate-node-keys
+    node-keys-requires
+    same-length
+    returns
+    slice-aggregate-store-keys
+    store-keys-requires
+    same-length-2
+    returns-2)

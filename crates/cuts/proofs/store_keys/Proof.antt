@@ -16,13 +16,10 @@ use Rattle.cuts.proofs.store_keys.Statement.{statement}
 use Rattle.cuts.proofs.store_keys.Tie as tie
 
 abbrev Inv-loop : tie.InvT-loop
-Inv-loop work₀ m v n keys i₀ work i = (i ≤ n) × (length work ≡ length work₀) × (work ≡ putAt work₀ (listAddr m v) (flatKeys (take i keys)))
+Inv-loop work₀ m v keys n i₀ work i = (i ≤ n) × (length work ≡ length work₀) × (work ≡ putAt work₀ (listAddr m v) (flatKeys (take i keys)))
 
 abbrev μ-loop : tie.MeasureT-loop
-μ-loop work₀ m v n keys i₀ work i = n - i
-
-long : (c : tie.Start Inv-loop μ-loop) → length (c .args .l .keys) ≡ keyRoom
-long c = search needs
+μ-loop work₀ m v keys n i₀ work i = n - i
 
 set-count-requires : tie.Need-set-count-requires Inv-loop μ-loop
 set-count-requires c κs = search needs
@@ -34,13 +31,11 @@ loop-holds c = (omega arith, refl, sym (put-none _ _))
 mul-key-words : tie.Need-mul-key-words Inv-loop μ-loop
 mul-key-words c = search needs
 
-array-read-key-words : tie.Need-array-read-key-words Inv-loop μ-loop
-array-read-key-words c = search needs
+shared-slice-read-key-words : tie.Need-shared-slice-read-key-words Inv-loop μ-loop
+shared-slice-read-key-words c = search needs
 
 key-words-requires : tie.Need-key-words-requires Inv-loop μ-loop
-key-words-requires c κs =
-    let s = c .before .before .before .before .before .before .before .before in
-    s .pre .3 (c .before .loop .i) (c .loop-test .taken)
+key-words-requires c κs = c .before .before .before .before .before .before .before .before .before .pre .4 (c .before .before .loop .i) (c .before .loop-test .taken)
 
 store-cut-requires : tie.Need-store-cut-requires Inv-loop μ-loop
 store-cut-requires c κs = search needs
@@ -54,9 +49,9 @@ loop-less c = search needs
 loop-again : tie.Need-loop-again Inv-loop μ-loop
 loop-again c =
     let put = c .before .before in
-    let l = put .before .before .before .before in
+    let l = put .before .before .before .before .before in
     let s = l .before .before .before .before .before .before .before in
-    let keys : List ℕ = s .args .l .keys in
+    let keys : List ℕ = s .args .keys .now in
     let i : ℕ = l .loop .i in
     let at : ℕ = listAddr (s .args .m) (s .args .v) in
     let counted : List ℕ = l .before .before .before .set-count .last .0 in
@@ -66,7 +61,7 @@ loop-again c =
       put .store-cut .kept .0 ∙ l .loop .inv .1,
       put .store-cut .ensures
           ∙ (λ j. putAt (l .loop .inv .2 j) (at + 5 * i) (words j))
-          ∙ flat-more counted at i keys (omega (arith, long s)) (omega (arith, s .pre .0 .room, s .pre .0 .small)),
+          ∙ flat-more counted at i keys (omega (arith, s .pre .3)) (omega (arith, s .pre .0 .room, s .pre .0 .small)),
     )
 
 same-length : tie.Need-same-length Inv-loop μ-loop
@@ -77,14 +72,14 @@ unfolding putKeys
 returns c =
     let l = c .before in
     let s = l .before .before .before .before .before .before .before in
-    let a = s .args .l in
+    let a = s .args in
     let at : ℕ = listAddr (s .args .m) (s .args .v) in
     let done : l .loop .i ≡ a .n = omega arith in
-    let n : a .n ≡ length (take (a .n) (a .keys)) = sym (length-take-le (a .n) (a .keys) (omega (arith, long s))) in
+    let n : a .n ≡ length (take (a .n) (a .keys .now)) = sym (length-take-le (a .n) (a .keys .now) (omega (arith, s .pre .3))) in
     let count = l .before .before .before .set-count .ensures in
     l .loop .inv .2
-    ∙ (λ j. putAt (count j) at (flatKeys (take (done j) (a .keys))))
-    ∙ (λ j. putAt (putAt (s .args .work .now) (countAddr (s .args .m) (s .args .v)) (n j ∷ [])) at (flatKeys (take (a .n) (a .keys))))
+    ∙ (λ j. putAt (count j) at (flatKeys (take (done j) (a .keys .now))))
+    ∙ (λ j. putAt (putAt (s .args .work .now) (countAddr (s .args .m) (s .args .v)) (n j ∷ [])) at (flatKeys (take (a .n) (a .keys .now))))
 
 pub store-keys-spec : {M : Type 1} → statement M
 store-keys-spec =
@@ -95,7 +90,7 @@ store-keys-spec =
     set-count-requires
     loop-holds
     mul-key-words
-    array-read-key-words
+    shared-slice-read-key-words
     key-words-requires
     store-cut-requires
     add-i

@@ -2,15 +2,19 @@
 -- Assumes nothing.
 use mathlib.Core.Path.{_≡_, refl, sym, ap, _∙_}
 use mathlib.Core.Bool.{Bool}
-use Prim.Native.Nat.{ℕ, zero, suc, _+_, _-_, _*_, _≤_, _<_}
+use mathlib.Core.List.{List, map}
+use Prim.Native.Nat.{ℕ, zero, suc, _+_, _-_, _*_, _%_, _^_, _≤_, _<_}
 use native.Mathlib.Nat.{add-zero, zero-add, add-suc, suc-add}
 use native.Mathlib.Omega.{arith}
+use lib.Bits.{bitXor}
+use lib.ListN.{getD}
 use lib.Pow.{pow-mono}
-use Rattle.model.specs.Base.{one}
-use Rattle.model.specs.Table.{value, pinRow}
+use Rattle.model.specs.Base.{one, from, below}
+use Rattle.model.specs.Table.{value, rowMap, pinRow}
 use Rattle.model.specs.Cuts.{tabulate}
 use Rattle.truth.specs.Variant.{placesOf, variantTable}
 use Rattle.truth.proofs.Tables.{tabulate-small, tabulate-same}
+use Rattle.truth.proofs.Variants.{pin-row, places-four}
 use Rattle.truth.proofs.variant_table.Statement.{statement}
 use Rattle.truth.proofs.variant_table.Tie as tie
 
@@ -45,11 +49,28 @@ whole f = tabulate-same 16 (λ k. f (0 + k)) f (λ k h. ap f (zero-add k))
 cell : ℕ → ℕ → ℕ → ℕ → ℕ → Bool
 cell pins table order mask r = value table (pinRow pins (placesOf order) mask r)
 
+get-map : (f : ℕ → ℕ) (n i r : ℕ) → r < n → getD (map f (from i n)) r 0 ≡ f (i + r)
+unfolding from
+get-map f zero i r h = absurd (omega arith)
+get-map f (suc n) i zero h = ap f (sym (add-zero i))
+get-map f (suc n) i (suc r) h = get-map f n (suc i) r (omega arith) ∙ ap f (suc-add i r ∙ sym (add-suc i r))
+
+-- the row of the pins, from the order's rows
+row-of : (pins order mask r : ℕ) (rs : List ℕ) → pins ≤ 4 → order < 24 → r < 16 → rs ≡ map (rowMap (placesOf order)) (below 16)
+    → bitXor (getD rs r 0) mask % 2 ^ pins ≡ pinRow pins (placesOf order) mask r
+unfolding below rowMap
+row-of pins order mask r rs four o h e =
+    ap (λ (q : ℕ). bitXor q mask % 2 ^ pins) (ap (λ (l : List ℕ). getD l r 0) e ∙ get-map (rowMap (placesOf order)) 16 0 r h ∙ ap (rowMap (placesOf order)) (zero-add r))
+    ∙ sym (pin-row pins 4 (placesOf order) mask r four (omega (arith, places-four order o)))
+
 abbrev Inv-loop : tie.InvT-loop
-Inv-loop pins table order mask t₀ r₀ t r = (r ≤ 16) × (t ≡ rowsFrom (cell pins table order mask) r)
+Inv-loop pins table order mask rs t₀ r₀ t r = (r ≤ 16) × (t ≡ rowsFrom (cell pins table order mask) r)
 
 abbrev μ-loop : tie.MeasureT-loop
-μ-loop pins table order mask t₀ r₀ t r = r
+μ-loop pins table order mask rs t₀ r₀ t r = r
+
+rows-requires : tie.Need-rows-requires Inv-loop μ-loop
+rows-requires c κs = c .pre .1
 
 loop-holds : tie.Need-loop-holds Inv-loop μ-loop
 unfolding rowsFrom tabulate
@@ -58,14 +79,20 @@ loop-holds c = (omega arith, refl)
 sub-r : tie.Need-sub-r Inv-loop μ-loop
 sub-r c = omega arith
 
-cell-value-requires : tie.Need-cell-value-requires Inv-loop μ-loop
-cell-value-requires c κs = omega arith
+array-read-wide : tie.Need-array-read-wide Inv-loop μ-loop
+array-read-wide c = omega (arith, c .before .loop .inv .0, c .loop-test .taken)
+
+wide-requires : tie.Need-wide-requires Inv-loop μ-loop
+wide-requires c κs = tt
+
+value-at-requires : tie.Need-value-at-requires Inv-loop μ-loop
+value-at-requires c κs = c .before .before .before .before .pre .0
 
 with-row-requires : tie.Need-with-row-requires Inv-loop μ-loop
 with-row-requires c κs =
-    let l = c .before .before in
-    let a = l .before .args in
-    omega (arith, rows-small (cell (a .pins) (a .table) (a .order) (a .mask)) (l .loop .r) (omega arith))
+    let a = c .before .before .before .before .before .args in
+    let l = c .before .before .before .loop in
+    omega (arith, rows-small (cell (a .pins) (a .table) (a .order) (a .mask)) (l .r) (omega arith), l .inv .1)
 
 loop-less : tie.Need-loop-less Inv-loop μ-loop
 loop-less c = omega arith
@@ -73,19 +100,22 @@ loop-less c = omega arith
 loop-again : tie.Need-loop-again Inv-loop μ-loop
 unfolding cell
 loop-again c =
-    let l = c .before .before .before in
-    let a = l .before .args in
+    let s = c .before .before .before .before .before .before in
+    let a = s .args in
+    let l = c .before .before .before .before .loop in
     let f : ℕ → Bool = cell (a .pins) (a .table) (a .order) (a .mask) in
-    let now : c .with-row .result ≡ one (f (l .loop .r - 1)) + 2 * l .loop .t =
-    c .with-row .ensures ∙ ap (λ (b : Bool). one b + 2 * l .loop .t) (c .before .cell-value .ensures) in
-    (omega arith, now ∙ down f (l .loop .r) (l .loop .t) (omega arith) (omega arith) (l .loop .inv .1))
+    let here : bitXor (c .before .before .wide .result) (a .mask) % 2 ^ a .pins ≡ pinRow (a .pins) (placesOf (a .order)) (a .mask) (l .r - 1) =
+    ap (λ (q : ℕ). bitXor q (a .mask) % 2 ^ a .pins) (c .before .before .wide .ensures) ∙ row-of (a .pins) (a .order) (a .mask) (l .r - 1) (c .before .before .before .before .before .rows .result) (s .pre .0) (s .pre .1) (omega (arith, l .inv .0, c .before .before .before .loop-test .taken)) (c .before .before .before .before .before .rows .ensures) in
+    let now : c .with-row .result ≡ one (f (l .r - 1)) + 2 * l .t =
+    c .with-row .ensures ∙ ap (λ (q : Bool). one q + 2 * l .t) (c .before .value-at .ensures ∙ ap (value (a .table)) here) in
+    (omega (arith, l .inv .0), now ∙ down f (l .r) (l .t) (omega arith) (l .inv .0) (l .inv .1))
 
 returns : tie.Need-returns Inv-loop μ-loop
 unfolding variantTable cell
 returns c =
-    let a = c .before .before .args in
+    let a = c .before .before .before .args in
     let f : ℕ → Bool = cell (a .pins) (a .table) (a .order) (a .mask) in
-    let none : c .before .loop .r ≡ 0 = omega arith in
+    let none : c .before .loop .r ≡ 0 = omega (arith, c .loop-test .left) in
     c .before .loop .inv .1 ∙ ap (rowsFrom f) none ∙ whole f
 
 pub variant-table-spec : {M : Type 1} → statement M
@@ -94,9 +124,12 @@ variant-table-spec =
     (tie.spec
     Inv-loop
     μ-loop
+    rows-requires
     loop-holds
     sub-r
-    cell-value-requires
+    array-read-wide
+    wide-requires
+    value-at-requires
     with-row-requires
     loop-less
     loop-again
