@@ -86,25 +86,10 @@ fn show(text: &[u8], work: &mut [u16]) {
     }
 }
 
-// Where the text that begins at `from` ends.
-fn text_end(s: &[u8], from: usize) -> usize
-    requires { ⌜ from ≤ length (now s) ⌝ }
-    ensures { λ r. ⌜ (from ≤ r) × (r ≤ length (now (s .entry))) ⌝ }
-{
-    let mut at = from;
-    while at < s.len() {
-        if s[at] == 0 {
-            return at;
-        }
-        at += 1;
-    }
-    at
-}
-
 fn each(s: &[u8], work: &mut [u16]) {
     let mut from = 0;
     while from < s.len() {
-        let end = text_end(s, from);
+        let end = parts::end(s, from);
         show(&s[from..end], work);
         from = end + 1;
     }

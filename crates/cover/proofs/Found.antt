@@ -17,6 +17,7 @@ use Rattle.model.specs.declared.Cell.{Cell}
 use Rattle.model.specs.declared.Library.{Library}
 use Rattle.words.specs.Layout.{countAt, functionAt}
 use Rattle.words.specs.Phases.{phasesAt}
+use Rattle.matching.specs.Sheet.{isListed}
 use Rattle.matching.specs.Best.{lastTime, unmatched, bestOf, phaseAs}
 use Rattle.matching.proofs.Choosing.{choose-append}
 use Rattle.matching.proofs.Arriving.{phase-late}
@@ -32,7 +33,7 @@ module _ (lib : Library) (sheet : List ℕ) (h : SheetIn lib sheet) (w : List �
   unfolding foundOn
   on-best = best-match-chosen lib (phasesAt w m) cut (timesAt w m cut) k f (h .usable) table (times-of w m cut few) (times-quick w m cut t e small inside)
 
-  pub on-none : getD sheet f 0 ≡ 0 → noPhase ≡ choose (foundOn (cellsOf lib) w m k cut f)
+  pub on-none : isListed sheet f ≡ false → noPhase ≡ choose (foundOn (cellsOf lib) w m k cut f)
   on-none z =
       sym (phase-late k unmatched (omega arith))
       ∙ ap (phaseAs k) (walking-none (cellsOf lib) sheet f (timesAt w m cut) (h .sheeted) table z)

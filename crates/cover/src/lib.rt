@@ -162,7 +162,7 @@ fn match_cut(
     requires { ⌜ ((lib : Library) × SheetIn lib (now sheet)) × LeavesIn (now work) m cut × Early (now work) m 1073741823 ⌝ }
     ensures { λ r. ⌜ ((lib : Library) → SheetIn lib (now (sheet .entry)) → r ≡ choose (foundOn (cellsOf lib) (now (work .entry)) m k (leavesOf cut) f)) ⌝ }
 {
-    if sheet[f as usize] == 0 {
+    if !matching::is_listed(sheet, f) {
         return nothing();
     }
     let t = times(work, m, cut);

@@ -72,13 +72,10 @@ fn show(text: &[u8]) {
 
 fn each(s: &[u8]) {
     let mut from = 0;
-    let mut at = 0;
-    while at < s.len() {
-        if s[at] == 0 {
-            show(&s[from..at]);
-            from = at + 1;
-        }
-        at += 1;
+    while from < s.len() {
+        let end = parts::end(s, from);
+        show(&s[from..end]);
+        from = end + 1;
     }
 }
 

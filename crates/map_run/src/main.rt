@@ -9,21 +9,6 @@ use text::Number;
 ghost use Prim.Native.Nat.{_≤_};
 ghost use lib.ListN.{length};
 
-// The place of the next byte 0, or the end.
-fn part_end(s: &[u8], from: usize) -> usize
-    requires { ⌜ from ≤ length (now s) ⌝ }
-    ensures { λ r. ⌜ (from ≤ r) × (r ≤ length (now (s .entry))) ⌝ }
-{
-    let mut at = from;
-    while at < s.len() {
-        if s[at] == 0 {
-            return at;
-        }
-        at += 1;
-    }
-    at
-}
-
 fn wide(x: u16) -> usize
     ensures { λ r. ⌜ r ≤ 65535 ⌝ }
 {
@@ -121,15 +106,15 @@ fn map_with(lent: &[u8], cells: &[u8], graph: &[u8], work: &mut [u16], text: &mu
 fn each(s: &[u8], work: &mut [u16], text: &mut [u8]) {
     let mut from = 0;
     while from < s.len() {
-        let a = part_end(s, from);
+        let a = parts::end(s, from);
         if a == s.len() {
             return;
         }
-        let b = part_end(s, a + 1);
+        let b = parts::end(s, a + 1);
         if b == s.len() {
             return;
         }
-        let c = part_end(s, b + 1);
+        let c = parts::end(s, b + 1);
         if c == s.len() {
             return;
         }

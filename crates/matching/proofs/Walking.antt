@@ -7,13 +7,13 @@
 -- Assumes nothing.
 use Prim.Native.Nat.{ℕ, zero, suc, _+_, _-_, _*_, _/_, _%_, _<_, _≤_, max}
 use mathlib.Core.Path.{_≡_, refl, sym, ap, ap₂, subst, _∙_}
-use mathlib.Core.Bool.{Bool, true, false, cond}
+use mathlib.Core.Bool.{Bool, true, false, cond, not, false≢true}
 use mathlib.Core.List.{List, [], _∷_}
 use native.Mathlib.Nat.{add-zero}
 use native.Mathlib.Omega.{arith}
-use lib.Dec.{ltb}
+use lib.Dec.{eqb, ltb}
 use lib.ListN.{length, getD}
-use borrow.Author.Tests.{lt-ltb, le-ltb}
+use borrow.Author.Tests.{eqb-true, lt-ltb, le-ltb}
 use Rattle.model.specs.Base.{bit, one}
 use Rattle.model.specs.Cells.{cellAt}
 use Rattle.model.specs.declared.Cell.{Cell}
@@ -22,7 +22,7 @@ use Rattle.truth.proofs.Tables.{one-small}
 use Rattle.truth.proofs.Variants.{place-small}
 use Rattle.matching.specs.declared.Best.{Best}
 use Rattle.matching.specs.Variants.{lineOf, orderOf, maskOf, variants}
-use Rattle.matching.specs.Sheet.{linkAddr, pickAddr, delayAddr, pickPin, pickOf, pickAt, delayOf, Linked, SheetOf}
+use Rattle.matching.specs.Sheet.{linkAddr, pickAddr, delayAddr, pickPin, pickOf, pickAt, delayOf, Linked, SheetOf, isListed}
 use Rattle.matching.specs.Best.{Timely, unmatched, pinAt, largest, arrivalOf, arrivalAt, waits, swiftAt, better, bestFrom, bestOf}
 use Rattle.matching.proofs.Linking.{linked-lower}
 
@@ -230,7 +230,12 @@ pub walking-first : (cells : List Cell) (s : List ℕ) (f : ℕ) (times : List �
 unfolding bestOf
 walking-first cells s f times sheet small = (variants cells f, sheet .chained f small, refl)
 
--- a chain with nothing in it
-pub walking-none : (cells : List Cell) (s : List ℕ) (f : ℕ) (times : List ℕ) → SheetOf cells s → f < 65536 → getD s f 0 ≡ 0 → unmatched ≡ bestOf cells f times
+-- a table that is no variant's
+pub walking-none : (cells : List Cell) (s : List ℕ) (f : ℕ) (times : List ℕ) → SheetOf cells s → f < 65536 → isListed s f ≡ false → unmatched ≡ bestOf cells f times
+unfolding isListed
 walking-none cells s f times sheet small e =
-    walking-end cells times (bestOf cells f times) s sheet (getD s f 0) unmatched (walking-first cells s f times sheet small) (omega (arith, e))
+    walking-end cells times (bestOf cells f times) s sheet (getD s f 0) unmatched (walking-first cells s f times sheet small) (omega (arith, head (eqb (getD s f 0) 0) refl e))
+  where
+    head : (t : Bool) → eqb (getD s f 0) 0 ≡ t → isListed s f ≡ false → getD s f 0 ≡ 0
+    head true q h = eqb-true (getD s f 0) 0 q
+    head false q h = absurd (false≢true (sym h ∙ ap not q))

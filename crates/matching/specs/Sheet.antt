@@ -2,9 +2,9 @@
 -- table; by variant, the next one of its chain and what feeds its pins; by cell, its delays. Assumes nothing.
 use Prim.Native.Nat.{ℕ, zero, suc, _+_, _*_, _^_, _≤_, _<_, max}
 use mathlib.Core.Path.{_≡_}
-use mathlib.Core.Bool.{cond}
+use mathlib.Core.Bool.{Bool, cond, not}
 use mathlib.Core.List.{List, [], _∷_}
-use lib.Dec.{ltb}
+use lib.Dec.{eqb, ltb}
 use lib.ListN.{length, getD, set}
 use Rattle.model.specs.Base.{bit, one}
 use Rattle.model.specs.Cells.{cellAt}
@@ -89,7 +89,7 @@ listMatched (c ∷ cs) line s = cellMatched c line (listMatched cs (suc line) s)
 
 -- ---- the sheet read
 
--- what the sheet of some cells says
+-- from head h the links list just these variants, ascending, none below `low`, each with its pick
 unfoldable pub Linked : List Cell → List ℕ → ℕ → ℕ → List ℕ → Type 0
 unfolding pickAt
 Linked cells s low h [] = h ≡ 0
@@ -102,6 +102,10 @@ pub record SheetOf (cells : List Cell) (s : List ℕ) : Type 0 where
   pub four : (c : ℕ) → cellAt cells c .pins ≤ 4
   pub chained : (t : ℕ) → t < 65536 → Linked cells s 0 (getD s t 0) (variants cells t)
   pub delayed : (line j : ℕ) → line < length cells → j < 4 → getD s (delayAddr line j) 0 ≡ delayOf (cellAt cells line .pins) (cellAt cells line .delays) j
+
+-- whether a table is some variant's
+unfoldable pub isListed : List ℕ → ℕ → Bool
+isListed s t = not (eqb (getD s t 0) 0)
 
 -- n zeros
 pub record Blank (n : ℕ) (xs : List ℕ) : Type 0 where

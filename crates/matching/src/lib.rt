@@ -15,7 +15,7 @@ ghost use Rattle.model.specs.Cells.{noCell, cellAt, cellsOf};
 ghost use Rattle.model.specs.declared.Cell.{Cell};
 ghost use Rattle.truth.specs.Variant.{placesOf};
 ghost use Rattle.matching.specs.Variants.{Usable, matchOf};
-ghost use Rattle.matching.specs.Sheet.{pickPin, pickOf, delayOf, pushed, placed, passed, timed, cellMatched, listMatched, SheetOf, Blank};
+ghost use Rattle.matching.specs.Sheet.{pickPin, pickOf, delayOf, pushed, placed, passed, timed, cellMatched, listMatched, SheetOf, isListed, Blank};
 ghost use Rattle.matching.specs.Best.{never, Timely, waits, swiftAt, better, bestOf, phaseAs};
 ghost use Rattle.matching.specs.Inverters.{quicker, tried, inverterOf};
 
@@ -172,6 +172,13 @@ pub fn build(lib: Library, sheet: &mut [u16; SHEET])
 }
 
 // ---- the best match
+
+// Whether a function is some variant's: most are none's.
+pub fn is_listed(sheet: &[u16; SHEET], f: u16) -> bool
+    ensures { λ r. ⌜ r ≡ isListed (now (sheet .entry)) f ⌝ }
+{
+    sheet[f as usize] != 0
+}
 
 // A word as an index.
 fn wide(x: u16) -> usize

@@ -16,8 +16,8 @@ abbrev μ-loop : tie.MeasureT-loop
 loop-holds : tie.Need-loop-holds Inv-loop μ-loop
 loop-holds c = search needs
 
-text-end-requires : tie.Need-text-end-requires Inv-loop μ-loop
-text-end-requires c κs = search needs
+end-requires : tie.Need-end-requires Inv-loop μ-loop
+end-requires c κs = search needs
 
 sub-show : tie.Need-sub-show Inv-loop μ-loop
 sub-show c = search needs
@@ -53,7 +53,7 @@ each-spec =
     Inv-loop
     μ-loop
     loop-holds
-    text-end-requires
+    end-requires
     sub-show
     part-show-start
     part-show-end

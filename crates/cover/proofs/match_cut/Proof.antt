@@ -1,4 +1,4 @@
--- `cover::match_cut` meets its contract: an empty chain has no match, and the best of another is the choice. Assumes nothing.
+-- `cover::match_cut` meets its contract: a function that is no variant's has no match, and the best of another's chain is the choice. Assumes nothing.
 use mathlib.Core.Path.{sym, ap, subst, _∙_}
 use Prim.Native.Nat.{_≤_}
 use native.Mathlib.Omega.{arith}
@@ -9,14 +9,12 @@ use Rattle.matching.specs.Best.{Timely, bestOf, phaseAs}
 use Rattle.cover.proofs.Leaves.{times-timely}
 use Rattle.cover.proofs.Found.{on-best, on-none}
 use borrow.Author.Needs.{needs}
+use borrow.Author.Tests.{not-true}
 use Rattle.cover.proofs.match_cut.Statement.{statement}
 use Rattle.cover.proofs.match_cut.Tie as tie
 
-mul-if1 : tie.Need-mul-if1
-mul-if1 c = search needs
-
-element-copy-out-if1 : tie.Need-element-copy-out-if1
-element-copy-out-if1 c = search needs
+is-listed-requires : tie.Need-is-listed-requires
+is-listed-requires c κs = search needs
 
 nothing-requires : tie.Need-nothing-requires
 nothing-requires c κs = search needs
@@ -28,7 +26,7 @@ returns c =
     let few : length (leavesOf (a .cut)) ≤ 4 = omega (arith, length-take (a .cut .count) (a .cut .leaves), s .pre .1 .four) in
     λ lib sheet. c .nothing .ensures
     ∙ on-none lib (a .sheet .now) sheet (a .work .now) (a .m) 1073741823 (s .pre .2) (omega arith) (leavesOf (a .cut)) few (s .pre .1 .within)
-    (a .k) (a .f) (omega (arith, s .fits .f)) (c .before .if1 .taken)
+    (a .k) (a .f) (omega (arith, s .fits .f)) (sym (c .before .before .is-listed .ensures) ∙ not-true _ (c .before .if1 .taken))
 
 times-requires : tie.Need-times-requires
 times-requires c κs = search needs
@@ -59,8 +57,7 @@ pub match-cut-spec : {M : Type 1} → statement M
 match-cut-spec =
     tie.close
     (tie.spec
-    mul-if1
-    element-copy-out-if1
+    is-listed-requires
     nothing-requires
     returns
     times-requires

@@ -16,8 +16,8 @@ abbrev μ-loop : tie.MeasureT-loop
 loop-holds : tie.Need-loop-holds Inv-loop μ-loop
 loop-holds c = search needs
 
-part-end-requires : tie.Need-part-end-requires Inv-loop μ-loop
-part-end-requires c κs = search needs
+end-requires : tie.Need-end-requires Inv-loop μ-loop
+end-requires c κs = search needs
 
 same-length : tie.Need-same-length Inv-loop μ-loop
 same-length c = omega arith
@@ -28,11 +28,11 @@ same-length-2 c = omega arith
 returns : tie.Need-returns Inv-loop μ-loop
 returns c = search needs
 
-add-part-end : tie.Need-add-part-end Inv-loop μ-loop
-add-part-end c = search needs
+add-end : tie.Need-add-end Inv-loop μ-loop
+add-end c = search needs
 
-part-end-requires-2 : tie.Need-part-end-requires-2 Inv-loop μ-loop
-part-end-requires-2 c κs = search needs
+end-requires-2 : tie.Need-end-requires-2 Inv-loop μ-loop
+end-requires-2 c κs = search needs
 
 same-length-3 : tie.Need-same-length-3 Inv-loop μ-loop
 same-length-3 c = omega arith
@@ -43,11 +43,11 @@ same-length-4 c = omega arith
 returns-2 : tie.Need-returns-2 Inv-loop μ-loop
 returns-2 c = search needs
 
-add-part-end-2 : tie.Need-add-part-end-2 Inv-loop μ-loop
-add-part-end-2 c = search needs
+add-end-2 : tie.Need-add-end-2 Inv-loop μ-loop
+add-end-2 c = search needs
 
-part-end-requires-3 : tie.Need-part-end-requires-3 Inv-loop μ-loop
-part-end-requires-3 c κs = search needs
+end-requires-3 : tie.Need-end-requires-3 Inv-loop μ-loop
+end-requires-3 c κs = search needs
 
 same-length-5 : tie.Need-same-length-5 Inv-loop μ-loop
 same-length-5 c = omega arith
@@ -98,7 +98,7 @@ add-from : tie.Need-add-from Inv-loop μ-loop
 add-from c = search needs
 
 loop-less : tie.Need-loop-less Inv-loop μ-loop
-loop-less c = omega (arith, c .before .before .before .before .before .before .before .before .before .before .before .before .before .before .before .part-end .ensures .0, c .before .before .before .before .before .before .before .before .before .before .before .before .before .part-end2 .ensures .0, c .before .before .before .before .before .before .before .before .before .before .before .part-end3 .ensures .0, c .before .before .before .before .before .before .before .before .before .before .before .part-end3 .ensures .1)
+loop-less c = omega (arith, c .before .before .before .before .before .before .before .before .before .before .before .before .before .before .before .end .ensures .1, c .before .before .before .before .before .before .before .before .before .before .before .before .before .end2 .ensures .1, c .before .before .before .before .before .before .before .before .before .before .before .end3 .ensures .1, c .before .before .before .before .before .before .before .before .before .before .before .end3 .ensures .2)
 
 loop-again : tie.Need-loop-again Inv-loop μ-loop
 loop-again c = search needs
@@ -119,17 +119,17 @@ each-spec =
     Inv-loop
     μ-loop
     loop-holds
-    part-end-requires
+    end-requires
     same-length
     same-length-2
     returns
-    add-part-end
-    part-end-requires-2
+    add-end
+    end-requires-2
     same-length-3
     same-length-4
     returns-2
-    add-part-end-2
-    part-end-requires-3
+    add-end-2
+    end-requires-3
     same-length-5
     same-length-6
     returns-3

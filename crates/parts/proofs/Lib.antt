@@ -1,0 +1,2 @@
+-- `Ends`: an end is no earlier than its text's beginning and within the input.
+pub mod Ends

@@ -1,0 +1,2 @@
+-- `Parts`: where a text of several ends.
+pub mod Parts
