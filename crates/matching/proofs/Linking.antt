@@ -13,7 +13,6 @@ use native.Mathlib.Nat.{add-zero, zero-add, add-suc, suc-add, sub-self}
 use native.Mathlib.Omega.{arith}
 use lib.Dec.{eqb}
 use lib.ListN.{replicate, length, getD, set, take, drop, length-set, drop-of-length-le}
-use lib.Pow.{shl-exact}
 use lib.Seq.{take-append-seam, getD-take, getD-set-same, getD-set-other, drop-cons}
 use borrow.Author.Tests.{eqb-true, eqb-false, ltb-true, ltb-false, lt-ltb, le-ltb}
 use Rattle.model.specs.Base.{keep, from, below}
@@ -58,10 +57,6 @@ placed-mask pins table x t p s h e q = rw (lt-ltb (maskOf x) (2 ^ pins) h, e, q)
 pub placed-none : (pins table x : ℕ) (s : List ℕ) → 2 ^ pins ≤ maskOf x → placed pins table x s ≡ s
 unfolding placed
 placed-none pins table x s h = rw (le-ltb (maskOf x) (2 ^ pins) h)
-
--- the shift loses nothing
-pub power : (pins : ℕ) → pins ≤ 4 → 1 * 2 ^ pins % 2 ^ 64 ≡ 2 ^ pins
-power pins h = shl-exact 1 pins 64 (omega arith) (omega arith) ∙ omega arith
 
 -- ---- from the highest down
 

@@ -4,19 +4,24 @@
 --     tables-same         tables of 16 rows with equal rows are equal
 --     value-complement    a row of the complement
 --     value-pattern       row r of a leaf's table is the leaf's bit of r
+--     power               how many rows so many pins have, by a shift
 -- Assumes nothing.
 use mathlib.Core.Path.{_≡_, refl, sym, ap, _∙_}
 use mathlib.Core.Bool.{Bool, true, false, not}
-use Prim.Native.Nat.{ℕ, zero, suc, _+_, _-_, _*_, _/_, _%_, _^_, _<_}
+use Prim.Native.Nat.{ℕ, zero, suc, _+_, _-_, _*_, _/_, _%_, _^_, _<_, _≤_}
 use native.Mathlib.Nat.{pow-suc}
 use native.Mathlib.Omega.{arith}
 use lib.Dec.{eqb}
-use lib.Pow.{shr-shr}
+use lib.Pow.{shr-shr, shl-exact}
 use borrow.Author.Tests.{eqb-true, eqb-false}
 use Rattle.model.specs.Base.{bit, one}
 use Rattle.model.specs.Table.{value}
 use Rattle.model.specs.Cuts.{tabulate}
 use Rattle.truth.specs.Variant.{leafTable}
+
+-- the shift loses nothing
+pub power : (pins : ℕ) → pins ≤ 4 → 1 * 2 ^ pins % 2 ^ 64 ≡ 2 ^ pins
+power pins h = shl-exact 1 pins 64 (omega arith) (omega arith) ∙ omega arith
 
 -- ---- bits
 

@@ -2,7 +2,8 @@
 -- Assumes nothing.
 use mathlib.Core.Path.{sym, _∙_}
 use native.Mathlib.Omega.{arith}
-use Rattle.matching.proofs.Linking.{power, placed-mask, placed-none}
+use Rattle.truth.proofs.Tables.{power}
+use Rattle.matching.proofs.Linking.{placed-mask, placed-none}
 use borrow.Author.Needs.{needs}
 use Rattle.matching.proofs.put.Statement.{statement}
 use Rattle.matching.proofs.put.Tie as tie

@@ -1,18 +1,15 @@
 -- `truth::pin_row` meets its contract: the row, exclusive-or with the mask, modulo 2 ^ pins.
 -- Assumes nothing.
-use mathlib.Core.Path.{_≡_, ap, _∙_}
-use Prim.Native.Nat.{ℕ, _*_, _%_, _^_, _≤_}
+use mathlib.Core.Path.{ap}
+use Prim.Native.Nat.{ℕ, _%_}
 use native.Mathlib.Nat.{mod-lt}
 use native.Mathlib.Omega.{arith}
 use lib.Bits.{bitXor}
-use lib.Pow.{pow-pos, pow-mono, shl-exact}
+use lib.Pow.{pow-pos, pow-mono}
 use borrow.Author.Needs.{needs}
+use Rattle.truth.proofs.Tables.{power}
 use Rattle.truth.proofs.pin_row.Statement.{statement}
 use Rattle.truth.proofs.pin_row.Tie as tie
-
--- the shift loses nothing
-power : (pins : ℕ) → pins ≤ 4 → 1 * 2 ^ pins % 2 ^ 64 ≡ 2 ^ pins
-power pins h = shl-exact 1 pins 64 (omega arith) (omega arith) ∙ omega arith
 
 shl-result : tie.Need-shl-result
 shl-result c = search needs
