@@ -2,7 +2,8 @@
 use model::Answer;
 ghost use mathlib.Core.Path.{_≡_};
 ghost use lib.ListN.{length};
-ghost use Rattle.model.specs.Mapper.{mapTexts, answerOf, returned, textAfter, workAfter};
+ghost use Rattle.model.specs.Mapper.{mapTexts, returned, returnedBy, textAfter, workAfter};
+ghost use Rattle.model.specs.Demands.{Values, Earliest};
 ghost use Rattle.capi.specs.Answers.{answered};
 
 // "Success returns number 0, the netlist's length and the three figures of its `# gates` line; a refusal its number, its place and zero figures".
@@ -44,9 +45,11 @@ pub extern "C" fn mapper_map(
     work: &mut [u16],
     text: &mut [u8],
 ) -> MapperAnswer
-    ensures answers { λ r. ⌜ r ≡ answered (returned (answerOf (mapTexts (now (cells .entry)) (now (graph .entry)) (length (now (work .entry))) (length (now (text .entry)))))) ⌝ }
+    ensures answers { λ r. ⌜ r ≡ answered (returnedBy (mapTexts (now (cells .entry)) (now (graph .entry)) (length (now (work .entry))) (length (now (text .entry))))) ⌝ }
     ensures words { λ _. ⌜ now (work .exit) ≡ workAfter (mapTexts (now (cells .entry)) (now (graph .entry)) (length (now (work .entry))) (length (now (text .entry)))) (now (work .entry)) ⌝ }
     ensures bytes { λ _. ⌜ now (text .exit) ≡ textAfter (mapTexts (now (cells .entry)) (now (graph .entry)) (length (now (work .entry))) (length (now (text .entry)))) (now (text .entry)) ⌝ }
+    ensures values { λ _. ⌜ Values (now (cells .entry)) (now (graph .entry)) (length (now (work .entry))) (length (now (text .entry))) ⌝ }
+    ensures earliest { λ _. ⌜ Earliest (now (cells .entry)) (now (graph .entry)) (length (now (work .entry))) (length (now (text .entry))) ⌝ }
 {
     answer(mapper::map_texts(cells, graph, work, text))
 }

@@ -6,7 +6,7 @@ use Prim.Native.Nat.{ℕ, zero, suc, _+_, _≤_}
 use native.Mathlib.Omega.{arith}
 use mathlib.Core.Path.{_≡_, refl, sym, ap, subst, _∙_}
 use mathlib.Core.Bool.{Bool, true, false}
-use mathlib.Core.List.{List, [], _∷_, _++_, List·Memᴰ, List·Memᴰ·head, List·Memᴰ·tail, List·Memᴰ·not-nil}
+use mathlib.Core.List.{List, [], _∷_, _++_, List·Memᴰ, List·Memᴰ·not-nil}
 use lib.Dec.{T, ltb}
 use lib.ListN.{length, length-append, length-map}
 use borrow.Author.Tests.{ltb-false}
@@ -14,7 +14,6 @@ use Rattle.model.specs.Limits.{cutLimit}
 use Rattle.model.specs.Base.{below, from}
 use Rattle.model.specs.Graph.{And, Graph, placingOrder, span}
 use Rattle.model.specs.Cuts.{cutsOf, crowded}
-use Rattle.model.specs.Demands.{Distinct}
 use Rattle.words.specs.Layout.{countAt, listAddr}
 use Rattle.words.specs.Record.{cutsAt}
 use Rattle.words.specs.Holding.{HoldsCuts}
@@ -23,25 +22,7 @@ use Rattle.theory_graph.proofs.Lists.{below-in, keep-in}
 use Rattle.theory_graph.proofs.Accepted.{Accepted, andVars}
 use Rattle.theory_graph.proofs.Placing.{order-once, order-small, defined-placed}
 use Rattle.theory_graph.proofs.CutFacts.{length-order, cuts-none}
-use Rattle.theory_order.proofs.Splits.{split-at, between-first, by-elem, distinct-yes}
-
--- different numbers that all stand in a list are no more than it has
-pub no-more : (xs ys : List ℕ) → Distinct xs → ((x : ℕ) → List·Memᴰ x xs → List·Memᴰ x ys) → length xs ≤ length ys
-no-more [] ys d s = omega arith
-no-more (x ∷ xs) ys d s =
-    let at = split-at ys (s x (List·Memᴰ·head refl)) in
-    let pre : List ℕ = at .0 in
-    let post : List ℕ = at .1 in
-    let e : ys ≡ pre ++ (x ∷ post) = at .2 in
-    let rest : length xs ≤ length (pre ++ post) = no-more xs (pre ++ post) (d .1) (others pre post e) in
-    omega (arith, rest, ap length e, length-append pre (x ∷ post), length-append pre post)
-  where
-    others : (pre post : List ℕ) → ys ≡ pre ++ (x ∷ post) → (y : ℕ) → List·Memᴰ y xs → List·Memᴰ y (pre ++ post)
-    others pre post e y m = go (between-first pre post (subst (λ (l : List ℕ). List·Memᴰ y l) e (s y (List·Memᴰ·tail m))))
-      where
-        go : List·Memᴰ y (x ∷ pre ++ post) → List·Memᴰ y (pre ++ post)
-        go (List·Memᴰ·head h) = absurd (d .0 (subst (λ (z : ℕ). List·Memᴰ z xs) h m))
-        go (List·Memᴰ·tail h) = h
+use Rattle.theory_order.proofs.Splits.{no-more, by-elem, distinct-yes}
 
 length-from : (i n : ℕ) → length (from i n) ≡ n
 unfolding from

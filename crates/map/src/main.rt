@@ -1,11 +1,14 @@
 // The program: `cells.txt` and `graph.aag` of the current folder mapped, the netlist or one line of `refused`, number and place printed.
 use libc::STDOUT_FILENO;
 use model::Answer;
+ghost use mathlib.Core.Path.{_≡_};
+ghost use lib.ListN.{length};
 ghost use Rattle.io.specs.Counts.{Counts};
 
-// The file's first bytes, at most buf's length; none where the file is absent: "an absent file counts as empty". The buffers have room for one
+// The file's first bytes, at most buf's length; none where the file is absent: "an absent file counts as empty". The buffer has room for one
 // byte more than 65,536, so that "one over 65,536 bytes brings refusal 1".
 fn load(path: &[u8], buf: &mut [u8]) -> usize
+    requires { ⌜ length (now buf) ≡ 65537 ⌝ }
     ensures { λ r. ⌜ Counts r (now (buf .exit)) ⌝ }
 {
     let fd = os::open_read(path);
@@ -25,7 +28,10 @@ fn refused(number: usize, place: usize) {
     io::write_all(STDOUT_FILENO, b"\n");
 }
 
-fn map_files(cells: &[u8], graph: &[u8], work: &mut [u16], text: &mut [u8]) {
+// "It lends 32,768 words and 65,536 bytes."
+fn map_files(cells: &[u8], graph: &[u8], work: &mut [u16], text: &mut [u8])
+    requires { ⌜ (length (now work) ≡ 32768) × (length (now text) ≡ 65536) ⌝ }
+{
     match mapper::map_texts(cells, graph, work, text) {
         Answer::Mapped(n, _) => {
             io::write_all(STDOUT_FILENO, &text[..n]);
@@ -34,7 +40,6 @@ fn map_files(cells: &[u8], graph: &[u8], work: &mut [u16], text: &mut [u8]) {
     }
 }
 
-// "It lends 32,768 words and 65,536 bytes."
 fn main() {
     let mut cells = [0u8; 65537];
     let mut graph = [0u8; 65537];

@@ -12,7 +12,7 @@ use Rattle.model.specs.Cells.{cellsOf, libraryOf, libraryAnswer}
 use Rattle.model.specs.LibraryText.{readLibrary}
 use Rattle.model.specs.GraphText.{readHeader, readGraph}
 use Rattle.model.specs.Netlist.{Outcome, refused, mapped, mapGraph}
-use Rattle.model.specs.Mapper.{Design, within, mapDesign, readTexts, mapTexts, answerOf}
+use Rattle.model.specs.Mapper.{Design, within, mapDesign, readTexts, mapTexts, answerOf, returned}
 use Rattle.model.specs.Demands.{Memory}
 use Rattle.model.specs.declared.Cell.{Cell}
 use Rattle.model.specs.declared.Library.{Library}
@@ -23,6 +23,7 @@ use Rattle.model.specs.declared.Verdict.{Verdict}
 use Rattle.model.specs.declared.Verdict.the-variants.{Accepted, Refused}
 use Rattle.model.specs.declared.Answer.{Answer}
 use Rattle.model.specs.declared.Answer.the-variants.{Mapped as IsMapped, Refused as Turned}
+use Rattle.model.proofs.Answers.{answer-returns}
 use Rattle.theory_text.proofs.ReadLibrary.{Written, library-fits, library-few, library-written}
 use Rattle.matching.proofs.Linking.{usable-library}
 use Rattle.theory_graph.proofs.Lists.{getD-in}
@@ -33,7 +34,12 @@ use Rattle.mapper.proofs.Ends.{left-early, left-as}
 
 -- what a call leaves is what demand 1 asks
 pub memory-of : (library graph work text : List ℕ) (a : Answer) (y u : List ℕ) → Left (mapTexts library graph (length work) (length text)) work text a y u → Memory library graph work text a y u
-memory-of library graph work text a y u l = record { answers = l .told .answers; words = l .words; bytes = l .told .bytes }
+memory-of library graph work text a y u l = record {
+  answers = l .told .answers;
+  returns = ap returned (l .told .answers) ∙ answer-returns (mapTexts library graph (length work) (length text));
+  words = l .words;
+  bytes = l .told .bytes;
+}
 
 -- a printed netlist fits
 within-fits : (bytes : ℕ) (o : Outcome) → Fits (answerOf (within bytes o)) bytes

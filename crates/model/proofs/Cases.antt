@@ -1,8 +1,10 @@
--- The marked cases A to K of the document, from the texts on, and a case for each refusal, checked against the definitions by computing.
+-- The marked cases A to K of the document, from the texts on, a case for each refusal, matches and ties, and what a call leaves and returns, checked
+-- against the definitions by computing.
 -- Assumes nothing.
 use Prim.Native.Nat.{ℕ, _+_}
 use Prim.Native.String.{String}
 use mathlib.Core.Bool.{Bool, true, false, _&&_}
+use mathlib.Core.Option.{Option, none, some}
 use mathlib.Core.List.{List, [], _∷_, _++_}
 use lib.Dec.{T, eqb}
 use lib.ListN.{length, getD}
@@ -13,10 +15,13 @@ use Rattle.model.specs.Table.{orders, rowMap}
 use Rattle.model.specs.Graph.{Graph}
 use Rattle.model.specs.Cuts.{cutsOf, cutTable}
 use Rattle.model.specs.Netlist.{Outcome, refused, mapped}
-use Rattle.model.specs.Reading.{Read, fault, next}
+use Rattle.model.specs.Reading.{Read, fault, next, Ruling, verdictRuling}
 use Rattle.model.specs.Reading.{holds as reads}
-use Rattle.model.specs.GraphText.{readHeader, readGraph}
-use Rattle.model.specs.Mapper.{mapTexts}
+use Rattle.model.specs.GraphText.{readHeader, readGraph, headerAnswer, headerRuling, headerValues}
+use Rattle.model.specs.Mapper.{mapTexts, answerOf, Returned, returned, returnedBy, textAfter, workAfter}
+use Rattle.model.specs.Blif.{readFigures}
+use Rattle.model.specs.declared.Figures.{Figures}
+use Rattle.model.specs.declared.Verdict.the-variants.{Accepted, Refused}
 
 -- "B is the listing above, its library the one meant below."
 unfoldable pub library : List ℕ
@@ -59,6 +64,10 @@ pub data Case : Type 0 where
   computes : String → List ℕ → ℕ → ℕ → Case
   -- this order takes this row to that row
   takes : ℕ → ℕ → ℕ → Case
+  -- the `# gates` line of a text says these figures
+  says : List ℕ → ℕ → ℕ → ℕ → Case
+  -- a text says no figures
+  saysNothing : List ℕ → Case
 
 unfoldable pub isPrint : List ℕ → ℕ → ℕ → ℕ → Outcome → Bool
 unfolding same
@@ -80,6 +89,14 @@ sameCuts [] (d ∷ ds) = false
 sameCuts (c ∷ cs) [] = false
 sameCuts (c ∷ cs) (d ∷ ds) = same c d && sameCuts cs ds
 
+unfoldable pub areSaid : ℕ → ℕ → ℕ → Option Figures → Bool
+areSaid count area arrival none = false
+areSaid count area arrival (some f) = eqb count (f .gates) && (eqb area (f .area) && eqb arrival (f .arrival))
+
+unfoldable pub nothingSaid : Option Figures → Bool
+nothingSaid none = true
+nothingSaid (some f) = false
+
 -- a test of the graph that a text holds
 unfoldable pub ofGraph : (Graph → Bool) → Read Graph → Bool
 ofGraph p (reads g) = p g
@@ -95,7 +112,7 @@ unfolding readHeader readGraph next text
 graphText g = next (readHeader (text g)) (readGraph (text g))
 
 unfoldable pub holds : Case → Bool
-unfolding isPrint isGiven isRefusal sameCuts ofGraph mapText mapTexts text graphText cutsOf cutTable rowMap orders
+unfolding isPrint isGiven isRefusal sameCuts ofGraph mapText mapTexts text graphText cutsOf cutTable rowMap orders areSaid nothingSaid readFigures
 holds (prints l g t count area arrival) = isPrint t count area arrival (mapText l g)
 holds (gives l g count arrival) = isGiven count arrival (mapText l g)
 holds (refuses l g n k) = isRefusal n k (mapText l g)
@@ -104,6 +121,8 @@ holds (suffices l g words bytes count arrival) = isGiven count arrival (mapTexts
 holds (lists g v cuts) = ofGraph (λ h. sameCuts cuts (cutsOf h v)) (graphText g)
 holds (computes g cut v f) = ofGraph (λ h. eqb f (cutTable h cut v)) (graphText g)
 holds (takes order r q) = eqb q (rowMap (getD orders order []) r)
+holds (says t count area arrival) = areSaid count area arrival (readFigures t)
+holds (saysNothing t) = nothingSaid (readFigures t)
 
 unfoldable pub marked : List Case
 unfolding library listing with graphB graphC graphF
@@ -147,9 +166,17 @@ graph24 = "aag 6 1 0 0 5\n2\n4 2 2\n6 4 4\n8 6 6\n10 8 8\n12 10 8\n"
 unfoldable pub graph25 : String
 graph25 = "aag 6 1 0 0 5\n2\n4 2 2\n6 4 4\n8 6 4\n10 6 8\n12 10 10\n"
 
+-- variable 6 has too many cuts as well, and is placed behind variable 7
+unfoldable pub graphLater : String
+graphLater = "aag 7 1 0 0 6\n2\n4 2 2\n6 4 4\n8 6 4\n10 6 8\n14 10 10\n12 14 14\n"
+
+-- both can be placed at once, and the line of variable 7 stands first
+unfoldable pub graphEither : String
+graphEither = "aag 7 1 0 0 6\n2\n4 2 2\n6 4 4\n8 6 4\n10 6 8\n14 10 10\n12 10 10\n"
+
 -- the edges of each refusal from 2 on
 unfoldable pub refusals : List Case
-unfolding library with graphB graph24 graph25 cellLines listing text
+unfolding library with graphB graph24 graph25 graphLater graphEither cellLines listing text
 refusals =
     -- 2
     refuses [] graphB 2 0
@@ -169,6 +196,10 @@ refusals =
     ∷ refuses (with "x 5 0000 1 0 0 0 0\n") graphB 4 (length library)
     ∷ refuses (with "x 0 0000 65536 0 0 0 0\n") graphB 4 (length library)
     ∷ refuses (with "x 0 000F 1 0 0 0 0\n") graphB 4 (length library)
+    ∷ refuses (with "x 0 000g 1 0 0 0 0\n") graphB 4 (length library)
+    ∷ refuses (with "x 0 000` 1 0 0 0 0\n") graphB 4 (length library)
+    ∷ refuses (with "x 0 000: 1 0 0 0 0\n") graphB 4 (length library)
+    ∷ refuses (with "x 0 000/ 1 0 0 0 0\n") graphB 4 (length library)
     ∷ refuses (with "x 0 00000 1 0 0 0 0\n") graphB 4 (length library)
     ∷ refuses (with "abcdefghi 0 0000 1 0 0 0 0\n") graphB 4 (length library)
     ∷ refuses (with "1x 0 0000 1 0 0 0 0\n") graphB 4 (length library)
@@ -219,6 +250,8 @@ refusals =
     -- 16
     ∷ gives library graph24 0 0
     ∷ refuses library graph25 16 6
+    ∷ refuses library graphLater 16 7
+    ∷ refuses library graphEither 16 6
     -- 17
     ∷ refuses library "aag 1 1 0 2 0\n2\n2\n0\n" 17 1
     ∷ refuses (text "cell pins table area d0 d1 d2 d3\n") "aag 1 1 0 2 0\n2\n3\n2\n" 17 0
@@ -232,7 +265,155 @@ pub refusals-hold : T (all holds refusals)
 unfolding all holds refusals
 refusals-hold = tt
 
--- "160(M+1) + O 16-bit words"
-pub need-is : T (eqb (need 0 0) 160 && (eqb (need 3 1) 641 && eqb (need 4095 4096) 659456))
+-- ---- matches of more than two pins, and ties
+
+-- a library of these lines
+unfoldable pub cells : String → List ℕ
+unfolding text
+cells lines = text "cell pins table area d0 d1 d2 d3\n" ++ text lines
+
+-- s ? ¬a : b, with s the lowest leaf: pins A, B and C fed from the second, third and first leaf, the first complemented; pin C is the latest
+unfoldable pub three : List Case
+unfolding cells text
+three =
+    prints (cells "inv 1 0001 1 10 0 0 0\nmux3 3 00ac 7 11 13 40 0\n") "aag 6 3 0 1 3\n2\n4\n6\n13\n8 2 5\n10 3 6\n12 9 11\n"
+    (text ".model top\n.inputs p1 p2 p3\n.outputs m6\n.gate inv A=p2 O=m2\n.gate mux3 A=m2 B=p3 C=p1 O=m6\n.end\n# gates 2 area 8 arrival 40\n") 2 8 40
+    ∷ []
+
+pub three-hold : T (all holds three)
+unfolding all holds three
+three-hold = tt
+
+-- ((1 and ¬3) or 4) and 2, its complement a cell of four pins: fed from leaves 1, 3, 4 and 2, the second complemented; pin D is the latest, and
+-- of the two ways round of pins A and B the first order is taken
+unfoldable pub graphFour : String
+graphFour = "aag 7 4 0 2 3\n2\n4\n6\n8\n15\n14\n10 2 7\n12 11 9\n14 13 4\n"
+
+unfoldable pub four : List Case
+unfolding cells text graphFour
+four =
+    prints (cells "inv 1 0001 1 10 0 0 0\naoai4 4 07ff 9 31 5 17 1059\n") graphFour
+    (text ".model top\n.inputs p1 p2 p3 p4\n.outputs m7 p7\n.gate inv A=p3 O=m3\n.gate inv A=m7 O=p7\n.gate aoai4 A=p1 B=m3 C=p4 D=p2 O=m7\n.end\n# gates 3 area 11 arrival 1069\n") 3 11 1069
+    ∷ []
+
+pub four-hold : T (all holds four)
+unfolding all holds four
+four-hold = tt
+
+-- the same cell with pin A the latest: the complemented leaf goes to pin B, which bears it
+unfoldable pub fourAgain : List Case
+unfolding cells text graphFour
+fourAgain =
+    prints (cells "inv 1 0001 1 10 0 0 0\naoai4 4 07ff 9 31 5 17 23\n") graphFour
+    (text ".model top\n.inputs p1 p2 p3 p4\n.outputs m7 p7\n.gate inv A=p3 O=m3\n.gate inv A=m7 O=p7\n.gate aoai4 A=p1 B=m3 C=p4 D=p2 O=m7\n.end\n# gates 3 area 11 arrival 41\n") 3 11 41
+    ∷ []
+
+pub four-again-hold : T (all holds fourAgain)
+unfolding all holds fourAgain
+four-again-hold = tt
+
+-- "then cut, cell line, order number, mask, lowest first. Inverters: smallest delay, then first line": in each of these the arrivals are equal, and
+-- what comes later in the order of preference would choose the other
+unfoldable pub ties : List Case
+unfolding cells text
+ties =
+    -- the lower cut, though the other's cell stands on an earlier line
+    prints (cells "and3 3 0080 1 20 20 20 0\nand2 2 0008 1 10 10 0 0\n") "aag 5 3 0 1 2\n2\n4\n6\n10\n8 2 4\n10 8 6\n"
+    (text ".model top\n.inputs p1 p2 p3\n.outputs p5\n.gate and2 A=p1 B=p2 O=p4\n.gate and2 A=p3 B=p4 O=p5\n.end\n# gates 2 area 2 arrival 20\n") 2 2 20
+    -- the earlier line, though the other matches under a lower order
+    ∷ prints (cells "y 2 0004 1 5 5 0 0\nx 2 0002 1 5 5 0 0\n") "aag 3 2 0 1 1\n2\n4\n6\n6 2 5\n"
+    (text ".model top\n.inputs p1 p2\n.outputs p3\n.gate y A=p2 B=p1 O=p3\n.end\n# gates 1 area 1 arrival 5\n") 1 1 5
+    -- the lower order, though the other has a lower mask: the inverter takes no time
+    ∷ prints (cells "inv 1 0001 1 0 0 0 0\nx 2 0002 1 5 5 0 0\n") "aag 3 2 0 1 1\n2\n4\n6\n6 3 4\n"
+    (text ".model top\n.inputs p1 p2\n.outputs p3\n.gate inv A=p1 O=m1\n.gate inv A=p2 O=m2\n.gate x A=m1 B=m2 O=p3\n.end\n# gates 3 area 3 arrival 5\n") 3 3 5
+    -- the lower mask: complemented at both pins the cell is the same, and the inverter takes no time
+    ∷ prints (cells "inv 1 0001 1 0 0 0 0\nxor2 2 0006 3 5 5 0 0\n") "aag 5 2 0 1 3\n2\n4\n11\n6 2 5\n8 3 4\n10 7 9\n"
+    (text ".model top\n.inputs p1 p2\n.outputs m5\n.gate xor2 A=p1 B=p2 O=m5\n.end\n# gates 1 area 3 arrival 5\n") 1 3 5
+    -- the first of the quickest inverters
+    ∷ prints (cells "slow 1 0001 1 11 0 0 0\nb 1 0001 9 10 0 0 0\na 1 0001 1 10 0 0 0\n") "aag 1 1 0 1 0\n2\n3\n"
+    (text ".model top\n.inputs p1\n.outputs m1\n.gate b A=p1 O=m1\n.end\n# gates 1 area 9 arrival 10\n") 1 9 10
+    ∷ []
+
+pub ties-hold : T (all holds ties)
+unfolding all holds ties
+ties-hold = tt
+
+-- ---- the lent memory, and what a call returns
+
+-- "Work memory is unchanged by every refusal tried up to 10, and all zero after a later one and after success."
+pub work-left : T (
+    same (workAfter (refused 1 0) (7 ∷ 8 ∷ [])) (7 ∷ 8 ∷ [])
+    && (same (workAfter (refused 10 0) (7 ∷ 8 ∷ [])) (7 ∷ 8 ∷ [])
+    && (same (workAfter (refused 11 20) (7 ∷ 8 ∷ [])) (0 ∷ 0 ∷ [])
+    && (same (workAfter (refused 18 117) (7 ∷ 8 ∷ [])) (0 ∷ 0 ∷ [])
+    && same (workAfter (mapped (5 ∷ []) (record { gates = 0; area = 0; arrival = 0 })) (7 ∷ 8 ∷ [])) (0 ∷ 0 ∷ []))))
+    )
+unfolding same workAfter
+work-left = tt
+
+-- "a refusal .. with text memory unchanged"; "On success text memory begins with the netlist and keeps its other bytes."
+pub text-left : T (
+    same (textAfter (refused 10 0) (7 ∷ 8 ∷ 9 ∷ [])) (7 ∷ 8 ∷ 9 ∷ [])
+    && (same (textAfter (refused 11 20) (7 ∷ 8 ∷ 9 ∷ [])) (7 ∷ 8 ∷ 9 ∷ [])
+    && (same (textAfter (refused 18 117) (7 ∷ 8 ∷ 9 ∷ [])) (7 ∷ 8 ∷ 9 ∷ [])
+    && same (textAfter (mapped (5 ∷ 6 ∷ []) (record { gates = 0; area = 0; arrival = 0 })) (7 ∷ 8 ∷ 9 ∷ [])) (5 ∷ 6 ∷ 9 ∷ [])))
+    )
+unfolding same textAfter
+text-left = tt
+
+-- the five values of what a call returns
+unfoldable pub isReturned : ℕ → ℕ → ℕ → ℕ → ℕ → Returned → Bool
+isReturned number value count area arrival r =
+    eqb number (r .number) && (eqb value (r .value) && (eqb count (r .gates) && (eqb area (r .area) && eqb arrival (r .arrival))))
+
+-- "Success returns number 0, the netlist's length and the three figures of its `# gates` line; a refusal its number, its place and zero figures":
+-- of B, and of B with one byte too few
+pub returns-are : T (
+    isReturned 0 117 2 3 30 (returned (answerOf (mapText library graphB)))
+    && (isReturned 0 117 2 3 30 (returnedBy (mapText library graphB))
+    && (isReturned 18 117 0 0 0 (returned (answerOf (mapTexts library (text graphB) 641 116)))
+    && isReturned 18 117 0 0 0 (returnedBy (mapTexts library (text graphB) 641 116))))
+    )
+unfolding isReturned returned returnedBy answerOf mapText mapTexts library graphB text
+returns-are = tt
+
+unfoldable pub isRuling : ℕ → ℕ → Ruling → Bool
+isRuling number place r = eqb number (r .number) && eqb place (r .place)
+
+-- the number and place of each case of the other answers, and a header's values
+pub rulings-are : T (
+    isRuling 0 0 (verdictRuling Accepted)
+    && (isRuling 5 86 (verdictRuling (Refused 5 86))
+    && (isRuling 0 0 (headerRuling (headerAnswer (readHeader (text graphB))))
+    && (isRuling 8 0 (headerRuling (headerAnswer (readHeader (text "aag 1 0 1 0 0\n"))))
+    && (same (headerValues (headerAnswer (readHeader (text graphB)))) (3 ∷ 2 ∷ 0 ∷ 1 ∷ 1 ∷ [])
+    && same (headerValues (headerAnswer (readHeader (text "aag 1 0 1 0 0\n")))) []))))
+    )
+unfolding isRuling verdictRuling headerRuling headerAnswer headerValues readHeader text graphB same
+rulings-are = tt
+
+-- what a text's `# gates` line says: the line behind `.end` alone is read
+unfoldable pub said : List Case
+unfolding listing text
+said =
+    says listing 2 3 30
+    ∷ says (listing ++ text "# timing p3 30\n") 2 3 30
+    ∷ says (text ".end\n# gates 0 area 65536 arrival 1000\n") 0 65536 1000
+    ∷ saysNothing (text ".end\n")
+    ∷ saysNothing (text "# gates 2 area 3 arrival 30\n.end\n")
+    ∷ saysNothing (text ".end\n\n# gates 2 area 3 arrival 30\n")
+    ∷ saysNothing (text ".end\n# gates 2 area 3 arrival 030\n")
+    ∷ saysNothing (text ".end\n# gates 2 area 3 arrival \n")
+    ∷ saysNothing (text ".end\n# gates 2 area 3 arrival 30 \n")
+    ∷ saysNothing (text ".end\n# gates 2 area 3 arrival 3a\n")
+    ∷ saysNothing (text ".end\n# area 3 gates 2 arrival 30\n")
+    ∷ []
+
+pub said-hold : T (all holds said)
+unfolding all holds said
+said-hold = tt
+
+-- "160(M+1) + O 16-bit words"; the 32,768 of the program are those of M = 203 with 128 outputs
+pub need-is : T (eqb (need 0 0) 160 && (eqb (need 3 1) 641 && (eqb (need 203 128) 32768 && eqb (need 4095 4096) 659456)))
 unfolding need
 need-is = tt

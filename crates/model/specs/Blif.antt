@@ -1,16 +1,18 @@
 -- BLIF, as far as the netlist uses it: a text read, and the values and arrivals of its nets. Apart from the writer. Assumes nothing.
-use Prim.Native.Nat.{ℕ, _+_, _*_}
+use Prim.Native.Nat.{ℕ, _+_, _-_, _*_}
 use mathlib.Core.Path.{_≡_}
-use mathlib.Core.Bool.{Bool, cond}
+use mathlib.Core.Bool.{Bool, cond, _&&_}
 use mathlib.Core.Option.{Option, none, some}
 use mathlib.Core.List.{List, [], _∷_, map, List·Memᴰ}
 use lib.Dec.{eqb}
+use lib.ListN.{length, getD}
 use Rattle.model.specs.Base.{one, same, andThen, only, below}
-use Rattle.model.specs.Text.{text, parts}
+use Rattle.model.specs.Text.{text, parts, fields, between}
 use Rattle.model.specs.Table.{value}
 use Rattle.model.specs.Cells.{nameOf, noCell}
 use Rattle.model.specs.Choice.{latest}
 use Rattle.model.specs.declared.Cell.{Cell}
+use Rattle.model.specs.declared.Figures.{Figures}
 
 -- ---- the text
 
@@ -91,6 +93,44 @@ readLines (m ∷ i ∷ o ∷ ls) = cond (same m (text ".model top"))
 unfoldable pub readBlif : List ℕ → Option Blif
 unfolding readLines parts
 readBlif bytes = readLines (parts 10 bytes)
+
+-- ---- the `# gates` line
+
+-- the number of decimal digits, behind one that was read so far
+unfoldable pub digitsFrom : ℕ → List ℕ → Option ℕ
+unfolding andThen only between
+digitsFrom n [] = some n
+digitsFrom n (b ∷ bs) = andThen (only (between 48 57 b) (b - 48)) (λ d. digitsFrom (n * 10 + d) bs)
+
+-- a number of any size in decimal without leading zeros: 0 alone, or a first digit that is not 0
+unfoldable pub figure : List ℕ → Option ℕ
+unfolding digitsFrom
+figure [] = none
+figure (b ∷ []) = digitsFrom 0 (b ∷ [])
+figure (b ∷ c ∷ bs) = cond (eqb b 48) none (digitsFrom 0 (b ∷ c ∷ bs))
+
+-- the line behind `.end`
+unfoldable pub behindEnd : List (List ℕ) → Option (List ℕ)
+unfolding same text
+behindEnd [] = none
+behindEnd (l ∷ []) = none
+behindEnd (l ∷ k ∷ ls) = let later = behindEnd (k ∷ ls) in cond (same l (text ".end")) (some k) later
+
+-- the words `# gates N area N arrival N`, one space between
+unfoldable pub readFigureWords : List (List ℕ) → Option Figures
+unfolding andThen only same text figure
+readFigureWords ws =
+    andThen (only (eqb (length ws) 7 && (same (getD ws 0 []) (text "#") && (same (getD ws 1 []) (text "gates")
+    && (same (getD ws 3 []) (text "area") && same (getD ws 5 []) (text "arrival"))))) ws) (λ _.
+    andThen (figure (getD ws 2 [])) (λ count.
+    andThen (figure (getD ws 4 [])) (λ area.
+    andThen (figure (getD ws 6 [])) (λ arrival.
+    some (record { gates = count; area = area; arrival = arrival })))))
+
+-- "the three figures of its `# gates` line": the line behind `.end`; what follows it is not read
+unfoldable pub readFigures : List ℕ → Option Figures
+unfolding andThen parts behindEnd fields readFigureWords
+readFigures bytes = andThen (behindEnd (parts 10 bytes)) (λ l. readFigureWords (fields l))
 
 -- ---- its meaning, with the library's cells
 

@@ -60,7 +60,9 @@ arrivalBy cells g arrival l s = latest (map arrival (feeds cells (cutsOf g) l s)
 -- "A cover gives each needed phase of a variable one source"; "No circle: no phase feeds itself, directly or through others."
 pub record Cover (cells : List Cell) (g : Graph) (outs : List ℕ) : Type 0 where
   pub source : ℕ → Source
-  pub arrival : ℕ → ℕ
   pub allowed : (l : ℕ) → Needed cells g outs source l → Allowed cells g l (source l)
   pub noCircle : (l : ℕ) → Needed cells g outs source l → ¬ Feeds cells g source l l
-  pub timed : (l : ℕ) → Needed cells g outs source l → arrival l ≡ arrivalBy cells g arrival l (source l)
+
+-- the arrivals of the phases that a cover needs, by the rule
+pub record CoverArrivals (cells : List Cell) (g : Graph) (outs : List ℕ) (c : Cover cells g outs) (at : ℕ → ℕ) : Type 0 where
+  pub timed : (l : ℕ) → Needed cells g outs (c .source) l → at l ≡ arrivalBy cells g at l (c .source l)

@@ -1,22 +1,22 @@
 -- The three demands as types, for every library text, graph text, number of lent words and number of lent bytes. Assumes nothing.
 use Prim.Native.Nat.{ℕ, suc, _*_, _≤_, _<_}
 use mathlib.Core.Path.{_≡_}
-use mathlib.Core.Bool.{Bool, false}
+use mathlib.Core.Bool.{Bool, true, false}
 use mathlib.Core.Option.{some}
 use mathlib.Core.List.{List, [], _∷_, _++_, map, List·Memᴰ}
-use mathlib.Core.Logic.{_↔_}
+use mathlib.Core.Logic.{_⊎_, _↔_}
 use Prim.Native.Nat.{Ordering·gt}
 use lib.ListN.{length, getD}
 use Rattle.model.specs.Base.{each}
 use Rattle.model.specs.Reading.{holds}
 use Rattle.model.specs.Cells.{nameOf}
-use Rattle.model.specs.Graph.{Graph, literal, varOf, unplaced, placingOrder, literalValue, GraphValues}
+use Rattle.model.specs.Graph.{Graph, literal, varOf, negated, unplaced, placingOrder, literalValue, GraphValues}
 use Rattle.model.specs.Cuts.{cutsOf, compareLeaves, crowded}
-use Rattle.model.specs.Choice.{feeds, absent, chosen, preference}
-use Rattle.model.specs.Cover.{Allowed, Needed, arrivalBy, Cover}
+use Rattle.model.specs.Choice.{feeds, cellOf, absent, chosen, preference}
+use Rattle.model.specs.Cover.{IsOwn, Allowed, Needed, arrivalBy, Cover, CoverArrivals}
 use Rattle.model.specs.Netlist.{Outcome, refused, mapped, gates, figuresOf, netlistText, netName, sum, largest}
-use Rattle.model.specs.Blif.{GateLine, Binding, Blif, readBlif, named, drives, fedBy, pinNames, outputName, NetValues, NetArrivals}
-use Rattle.model.specs.Mapper.{Design, readTexts, mapTexts, answerOf, textAfter, workAfter}
+use Rattle.model.specs.Blif.{GateLine, Binding, Blif, readBlif, readFigures, named, drives, fedBy, pinNames, outputName, NetValues, NetArrivals}
+use Rattle.model.specs.Mapper.{Design, readTexts, mapTexts, answerOf, returned, returnedBy, textAfter, workAfter}
 use Rattle.model.specs.declared.Cell.{Cell}
 use Rattle.model.specs.declared.Source.{Source}
 use Rattle.model.specs.declared.Figures.{Figures}
@@ -31,6 +31,7 @@ Distinct (x ∷ xs) = (¬ List·Memᴰ x xs) × Distinct xs
 -- netlist or with the first of the eighteen numbered refusals that applies": what a call leaves of the lent memory, and its answer
 pub record Memory (library graph work text : List ℕ) (answer : Answer) (workLeft textLeft : List ℕ) : Type 0 where
   pub answers : answer ≡ answerOf (mapTexts library graph (length work) (length text))
+  pub returns : returned answer ≡ returnedBy (mapTexts library graph (length work) (length text))
   pub words : workLeft ≡ workAfter (mapTexts library graph (length work) (length text)) work
   pub bytes : textLeft ≡ textAfter (mapTexts library graph (length work) (length text)) text
 
@@ -41,11 +42,12 @@ unfoldable pub drivenNets : Blif → List (List ℕ)
 unfolding drives
 drivenNets n = n .inputs ++ map drives (n .gates)
 
--- the text t is printed with figures f for a design, and reads back as n
+-- the text t is printed with figures f for a design, reads back as n, and its `# gates` line says f
 pub record Printed (library graph : List ℕ) (words bytes : ℕ) (t : List ℕ) (f : Figures) (d : Design) (n : Blif) : Type 0 where
   pub design : readTexts library graph words ≡ holds d
   pub outcome : mapTexts library graph words bytes ≡ mapped t f
   pub reads : readBlif t ≡ some n
+  pub says : readFigures t ≡ some f
 
 -- a statement of what is printed for two texts
 abbrev pub OfPrinted : (List Cell → Graph → Figures → Blif → Type 0) → List ℕ → List ℕ → ℕ → ℕ → Type 0
@@ -67,6 +69,23 @@ pub record Formed (cells : List Cell) (g : Graph) (f : Figures) (n : Blif) : Typ
   pub nets : (net : List ℕ) → List·Memᴰ net (drivenNets n) → (l : ℕ) × (net ≡ netName l)
   pub once : Distinct (drivenNets n)
   pub driven : (net : List ℕ) → List·Memᴰ net (n .outputs ++ each (fedBy cells) (n .gates)) → List·Memᴰ net (drivenNets n)
+
+-- "by ascending variable, `p` first"
+abbrev pub Before : ℕ → ℕ → Type 0
+Before l k = (varOf l < varOf k) ⊎ ((varOf l ≡ varOf k) × (negated l ≡ false) × (negated k ≡ true))
+
+-- each phase stands before all that come after it
+abbrev pub InOrder : List ℕ → Type 0
+InOrder [] = Unit
+InOrder (l ∷ ls) = ((k : ℕ) → List·Memᴰ k ls → Before l k) × InOrder ls
+
+-- "Needed phases, inputs' own positive nets apart, become gates by ascending variable, `p` first": the gate lines drive the nets of these phases and
+-- no others, in this order, and each is of its phase's chosen cell, fed by the nets of the phases that the chosen source is fed by
+pub record Gated (cells : List Cell) (g : Graph) (f : Figures) (n : Blif) : Type 0 where
+  pub nets : (l : ℕ) → List·Memᴰ (netName l) (map drives (n .gates)) ↔ (Needed cells g (g .outputs) (λ x. chosen cells g x .source) l × (¬ IsOwn g l))
+  pub order : (ls : List ℕ) × InOrder ls × (map drives (n .gates) ≡ map netName ls)
+  pub sources : (t : GateLine) → List·Memᴰ t (n .gates) → (l : ℕ) → drives t ≡ netName l
+      → (t .cell ≡ nameOf (cellOf cells (chosen cells g l .source))) × (fedBy cells t ≡ map netName (feeds cells (cutsOf g) l (chosen cells g l .source)))
 
 -- ---- Demand 2: "the printed netlist, read by BLIF's rules with the listed cells' tables, gives every output the value that the AIGER graph
 -- gives it, for every setting of the inputs": both have values, and with any such values each output has the graph's
@@ -90,7 +109,8 @@ pub record SameFigures (cells : List Cell) (g : Graph) (f : Figures) (n : Blif) 
 abbrev pub NoEarlier : List Cell → Graph → Figures → Blif → Type 0
 NoEarlier cells g f n =
     (at : List ℕ → ℕ) → NetArrivals cells n at → (l : ℕ) → List·Memᴰ (netName l) (drivenNets n)
-    → (c : Cover cells g (g .outputs)) → Needed cells g (g .outputs) (c .source) l → at (netName l) ≤ c .arrival l
+    → (c : Cover cells g (g .outputs)) (arrival : ℕ → ℕ) → CoverArrivals cells g (g .outputs) c arrival → Needed cells g (g .outputs) (c .source) l
+    → at (netName l) ≤ arrival l
 
 -- "Where no refusal tried before 16 applies and no AND is over 24 cuts"
 pub record Mappable (library graph : List ℕ) (words : ℕ) (d : Design) : Type 0 where
@@ -102,6 +122,15 @@ pub record Mappable (library graph : List ℕ) (words : ℕ) (d : Design) : Type
 abbrev pub OfMappable : (ℕ → Outcome → List Cell → Graph → Type 0) → List ℕ → List ℕ → ℕ → ℕ → Type 0
 OfMappable P library graph words bytes =
     (d : Design) → Mappable library graph words d → P bytes (mapTexts library graph words bytes) (d .cells) (d .graph)
+
+-- every cover has arrivals, and on the phases that it needs no others: where there is no cover there are no sources for one
+pub record Timed (cells : List Cell) (g : Graph) (outs : List ℕ) (c : Cover cells g outs) : Type 0 where
+  pub has : (at : ℕ → ℕ) × CoverArrivals cells g outs c at
+  pub alone : (at bt : ℕ → ℕ) → CoverArrivals cells g outs c at → CoverArrivals cells g outs c bt
+      → (l : ℕ) → Needed cells g outs (c .source) l → at l ≡ bt l
+
+abbrev pub CoversTimed : ℕ → Outcome → List Cell → Graph → Type 0
+CoversTimed bytes outcome cells g = (outs : List ℕ) (c : Cover cells g outs) → Timed cells g outs c
 
 -- output k is the lowest that has no cover: "a cover of one output is a cover with that as the only output"
 pub record LowestUncovered (cells : List Cell) (g : Graph) (k : ℕ) : Type 0 where
@@ -130,7 +159,7 @@ pub record Decided (bytes : ℕ) (outcome : Outcome) (cells : List Cell) (g : Gr
 pub record ChosenCover (cells : List Cell) (g : Graph) : Type 0 where
   pub cover : Cover cells g (g .outputs)
   pub sources : (l : ℕ) → cover .source l ≡ chosen cells g l .source
-  pub arrivals : (l : ℕ) → cover .arrival l ≡ chosen cells g l .arrival
+  pub arrivals : CoverArrivals cells g (g .outputs) cover (λ l. chosen cells g l .arrival)
 
 -- the choice by 01's order of preference: no allowed source of a placed phase whose pins have sources comes before the chosen one, and the
 -- chosen one is allowed and timed by the rule
@@ -154,11 +183,13 @@ pub record Chosen (bytes : ℕ) (outcome : Outcome) (cells : List Cell) (g : Gra
 pub record Values (library graph : List ℕ) (words bytes : ℕ) : Type 0 where
   pub readable : Readable library graph words bytes
   pub formed : OfPrinted Formed library graph words bytes
+  pub gated : OfPrinted Gated library graph words bytes
   pub values : OfPrinted SameValues library graph words bytes
   pub figures : OfPrinted SameFigures library graph words bytes
 
 -- Demand 3
 pub record Earliest (library graph : List ℕ) (words bytes : ℕ) : Type 0 where
   pub earliest : OfPrinted NoEarlier library graph words bytes
+  pub timed : OfMappable CoversTimed library graph words bytes
   pub decided : OfMappable Decided library graph words bytes
   pub choice : OfMappable Chosen library graph words bytes

@@ -7,7 +7,7 @@ use lib.Dec.{eqb, leb}
 use lib.ListN.{length, getD, drop, replicate}
 use Rattle.model.specs.Base.{all, keep, elem, same, andThen, only}
 use Rattle.model.specs.Text.{Line, text, linesFrom, fields, numbers}
-use Rattle.model.specs.Reading.{Read, holds, fault, next, unless, from?}
+use Rattle.model.specs.Reading.{Read, holds, fault, next, unless, from?, Ruling}
 use Rattle.model.specs.Graph.{Graph, varOf}
 use Rattle.model.specs.declared.Header.{Header}
 use Rattle.model.specs.declared.HeaderAnswer.{HeaderAnswer}
@@ -44,6 +44,21 @@ readHeader bytes =
 unfoldable pub headerAnswer : Read Header → HeaderAnswer
 headerAnswer (holds h) = WasRead h
 headerAnswer (fault n k) = Refused n k
+
+-- document 01's number and place for each case of that answer
+unfoldable pub headerRuling : HeaderAnswer → Ruling
+headerRuling (WasRead h) = record { number = 0; place = 0 }
+headerRuling (Refused n k) = record { number = n; place = k }
+
+-- and its values, the numbers of the line `aag M I L O A`; a refusal has none
+unfoldable pub headerValues : HeaderAnswer → List ℕ
+headerValues (WasRead h) = h .size ∷ h .inputs ∷ h .latches ∷ h .outputs ∷ h .ands ∷ []
+headerValues (Refused n k) = []
+
+-- the numbers of a header that is read
+unfoldable pub headerNumbers : Read Header → List ℕ
+headerNumbers (holds h) = h .size ∷ h .inputs ∷ h .latches ∷ h .outputs ∷ h .ands ∷ []
+headerNumbers (fault n k) = []
 
 -- ---- the due lines
 

@@ -65,6 +65,11 @@ unfoldable pub returned : Answer → Returned
 returned (Mapped n f) = record { number = 0; value = n; gates = f .gates; area = f .area; arrival = f .arrival }
 returned (Refused n k) = record { number = n; value = k; gates = 0; area = 0; arrival = 0 }
 
+-- the same of an outcome: what a call returns, whatever its answer is made of
+unfoldable pub returnedBy : Outcome → Returned
+returnedBy (mapped t f) = record { number = 0; value = length t; gates = f .gates; area = f .area; arrival = f .arrival }
+returnedBy (refused n k) = record { number = n; value = k; gates = 0; area = 0; arrival = 0 }
+
 -- a refusal leaves "text memory unchanged"; "On success text memory begins with the netlist and keeps its other bytes."
 unfoldable pub textAfter : Outcome → List ℕ → List ℕ
 textAfter (refused n k) memory = memory

@@ -42,3 +42,25 @@ refusedAt n (some k) = Refused n k
 unfoldable pub firstOf : List ℕ → Option ℕ
 firstOf [] = none
 firstOf (k ∷ ks) = some k
+
+-- ---- document 01's number and values for each case of an answer
+
+-- a refusal's number and place; number 0 where nothing is refused
+pub record Ruling : Type 0 where
+  pub number : ℕ
+  pub place : ℕ
+
+-- what is read says a number and a place
+unfoldable pub rulingOf : {A : Type 0} → Read A → Ruling
+rulingOf (holds a) = record { number = 0; place = 0 }
+rulingOf (fault n k) = record { number = n; place = k }
+
+-- refusal n, where it has a place
+unfoldable pub rulingAt : ℕ → Option ℕ → Ruling
+rulingAt n none = record { number = 0; place = 0 }
+rulingAt n (some k) = record { number = n; place = k }
+
+-- the cases of a verdict
+unfoldable pub verdictRuling : Verdict → Ruling
+verdictRuling Accepted = record { number = 0; place = 0 }
+verdictRuling (Refused n k) = record { number = n; place = k }

@@ -9,7 +9,7 @@ use Rattle.model.specs.Base.{elem, below}
 use Rattle.model.specs.Graph.{Graph, varOf, literal}
 use Rattle.model.specs.Cuts.{cutsOf}
 use Rattle.model.specs.Choice.{feeds, cellOf, latest, absent, chosen}
-use Rattle.model.specs.Cover.{IsOwn, Needed, output, fed, Feeds, directly, through, arrivalBy, Cover}
+use Rattle.model.specs.Cover.{IsOwn, Needed, output, fed, Feeds, directly, through, arrivalBy, Cover, CoverArrivals}
 use Rattle.model.specs.Netlist.{Gate, isOwn, needed, netName}
 use Rattle.model.specs.Blif.{GateLine, named, drives, fedBy, NetArrivals}
 use Rattle.model.specs.declared.Cell.{Cell}
@@ -52,13 +52,11 @@ module _ (cells : List Cell) (fit : T (libraryFits cells)) (g : Graph) (ok : Acc
 
   -- an input's own net is a cover of it, so the choice is no later
   input-cover : (l : ℕ) → IsOwn g l → Cover cells g (l ∷ [])
-  unfolding feeds arrivalBy latest
+  unfolding feeds
   input-cover l o = record {
     source = λ x. Input;
-    arrival = λ x. 0;
     allowed = λ x n. subst (IsOwn g) (sym (only-it x n)) o;
     noCircle = λ x n f. none-fed x f;
-    timed = λ x n. refl;
   }
     where
       only-it : (x : ℕ) → Needed cells g (l ∷ []) (λ y. Input) x → x ≡ l
@@ -69,10 +67,13 @@ module _ (cells : List Cell) (fit : T (libraryFits cells)) (g : Graph) (ok : Acc
       none-fed x (directly i) = List·Memᴰ·not-nil i
       none-fed x (through f i) = List·Memᴰ·not-nil i
 
+  input-timed : (l : ℕ) (o : IsOwn g l) → CoverArrivals cells g (l ∷ []) (input-cover l o) (λ x. 0)
+  unfolding input-cover feeds arrivalBy latest
+  input-timed l o = record { timed = λ x n. refl }
+
   pub input-time : (l : ℕ) → IsOwn g l → chosen cells g l .arrival ≡ 0
-  unfolding input-cover
   input-time l o =
-      let h : chosen cells g l .arrival ≤ 0 = earliest cells g (order-once g ok) (l ∷ []) (input-cover l o) l (output (List·Memᴰ·head refl)) .early in omega arith
+      let h : chosen cells g l .arrival ≤ 0 = earliest cells g (order-once g ok) (l ∷ []) (input-cover l o) (λ x. 0) (input-timed l o) l (output (List·Memᴰ·head refl)) .early in omega arith
 
   -- the chosen arrivals are by the rule
   pub times-hold : NetArrivals cells (blifOf g (chosenGates cells g)) theTime

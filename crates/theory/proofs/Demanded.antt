@@ -17,9 +17,9 @@ use Rattle.model.specs.Graph.{And, Graph, varOf, negated, literal, literalValue
 use Rattle.model.specs.Choice.{chosen}
 use Rattle.model.specs.Cover.{output}
 use Rattle.model.specs.Netlist.{Gate, Outcome, refused, mapped, mapGraph, gates, figuresOf, netName, sum, largest}
-use Rattle.model.specs.Blif.{GateLine, Blif, readBlif, named, drives}
+use Rattle.model.specs.Blif.{GateLine, Blif, readBlif, readFigures, named, drives}
 use Rattle.model.specs.Mapper.{Design, readTexts, mapTexts, mapDesign, within}
-use Rattle.model.specs.Demands.{drivenNets, Printed, OfPrinted, Readable, Formed, SameValues, SameFigures, NoEarlier, OfMappable, Decided, Chosen, choiceText, choiceFigures, Values, Earliest}
+use Rattle.model.specs.Demands.{drivenNets, Printed, OfPrinted, Readable, Formed, Gated, SameValues, SameFigures, NoEarlier, OfMappable, CoversTimed, Decided, Chosen, choiceText, choiceFigures, Values, Earliest}
 use Rattle.model.specs.declared.Cell.{Cell}
 use Rattle.model.specs.declared.Figures.{Figures}
 use Rattle.theory_graph.proofs.Lists.{map-out, map-map, map-same, is-true}
@@ -27,16 +27,17 @@ use Rattle.theory_graph.proofs.Distinct.{length-map}
 use Rattle.theory_graph.proofs.Accepted.{Accepted, libraryFits}
 use Rattle.theory_graph.proofs.Placing.{defined-placed}
 use Rattle.theory_graph.proofs.GraphValue.{values-exist, values-only}
-use Rattle.theory_cover.proofs.Demand3.{choice-earliest, choice-cover, seventeen-iff, choice-printed}
+use Rattle.theory_cover.proofs.Demand3.{choice-earliest, cover-timed, choice-cover, seventeen-iff, choice-printed}
 use Rattle.theory_cover.proofs.Preference.{choice-preferred}
 use Rattle.theory_text.proofs.ReadBack.{lineOf, blifOf}
 use Rattle.theory_text.proofs.ReadTexts.{design-library, design-accepted}
 use Rattle.theory_text.proofs.Names.{net-once}
-use Rattle.theory.proofs.Gates.{gate-out, line-bound, back}
+use Rattle.theory.proofs.Gates.{gate-out, line-bound, back, figures-said}
 use Rattle.theory.proofs.Values.{net-value, the, the-holds}
 use Rattle.theory.proofs.Arrivals.{theTime, times-hold, net-time}
 use Rattle.theory.proofs.Outcomes.{FromChoice, outcome-is, printed-choice, refused-never}
 use Rattle.theory.proofs.Formed.{line-net, gate-count, well-formed}
+use Rattle.theory.proofs.Gated.{gates-gated}
 
 -- ---- what is printed
 
@@ -50,6 +51,7 @@ record Known (t : List ℕ) (f : Figures) (d : Design) : Type 0 where
   graph : Accepted (d .graph)
   choice : FromChoice (d .cells) (d .graph) t f
   reads : readBlif t ≡ some (chosenBlif d)
+  says : readFigures t ≡ some f
 
 known : (library graph : List ℕ) (words bytes : ℕ) (t : List ℕ) (f : Figures) (d : Design) → readTexts library graph words ≡ holds d → mapTexts library graph words bytes ≡ mapped t f
     → Known t f d
@@ -62,6 +64,9 @@ known library graph words bytes t f d e o =
       graph = ok;
       choice = c;
       reads = ap readBlif (c .isText) ∙ back (d .cells) fit (d .graph) ok (c .covered) (choiceFigures (d .cells) (d .graph));
+      says = ap readFigures (c .isText)
+          ∙ figures-said (d .cells) fit (d .graph) ok (c .covered) (choiceFigures (d .cells) (d .graph))
+          ∙ ap some (sym (c .areFigures));
     }
 
 -- a statement of every printed netlist, from one of the chosen gates
@@ -79,10 +84,13 @@ readable library graph words bytes t f o = go (readTexts library graph words) re
   where
     go : (r : Read Design) → readTexts library graph words ≡ r → mapDesign bytes r ≡ mapped t f → (d : Design) × (n : Blif) × Printed library graph words bytes t f d n
     go (fault n k) e q = absurd (refused-never q)
-    go (holds d) e q = (d, chosenBlif d, record { design = e; outcome = o; reads = known library graph words bytes t f d e o .reads })
+    go (holds d) e q = let k = known library graph words bytes t f d e o in (d, chosenBlif d, record { design = e; outcome = o; reads = k .reads; says = k .says })
 
 pub formed : (library graph : List ℕ) (words bytes : ℕ) → OfPrinted Formed library graph words bytes
 formed = of-printed Formed (λ t f d k. well-formed (d .cells) (k .library) (d .graph) (k .graph) (k .choice .covered) f)
+
+pub gated : (library graph : List ℕ) (words bytes : ℕ) → OfPrinted Gated library graph words bytes
+gated = of-printed Gated (λ t f d k. gates-gated (d .cells) (k .library) (d .graph) (k .graph) (k .choice .covered) f)
 
 -- ---- demand 2
 
@@ -133,12 +141,12 @@ unfolding blifOf drivenNets
 no-earlier = of-printed NoEarlier at-net
   where
     at-net : (t : List ℕ) (f : Figures) (d : Design) → Known t f d → NoEarlier (d .cells) (d .graph) f (chosenBlif d)
-    at-net t f d k at h l m c n = go (List·Memᴰ·append-cases (map (λ (v : ℕ). netName (literal false v)) (d .graph .inputs)) m)
+    at-net t f d k at h l m c arrival times n = go (List·Memᴰ·append-cases (map (λ (v : ℕ). netName (literal false v)) (d .graph .inputs)) m)
       where
         ts : List Gate
         ts = gates (d .cells) (d .graph) (chosen (d .cells) (d .graph))
 
-        go : List·Memᴰ (netName l) (map (λ (v : ℕ). netName (literal false v)) (d .graph .inputs)) ⊎ List·Memᴰ (netName l) (map drives (map lineOf ts)) → at (netName l) ≤ c .arrival l
+        go : List·Memᴰ (netName l) (map (λ (v : ℕ). netName (literal false v)) (d .graph .inputs)) ⊎ List·Memᴰ (netName l) (map drives (map lineOf ts)) → at (netName l) ≤ arrival l
         go (inl i) = le-trans (le-of-eq (h .atInputs (netName l) i)) (omega arith)
         go (inr i) =
             let o = map-out drives (map lineOf ts) i in
@@ -150,7 +158,10 @@ no-earlier = of-printed NoEarlier at-net
             le-trans
             (le-of-eq (ap at e ∙ net-time (d .cells) (k .library) (d .graph) (k .graph) (k .choice .covered) at h (r .at) (r .needs)
             ∙ ap (λ (x : ℕ). chosen (d .cells) (d .graph) x .arrival) s))
-            (choice-earliest (d .cells) (d .graph) (k .graph) (d .graph .outputs) c l n .1)
+            (choice-earliest (d .cells) (d .graph) (k .graph) (d .graph .outputs) c arrival times l n .1)
+
+pub covers-timed : (library graph : List ℕ) (words bytes : ℕ) → OfMappable CoversTimed library graph words bytes
+covers-timed library graph words bytes d p = cover-timed (d .cells) (d .graph) (design-accepted library graph words d (p .design) (p .placed))
 
 numberOf : Outcome → ℕ
 numberOf (refused n k) = n
@@ -213,6 +224,7 @@ pub demand-values : (library graph : List ℕ) (words bytes : ℕ) → Values li
 demand-values library graph words bytes = record {
   readable = readable library graph words bytes;
   formed = formed library graph words bytes;
+  gated = gated library graph words bytes;
   values = values library graph words bytes;
   figures = figures library graph words bytes;
 }
@@ -220,4 +232,9 @@ demand-values library graph words bytes = record {
 -- "for each net of the printed netlist, every cover of the outputs that has this net gives it an arrival no earlier"
 pub demand-earliest : (library graph : List ℕ) (words bytes : ℕ) → Earliest library graph words bytes
 demand-earliest library graph words bytes =
-    record { earliest = no-earlier library graph words bytes; decided = decided library graph words bytes; choice = choice library graph words bytes }
+    record {
+      earliest = no-earlier library graph words bytes;
+      timed = covers-timed library graph words bytes;
+      decided = decided library graph words bytes;
+      choice = choice library graph words bytes;
+    }

@@ -96,14 +96,17 @@ module _ (cells : List Cell) (fit : T (libraryFits cells)) (g : Graph) (ok : Acc
       let r = gate-out cells fit g ok present-outputs u m in
       subst (λ (x : Gate). drives (lineOf x) ≡ netName (x .net)) (sym (r .isGate)) (line-bound cells fit g ok present-outputs (r .at) (r .needs) (r .notOwn) .isDriven)
 
-  driven-are : drivenNets (blifOf g (chosenGates cells g)) ≡ map (λ (v : ℕ). netName (literal false v)) (g .inputs) ++ map netName gateNets
-  unfolding drivenNets blifOf
-  driven-are =
-      ap (λ (xs : List (List ℕ)). map (λ (v : ℕ). netName (literal false v)) (g .inputs) ++ xs)
-      (map-map drives lineOf (chosenGates cells g)
+  -- what the lines drive
+  pub driven-nets : map drives (map lineOf (chosenGates cells g)) ≡ map netName gateNets
+  driven-nets =
+      map-map drives lineOf (chosenGates cells g)
       ∙ map-same (λ (u : Gate). drives (lineOf u)) (λ (u : Gate). netName (u .net)) (chosenGates cells g) line-net
       ∙ ap (map (λ (u : Gate). netName (u .net))) gates-are
-      ∙ map-map (λ (u : Gate). netName (u .net)) (gateOf cells g) gateNets)
+      ∙ map-map (λ (u : Gate). netName (u .net)) (gateOf cells g) gateNets
+
+  driven-are : drivenNets (blifOf g (chosenGates cells g)) ≡ map (λ (v : ℕ). netName (literal false v)) (g .inputs) ++ map netName gateNets
+  unfolding drivenNets blifOf
+  driven-are = ap (λ (xs : List (List ℕ)). map (λ (v : ℕ). netName (literal false v)) (g .inputs) ++ xs) driven-nets
 
   -- a needed (chosen cells g)'s net is driven
   pub needed-driven : (l : ℕ) → NeedsOf cells g l → List·Memᴰ (netName l) (drivenNets (blifOf g (chosenGates cells g)))

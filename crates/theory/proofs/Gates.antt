@@ -6,36 +6,36 @@ use native.Mathlib.Omega.{arith}
 use mathlib.Core.Path.{_≡_, refl, sym, _∙_, ap, subst}
 use mathlib.Core.Bool.{Bool, true, false, not, cond, true≢false, false≢true}
 use mathlib.Core.Option.{some}
-use mathlib.Core.List.{List, [], _∷_, _++_, List·Memᴰ, List·Memᴰ·head, List·Memᴰ·tail, List·Memᴰ·eq-of-singleton, Memᴰ·append-left, Memᴰ·cast}
+use mathlib.Core.List.{List, [], _∷_, List·Memᴰ, List·Memᴰ·head, List·Memᴰ·tail, Memᴰ·append-left, Memᴰ·cast}
 use lib.Dec.{T, eqb, eqb→eq}
 use lib.ListN.{length, getD}
 use mir.Facts.{and-yes}
-use Rattle.model.specs.Base.{all, same, elem, keep, below, each, flip}
+use Rattle.model.specs.Base.{all, same, elem, keep, below, flip}
 use Rattle.model.specs.Table.{orders}
 use Rattle.model.specs.Cells.{nameOf, noCell, cellAt, isInverter}
-use Rattle.model.specs.Graph.{Graph, placeF, placingOrder, varOf, negated, literal, opposite, literalValue, valueOf, nodeValue}
+use Rattle.model.specs.Graph.{Graph, placeF, placingOrder, varOf, negated, literal, literalValue, valueOf, nodeValue}
 use Rattle.model.specs.Cuts.{cutsOf, cutAt}
 use Rattle.model.specs.Matching.{fedNets, matchNets}
 use Rattle.model.specs.Choice.{feeds, cellOf, absent, chosen}
-use Rattle.model.specs.Cover.{IsOwn, Allowed, Needed, fed}
+use Rattle.model.specs.Cover.{IsOwn, Allowed, Needed}
 use Rattle.model.specs.Netlist.{Gate, isOwn, needed, gates, netlistText, netName}
-use Rattle.model.specs.Blif.{readBlif}
+use Rattle.model.specs.Blif.{readBlif, readFigures}
 use Rattle.model.specs.declared.Cell.{Cell}
 use Rattle.model.specs.declared.Match.{Match}
 use Rattle.model.specs.declared.Source.{Source}
 use Rattle.model.specs.declared.Source.the-variants.{Input, Cell as Matched, Inverter as Inverted, Nothing}
 use Rattle.model.specs.declared.Figures.{Figures}
 use Rattle.theory_graph.proofs.Lists.{map-in, map-out, keep-in, keep-out, below-in, getD-in, elem-in, elem-out, same-eq, same-refl, all-of, is-true}
-use Rattle.theory_graph.proofs.Literals.{lit-var, lit-neg, lit-whole, opposite-var}
-use Rattle.theory_graph.proofs.Runs.{along}
+use Rattle.theory_graph.proofs.Literals.{lit-var, lit-neg, lit-whole}
 use Rattle.theory_graph.proofs.Accepted.{Accepted, libraryFits}
 use Rattle.theory_graph.proofs.Placing.{order-once, order-small}
 use Rattle.theory_graph.proofs.Nodes.{node-input}
 use Rattle.theory_graph.proofs.Values.{valueOf-valuation}
 use Rattle.theory_cover.proofs.Turns.{chosen-none}
-use Rattle.theory_cover.proofs.Earliest.{Straight}
-use Rattle.theory_cover.proofs.Sound.{chosen-fine, straight-before, needed-present}
+use Rattle.theory_cover.proofs.Covers.{by-feeding as feeding-first}
+use Rattle.theory_cover.proofs.Sound.{chosen-fine, needed-present, chosen-cover}
 use Rattle.theory_text.proofs.ReadBack.{blifOf, read-back}
+use Rattle.theory_text.proofs.ReadFigures.{figures-back}
 use Rattle.theory_text.proofs.Names.{Bound, gate-bound, library-cell, cell-form, net-once}
 use Rattle.theory.proofs.Needs.{listed-needed, needed-listed}
 
@@ -104,26 +104,8 @@ module _ (cells : List Cell) (fit : T (libraryFits cells)) (g : Graph) (ok : Acc
 
   -- Induction along what feeds: each needed (chosen cells g) after those that it is fed by.
   pub by-feeding : (P : ℕ → Type 0) → ((l : ℕ) → NeedsOf cells g l → ((x : ℕ) → List·Memᴰ x (feeds cells (cutsOf g) l (sourceOf cells g l)) → P x) → P l) → (l : ℕ) → NeedsOf cells g l → P l
-  unfolding feeds
-  by-feeding P step l n =
-      along (λ v. (x : ℕ) → varOf x ≡ v → NeedsOf cells g x → P x) (placingOrder g)
-      (λ u h x p k. absurd (h (Memᴰ·cast (sym p) (placed x k)))) turn (varOf l) l refl n
-    where
-      turn : (pre : List ℕ) (v : ℕ) (post : List ℕ) → placingOrder g ≡ pre ++ (v ∷ post) → ((u : ℕ) → ¬ List·Memᴰ u (v ∷ post) → (x : ℕ) → varOf x ≡ u → NeedsOf cells g x → P x)
-          → (x : ℕ) → varOf x ≡ v → NeedsOf cells g x → P x
-      turn pre v post e ih x p k = go (sourceOf cells g x) refl
-        where
-          straight : (y : ℕ) → varOf y ≡ v → NeedsOf cells g y → Straight (sourceOf cells g y) → P y
-          straight y q m t = step y m (λ z i. ih (varOf z) (straight-before cells g (order-once g ok) pre v post e y q t z i) z refl (fed m i))
-
-          go : (s : Source) → sourceOf cells g x ≡ s → P x
-          go Input s = straight x p k (subst Straight (sym s) tt)
-          go Nothing s = absurd (subst (Allowed cells g x) s (chosen-fine cells g (order-once g ok) x (present x k) .0 .allowed))
-          go (Matched m) s = straight x p k (subst Straight (sym s) tt)
-          go (Inverted c) s =
-              step x k (λ z i.
-              let q : z ≡ opposite x = List·Memᴰ·eq-of-singleton (subst (λ (r : Source). List·Memᴰ z (feeds cells (cutsOf g) x r)) s i) in
-              subst P (sym q) (straight (opposite x) (opposite-var x ∙ p) (subst (NeedsOf cells g) q (fed k i)) (chosen-fine cells g (order-once g ok) x (present x k) .1 c s)))
+  unfolding chosen-cover
+  by-feeding = feeding-first cells g (order-once g ok) (g .outputs) (chosen-cover cells g (order-once g ok) (g .outputs) present-outputs)
 
   -- ---- the gates
 
@@ -201,6 +183,9 @@ module _ (cells : List Cell) (fit : T (libraryFits cells)) (g : Graph) (ok : Acc
 
   pub back : (f : Figures) → readBlif (netlistText g (chosenGates cells g) f) ≡ some (blifOf g (chosenGates cells g))
   back f = read-back g (chosenGates cells g) f gate-named
+
+  pub figures-said : (f : Figures) → readFigures (netlistText g (chosenGates cells g) f) ≡ some f
+  figures-said f = figures-back g (chosenGates cells g) f gate-named
 
   -- ---- an input's own net
 

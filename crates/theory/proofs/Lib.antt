@@ -4,4 +4,5 @@ pub mod Values
 pub mod Arrivals
 pub mod Outcomes
 pub mod Formed
+pub mod Gated
 pub mod Demanded

@@ -19,7 +19,7 @@ use Rattle.theory_graph.proofs.Lists.{each-in, each-out, elem-in, elem-out}
 use Rattle.theory_graph.proofs.Runs.{twice-apart}
 use Rattle.theory_graph.proofs.Literals.{lit-var, lit-neg, lit-whole}
 use Rattle.theory_cover.proofs.Turns.{chosen-none}
-use Rattle.theory_cover.proofs.Earliest.{Straight}
+use Rattle.theory_cover.proofs.Covers.{Straight}
 use Rattle.theory_cover.proofs.Sound.{src, closed, straight-before, chosen-fine, not-opposite}
 
 module _ (cells : List Cell) (g : Graph) (phase : ℕ → Phase) where

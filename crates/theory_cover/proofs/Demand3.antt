@@ -14,16 +14,17 @@ use Rattle.model.specs.Base.{lowest}
 use Rattle.model.specs.Graph.{Graph}
 use Rattle.model.specs.Cuts.{crowded}
 use Rattle.model.specs.Choice.{absent, chosen}
-use Rattle.model.specs.Cover.{Needed, output, Cover}
+use Rattle.model.specs.Cover.{Needed, output, Cover, CoverArrivals}
 use Rattle.model.specs.Netlist.{refused, mapped, mapGraph, uncovered, printed, mapChosen, mapCut, mapPlaced}
-use Rattle.model.specs.Demands.{LowestUncovered, ChosenCover, choiceText, choiceFigures}
+use Rattle.model.specs.Demands.{Timed, LowestUncovered, ChosenCover, choiceText, choiceFigures}
 use Rattle.model.specs.declared.Cell.{Cell}
 use Rattle.model.specs.declared.Phase.{Phase}
 use Rattle.theory_graph.proofs.Accepted.{Accepted}
 use Rattle.theory_graph.proofs.Lists.{getD-in}
 use Rattle.theory_graph.proofs.Placing.{order-once}
+use Rattle.theory_cover.proofs.Covers.{covers-timed}
 use Rattle.theory_cover.proofs.Earliest.{earliest}
-use Rattle.theory_cover.proofs.Sound.{chosen-cover, nothing-iff}
+use Rattle.theory_cover.proofs.Sound.{chosen-cover, chosen-timed, nothing-iff}
 
 -- the first output that is chosen nothing
 record First (phase : ℕ → Phase) (ls : List ℕ) (j : ℕ) : Type 0 where
@@ -56,9 +57,13 @@ starts phase k (l ∷ ls) = go (absent (phase l .source)) refl (uncovered phase 
 
 module _ (cells : List Cell) (g : Graph) (ok : Accepted g) where
   -- a phase that a cover needs is chosen a source, and none is earlier in the cover
-  pub choice-earliest : (outs : List ℕ) (c : Cover cells g outs) (l : ℕ) → Needed cells g outs (c .source) l
-      → (absent (chosen cells g l .source) ≡ false) × (chosen cells g l .arrival ≤ c .arrival l)
-  choice-earliest outs c l n = let b = earliest cells g (order-once g ok) outs c l n in (b .present, b .early)
+  pub choice-earliest : (outs : List ℕ) (c : Cover cells g outs) (at : ℕ → ℕ) → CoverArrivals cells g outs c at → (l : ℕ) → Needed cells g outs (c .source) l
+      → (absent (chosen cells g l .source) ≡ false) × (chosen cells g l .arrival ≤ at l)
+  choice-earliest outs c times t l n = let b = earliest cells g (order-once g ok) outs c times t l n in (b .present, b .early)
+
+  -- every cover has arrivals, and no others
+  pub cover-timed : (outs : List ℕ) (c : Cover cells g outs) → Timed cells g outs c
+  cover-timed = covers-timed cells g (order-once g ok)
 
   -- "refusal 17 comes exactly when some output has no cover": the choice gives a phase Nothing exactly where it has none
   pub choice-nothing : (l : ℕ) → T (absent (chosen cells g l .source)) ↔ (¬ Cover cells g (l ∷ []))
@@ -66,7 +71,7 @@ module _ (cells : List Cell) (g : Graph) (ok : Accepted g) where
 
   -- what has a cover is chosen a source, and the other way round
   pub covered-present : (l : ℕ) → Cover cells g (l ∷ []) → absent (chosen cells g l .source) ≡ false
-  covered-present l c = choice-earliest (l ∷ []) c l (output (List·Memᴰ·head refl)) .0
+  covered-present l c = let t = cover-timed (l ∷ []) c .has in choice-earliest (l ∷ []) c (t .0) (t .1) l (output (List·Memᴰ·head refl)) .0
 
   pub present-covered : (l : ℕ) → absent (chosen cells g l .source) ≡ false → Cover cells g (l ∷ [])
   present-covered l e = chosen-cover cells g (order-once g ok) (l ∷ []) (λ x i. ap (λ (y : ℕ). absent (chosen cells g y .source)) (List·Memᴰ·eq-of-singleton i) ∙ e)
@@ -77,7 +82,7 @@ module _ (cells : List Cell) (g : Graph) (ok : Accepted g) where
   choice-cover h = record {
     cover = chosen-cover cells g (order-once g ok) (g .outputs) (λ l i. covered-present l (h l i));
     sources = λ l. refl;
-    arrivals = λ l. refl;
+    arrivals = chosen-timed cells g (order-once g ok) (g .outputs) (λ l i. covered-present l (h l i));
   }
 
   lowest-from : (k : ℕ) (us : List ℕ) → Starts (chosen cells g) 0 (g .outputs) us → (printed cells g (chosen cells g) us ≡ refused 17 k) ↔ LowestUncovered cells g k

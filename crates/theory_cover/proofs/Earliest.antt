@@ -5,16 +5,16 @@ use native.Mathlib.Nat.{le-refl, le-trans, le-of-eq, zero-add}
 use native.Mathlib.Omega.{arith}
 use mathlib.Core.Path.{_≡_, refl, sym, _∙_, ap, subst}
 use mathlib.Core.Bool.{Bool, true, false, not, cond, true≢false}
-use mathlib.Core.List.{List, [], _∷_, _++_, map, List·Memᴰ, List·Memᴰ·head, List·Memᴰ·tail, List·Memᴰ·not-nil, List·Memᴰ·eq-of-singleton, Memᴰ·append-left, Memᴰ·cast}
+use mathlib.Core.List.{List, [], _∷_, _++_, map, List·Memᴰ, List·Memᴰ·head, List·Memᴰ·tail, List·Memᴰ·not-nil, List·Memᴰ·eq-of-singleton, Memᴰ·cast}
 use lib.Dec.{T}
-use lib.ListN.{length, getD}
+use lib.ListN.{getD}
 use Rattle.model.specs.Base.{find}
 use Rattle.model.specs.Cells.{cellAt, noCell}
-use Rattle.model.specs.Graph.{Graph, Node, constant, input, undefined, both, node, placeF, placingOrder, varOf, negated, opposite}
+use Rattle.model.specs.Graph.{Graph, Node, constant, input, undefined, both, node, placingOrder, varOf, negated, opposite}
 use Rattle.model.specs.Cuts.{nodeCuts, cutsOf}
 use Rattle.model.specs.Matching.{matchNets}
 use Rattle.model.specs.Choice.{Phases, noPhase, feeds, cellOf, latest, absent, choose, phaseOf, matchPhase, matchPhases, inverterPhases, direct, chosen}
-use Rattle.model.specs.Cover.{IsMatch, IsOwn, IsInverting, Allowed, Needed, output, fed, directly, through, arrivalBy, Cover}
+use Rattle.model.specs.Cover.{IsMatch, IsOwn, IsInverting, Allowed, Needed, output, fed, arrivalBy, Cover, CoverArrivals}
 use Rattle.model.specs.Demands.{Distinct}
 use Rattle.model.specs.declared.Cell.{Cell}
 use Rattle.model.specs.declared.Match.{Match}
@@ -22,11 +22,12 @@ use Rattle.model.specs.declared.Phase.{Phase}
 use Rattle.model.specs.declared.Source.{Source}
 use Rattle.model.specs.declared.Source.the-variants.{Input, Cell as Matched, Inverter as Inverted, Nothing}
 use Rattle.theory_graph.proofs.Lists.{map-map}
-use Rattle.theory_graph.proofs.Literals.{opposite-var, opposite-neg, opposite-back}
+use Rattle.theory_graph.proofs.Literals.{opposite-var, opposite-neg}
 use Rattle.theory_graph.proofs.Runs.{along}
 use Rattle.theory_graph.proofs.Nodes.{node-input}
-use Rattle.theory_graph.proofs.CutFacts.{cutsKnown, cuts-entry, cuts-none, leaves-before}
+use Rattle.theory_graph.proofs.CutFacts.{cutsKnown, cuts-entry, leaves-before}
 use Rattle.theory_cover.proofs.Turns.{Beats, choose-beats, phasesKnown, chosen-known, own, chosen-entry}
+use Rattle.theory_cover.proofs.Covers.{Straight, fed-straight, unplaced-never, covers-timed}
 use Rattle.theory_cover.proofs.Matches.{cutFor, cut-listed, match-tried, matched-leaf, matchPhase-in, invertedPhase, inverter-in}
 
 -- ---- a cell's arrival
@@ -65,13 +66,6 @@ arrival-inverted cells g arrival l i = refl
 
 -- ---- the theorem
 
--- a source that is no inverter
-abbrev pub Straight : Source → Type 0
-Straight Input = Unit {0}
-Straight Nothing = ⊥
-Straight (Matched m) = Unit {0}
-Straight (Inverted c) = ⊥
-
 -- a variable with a match on a cut has its best match without inverters: an input has only the cut of it alone, and a variable that nothing
 -- defines has none
 pub match-direct : (cells : List Cell) (g : Graph) → Distinct (placingOrder g) → (pre : List ℕ) (l : ℕ) (post : List ℕ) → placingOrder g ≡ pre ++ (varOf l ∷ post)
@@ -92,39 +86,20 @@ match-direct cells g once pre l post e m h known = at (node g (varOf l)) refl
     at undefined q = absurd (List·Memᴰ·not-nil (cut-at undefined q))
     at (both a b) q = refl
 
-module _ (cells : List Cell) (g : Graph) (once : Distinct (placingOrder g)) (outs : List ℕ) (c : Cover cells g outs) where
+module _ (cells : List Cell) (g : Graph) (once : Distinct (placingOrder g)) (outs : List ℕ) (c : Cover cells g outs) (at : ℕ → ℕ) (times : CoverArrivals cells g outs c at) where
   abbrev Needs : ℕ → Type 0
   Needs l = Needed cells g outs (c .source) l
 
-  -- the phase that an inverter is fed by has no inverter itself: "No circle"
-  fed-straight : (l i : ℕ) → Needs l → c .source l ≡ Inverted i → Needs (opposite l) × Straight (c .source (opposite l))
-  unfolding feeds
-  fed-straight l i n e = (n′, go (c .source (opposite l)) refl)
-    where
-      feeding : List·Memᴰ (opposite l) (feeds cells (cutsOf g) l (c .source l))
-      feeding = subst (λ (s : Source). List·Memᴰ (opposite l) (feeds cells (cutsOf g) l s)) (sym e) (List·Memᴰ·head refl)
-
-      n′ : Needs (opposite l)
-      n′ = fed n feeding
-
-      go : (s : Source) → c .source (opposite l) ≡ s → Straight s
-      go Input h = tt
-      go Nothing h = subst (λ (s : Source). Allowed cells g (opposite l) s) h (c .allowed (opposite l) n′)
-      go (Matched m) h = tt
-      go (Inverted j) h =
-          absurd (c .noCircle l n
-          (through (directly (subst (λ (s : Source). List·Memᴰ l (feeds cells (cutsOf g) (opposite l) s)) (sym h) (List·Memᴰ·head (sym (opposite-back l))))) feeding))
-
   -- what the theorem says of the phases of a variable
   Good : ℕ → Type 0
-  Good v = (l : ℕ) → varOf l ≡ v → Needs l → Beats (chosen cells g l) (c .arrival l)
+  Good v = (l : ℕ) → varOf l ≡ v → Needs l → Beats (chosen cells g l) (at l)
 
   -- a match of the cover is as early in the choice as in the cover
   match-beats : (pre : List ℕ) (l : ℕ) (post : List ℕ) → placingOrder g ≡ pre ++ (varOf l ∷ post) → ((u : ℕ) → ¬ List·Memᴰ u (varOf l ∷ post) → Good u)
-      → Needs l → (m : Match) → c .source l ≡ Matched m → IsMatch cells g l m → Beats (matchPhase cells (phasesKnown cells g pre) (cutFor g l m) m) (c .arrival l)
+      → Needs l → (m : Match) → c .source l ≡ Matched m → IsMatch cells g l m → Beats (matchPhase cells (phasesKnown cells g pre) (cutFor g l m) m) (at l)
   unfolding Good feeds absent
   match-beats pre l post e ih n m s h =
-      subst (λ (w : Phase). Beats w (c .arrival l)) (sym (matchPhase-in cells (phasesKnown cells g pre) (cutFor g l m) m (λ x i. each-beats x i .present)))
+      subst (λ (w : Phase). Beats w (at l)) (sym (matchPhase-in cells (phasesKnown cells g pre) (cutFor g l m) m (λ x i. each-beats x i .present)))
       (record { present = refl; early = le-trans by-pins (le-of-eq (sym on-time)) })
     where
       fs : List ℕ
@@ -136,61 +111,61 @@ module _ (cells : List Cell) (g : Graph) (once : Distinct (placingOrder g)) (out
       needs : (x : ℕ) → List·Memᴰ x fs → Needs x
       needs x i = fed n (subst (λ (t : Source). List·Memᴰ x (feeds cells (cutsOf g) l t)) (sym s) i)
 
-      each-beats : (x : ℕ) → List·Memᴰ x fs → Beats (look x) (c .arrival x)
+      each-beats : (x : ℕ) → List·Memᴰ x fs → Beats (look x) (at x)
       each-beats x i =
           let before : ¬ List·Memᴰ (varOf x) (varOf l ∷ post) =
           leaves-before g pre (varOf l) post e once (cutFor g l m) (cut-listed cells g l m h) (h .notAlone) (varOf x) (matched-leaf cells g l m x h i) in
-          subst (λ (w : Phase). Beats w (c .arrival x)) (chosen-known cells g pre (varOf l) post e x before) (ih (varOf x) before x refl (needs x i))
+          subst (λ (w : Phase). Beats w (at x)) (chosen-known cells g pre (varOf l) post e x before) (ih (varOf x) before x refl (needs x i))
 
-      by-pins : latest (map (λ (w : Phase). w .arrival) (map look fs)) (cellAt cells (m .cell) .delays) ≤ latest (map (c .arrival) fs) (cellAt cells (m .cell) .delays)
-      by-pins = subst (λ (ts : List ℕ). latest ts (cellAt cells (m .cell) .delays) ≤ latest (map (c .arrival) fs) (cellAt cells (m .cell) .delays))
+      by-pins : latest (map (λ (w : Phase). w .arrival) (map look fs)) (cellAt cells (m .cell) .delays) ≤ latest (map at fs) (cellAt cells (m .cell) .delays)
+      by-pins = subst (λ (ts : List ℕ). latest ts (cellAt cells (m .cell) .delays) ≤ latest (map at fs) (cellAt cells (m .cell) .delays))
           (sym (map-map (λ (w : Phase). w .arrival) look fs))
-          (latest-mono (λ (x : ℕ). look x .arrival) (c .arrival) fs (cellAt cells (m .cell) .delays) (λ x i. each-beats x i .early))
+          (latest-mono (λ (x : ℕ). look x .arrival) at fs (cellAt cells (m .cell) .delays) (λ x i. each-beats x i .early))
 
-      on-time : c .arrival l ≡ latest (map (c .arrival) fs) (cellAt cells (m .cell) .delays)
-      on-time = c .timed l n ∙ ap (arrivalBy cells g (c .arrival) l) s ∙ arrival-matched cells g (c .arrival) l m
+      on-time : at l ≡ latest (map at fs) (cellAt cells (m .cell) .delays)
+      on-time = times .timed l n ∙ ap (arrivalBy cells g at l) s ∙ arrival-matched cells g at l m
 
   -- where the cover has no inverter, the choice without inverters is as early
   straight-beats : (pre : List ℕ) (l : ℕ) (post : List ℕ) → placingOrder g ≡ pre ++ (varOf l ∷ post) → ((u : ℕ) → ¬ List·Memᴰ u (varOf l ∷ post) → Good u)
-      → Needs l → Straight (c .source l) → Beats (direct cells g (phasesKnown cells g pre) (varOf l) (cutsOf g (varOf l)) (negated l) (node g (varOf l))) (c .arrival l)
+      → Needs l → Straight (c .source l) → Beats (direct cells g (phasesKnown cells g pre) (varOf l) (cutsOf g (varOf l)) (negated l) (node g (varOf l))) (at l)
   unfolding direct
   straight-beats pre l post e ih n = go (c .source l) refl
     where
-      own : (b : Bool) → T (not b) → Beats (cond b noPhase (record { source = Input; arrival = 0 })) (c .arrival l)
+      own : (b : Bool) → T (not b) → Beats (cond b noPhase (record { source = Input; arrival = 0 })) (at l)
       own true t = absurd t
       own false t = record { present = refl; early = zero-le }
 
       tried : (m : Match) → c .source l ≡ Matched m → IsMatch cells g l m
-          → Beats (choose (matchPhases cells g (phasesKnown cells g pre) (varOf l) (negated l) 0 (cutsOf g (varOf l)))) (c .arrival l)
+          → Beats (choose (matchPhases cells g (phasesKnown cells g pre) (varOf l) (negated l) 0 (cutsOf g (varOf l)))) (at l)
       tried m s h =
-          choose-beats (matchPhase cells (phasesKnown cells g pre) (cutFor g l m) m) (c .arrival l) (matchPhases cells g (phasesKnown cells g pre) (varOf l) (negated l) 0 (cutsOf g (varOf l)))
+          choose-beats (matchPhase cells (phasesKnown cells g pre) (cutFor g l m) m) (at l) (matchPhases cells g (phasesKnown cells g pre) (varOf l) (negated l) 0 (cutsOf g (varOf l)))
           (match-tried cells g (phasesKnown cells g pre) l m h) (match-beats pre l post e ih n m s h)
 
-      go : (s : Source) → c .source l ≡ s → Straight s → Beats (direct cells g (phasesKnown cells g pre) (varOf l) (cutsOf g (varOf l)) (negated l) (node g (varOf l))) (c .arrival l)
+      go : (s : Source) → c .source l ≡ s → Straight s → Beats (direct cells g (phasesKnown cells g pre) (varOf l) (cutsOf g (varOf l)) (negated l) (node g (varOf l))) (at l)
       go Input s t =
           let o : IsOwn g l = subst (Allowed cells g l) s (c .allowed l n) in
-          subst (λ (k : Node). Beats (direct cells g (phasesKnown cells g pre) (varOf l) (cutsOf g (varOf l)) (negated l) k) (c .arrival l))
+          subst (λ (k : Node). Beats (direct cells g (phasesKnown cells g pre) (varOf l) (cutsOf g (varOf l)) (negated l) k) (at l))
           (sym (node-input g (varOf l) once (o .isInput))) (own (negated l) (o .positive))
       go Nothing s t = absurd t
       go (Matched m) s t =
           let h : IsMatch cells g l m = subst (Allowed cells g l) s (c .allowed l n) in
-          subst (λ (w : Phase). Beats w (c .arrival l)) (sym (match-direct cells g once pre l post e m h (phasesKnown cells g pre))) (tried m s h)
+          subst (λ (w : Phase). Beats w (at l)) (sym (match-direct cells g once pre l post e m h (phasesKnown cells g pre))) (tried m s h)
       go (Inverted i) s t = absurd t
 
   -- the same at a variable and a phase that are equal to the literal's
   straight-at : (pre : List ℕ) (v : ℕ) (post : List ℕ) → placingOrder g ≡ pre ++ (v ∷ post) → ((u : ℕ) → ¬ List·Memᴰ u (v ∷ post) → Good u)
       → (l : ℕ) (b : Bool) → varOf l ≡ v → negated l ≡ b → Needs l → Straight (c .source l)
-      → Beats (direct cells g (phasesKnown cells g pre) v (cutsOf g v) b (node g v)) (c .arrival l)
+      → Beats (direct cells g (phasesKnown cells g pre) v (cutsOf g v) b (node g v)) (at l)
   straight-at pre v post e ih l b p q n t =
-      subst (λ (b : Bool). Beats (direct cells g (phasesKnown cells g pre) v (cutsOf g v) b (node g v)) (c .arrival l)) q
+      subst (λ (b : Bool). Beats (direct cells g (phasesKnown cells g pre) v (cutsOf g v) b (node g v)) (at l)) q
       (subst (λ (v : ℕ). placingOrder g ≡ pre ++ (v ∷ post) → ((u : ℕ) → ¬ List·Memᴰ u (v ∷ post) → Good u)
-      → Beats (direct cells g (phasesKnown cells g pre) v (cutsOf g v) (negated l) (node g v)) (c .arrival l)) p
+      → Beats (direct cells g (phasesKnown cells g pre) v (cutsOf g v) (negated l) (node g v)) (at l)) p
       (λ e′ ih′. straight-beats pre l post e′ ih′ n t) e ih)
 
   -- the phases of a variable, in its turn
   turn : (pre : List ℕ) (v : ℕ) (post : List ℕ) → placingOrder g ≡ pre ++ (v ∷ post) → ((u : ℕ) → ¬ List·Memᴰ u (v ∷ post) → Good u) → Good v
   unfolding Good cellAt absent
-  turn pre v post e ih l p n = subst (λ (w : Phase). Beats w (c .arrival l)) (sym (chosen-entry cells g pre v post e once l p)) (go (c .source l) refl)
+  turn pre v post e ih l p n = subst (λ (w : Phase). Beats w (at l)) (sym (chosen-entry cells g pre v post e once l p)) (go (c .source l) refl)
     where
       other : Phase
       other = own cells g pre v (not (negated l))
@@ -198,56 +173,31 @@ module _ (cells : List Cell) (g : Graph) (once : Distinct (placingOrder g)) (out
       tries : List Phase
       tries = own cells g pre v (negated l) ∷ inverterPhases cells 0 other
 
-      mine : Straight (c .source l) → Beats (choose tries) (c .arrival l)
-      mine t = choose-beats (own cells g pre v (negated l)) (c .arrival l) tries (List·Memᴰ·head refl) (straight-at pre v post e ih l (negated l) p refl n t)
+      mine : Straight (c .source l) → Beats (choose tries) (at l)
+      mine t = choose-beats (own cells g pre v (negated l)) (at l) tries (List·Memᴰ·head refl) (straight-at pre v post e ih l (negated l) p refl n t)
 
-      go : (s : Source) → c .source l ≡ s → Beats (choose tries) (c .arrival l)
+      go : (s : Source) → c .source l ≡ s → Beats (choose tries) (at l)
       go Input s = mine (subst Straight (sym s) tt)
       go Nothing s = absurd (subst (Allowed cells g l) s (c .allowed l n))
       go (Matched m) s = mine (subst Straight (sym s) tt)
       go (Inverted i) s =
-          let f = fed-straight l i n s in
+          let f = fed-straight cells g once outs c l i n s in
           let h : IsInverting cells i = subst (Allowed cells g l) s (c .allowed l n) in
-          let b : Beats other (c .arrival (opposite l)) =
+          let b : Beats other (at (opposite l)) =
           straight-at pre v post e ih (opposite l) (not (negated l)) (opposite-var l ∙ p) (opposite-neg l) (f .0) (f .1) in
-          let timed : c .arrival l ≡ latest (c .arrival (opposite l) ∷ []) (cellAt cells i .delays) =
-          c .timed l n ∙ ap (arrivalBy cells g (c .arrival) l) s ∙ arrival-inverted cells g (c .arrival) l i in
-          choose-beats (invertedPhase (getD cells i noCell) i other) (c .arrival l) tries
+          let timed : at l ≡ latest (at (opposite l) ∷ []) (cellAt cells i .delays) =
+          times .timed l n ∙ ap (arrivalBy cells g at l) s ∙ arrival-inverted cells g at l i in
+          choose-beats (invertedPhase (getD cells i noCell) i other) (at l) tries
           (List·Memᴰ·tail (inverter-in cells 0 i i other (zero-add i) (h .hasCell) (h .inverts) (b .present)))
           (record { present = refl; early = inverted-soon cells i (b .early) timed })
 
-  -- what is never placed has no source but inverters
-  unplaced-straight : (l : ℕ) → ¬ List·Memᴰ (varOf l) (placingOrder g) → Needs l → ¬ Straight (c .source l)
-  unfolding placingOrder
-  unplaced-straight l h n = go (c .source l) refl
-    where
-      go : (s : Source) → c .source l ≡ s → ¬ Straight s
-      go Input s t =
-          let o : IsOwn g l = subst (Allowed cells g l) s (c .allowed l n) in
-          h (List·Memᴰ·tail (Memᴰ·append-left (placeF (length (g .ands)) (g .ands) (0 ∷ g .inputs)) (o .isInput)))
-      go Nothing s t = t
-      go (Matched m) s t =
-          let k : IsMatch cells g l m = subst (Allowed cells g l) s (c .allowed l n) in
-          List·Memᴰ·not-nil (subst (λ (cs : List (List ℕ)). List·Memᴰ (cutFor g l m) cs) (cuts-none g (varOf l) h) (cut-listed cells g l m k))
-      go (Inverted i) s t = t
-
-  unplaced-never : (l : ℕ) → ¬ List·Memᴰ (varOf l) (placingOrder g) → ¬ Needs l
-  unplaced-never l h n = go (c .source l) refl
-    where
-      go : (s : Source) → c .source l ≡ s → ⊥
-      go Input s = unplaced-straight l h n (subst Straight (sym s) tt)
-      go Nothing s = subst (Allowed cells g l) s (c .allowed l n)
-      go (Matched m) s = unplaced-straight l h n (subst Straight (sym s) tt)
-      go (Inverted i) s =
-          let f = fed-straight l i n s in
-          unplaced-straight (opposite l) (λ m. h (Memᴰ·cast (sym (opposite-var l)) m)) (f .0) (f .1)
-
   -- Demand 3 at the choice: a phase that a cover needs is chosen a source, and none is earlier in the cover
-  pub earliest : (l : ℕ) → Needs l → Beats (chosen cells g l) (c .arrival l)
+  pub earliest : (l : ℕ) → Needs l → Beats (chosen cells g l) (at l)
   unfolding Good
-  earliest l n = along Good (placingOrder g) (λ u h x p k. absurd (unplaced-never x (λ m. h (Memᴰ·cast (sym p) m)) k)) turn (varOf l) l refl n
+  earliest l n = along Good (placingOrder g) (λ u h x p k. absurd (unplaced-never cells g once outs c x (λ m. h (Memᴰ·cast (sym p) m)) k)) turn (varOf l) l refl n
 
 -- a phase that is chosen no source has no cover
 pub nothing-uncovered : (cells : List Cell) (g : Graph) → Distinct (placingOrder g) → (l : ℕ) → absent (chosen cells g l .source) ≡ true → ¬ Cover cells g (l ∷ [])
 nothing-uncovered cells g once l h c =
-    true≢false (sym h ∙ earliest cells g once (l ∷ []) c l (output (List·Memᴰ·head refl)) .present)
+    let t = covers-timed cells g once (l ∷ []) c .has in
+    true≢false (sym h ∙ earliest cells g once (l ∷ []) c (t .0) (t .1) l (output (List·Memᴰ·head refl)) .present)

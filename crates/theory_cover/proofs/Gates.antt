@@ -51,7 +51,7 @@ bit-tabulate f zero r h = absurd (not-suc-le-zero h)
 bit-tabulate f (suc n) zero h = bit-low (f 0) (tabulate (λ r. f (suc r)) n)
 bit-tabulate f (suc n) (suc r) h = bit-high (f 0) (tabulate (λ q. f (suc q)) n) r ∙ bit-tabulate (λ q. f (suc q)) n r (le-of-suc-le-suc h)
 
-two-pow : (n : ℕ) → 2 ^ suc n ≡ 2 * 2 ^ n
+pub two-pow : (n : ℕ) → 2 ^ suc n ≡ 2 * 2 ^ n
 two-pow n = pow-suc 2 n ∙ (let e : 2 ^ n * 2 ≡ 2 * 2 ^ n = omega arith in e)
 
 one-le : (b : Bool) → one b ≤ 1
@@ -127,7 +127,7 @@ pins-row w (suc n) (p ∷ ps) mask cut r h t =
     (ap one (ap₂ flip (lit-neg (bit mask 0) (getD cut p 0)) (ap w (lit-var (bit mask 0) (getD cut p 0)) ∙ sym (h p (ltb→lt p (length cut) (q .0))))))
     (pins-row w n ps (mask / 2) cut r h (q .1))
 
-beq-eq : (a b : Bool) → T (Bool·beq a b) → a ≡ b
+pub beq-eq : (a b : Bool) → T (Bool·beq a b) → a ≡ b
 beq-eq true true t = refl
 beq-eq true false t = absurd t
 beq-eq false true t = absurd t
@@ -159,7 +159,7 @@ cut-length g once =
 
 -- ---- the gate
 
-phase-bit : (neg : Bool) (t r : ℕ) → t < 2 ^ 16 → r < 16 → bit (phaseTable neg t) r ≡ flip neg (bit t r)
+pub phase-bit : (neg : Bool) (t r : ℕ) → t < 2 ^ 16 → r < 16 → bit (phaseTable neg t) r ≡ flip neg (bit t r)
 unfolding phaseTable flip
 phase-bit true t r h k = bit-complement 16 t r h k
 phase-bit false t r h k = refl

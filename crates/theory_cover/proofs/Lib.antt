@@ -1,8 +1,10 @@
 pub mod Turns
 pub mod Matches
+pub mod Covers
 pub mod Earliest
 pub mod Sound
 pub mod Demand3
 pub mod Gates
+pub mod Pins
 pub mod Pairs
 pub mod Preference

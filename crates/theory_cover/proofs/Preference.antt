@@ -29,7 +29,8 @@ use Rattle.theory_graph.proofs.Placing.{order-once}
 use Rattle.theory_graph.proofs.Runs.{along}
 use Rattle.theory_cover.proofs.Pairs.{UpTo, short, less, even, up-refl, up-trans, up-head, up-cons, up-not-after, Pairwise, pairwise-append, pairwise-keep, pairwise-map, pairwise-each, below-ascends}
 use Rattle.theory_cover.proofs.Matches.{cellMatches-out, cutMatches-out, cutPhases-out, matchPhases-out, cutFor, match-tried, matchPhase-in, matchPhase-out, invertedPhase, inverter-in, inverter-out}
-use Rattle.theory_cover.proofs.Earliest.{Straight, latest-one, arrival-matched, arrival-inverted, match-direct}
+use Rattle.theory_cover.proofs.Covers.{Straight}
+use Rattle.theory_cover.proofs.Earliest.{latest-one, arrival-matched, arrival-inverted, match-direct}
 use Rattle.theory_cover.proofs.Sound.{Between, the-first, the-second, earlier-between, choose-in, match-known, match-times, own-fine, chosen-fine}
 use Rattle.theory_cover.proofs.Turns.{phasesKnown, own, chosen-entry, opposite-entry}
 

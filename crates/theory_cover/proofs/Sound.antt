@@ -14,7 +14,7 @@ use Rattle.model.specs.Graph.{Graph, Node, constant, input, undefined, both, no
 use Rattle.model.specs.Cuts.{cutsOf}
 use Rattle.model.specs.Matching.{matchNets}
 use Rattle.model.specs.Choice.{Phases, noPhase, feeds, latest, absent, earlier, choose, phaseOf, matchPhase, matchPhases, inverterPhases, direct, chosen}
-use Rattle.model.specs.Cover.{IsMatch, Allowed, Needed, output, fed, Feeds, directly, through, arrivalBy, Cover}
+use Rattle.model.specs.Cover.{IsMatch, Allowed, Needed, output, fed, Feeds, directly, through, arrivalBy, Cover, CoverArrivals}
 use Rattle.model.specs.Demands.{Distinct}
 use Rattle.model.specs.declared.Cell.{Cell}
 use Rattle.model.specs.declared.Match.{Match}
@@ -28,7 +28,8 @@ use Rattle.theory_graph.proofs.Nodes.{input-out}
 use Rattle.theory_graph.proofs.CutFacts.{leaves-before, leaves-closed}
 use Rattle.theory_cover.proofs.Turns.{phasesKnown, chosen-known, own, chosen-entry, opposite-entry, chosen-none}
 use Rattle.theory_cover.proofs.Matches.{cutFor, cut-listed, match-out, matched-leaf, matchedPhase, matchPhase-out, invertedPhase, InverterPhase, inverter-out}
-use Rattle.theory_cover.proofs.Earliest.{Straight, latest-one, arrival-matched, arrival-inverted, nothing-uncovered}
+use Rattle.theory_cover.proofs.Covers.{Straight}
+use Rattle.theory_cover.proofs.Earliest.{latest-one, arrival-matched, arrival-inverted, nothing-uncovered}
 
 -- ---- what is chosen is one of those tried
 
@@ -328,11 +329,14 @@ module _ (cells : List Cell) (g : Graph) (once : Distinct (placingOrder g)) wher
   unfoldable pub chosen-cover : (outs : List ℕ) → ((l : ℕ) → List·Memᴰ l outs → absent (chosen cells g l .source) ≡ false) → Cover cells g outs
   chosen-cover outs h = record {
     source = src;
-    arrival = arr;
     allowed = λ l n. chosen-fine l (needed-present outs h l n) .0 .allowed;
     noCircle = λ l n. no-circle l (needed-present outs h l n);
-    timed = λ l n. chosen-fine l (needed-present outs h l n) .0 .timed;
   }
+
+  -- and the chosen arrivals are its arrivals
+  pub chosen-timed : (outs : List ℕ) (h : (l : ℕ) → List·Memᴰ l outs → absent (chosen cells g l .source) ≡ false) → CoverArrivals cells g outs (chosen-cover outs h) arr
+  unfolding chosen-cover
+  chosen-timed outs h = record { timed = λ l n. chosen-fine l (needed-present outs h l n) .0 .timed }
 
 -- Demand 3: the choice gives Nothing for a phase exactly where it has no cover
 pub nothing-iff : (cells : List Cell) (g : Graph) → Distinct (placingOrder g) → (l : ℕ) → T (absent (chosen cells g l .source)) ↔ (¬ Cover cells g (l ∷ []))

@@ -2,3 +2,5 @@ pub mod Splits
 pub mod Orders
 pub mod Ascending
 pub mod Recursion
+pub mod Greedy
+pub mod Crowded

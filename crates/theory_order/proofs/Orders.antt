@@ -55,9 +55,9 @@ follows-more xs ys sub f =
     record { line = f .line; isLine = f .isLine; isVar = f .isVar; left = sub (varOf (f .line .left)) (f .left); right = sub (varOf (f .line .right)) (f .right) }
 
 -- a turn of the placing: an AND not placed yet, with both operands placed
-record Turn (g : Graph) (placed : List ℕ) (v : ℕ) : Type 0 where
-  follows : Follows g placed v
-  new : ¬ List·Memᴰ v placed
+pub record Turn (g : Graph) (placed : List ℕ) (v : ℕ) : Type 0 where
+  pub follows : Follows g placed v
+  pub new : ¬ List·Memᴰ v placed
 
 turn-more : {g : Graph} {v : ℕ} (xs ys : List ℕ) → ((x : ℕ) → List·Memᴰ x xs → List·Memᴰ x ys) → ((x : ℕ) → List·Memᴰ x ys → List·Memᴰ x xs) → Turn g xs v → Turn g ys v
 turn-more {v = v} xs ys sub back t = record { follows = follows-more xs ys sub (t .follows); new = λ m. t .new (back v m) }
@@ -67,17 +67,17 @@ abbrev pub placedAnds : Graph → List ℕ
 placedAnds g = placeF (length (g .ands)) (g .ands) (0 ∷ g .inputs)
 
 -- the ANDs that are not placed yet
-abbrev waiting : List ℕ → And → Bool
+abbrev pub waiting : List ℕ → And → Bool
 waiting placed a = not (elem (a .var) placed)
 
 not-in : (v : ℕ) (xs : List ℕ) → T (not (elem v xs)) → ¬ List·Memᴰ v xs
 not-in v xs t m = T-not (elem v xs) t (elem-T v xs m)
 
-in-not : (v : ℕ) (xs : List ℕ) → ¬ List·Memᴰ v xs → T (not (elem v xs))
+pub in-not : (v : ℕ) (xs : List ℕ) → ¬ List·Memᴰ v xs → T (not (elem v xs))
 in-not v xs h = not-T (elem v xs) (λ t. h (elem-out v xs (is-true (elem v xs) t)))
 
 module _ (g : Graph) where
-  next-turn : (placed : List ℕ) (v : ℕ) → lowest (map (λ (a : And). a .var) (keep (ready placed) (g .ands))) ≡ some v → Turn g placed v
+  pub next-turn : (placed : List ℕ) (v : ℕ) → lowest (map (λ (a : And). a .var) (keep (ready placed) (g .ands))) ≡ some v → Turn g placed v
   unfolding ready
   next-turn placed v e =
       let at = map-out (λ (a : And). a .var) (keep (ready placed) (g .ands)) (lowest-in (map (λ (a : And). a .var) (keep (ready placed) (g .ands))) v e) in
@@ -121,7 +121,7 @@ module _ (g : Graph) where
       }
 
   -- one AND fewer waits after each turn
-  fewer-wait : (placed : List ℕ) (v : ℕ) → Turn g placed v → length (keep (waiting (v ∷ placed)) (g .ands)) < length (keep (waiting placed) (g .ands))
+  pub fewer-wait : (placed : List ℕ) (v : ℕ) → Turn g placed v → length (keep (waiting (v ∷ placed)) (g .ands)) < length (keep (waiting placed) (g .ands))
   fewer-wait placed v t =
       keep-less (waiting placed) (waiting (v ∷ placed)) (λ a w. in-not (a .var) placed (λ m. not-in (a .var) (v ∷ placed) w (List·Memᴰ·tail m)))
       (g .ands) (t .follows .isLine)

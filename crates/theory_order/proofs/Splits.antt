@@ -1,4 +1,4 @@
--- Laws of lists: where an element stands in a list, what is kept by a narrower test, and the lowest of a list. Assumes nothing.
+-- Laws of lists: where an element stands in a list, how many can, what is kept by a narrower test, and the lowest of a list. Assumes nothing.
 use Prim.Native.Nat.{ℕ, suc, _≤_, _<_}
 use native.Mathlib.Nat.{le-refl}
 use native.Mathlib.Omega.{arith}
@@ -8,7 +8,7 @@ use mathlib.Core.Bool.{Bool, true, false, not, cond, true≢false}
 use mathlib.Core.Option.{Option, none, some}
 use mathlib.Core.List.{List, [], _∷_, _++_, append-nil, List·Memᴰ, List·Memᴰ·head, List·Memᴰ·tail, List·Memᴰ·not-nil, List·Memᴰ·append-cases, Memᴰ·append-left, Memᴰ·append-right}
 use lib.Dec.{T, leb}
-use lib.ListN.{length}
+use lib.ListN.{length, length-append}
 use mir.Facts.{leb-yes, leb-no}
 use Rattle.model.specs.Base.{elem, keep, lowest, smaller}
 use Rattle.model.specs.Demands.{Distinct}
@@ -92,6 +92,24 @@ module _ {A : Type 0} where
     (λ m. let r = split-at xs m in h (x ∷ r .0) x (r .1) (ap (λ (ys : List A). x ∷ ys) (r .2)) (List·Memᴰ·head refl)),
     split-once xs (λ pre v post e m. h (x ∷ pre) v post (ap (λ (ys : List A). x ∷ ys) e) (List·Memᴰ·tail m)),
   )
+
+  -- different elements that all stand in a list are no more than it has
+  pub no-more : (xs ys : List A) → Distinct xs → ((x : A) → List·Memᴰ x xs → List·Memᴰ x ys) → length xs ≤ length ys
+  no-more [] ys d s = omega arith
+  no-more (x ∷ xs) ys d s =
+      let at = split-at ys (s x (List·Memᴰ·head refl)) in
+      let pre : List A = at .0 in
+      let post : List A = at .1 in
+      let e : ys ≡ pre ++ (x ∷ post) = at .2 in
+      let rest : length xs ≤ length (pre ++ post) = no-more xs (pre ++ post) (d .1) (others pre post e) in
+      omega (arith, rest, ap length e, length-append pre (x ∷ post), length-append pre post)
+    where
+      others : (pre post : List A) → ys ≡ pre ++ (x ∷ post) → (y : A) → List·Memᴰ y xs → List·Memᴰ y (pre ++ post)
+      others pre post e y m = go (between-first pre post (subst (λ (l : List A). List·Memᴰ y l) e (s y (List·Memᴰ·tail m))))
+        where
+          go : List·Memᴰ y (x ∷ pre ++ post) → List·Memᴰ y (pre ++ post)
+          go (List·Memᴰ·head h) = absurd (d .0 (subst (λ (z : A). List·Memᴰ z xs) h m))
+          go (List·Memᴰ·tail h) = h
 
 pub keep-length : {A : Type 0} (p : A → Bool) (xs : List A) → length (keep p xs) ≤ length xs
 unfolding keep

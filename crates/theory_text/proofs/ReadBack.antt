@@ -17,7 +17,7 @@ use Rattle.model.specs.Blif.{Binding, GateLine, Blif, longer, binding, bindings
 use Rattle.model.specs.declared.Cell.{Cell}
 use Rattle.model.specs.declared.Figures.{Figures}
 use Rattle.theory_graph.proofs.Lists.{map-map, map-same, is-true, is-false}
-use Rattle.theory_text.proofs.Plain.{Free, above, free-append, net-free, Plain, plain, name-plain}
+use Rattle.theory_text.proofs.Plain.{Free, above, free-append, decimal-free, net-free, Plain, plain, name-plain}
 
 -- ---- parts
 
@@ -99,7 +99,8 @@ unfolding bindingsFrom nameOf
 lineOf t = record { cell = nameOf (t .cell); bindings = bindingsFrom 65 (t .pins) (t .net) }
 
 -- a gate line without its line end
-body : List ℕ → List ℕ → ℕ → List ℕ
+unfoldable pub body : List ℕ → List ℕ → ℕ → List ℕ
+unfolding text pinWords
 body name ls o = text ".gate " ++ (name ++ (pinWords 65 ls ++ pinWords 79 (o ∷ [])))
 
 read-gate : (name : List ℕ) → Plain name → (ls : List ℕ) (o : ℕ) → readGate (body name ls o) ≡ some (record { cell = name; bindings = bindingsFrom 65 ls o })
@@ -135,7 +136,8 @@ body-free name (plain f h) ls o = (
 
 -- ---- the whole text
 
-bodyOf : Gate → List ℕ
+unfoldable pub bodyOf : Gate → List ℕ
+unfolding body nameOf
 bodyOf t = body (nameOf (t .cell)) (t .pins) (t .net)
 
 -- a gate's line is its body and a line end
@@ -182,22 +184,42 @@ unfoldable pub blifOf : Graph → List Gate → Blif
 unfolding lineOf
 blifOf g ts = record { inputs = map (λ (v : ℕ). netName (literal false v)) (g .inputs); outputs = map netName (g .outputs); gates = map lineOf ts }
 
--- the printed text reads back
-pub read-back : (g : Graph) (ts : List Gate) (f : Figures) → ((t : Gate) → List·Memᴰ t ts → T (isName (nameOf (t .cell)))) → readBlif (netlistText g ts f) ≡ some (blifOf g ts)
-unfolding readBlif netlistText blifOf readLines wordsAfter afterWord same only text andThen parts split onto
-read-back g ts f h =
-    ap (λ (ps : List (List ℕ)). readLines (text ".model top" ∷ ps))
+-- the `# gates` line without its line end
+unfoldable pub figuresLine : Figures → List ℕ
+unfolding text
+figuresLine f = text "# gates " ++ (decimal (f .gates) ++ (text " area " ++ (decimal (f .area) ++ (text " arrival " ++ decimal (f .arrival)))))
+
+figures-free : (f : Figures) → Free 10 (figuresLine f)
+unfolding figuresLine text
+figures-free f =
+    free-append 10 (text "# gates ") (decimal (f .gates) ++ (text " area " ++ (decimal (f .area) ++ (text " arrival " ++ decimal (f .arrival)))))
+    (refl, (refl, (refl, (refl, (refl, (refl, (refl, (refl, tt))))))))
+    (free-append 10 (decimal (f .gates)) (text " area " ++ (decimal (f .area) ++ (text " arrival " ++ decimal (f .arrival)))) (decimal-free 10 (f .gates) (lit< tt))
+    (free-append 10 (text " area ") (decimal (f .area) ++ (text " arrival " ++ decimal (f .arrival))) (refl, (refl, (refl, (refl, (refl, (refl, tt))))))
+    (free-append 10 (decimal (f .area)) (text " arrival " ++ decimal (f .arrival)) (decimal-free 10 (f .area) (lit< tt))
+    (free-append 10 (text " arrival ") (decimal (f .arrival)) (refl, (refl, (refl, (refl, (refl, (refl, (refl, (refl, (refl, tt)))))))))
+    (decimal-free 10 (f .arrival) (lit< tt))))))
+
+-- the line of names, without its line end
+unfoldable pub namesOf : List ℕ → List ℕ → List ℕ
+namesOf keyword nets = keyword ++ each (λ (l : ℕ). 32 ∷ netName l) nets
+
+-- the lines of the printed text
+unfoldable pub linesOf : Graph → List Gate → Figures → List (List ℕ)
+unfolding text namesOf bodyOf figuresLine
+linesOf g ts f =
+    text ".model top" ∷ namesOf (text ".inputs") (map (literal false) (g .inputs)) ∷ namesOf (text ".outputs") (g .outputs)
+    ∷ map bodyOf ts ++ (text ".end" ∷ figuresLine f ∷ [])
+
+pub text-lines : (g : Graph) (ts : List Gate) (f : Figures) → ((t : Gate) → List·Memᴰ t ts → T (isName (nameOf (t .cell)))) → parts 10 (netlistText g ts f) ≡ linesOf g ts f
+unfolding netlistText linesOf namesOf figuresLine text parts split onto
+text-lines g ts f h =
+    ap (λ (ps : List (List ℕ)). text ".model top" ∷ ps)
     (names-line (text ".inputs") (map (literal false) (g .inputs)) after-inputs (refl, (refl, (refl, (refl, (refl, (refl, (refl, tt)))))))
-    ∙ ap (λ (ps : List (List ℕ)). inputs-line ∷ ps)
+    ∙ ap (λ (ps : List (List ℕ)). namesOf (text ".inputs") (map (literal false) (g .inputs)) ∷ ps)
     (names-line (text ".outputs") (g .outputs) after-outputs (refl, (refl, (refl, (refl, (refl, (refl, (refl, (refl, tt))))))))
-    ∙ ap (λ (ps : List (List ℕ)). outputs-line ∷ ps) (gate-lines ts h after-gates)))
-    ∙ ap (λ (ps : List (List ℕ)). andThen (afterWord (text ".inputs") ps) (λ is. andThen (wordsAfter (text ".outputs") outputs-line) (λ os. andThen (readGates lines) (λ us. some (record { inputs = is; outputs = os; gates = us })))))
-    (names-words 46 (105 ∷ 110 ∷ 112 ∷ 117 ∷ 116 ∷ 115 ∷ []) (refl, (refl, (refl, (refl, (refl, (refl, (refl, tt))))))) (map (literal false) (g .inputs)))
-    ∙ ap (λ (ps : List (List ℕ)). andThen (afterWord (text ".outputs") ps) (λ os. andThen (readGates lines) (λ us. some (record { inputs = map netName (map (literal false) (g .inputs)); outputs = os; gates = us }))))
-    (names-words 46 (111 ∷ 117 ∷ 116 ∷ 112 ∷ 117 ∷ 116 ∷ 115 ∷ []) (refl, (refl, (refl, (refl, (refl, (refl, (refl, (refl, tt)))))))) (g .outputs))
-    ∙ ap (λ (x : Option (List GateLine)). andThen x (λ us. some (record { inputs = map netName (map (literal false) (g .inputs)); outputs = map netName (g .outputs); gates = us })))
-    (read-gates ts h (parts 10 figures-line))
-    ∙ ap (λ (is : List (List ℕ)). some (record { inputs = is; outputs = map netName (g .outputs); gates = map lineOf ts })) (map-map netName (literal false) (g .inputs))
+    ∙ ap (λ (ps : List (List ℕ)). namesOf (text ".outputs") (g .outputs) ∷ ps)
+    (gate-lines ts h after-gates ∙ ap (λ (ps : List (List ℕ)). map bodyOf ts ++ (text ".end" ∷ ps)) last)))
   where
     figures-line : List ℕ
     figures-line = text "# gates " ++ (decimal (f .gates) ++ (text " area " ++ (decimal (f .area) ++ (text " arrival " ++ (decimal (f .arrival) ++ text "\n")))))
@@ -211,14 +233,27 @@ read-back g ts f h =
     after-inputs : List ℕ
     after-inputs = namesLine (text ".outputs") (g .outputs) ++ after-outputs
 
-    inputs-line : List ℕ
-    inputs-line = text ".inputs" ++ each (λ (l : ℕ). 32 ∷ netName l) (map (literal false) (g .inputs))
+    ended : figures-line ≡ figuresLine f ++ text "\n"
+    ended = sym (simp append-assoc)
 
-    outputs-line : List ℕ
-    outputs-line = text ".outputs" ++ each (λ (l : ℕ). 32 ∷ netName l) (g .outputs)
+    last : parts 10 figures-line ≡ figuresLine f ∷ []
+    last = ap (parts 10) ended ∙ parts-line 10 (figuresLine f) [] (figures-free f)
 
+-- the printed text reads back
+pub read-back : (g : Graph) (ts : List Gate) (f : Figures) → ((t : Gate) → List·Memᴰ t ts → T (isName (nameOf (t .cell)))) → readBlif (netlistText g ts f) ≡ some (blifOf g ts)
+unfolding readBlif blifOf readLines linesOf namesOf wordsAfter afterWord same only text andThen
+read-back g ts f h =
+    ap readLines (text-lines g ts f h)
+    ∙ ap (λ (ps : List (List ℕ)). andThen (afterWord (text ".inputs") ps) (λ is. andThen (wordsAfter (text ".outputs") (namesOf (text ".outputs") (g .outputs))) (λ os. andThen (readGates lines) (λ us. some (record { inputs = is; outputs = os; gates = us })))))
+    (names-words 46 (105 ∷ 110 ∷ 112 ∷ 117 ∷ 116 ∷ 115 ∷ []) (refl, (refl, (refl, (refl, (refl, (refl, (refl, tt))))))) (map (literal false) (g .inputs)))
+    ∙ ap (λ (ps : List (List ℕ)). andThen (afterWord (text ".outputs") ps) (λ os. andThen (readGates lines) (λ us. some (record { inputs = map netName (map (literal false) (g .inputs)); outputs = os; gates = us }))))
+    (names-words 46 (111 ∷ 117 ∷ 116 ∷ 112 ∷ 117 ∷ 116 ∷ 115 ∷ []) (refl, (refl, (refl, (refl, (refl, (refl, (refl, (refl, tt)))))))) (g .outputs))
+    ∙ ap (λ (x : Option (List GateLine)). andThen x (λ us. some (record { inputs = map netName (map (literal false) (g .inputs)); outputs = map netName (g .outputs); gates = us })))
+    (read-gates ts h (figuresLine f ∷ []))
+    ∙ ap (λ (is : List (List ℕ)). some (record { inputs = is; outputs = map netName (g .outputs); gates = map lineOf ts })) (map-map netName (literal false) (g .inputs))
+  where
     lines : List (List ℕ)
-    lines = map bodyOf ts ++ (text ".end" ∷ parts 10 figures-line)
+    lines = map bodyOf ts ++ (text ".end" ∷ figuresLine f ∷ [])
 
 -- ---- what a gate line says
 
@@ -254,7 +289,7 @@ pub line-drives : (t : Gate) → length (t .pins) ≤ 4 → drives (lineOf t) �
 unfolding lineOf drives
 line-drives t h = drives-from 65 (t .pins) (t .net) (omega arith)
 
-from-low : (n i k : ℕ) → List·Memᴰ k (from i n) → i ≤ k
+pub from-low : (n i k : ℕ) → List·Memᴰ k (from i n) → i ≤ k
 unfolding from
 from-low (suc n) i k (List·Memᴰ·head e) = omega arith
 from-low (suc n) i k (List·Memᴰ·tail m) = let h : suc i ≤ k = from-low n (suc i) k m in omega arith

@@ -1076,6 +1076,13 @@ pub fn limits() -> Vec<Case> {
     }
     add(Case::new("full graph, text one short", rich.clone(), full.text()).text(Lent::OneShort));
 
+    // What the program lends is exactly what M of 203 with 128 outputs needs.
+    for outputs in [128, 129] {
+        let graph = format!("aag 203 1 0 {outputs} 0\n2\n") + &"3\n".repeat(outputs);
+        let case = Case::new(format!("M of 203, O of {outputs}"), cells.clone(), graph.into_bytes());
+        add(case.words(Lent::This(32_768)).expect(if outputs > 128 { 10 } else { 0 }, 0));
+    }
+
     // Cuts.
     for (wanted, number) in [(24, 0), (25, 16)] {
         let shape = shape_with_cuts(wanted);

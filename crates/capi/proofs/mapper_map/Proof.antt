@@ -1,7 +1,5 @@
 -- `capi::mapper_map` meets its contract, thin over `mapper::map_texts`. Assumes nothing.
 use mathlib.Core.Path.{ap, _∙_}
-use Rattle.model.specs.Mapper.{returned}
-use Rattle.model.specs.declared.Answer.{Answer}
 use Rattle.capi.specs.Answers.{answered}
 use borrow.Author.Needs.{needs}
 use Rattle.capi.proofs.mapper_map.Statement.{statement}
@@ -21,8 +19,9 @@ same-length-2 c = search needs
 
 returns : tie.Need-returns
 returns c =
-    let m = c .before .before .before .before .before .map-texts .ensures .0 in
-    (c .answer .ensures ∙ ap (λ (x : Answer). answered (returned x)) (m .answers), (m .words, m .bytes))
+    let e = c .before .before .before .before .before .map-texts .ensures in
+    let m = e .0 in
+    (c .answer .ensures ∙ ap answered (m .returns), (m .words, (m .bytes, (e .1 .0, e .1 .1 .0))))
 
 pub mapper-map-spec : {M : Type 1} → statement M
 mapper-map-spec =

@@ -1,0 +1,47 @@
+-- Each case of an answer has document 01's number and values. Assumes nothing.
+use Prim.Native.Nat.{ℕ}
+use mathlib.Core.Path.{_≡_, refl}
+use mathlib.Core.Option.{Option, none, some}
+use mathlib.Core.List.{List}
+use Rattle.model.specs.Reading.{Read, holds, fault, verdictOf, refusedAt, rulingOf, rulingAt, verdictRuling}
+use Rattle.model.specs.Cells.{libraryAnswer}
+use Rattle.model.specs.GraphText.{headerAnswer, headerRuling, headerValues, headerNumbers}
+use Rattle.model.specs.Netlist.{Outcome, refused, mapped}
+use Rattle.model.specs.Mapper.{answerOf, returned, returnedBy}
+use Rattle.model.specs.declared.Cell.{Cell}
+use Rattle.model.specs.declared.Header.{Header}
+
+-- the verdict on what is read
+pub verdict-rules : {A : Type 0} (r : Read A) → verdictRuling (verdictOf r) ≡ rulingOf r
+unfolding verdictRuling verdictOf rulingOf
+verdict-rules (holds a) = refl
+verdict-rules (fault n k) = refl
+
+-- the verdict with one number: 15, 16 and 17
+pub refusal-rules : (n : ℕ) (o : Option ℕ) → verdictRuling (refusedAt n o) ≡ rulingAt n o
+unfolding verdictRuling refusedAt rulingAt
+refusal-rules n none = refl
+refusal-rules n (some k) = refl
+
+-- the library's verdict
+pub library-rules : (r : Read (List Cell)) → verdictRuling (libraryAnswer r .verdict) ≡ rulingOf r
+unfolding verdictRuling libraryAnswer rulingOf
+library-rules (holds cs) = refl
+library-rules (fault n k) = refl
+
+-- the header's answer
+pub header-rules : (r : Read Header) → headerRuling (headerAnswer r) ≡ rulingOf r
+unfolding headerRuling headerAnswer rulingOf
+header-rules (holds h) = refl
+header-rules (fault n k) = refl
+
+pub header-tells : (r : Read Header) → headerValues (headerAnswer r) ≡ headerNumbers r
+unfolding headerValues headerAnswer headerNumbers
+header-tells (holds h) = refl
+header-tells (fault n k) = refl
+
+-- what a call returns
+pub answer-returns : (o : Outcome) → returned (answerOf o) ≡ returnedBy o
+unfolding returned answerOf returnedBy
+answer-returns (refused n k) = refl
+answer-returns (mapped t f) = refl

@@ -1,0 +1,187 @@
+-- Of every cover: what feeds a phase without an inverter is placed before it, so a statement can be proved along what feeds; and a cover has
+-- arrivals by the rule, and on the phases that it needs no others. The order of placing has no number twice: that is all that is asked of the
+-- graph here. Assumes nothing.
+use Prim.Native.Nat.{ℕ, zero, suc, _+_, _*_, _≤_}
+use native.Mathlib.Nat.{not-suc-le-zero}
+use native.Mathlib.Omega.{arith}
+use mathlib.Core.Path.{_≡_, refl, sym, _∙_, ap, subst}
+use mathlib.Core.List.{List, [], _∷_, _++_, append-assoc, List·Memᴰ, List·Memᴰ·head, List·Memᴰ·tail, List·Memᴰ·not-nil, List·Memᴰ·eq-of-singleton, Memᴰ·append-left, Memᴰ·cast}
+use lib.ListN.{length}
+use Rattle.model.specs.Graph.{Graph, placeF, placingOrder, varOf, opposite}
+use Rattle.model.specs.Cuts.{cutsOf}
+use Rattle.model.specs.Choice.{feeds, cellOf, latest}
+use Rattle.model.specs.Cover.{IsMatch, IsOwn, Allowed, Needed, fed, directly, through, arrivalBy, Cover}
+use Rattle.model.specs.Demands.{Distinct, Timed}
+use Rattle.model.specs.declared.Cell.{Cell}
+use Rattle.model.specs.declared.Source.{Source}
+use Rattle.model.specs.declared.Source.the-variants.{Input, Cell as Matched, Inverter as Inverted, Nothing}
+use Rattle.theory_graph.proofs.Lists.{by-eqb, map-same}
+use Rattle.theory_graph.proofs.Literals.{opposite-var, opposite-back}
+use Rattle.theory_graph.proofs.Runs.{along}
+use Rattle.theory_graph.proofs.CutFacts.{cuts-none, leaves-before}
+use Rattle.theory_cover.proofs.Matches.{cutFor, cut-listed, matched-leaf}
+
+-- a source that is no inverter
+abbrev pub Straight : Source → Type 0
+Straight Input = Unit {0}
+Straight Nothing = ⊥
+Straight (Matched m) = Unit {0}
+Straight (Inverted c) = ⊥
+
+module _ (cells : List Cell) (g : Graph) (once : Distinct (placingOrder g)) (outs : List ℕ) (c : Cover cells g outs) where
+  abbrev Needs : ℕ → Type 0
+  Needs l = Needed cells g outs (c .source) l
+
+  -- the phase that an inverter is fed by has no inverter itself: "No circle"
+  pub fed-straight : (l i : ℕ) → Needs l → c .source l ≡ Inverted i → Needs (opposite l) × Straight (c .source (opposite l))
+  unfolding feeds
+  fed-straight l i n e = (n′, go (c .source (opposite l)) refl)
+    where
+      feeding : List·Memᴰ (opposite l) (feeds cells (cutsOf g) l (c .source l))
+      feeding = subst (λ (s : Source). List·Memᴰ (opposite l) (feeds cells (cutsOf g) l s)) (sym e) (List·Memᴰ·head refl)
+
+      n′ : Needs (opposite l)
+      n′ = fed n feeding
+
+      go : (s : Source) → c .source (opposite l) ≡ s → Straight s
+      go Input h = tt
+      go Nothing h = subst (λ (s : Source). Allowed cells g (opposite l) s) h (c .allowed (opposite l) n′)
+      go (Matched m) h = tt
+      go (Inverted j) h =
+          absurd (c .noCircle l n
+          (through (directly (subst (λ (s : Source). List·Memᴰ l (feeds cells (cutsOf g) (opposite l) s)) (sym h) (List·Memᴰ·head (sym (opposite-back l))))) feeding))
+
+  -- what is never placed has no source but inverters
+  unplaced-straight : (l : ℕ) → ¬ List·Memᴰ (varOf l) (placingOrder g) → Needs l → ¬ Straight (c .source l)
+  unfolding placingOrder
+  unplaced-straight l h n = go (c .source l) refl
+    where
+      go : (s : Source) → c .source l ≡ s → ¬ Straight s
+      go Input s t =
+          let o : IsOwn g l = subst (Allowed cells g l) s (c .allowed l n) in
+          h (List·Memᴰ·tail (Memᴰ·append-left (placeF (length (g .ands)) (g .ands) (0 ∷ g .inputs)) (o .isInput)))
+      go Nothing s t = t
+      go (Matched m) s t =
+          let k : IsMatch cells g l m = subst (Allowed cells g l) s (c .allowed l n) in
+          List·Memᴰ·not-nil (subst (λ (cs : List (List ℕ)). List·Memᴰ (cutFor g l m) cs) (cuts-none g (varOf l) h) (cut-listed cells g l m k))
+      go (Inverted i) s t = t
+
+  pub unplaced-never : (l : ℕ) → ¬ List·Memᴰ (varOf l) (placingOrder g) → ¬ Needs l
+  unplaced-never l h n = go (c .source l) refl
+    where
+      go : (s : Source) → c .source l ≡ s → ⊥
+      go Input s = unplaced-straight l h n (subst Straight (sym s) tt)
+      go Nothing s = subst (Allowed cells g l) s (c .allowed l n)
+      go (Matched m) s = unplaced-straight l h n (subst Straight (sym s) tt)
+      go (Inverted i) s =
+          let f = fed-straight l i n s in
+          unplaced-straight (opposite l) (λ m. h (Memᴰ·cast (sym (opposite-var l)) m)) (f .0) (f .1)
+
+  -- ---- what feeds a phase
+
+  -- what feeds a phase without an inverter is placed before its variable
+  feeds-before : (pre : List ℕ) (v : ℕ) (post : List ℕ) → placingOrder g ≡ pre ++ (v ∷ post) → (l : ℕ) → varOf l ≡ v → Needs l → Straight (c .source l)
+      → (x : ℕ) → List·Memᴰ x (feeds cells (cutsOf g) l (c .source l)) → ¬ List·Memᴰ (varOf x) (v ∷ post)
+  unfolding feeds
+  feeds-before pre v post e l p n t x i = go (c .source l) refl t i
+    where
+      go : (s : Source) → c .source l ≡ s → Straight s → List·Memᴰ x (feeds cells (cutsOf g) l s) → ¬ List·Memᴰ (varOf x) (v ∷ post)
+      go Input s u j = absurd (List·Memᴰ·not-nil j)
+      go Nothing s u j = absurd u
+      go (Matched m) s u j =
+          let k : IsMatch cells g l m = subst (Allowed cells g l) s (c .allowed l n) in
+          leaves-before g pre v post e once (cutFor g l m) (subst (λ (w : ℕ). List·Memᴰ (cutFor g l m) (cutsOf g w)) p (cut-listed cells g l m k))
+          (λ a. k .notAlone (a ∙ ap (λ (w : ℕ). w ∷ []) (sym p))) (varOf x) (matched-leaf cells g l m x k j)
+      go (Inverted i) s u j = absurd u
+
+  -- a phase with an inverter is fed by its opposite, which has none
+  fed-opposite : (v l i : ℕ) → varOf l ≡ v → Needs l → c .source l ≡ Inverted i → (x : ℕ) → List·Memᴰ x (feeds cells (cutsOf g) l (c .source l))
+      → (varOf x ≡ v) × Needs x × Straight (c .source x)
+  unfolding feeds
+  fed-opposite v l i p n s x j =
+      let f = fed-straight l i n s in
+      let q : x ≡ opposite l = List·Memᴰ·eq-of-singleton (subst (λ (r : Source). List·Memᴰ x (feeds cells (cutsOf g) l r)) s j) in
+      (ap varOf q ∙ opposite-var l ∙ p, fed n j, subst (λ (y : ℕ). Straight (c .source y)) (sym q) (f .1))
+
+  -- a phase that a cover needs has no inverter, or is fed by one that has none
+  turned : (P : Type 0) (l : ℕ) → Needs l → (Straight (c .source l) → P) → ((i : ℕ) → c .source l ≡ Inverted i → P) → P
+  turned P l n straight inverted = go (c .source l) refl
+    where
+      go : (s : Source) → c .source l ≡ s → P
+      go Input s = straight (subst Straight (sym s) tt)
+      go Nothing s = absurd (subst (Allowed cells g l) s (c .allowed l n))
+      go (Matched m) s = straight (subst Straight (sym s) tt)
+      go (Inverted i) s = inverted i s
+
+  -- Induction along what feeds: each phase that a cover needs after those that it is fed by.
+  pub by-feeding : (P : ℕ → Type 0) → ((l : ℕ) → Needs l → ((x : ℕ) → List·Memᴰ x (feeds cells (cutsOf g) l (c .source l)) → P x) → P l) → (l : ℕ) → Needs l → P l
+  by-feeding P step l n =
+      along (λ v. (x : ℕ) → varOf x ≡ v → Needs x → P x) (placingOrder g)
+      (λ u h x p k. absurd (unplaced-never x (λ m. h (Memᴰ·cast (sym p) m)) k)) turn (varOf l) l refl n
+    where
+      turn : (pre : List ℕ) (v : ℕ) (post : List ℕ) → placingOrder g ≡ pre ++ (v ∷ post) → ((u : ℕ) → ¬ List·Memᴰ u (v ∷ post) → (x : ℕ) → varOf x ≡ u → Needs x → P x)
+          → (x : ℕ) → varOf x ≡ v → Needs x → P x
+      turn pre v post e ih x p k = turned (P x) x k (plain x p k) (λ i s. step x k (λ z j. let o = fed-opposite v x i p k s z j in plain z (o .0) (o .1) (o .2)))
+        where
+          plain : (y : ℕ) → varOf y ≡ v → Needs y → Straight (c .source y) → P y
+          plain y q m t = step y m (λ z i. ih (varOf z) (feeds-before pre v post e y q m t z i) z refl (fed m i))
+
+  -- ---- arrivals
+
+  -- the arrivals of the phases that feed a phase decide its own
+  same-arrival : (f h : ℕ → ℕ) (l : ℕ) → ((x : ℕ) → List·Memᴰ x (feeds cells (cutsOf g) l (c .source l)) → f x ≡ h x)
+      → arrivalBy cells g f l (c .source l) ≡ arrivalBy cells g h l (c .source l)
+  unfolding arrivalBy
+  same-arrival f h l e = ap (λ (ts : List ℕ). latest ts (cellOf cells (c .source l) .delays)) (map-same f h (feeds cells (cutsOf g) l (c .source l)) e)
+
+  -- by the rule so many times over, from 0
+  time : ℕ → ℕ → ℕ
+  time zero l = 0
+  time (suc k) l = arrivalBy cells g (time k) l (c .source l)
+
+  again : (k l : ℕ) → ((x : ℕ) → List·Memᴰ x (feeds cells (cutsOf g) l (c .source l)) → time k x ≡ time (suc k) x) → time (suc k) l ≡ time (suc (suc k)) l
+  unfolding time
+  again k l e = same-arrival (time k) (time (suc k)) l e
+
+  -- after two rounds for each of n variables the phases of a variable stay as they are
+  Settled : ℕ → ℕ → Type 0
+  Settled n u = (l : ℕ) → varOf l ≡ u → Needs l → (k : ℕ) → 2 * n ≤ k → time k l ≡ time (suc k) l
+
+  settled-next : (n : ℕ) (pre : List ℕ) (v : ℕ) (post : List ℕ) → placingOrder g ≡ pre ++ (v ∷ post) → ((u : ℕ) → ¬ List·Memᴰ u (v ∷ post) → Settled n u) → Settled (suc n) v
+  unfolding Settled
+  settled-next n pre v post e known l p need k h =
+      turned (time k l ≡ time (suc k) l) l need (λ t. plain l p need t k (omega arith)) (λ i s. turn i s k h)
+    where
+      plain : (y : ℕ) → varOf y ≡ v → Needs y → Straight (c .source y) → (j : ℕ) → suc (2 * n) ≤ j → time j y ≡ time (suc j) y
+      plain y q m t zero a = absurd (not-suc-le-zero a)
+      plain y q m t (suc j) a = again j y (λ x i. known (varOf x) (feeds-before pre v post e y q m t x i) x refl (fed m i) j (omega arith))
+
+      turn : (i : ℕ) → c .source l ≡ Inverted i → (j : ℕ) → 2 * suc n ≤ j → time j l ≡ time (suc j) l
+      turn i s zero a = absurd (let z : ⊥ = omega arith in z)
+      turn i s (suc j) a = again j l (λ x m. let o = fed-opposite v l i p need s x m in plain x (o .0) (o .1) (o .2) j (omega arith))
+
+  settle : (n : ℕ) (pre post : List ℕ) → placingOrder g ≡ pre ++ post → ((u : ℕ) → ¬ List·Memᴰ u post → Settled n u) → (u : ℕ) → Settled (n + length post) u
+  unfolding Settled
+  settle n pre [] e known u l p need k h = known u List·Memᴰ·not-nil l p need k (omega arith)
+  settle n pre (v ∷ post) e known u l p need k h =
+      settle (suc n) (pre ++ (v ∷ [])) post (e ∙ sym (append-assoc pre (v ∷ []) post))
+      (λ x d. by-eqb x v (λ s. subst (Settled (suc n)) (sym s) (settled-next n pre v post e known)) (λ s. later x (known x (not-in s d))))
+      u l p need k (omega arith)
+    where
+      not-in : {x : ℕ} → ¬ (x ≡ v) → ¬ List·Memᴰ x post → ¬ List·Memᴰ x (v ∷ post)
+      not-in a b (List·Memᴰ·head q) = a q
+      not-in a b (List·Memᴰ·tail m) = b m
+
+      later : (x : ℕ) → Settled n x → Settled (suc n) x
+      later x s y q m j a = s y q m j (omega arith)
+
+  -- a cover has arrivals, and on the phases that it needs no others
+  pub covers-timed : Timed cells g outs c
+  unfolding time Settled
+  covers-timed = record {
+    has = (time rounds, record { timed = λ l n. settle 0 [] (placingOrder g) refl (λ u h l p k. absurd (unplaced-never l (λ m. h (Memᴰ·cast (sym p) m)) k)) (varOf l) l refl n rounds (omega arith) });
+    alone = λ at bt a b. by-feeding (λ l. at l ≡ bt l) (λ l n e. a .timed l n ∙ same-arrival at bt l e ∙ sym (b .timed l n));
+  }
+    where
+      rounds : ℕ
+      rounds = 2 * length (placingOrder g)

@@ -1,0 +1,123 @@
+-- Refusal 16, apart from the definition that tries it: its place is the first variable in placing order that has more cuts than the limit, cuts
+-- counted as sets.
+--     crowded-first-iff           the place of refusal 16
+--     crowded-none-iff            it applies nowhere exactly where no placed variable has too many
+-- Assumes nothing.
+use Prim.Native.Nat.{ℕ, _≤_, _<_}
+use native.Mathlib.Omega.{arith}
+use mathlib.Core.Path.{_≡_, refl, sym, _∙_, ap, subst}
+use mathlib.Core.Logic.{_⊎_, inl, inr, _↔_}
+use mathlib.Core.Bool.{Bool, true, false, not, cond}
+use mathlib.Core.Option.{some}
+use mathlib.Core.List.{List, [], _∷_, _++_, List·Memᴰ, List·Memᴰ·head, List·Memᴰ·tail, List·Memᴰ·not-nil, List·Memᴰ·cases-cons}
+use lib.Dec.{T, ltb, ltb→lt, lt→ltb}
+use lib.ListN.{length}
+use Rattle.model.specs.Base.{keep}
+use Rattle.model.specs.Limits.{cutLimit}
+use Rattle.model.specs.Reading.{firstOf}
+use Rattle.model.specs.Graph.{Graph, placingOrder}
+use Rattle.model.specs.Cuts.{cutsOf, crowded}
+use Rattle.model.specs.Demands.{Distinct}
+use Rattle.theory_graph.proofs.Accepted.{Accepted}
+use Rattle.theory_graph.proofs.Lists.{keep-in, keep-out, is-true, is-false}
+use Rattle.theory_order.proofs.Splits.{none-in, no-more}
+use Rattle.theory_order.proofs.Recursion.{IsCut, cuts-exactly, cuts-once}
+
+-- ---- the first that passes a test
+
+-- v passes, and nothing that stands before it does
+pub record First (p : ℕ → Bool) (vs : List ℕ) (v : ℕ) : Type 0 where
+  pub before : List ℕ
+  pub behind : List ℕ
+  pub isSplit : vs ≡ before ++ (v ∷ behind)
+  pub passes : T (p v)
+  pub noneBefore : (u : ℕ) → List·Memᴰ u before → T (not (p u))
+
+first-in : (p : ℕ → Bool) (vs : List ℕ) (v : ℕ) → firstOf (keep p vs) ≡ some v → First p vs v
+unfolding firstOf keep
+first-in p [] v e = absurd (let z : _≡_ {A = ℕ} 0 1 = cc in omega arith)
+first-in p (x ∷ xs) v e = go (p x) refl e (first-in p xs v)
+  where
+    go : (b : Bool) → p x ≡ b → firstOf (cond b (x ∷ keep p xs) (keep p xs)) ≡ some v → (firstOf (keep p xs) ≡ some v → First p xs v) → First p (x ∷ xs) v
+    go true q h later =
+        let s : x ≡ v = cc in
+        record { before = []; behind = xs; isSplit = ap (λ (y : ℕ). y ∷ xs) s; passes = subst T (sym q ∙ ap p s) tt; noneBefore = λ u m. absurd (List·Memᴰ·not-nil m) }
+    go false q h later =
+        let f = later h in
+        record {
+          before = x ∷ f .before;
+          behind = f .behind;
+          isSplit = ap (λ (ys : List ℕ). x ∷ ys) (f .isSplit);
+          passes = f .passes;
+          noneBefore = λ u m. either u (List·Memᴰ·cases-cons m) (f .noneBefore u);
+        }
+      where
+        either : (u : ℕ) → (u ≡ x) ⊎ List·Memᴰ u (later h .before) → (List·Memᴰ u (later h .before) → T (not (p u))) → T (not (p u))
+        either u (inl s) back = subst (λ (b : Bool). T (not b)) (sym (ap p s ∙ q)) tt
+        either u (inr m) back = back m
+
+first-out : (p : ℕ → Bool) (before : List ℕ) (v : ℕ) (behind : List ℕ) → T (p v) → ((u : ℕ) → List·Memᴰ u before → T (not (p u))) → firstOf (keep p (before ++ (v ∷ behind))) ≡ some v
+unfolding firstOf keep
+first-out p [] v behind t h = ap (λ (b : Bool). firstOf (cond b (v ∷ keep p behind) (keep p behind))) (is-true (p v) t)
+first-out p (x ∷ before) v behind t h =
+    ap (λ (b : Bool). firstOf (cond b (x ∷ keep p (before ++ (v ∷ behind))) (keep p (before ++ (v ∷ behind))))) (is-false (p x) (h x (List·Memᴰ·head refl)))
+    ∙ first-out p before v behind t (λ u m. h u (List·Memᴰ·tail m))
+
+-- ---- refusal 16
+
+-- "more than 24 cuts": so many different ones
+pub record Many (g : Graph) (v : ℕ) : Type 0 where
+  pub cuts : List (List ℕ)
+  pub once : Distinct cuts
+  pub areCuts : (c : List ℕ) → List·Memᴰ c cuts → IsCut g v c
+  pub over : cutLimit < length cuts
+
+-- "place, the first such variable in placing order"
+pub record FirstCrowded (g : Graph) (v : ℕ) : Type 0 where
+  pub before : List ℕ
+  pub behind : List ℕ
+  pub isPlaced : placingOrder g ≡ before ++ (v ∷ behind)
+  pub many : Many g v
+  pub fewBefore : (u : ℕ) → List·Memᴰ u before → ¬ Many g u
+
+module _ (g : Graph) (ok : Accepted g) where
+  abbrev test : ℕ → Bool
+  test v = ltb cutLimit (length (cutsOf g v))
+
+  test-many : (v : ℕ) → T (test v) → Many g v
+  test-many v t = record { cuts = cutsOf g v; once = cuts-once g ok v; areCuts = λ c m. cuts-exactly g ok v c .0 m; over = ltb→lt cutLimit (length (cutsOf g v)) t }
+
+  many-test : (v : ℕ) → Many g v → T (test v)
+  many-test v m =
+      lt→ltb cutLimit (length (cutsOf g v)) (let h : length (m .cuts) ≤ length (cutsOf g v) = no-more (m .cuts) (cutsOf g v) (m .once) (λ c i. cuts-exactly g ok v c .1 (m .areCuts c i)) in omega (arith, m .over))
+
+  not-many : (v : ℕ) → T (not (test v)) → ¬ Many g v
+  not-many v t m = go (test v) t (many-test v m)
+    where
+      go : (b : Bool) → T (not b) → T b → ⊥
+      go true a b = a
+      go false a b = b
+
+  few-test : (v : ℕ) → ¬ Many g v → T (not (test v))
+  few-test v h = go (test v) (λ t. h (test-many v t))
+    where
+      go : (b : Bool) → ¬ T b → T (not b)
+      go true n = absurd (n tt)
+      go false n = tt
+
+  -- the place of refusal 16
+  pub crowded-first-iff : (v : ℕ) → (firstOf (crowded g) ≡ some v) ↔ FirstCrowded g v
+  unfolding crowded cutsOf
+  crowded-first-iff v = (
+    (λ e. let f = first-in test (placingOrder g) v e in
+        record { before = f .before; behind = f .behind; isPlaced = f .isSplit; many = test-many v (f .passes); fewBefore = λ u m. not-many u (f .noneBefore u m) }),
+    (λ f. ap (λ (vs : List ℕ). firstOf (keep test vs)) (f .isPlaced) ∙ first-out test (f .before) v (f .behind) (many-test v (f .many)) (λ u m. few-test u (f .fewBefore u m))),
+  )
+
+  -- it applies nowhere where no placed variable has too many
+  pub crowded-none-iff : (crowded g ≡ []) ↔ ((v : ℕ) → List·Memᴰ v (placingOrder g) → ¬ Many g v)
+  unfolding crowded cutsOf
+  crowded-none-iff = (
+    (λ e v m k. List·Memᴰ·not-nil (subst (λ (vs : List ℕ). List·Memᴰ v vs) e (keep-in test m (many-test v k)))),
+    (λ h. none-in (keep test (placingOrder g)) (λ v m. let o = keep-out test (placingOrder g) m in h v (o .0) (test-many v (o .1)))),
+  )

@@ -1,0 +1,122 @@
+-- The `# gates` line of the printed netlist says the figures that were printed. Assumes nothing.
+use Prim.Native.Nat.{ℕ, zero, suc, _+_, _-_, _*_, _/_, _%_, _≤_, _<_}
+use native.Mathlib.Nat.{le-refl, not-suc-le-zero}
+use native.Mathlib.Omega.{arith}
+use mathlib.Core.Path.{_≡_, refl, sym, _∙_, ap, ap₂}
+use mathlib.Core.Bool.{Bool, true, false, not, cond, _&&_}
+use mathlib.Core.Option.{Option, none, some}
+use mathlib.Core.List.{List, [], _∷_, _++_, map, List·Memᴰ}
+use lib.Dec.{T, ltb, ltb→lt, leb, le→leb, nltb→le, lit<}
+use Rattle.model.specs.Base.{same, andThen, only}
+use Rattle.model.specs.Text.{text, digits, decimal, fields, split, onto, between, isName}
+use Rattle.model.specs.Cells.{nameOf}
+use Rattle.model.specs.Graph.{Graph, literal}
+use Rattle.model.specs.Netlist.{Gate, netlistText}
+use Rattle.model.specs.Blif.{digitsFrom, figure, behindEnd, readFigureWords, readFigures}
+use Rattle.model.specs.declared.Figures.{Figures}
+use Rattle.theory_graph.proofs.Lists.{is-true}
+use Rattle.theory_text.proofs.Plain.{Free, above, decimal-free}
+use Rattle.theory_text.proofs.ReadBack.{body, bodyOf, figuresLine, namesOf, linesOf, text-lines}
+
+-- ---- a number
+
+-- one digit more
+digit-more : (m d : ℕ) (bs : List ℕ) → d < 10 → digitsFrom m ((48 + d) ∷ bs) ≡ digitsFrom (m * 10 + d) bs
+unfolding digitsFrom andThen only between
+digit-more m d bs h =
+    ap₂ (λ (a b : Bool). andThen (only (a && b) (48 + d - 48)) (λ e. digitsFrom (m * 10 + e) bs))
+    (is-true (leb 48 (48 + d)) (le→leb 48 (48 + d) (omega arith))) (is-true (leb (48 + d) 57) (le→leb (48 + d) 57 (omega arith)))
+    ∙ ap (λ (e : ℕ). digitsFrom (m * 10 + e) bs) (let q : 48 + d - 48 ≡ d = omega arith in q)
+
+-- the number that digits stand for
+digits-read : (fuel n : ℕ) (after : List ℕ) → n < fuel → digitsFrom 0 (digits fuel n after) ≡ digitsFrom n after
+unfolding digits
+digits-read zero n after h = absurd (not-suc-le-zero h)
+digits-read (suc fuel) n after h = go (ltb n 10) (ltb→lt n 10) (nltb→le n 10) (digits-read fuel (n / 10) ((48 + n % 10) ∷ after))
+  where
+    go : (b : Bool) → (T b → n < 10) → (T (not b) → 10 ≤ n)
+        → (n / 10 < fuel → digitsFrom 0 (digits fuel (n / 10) ((48 + n % 10) ∷ after)) ≡ digitsFrom (n / 10) ((48 + n % 10) ∷ after))
+        → digitsFrom 0 (cond b ((48 + n) ∷ after) (digits fuel (n / 10) ((48 + n % 10) ∷ after))) ≡ digitsFrom n after
+    go true y u more = digit-more 0 n after (y tt) ∙ ap (λ (k : ℕ). digitsFrom k after) (let q : 0 * 10 + n ≡ n = omega arith in q)
+    go false y u more =
+        more (let q : 10 ≤ n = u tt in omega arith)
+        ∙ digit-more (n / 10) (n % 10) after (omega arith)
+        ∙ ap (λ (k : ℕ). digitsFrom k after) (let q : n / 10 * 10 + n % 10 ≡ n = omega arith in q)
+
+-- "without leading zeros"
+record Led (ds : List ℕ) : Type 0 where
+  first : ℕ
+  rest : List ℕ
+  isLed : ds ≡ first ∷ rest
+  notZero : 48 < first
+
+led : (fuel n : ℕ) (after : List ℕ) → n < fuel → 0 < n → Led (digits fuel n after)
+unfolding digits
+led zero n after h k = absurd (not-suc-le-zero h)
+led (suc fuel) n after h k = go (ltb n 10) (nltb→le n 10) (led fuel (n / 10) ((48 + n % 10) ∷ after))
+  where
+    go : (b : Bool) → (T (not b) → 10 ≤ n) → (n / 10 < fuel → 0 < n / 10 → Led (digits fuel (n / 10) ((48 + n % 10) ∷ after)))
+        → Led (cond b ((48 + n) ∷ after) (digits fuel (n / 10) ((48 + n % 10) ∷ after)))
+    go true u more = record { first = 48 + n; rest = after; isLed = refl; notZero = omega arith }
+    go false u more = let q : 10 ≤ n = u tt in more (omega arith) (omega arith)
+
+figure-led : (b : ℕ) (w : List ℕ) → 48 < b → figure (b ∷ w) ≡ digitsFrom 0 (b ∷ w)
+unfolding figure
+figure-led b [] h = refl
+figure-led b (c ∷ bs) h = ap (λ (t : Bool). cond t none (digitsFrom 0 (b ∷ c ∷ bs))) (above 48 b h)
+
+figure-back : (n : ℕ) → figure (decimal n) ≡ some n
+unfolding decimal digitsFrom digits figure andThen only between
+figure-back zero = refl
+figure-back (suc n) =
+    let r = led (suc (suc n)) (suc n) [] (le-refl (suc (suc n))) (omega arith) in
+    ap figure (r .isLed) ∙ figure-led (r .first) (r .rest) (r .notZero) ∙ ap (digitsFrom 0) (sym (r .isLed)) ∙ digits-read (suc (suc n)) (suc n) [] (le-refl (suc (suc n)))
+
+-- ---- the line
+
+fields-word : (w rest : List ℕ) → Free 32 w → fields (w ++ (32 ∷ rest)) ≡ w ∷ fields rest
+unfolding fields split onto
+fields-word [] rest f = refl
+fields-word (b ∷ w) rest f = ap₂ (λ (t : Bool) (ps : List (List ℕ)). split t b ps) (f .0) (fields-word w rest (f .1))
+
+fields-last : (w : List ℕ) → Free 32 w → fields w ≡ w ∷ []
+unfolding fields split onto
+fields-last [] f = refl
+fields-last (b ∷ w) f = ap₂ (λ (t : Bool) (ps : List (List ℕ)). split t b ps) (f .0) (fields-last w (f .1))
+
+figure-words : (f : Figures) → fields (figuresLine f) ≡ text "#" ∷ text "gates" ∷ decimal (f .gates) ∷ text "area" ∷ decimal (f .area) ∷ text "arrival" ∷ decimal (f .arrival) ∷ []
+unfolding figuresLine text fields split onto
+figure-words f =
+    ap (λ (ps : List (List ℕ)). text "#" ∷ text "gates" ∷ ps)
+    (fields-word (decimal (f .gates)) (text "area " ++ (decimal (f .area) ++ (text " arrival " ++ decimal (f .arrival)))) (decimal-free 32 (f .gates) (lit< tt))
+    ∙ ap (λ (ps : List (List ℕ)). decimal (f .gates) ∷ text "area" ∷ ps)
+    (fields-word (decimal (f .area)) (text "arrival " ++ decimal (f .arrival)) (decimal-free 32 (f .area) (lit< tt))
+    ∙ ap (λ (ps : List (List ℕ)). decimal (f .area) ∷ text "arrival" ∷ ps) (fields-last (decimal (f .arrival)) (decimal-free 32 (f .arrival) (lit< tt)))))
+
+line-figures : (f : Figures) → readFigureWords (fields (figuresLine f)) ≡ some f
+unfolding readFigureWords andThen only same text
+line-figures f =
+    ap readFigureWords (figure-words f)
+    ∙ ap (λ (o : Option ℕ). andThen o (λ n. andThen (figure (decimal (f .area))) (λ a. andThen (figure (decimal (f .arrival))) (λ t. some (record { gates = n; area = a; arrival = t })))))
+    (figure-back (f .gates))
+    ∙ ap (λ (o : Option ℕ). andThen o (λ a. andThen (figure (decimal (f .arrival))) (λ t. some (record { gates = f .gates; area = a; arrival = t })))) (figure-back (f .area))
+    ∙ ap (λ (o : Option ℕ). andThen o (λ t. some (record { gates = f .gates; area = f .area; arrival = t }))) (figure-back (f .arrival))
+
+-- ---- behind the gates
+
+behind-gates : (ts : List Gate) (l : List ℕ) (more : List (List ℕ)) → behindEnd (map bodyOf ts ++ (text ".end" ∷ l ∷ more)) ≡ some l
+unfolding behindEnd same text bodyOf body
+behind-gates [] l more = refl
+behind-gates (t ∷ []) l more = refl
+behind-gates (t ∷ u ∷ ts) l more = behind-gates (u ∷ ts) l more
+
+-- the printed text says its figures
+pub figures-back : (g : Graph) (ts : List Gate) (f : Figures) → ((t : Gate) → List·Memᴰ t ts → T (isName (nameOf (t .cell)))) → readFigures (netlistText g ts f) ≡ some f
+unfolding readFigures linesOf namesOf behindEnd same text andThen
+figures-back g ts f h =
+    ap (λ (ls : List (List ℕ)). andThen (behindEnd ls) (λ l. readFigureWords (fields l))) (text-lines g ts f h)
+    ∙ go ts
+  where
+    go : (us : List Gate) → andThen (behindEnd (text ".model top" ∷ namesOf (text ".inputs") (map (literal false) (g .inputs)) ∷ namesOf (text ".outputs") (g .outputs) ∷ map bodyOf us ++ (text ".end" ∷ figuresLine f ∷ []))) (λ l. readFigureWords (fields l)) ≡ some f
+    go [] = line-figures f
+    go (t ∷ us) = ap (λ (o : Option (List ℕ)). andThen o (λ l. readFigureWords (fields l))) (behind-gates (t ∷ us) (figuresLine f) []) ∙ line-figures f
