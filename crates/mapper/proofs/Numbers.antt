@@ -16,7 +16,7 @@ use Rattle.model.specs.Choice.{chosen, choices}
 use Rattle.model.specs.LibraryText.{cellOfLine, isClean, readCells, readLibraryLines, readLibrary}
 use Rattle.model.specs.GraphText.{Kind, Item, headerOf, inLimits, itemLiterals, uses, defines, due, definedBy, graphOf, readHeader, readDue, checkUses, readGraph}
 use Rattle.model.specs.Netlist.{Outcome, refused, mapped, uncovered, printed, mapChosen, mapCut, mapPlaced, mapGraph}
-use Rattle.model.specs.Mapper.{Design, within, mapDesign, workAfter}
+use Rattle.model.specs.Mapper.{Design, within, mapDesign, triedEarly, workAfter}
 use Rattle.model.specs.declared.Cell.{Cell}
 use Rattle.model.specs.declared.Library.{Library}
 use Rattle.model.specs.declared.Header.{Header}
@@ -25,10 +25,10 @@ use Rattle.mapper.specs.Stages.{designOf, graphFor}
 
 -- "every refusal tried up to 10", and "a later one"
 abbrev pub Early : ℕ → Type 0
-Early n = leb n 10 ≡ true
+Early n = triedEarly n ≡ true
 
 abbrev pub Late : ℕ → Type 0
-Late n = leb n 10 ≡ false
+Late n = triedEarly n ≡ false
 
 -- the number of a refusal, if there is one
 pub record Faults {A : Type 0} (P : ℕ → Type 0) (r : Read A) : Type 0 where

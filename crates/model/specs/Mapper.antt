@@ -1,6 +1,6 @@
 -- The whole: two texts, the lent words and bytes, the answer "in checking order", and what the lent memory then holds. Assumes nothing.
 use Prim.Native.Nat.{ℕ, _+_}
-use mathlib.Core.Bool.{cond, _&&_}
+use mathlib.Core.Bool.{Bool, cond, _&&_}
 use mathlib.Core.List.{List, _++_}
 use lib.Dec.{leb}
 use lib.ListN.{length, drop, replicate}
@@ -75,7 +75,11 @@ unfoldable pub textAfter : Outcome → List ℕ → List ℕ
 textAfter (refused n k) memory = memory
 textAfter (mapped t f) memory = t ++ drop (length t) memory
 
+-- the refusals "tried up to 10"
+abbrev pub triedEarly : ℕ → Bool
+triedEarly n = leb n 10
+
 -- "Work memory is unchanged by every refusal tried up to 10, and all zero after a later one and after success."
 unfoldable pub workAfter : Outcome → List ℕ → List ℕ
-workAfter (refused n k) memory = cond (leb n 10) memory (replicate (length memory) 0)
+workAfter (refused n k) memory = cond (triedEarly n) memory (replicate (length memory) 0)
 workAfter (mapped t f) memory = replicate (length memory) 0
