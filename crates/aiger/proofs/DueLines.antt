@@ -14,7 +14,7 @@ use lib.ListN.{length, drop, getD, replicate, length-append, length-replicate, g
 use lib.Seq.{drop-cons, getD-append-add}
 use borrow.Author.Tests.{ltb-true, ltb-false, le-leb}
 use Rattle.model.specs.Base.{andThen, only, all}
-use Rattle.model.specs.Text.{fields, number, numbers}
+use Rattle.model.specs.Text.{ended, fields, number, numbers}
 use Rattle.model.specs.GraphText.{Kind, anInput, anOutput, anAnd, howMany, due, itemLiterals}
 use Rattle.model.specs.declared.Header.{Header}
 use Rattle.text.specs.declared.Cursor.{Cursor}
@@ -117,12 +117,12 @@ Short anAnd l = Unit {0}
 pub data LineView (s : List ℕ) (at : ℕ) (k : Kind) : Type 0 where
   broken : lineRead s at (code k) ≡ NoLine → itemLiterals k (lineAt s at) ≡ none → LineView s at k
   whole : (l : Literals) → lineRead s at (code k) ≡ ALine l → itemLiterals k (lineAt s at) ≡ some (itemList k l) → Short k l
-      → lineAt s at .ended ≡ true → l .next ≡ pastLine s at → LineView s at k
+      → ended (lineAt s at) ≡ true → l .next ≡ pastLine s at → LineView s at k
 
 item-numbers : (k : Kind) (s : List ℕ) (at n : ℕ) → howMany k ≡ suc n → itemLiterals k (lineAt s at) ≡ numbersAt n s at
 unfolding itemLiterals
 item-numbers k s at n e =
-    ap (λ (x : ℕ). andThen (only (lineAt s at .ended && eqb (length (fields (lineAt s at .bytes))) x) (fields (lineAt s at .bytes))) numbers) e
+    ap (λ (x : ℕ). andThen (only (ended (lineAt s at) && eqb (length (fields (lineAt s at .bytes))) x) (fields (lineAt s at .bytes))) numbers) e
     ∙ ap (λ (o : Option (List (List ℕ))). andThen o numbers) (line-words n s at)
     ∙ numbers-at n s at
 

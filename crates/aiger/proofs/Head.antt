@@ -4,8 +4,7 @@
 --     header-..        and so 7, 8 and 9 apply just where `header` refuses
 --     limits-..        the tests of 9, one by one
 -- Assumes nothing.
-use Prim.Native.Nat.{ℕ, suc, _+_, _-_, _≤_, _<_}
-use native.Mathlib.Nat.{zero-add}
+use Prim.Native.Nat.{ℕ, _+_, _-_, _≤_, _<_}
 use native.Mathlib.Omega.{arith}
 use mathlib.Core.Path.{_≡_, refl, sym, ap, _∙_}
 use mathlib.Core.Bool.{Bool, true, false, cond, _&&_}
@@ -15,7 +14,7 @@ use lib.Dec.{eqb, leb}
 use lib.ListN.{length, drop, getD}
 use borrow.Author.Tests.{le-leb, lt-leb, leb-true, leb-false}
 use Rattle.model.specs.Base.{andThen, only, same}
-use Rattle.model.specs.Text.{Line, text, linesFrom, fields, number, numbers}
+use Rattle.model.specs.Text.{Line, ended, nextOf, text, linesFrom, fields, number, numbers}
 use Rattle.model.specs.Reading.{Read, holds, fault, next, unless, from?}
 use Rattle.model.specs.GraphText.{headerOfNumbers, headerOf, inLimits, readHeader, headerAnswer}
 use Rattle.model.specs.declared.Header.{Header}
@@ -148,17 +147,17 @@ module _ (w : List ℕ) (ws : List (List ℕ)) (end behind q : ℕ) (on : Cursor
 
 -- the line at 0, of a text that is not empty
 module _ (s : List ℕ) where
-  line-end : (isByte s (endAt s 0) 32 && sepsAt 4 s (past s 0)) ≡ true → suc (length (lineAt s 0 .bytes)) ≡ afterAt 4 s (past s 0)
-  unfolding sepsAt afterAt pastLine lineAt
-  line-end e = sym (past-at 5 s 0 e .1 ∙ zero-add (suc (length (lineAt s 0 .bytes))))
+  line-end : (isByte s (endAt s 0) 32 && sepsAt 4 s (past s 0)) ≡ true → nextOf (lineAt s 0) ≡ afterAt 4 s (past s 0)
+  unfolding sepsAt afterAt pastLine
+  line-end e = sym (past-at 5 s 0 e .1)
 
   first-is : (ls : List Line) → headerOf (lineAt s 0 ∷ ls) ≡ formMeans (formAt s)
   unfolding headerOf formAt tagAt byteAt aag wordsAt sepsAt
   first-is ls =
-      ap (λ (o : Option (List (List ℕ))). andThen o (λ vs. andThen (numbers vs) (λ ns. some (headerOfNumbers (suc (length (lineAt s 0 .bytes))) ns))))
-      (tests (lineAt s 0 .ended) (eqb (length (fields (lineAt s 0 .bytes))) 6) (λ (vs : List (List ℕ)). same (getD vs 0 []) aag) (fields (lineAt s 0 .bytes))
+      ap (λ (o : Option (List (List ℕ))). andThen o (λ vs. andThen (numbers vs) (λ ns. some (headerOfNumbers (nextOf (lineAt s 0)) ns))))
+      (tests (ended (lineAt s 0)) (eqb (length (fields (lineAt s 0 .bytes))) 6) (λ (vs : List (List ℕ)). same (getD vs 0 []) aag) (fields (lineAt s 0 .bytes))
       ∙ ap (λ (o : Option (List (List ℕ))). andThen o (λ vs. only (same (getD vs 0 []) aag) (drop 1 vs))) (line-words 5 s 0))
-      ∙ first-line (wordAt s 0) (wordsAt 4 s (past s 0)) (suc (length (lineAt s 0 .bytes))) (afterAt 4 s (past s 0)) (past s 0) (λ c. numbersForm s (c .at))
+      ∙ first-line (wordAt s 0) (wordsAt 4 s (past s 0)) (nextOf (lineAt s 0)) (afterAt 4 s (past s 0)) (past s 0) (λ c. numbersForm s (c .at))
       (same (wordAt s 0) aag) (isByte s (endAt s 0) 32) (sepsAt 4 s (past s 0)) refl line-end
       (five-is s (past s 0) ∙ ap (λ (o : Option (List ℕ)). formOf o (afterAt 4 s (past s 0))) (sym (numbers-at 4 s (past s 0))))
 
@@ -168,7 +167,7 @@ none-is = refl
 
 pub header-means : (s : List ℕ) → headerOf (linesFrom 0 [] s) ≡ formMeans (formAt s)
 header-means [] = none-is
-header-means (b ∷ s) = ap headerOf (lines-at (b ∷ s) 0 (omega arith)) ∙ first-is (b ∷ s) (cond (lineAt (b ∷ s) 0 .ended) (linesFrom (pastLine (b ∷ s) 0) [] (drop (pastLine (b ∷ s) 0) (b ∷ s))) [])
+header-means (b ∷ s) = ap headerOf (lines-at (b ∷ s) 0 (omega arith)) ∙ first-is (b ∷ s) (cond (ended (lineAt (b ∷ s) 0)) (linesFrom (pastLine (b ∷ s) 0) [] (drop (pastLine (b ∷ s) 0) (b ∷ s))) [])
 
 -- ---- 7, 8 and 9
 

@@ -15,7 +15,7 @@ use lib.ListN.{length, getD, drop, List·getD-append, length-append}
 use lib.Seq.{getD-append-seam}
 use borrow.Author.Tests.{eqb-true, eqb-false, eq-eqb, ne-eqb, ltb-true, ltb-false, not-true, not-false}
 use Rattle.model.specs.Base.{elem, any}
-use Rattle.model.specs.Text.{Line, linesFrom}
+use Rattle.model.specs.Text.{Line, ended, linesFrom}
 use Rattle.model.specs.Reading.{Read, holds, fault, next, unless, from?}
 use Rattle.model.specs.Graph.{And, Graph, undefined, both, node, varOf}
 use Rattle.model.specs.GraphText.{Kind, anInput, anOutput, anAnd, defines, due, Item, itemLiterals, readDue}
@@ -324,7 +324,7 @@ module _ (s : List ℕ) (h : Header) (w₀ : List ℕ) (fit : Fit h w₀) (k at 
 
   module _ (inText : at < length s) where
     rest : List Line
-    rest = cond (lineAt s at .ended) (linesOf s (pastLine s at)) []
+    rest = cond (ended (lineAt s at)) (linesOf s (pastLine s at)) []
 
     first-line : readDue (length s) (h .size) before (drop k (due h)) (linesOf s at) ≡ readDue (length s) (h .size) before (dueKind h k ∷ drop (k + 1) (due h)) (lineAt s at ∷ rest)
     unfolding rest
@@ -332,7 +332,7 @@ module _ (s : List ℕ) (h : Header) (w₀ : List ℕ) (fit : Fit h w₀) (k at 
         ap (λ (ks : List Kind). readDue (length s) (h .size) before ks (linesOf s at)) (due-at h k b)
         ∙ ap (readDue (length s) (h .size) before (dueKind h k ∷ drop (k + 1) (due h))) (lines-at s at inText)
 
-    behind : (l : Literals) → lineAt s at .ended ≡ true → l .next ≡ pastLine s at → rest ≡ linesOf s (l .next)
+    behind : (l : Literals) → ended (lineAt s at) ≡ true → l .next ≡ pastLine s at → rest ≡ linesOf s (l .next)
     unfolding rest
     behind l e n = rw e (ap (linesOf s) (sym n))
 

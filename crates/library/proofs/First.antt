@@ -4,14 +4,14 @@ use native.Mathlib.Omega.{arith}
 use mathlib.Core.Path.{_≡_, refl, sym, ap, _∙_}
 use mathlib.Core.Bool.{Bool, true, false, not, cond, _&&_}
 use mathlib.Core.List.{List, [], _∷_, _++_}
-use lib.Dec.{eqb}
+use lib.Dec.{eqb, ltb}
 use lib.ListN.{length, take, drop}
 use borrow.Author.Tests.{eqb-true, eqb-false, ne-eqb, not-true}
 use Rattle.model.specs.Base.{same}
 use Rattle.model.specs.Text.{text, linesFrom}
 use Rattle.model.specs.Reading.{fault, unless}
 use Rattle.model.specs.LibraryText.{readCells, readLibraryLines, readLibrary}
-use Rattle.text.specs.Lines.{lineOf, endedOf, lineAt, pastLine}
+use Rattle.text.specs.Lines.{pickN, lineOf, endingOf, endedOf, lineAt, pastLine}
 use Rattle.text.proofs.Bytes.{and-false, and-left, and-right, same-eq}
 use Rattle.text.proofs.Bridge.{lines-at}
 use Rattle.library.specs.Reading.{namesLine}
@@ -28,7 +28,7 @@ and-swap false true c = refl
 and-swap false false c = refl
 
 line-is : (x s : List ℕ) → noTen x ≡ true → (endedOf s && same (lineOf s) x) ≡ same (take (suc (length x)) s) (x ++ (10 ∷ []))
-unfolding noTen endedOf lineOf same
+unfolding noTen endingOf lineOf same
 line-is [] [] h = refl
 line-is (y ∷ x) [] h = refl
 line-is [] (b ∷ s) h = go (eqb b 10) refl
@@ -85,9 +85,19 @@ no-names : same (take 33 []) namesLine ≡ true → ⊥
 unfolding namesLine text same
 no-names e = let z : _≡_ {A = ℕ} 0 1 = cc in omega arith
 
-past-names : (s : List ℕ) → lineOf s ≡ names → pastLine s 0 ≡ 33
-unfolding pastLine
-past-names s e = omega (arith, ap length e, names-count)
+-- a line's end is byte 10 alone
+ending-one : (s : List ℕ) → endedOf s ≡ true → endingOf s ≡ 1
+unfolding endingOf
+ending-one [] e = let z : _≡_ {A = ℕ} 0 1 = cc in absurd (omega arith)
+ending-one (b ∷ s) e = go (eqb b 10) (ending-one s) e
+  where
+    go : (t : Bool) → (endedOf s ≡ true → endingOf s ≡ 1) → ltb 0 (pickN t 1 (endingOf s)) ≡ true → pickN t 1 (endingOf s) ≡ 1
+    go true more f = refl
+    go false more f = more f
+
+past-names : (s : List ℕ) → endedOf s ≡ true → lineOf s ≡ names → pastLine s 0 ≡ 33
+unfolding pastLine lineAt
+past-names s u e = omega (arith, ap length e, names-count, ending-one s u)
 
 pub names-not : (s : List ℕ) → same (take 33 s) namesLine ≡ false → readLibrary s ≡ fault 2 0
 unfolding unless
@@ -101,4 +111,4 @@ names-read (b ∷ s) e =
     let t : (endedOf (b ∷ s) && same (lineOf (b ∷ s)) names) ≡ true = first-is (b ∷ s) ∙ e in
     let u : endedOf (b ∷ s) ≡ true = and-left (endedOf (b ∷ s)) (same (lineOf (b ∷ s)) names) t in
     let v : lineOf (b ∷ s) ≡ names = same-eq (lineOf (b ∷ s)) names (and-right (endedOf (b ∷ s)) (same (lineOf (b ∷ s)) names) t) in
-    read-by (b ∷ s) (omega arith) ∙ rw (t, u) (ap (λ (k : ℕ). readCells 0 [] (linesOf (b ∷ s) k)) (past-names (b ∷ s) v))
+    read-by (b ∷ s) (omega arith) ∙ rw (t, u) (ap (λ (k : ℕ). readCells 0 [] (linesOf (b ∷ s) k)) (past-names (b ∷ s) u v))

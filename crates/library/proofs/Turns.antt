@@ -16,7 +16,7 @@ use lib.ListN.{length, take, drop, set, length-set, length-append, replicate}
 use lib.Seq.{append-snoc, take-suc-set, getD-set-same, getD-set-other, set-at}
 use borrow.Author.Tests.{ltb-true}
 use Rattle.model.specs.Base.{any, same}
-use Rattle.model.specs.Text.{Line, linesFrom}
+use Rattle.model.specs.Text.{Line, ended, linesFrom}
 use Rattle.model.specs.Reading.{Read, holds, fault, next, unless, from?}
 use Rattle.model.specs.Cells.{nameOf, noCell, blank, libraryOf, cellsOf}
 use Rattle.model.specs.LibraryText.{cellOfLine, isClean, readCells}
@@ -62,7 +62,7 @@ module _ (s : List ℕ) (at n : ℕ) (bs : List Cell) (w : List ℕ) (e : ℕ) (
 
 module _ (l : Library) (s : List ℕ) (at : ℕ) (h : at < length s) where
   behind : (e : ℕ) (f : Figures) (c : Cursor) → formAt s at ≡ ACell e f c
-      → cond (lineAt s at .ended) (linesOf s (pastLine s at)) [] ≡ linesOf s (c .at)
+      → cond (ended (lineAt s at)) (linesOf s (pastLine s at)) [] ≡ linesOf s (c .at)
   behind e f c k =
       let r = form-cell s at e f c k in
       let p = past-at 7 s at (r .1) in
@@ -74,7 +74,7 @@ module _ (l : Library) (s : List ℕ) (at : ℕ) (h : at < length s) where
       → next (from? (cellOfLine (lineAt s at)) 4 at) (λ c.
       unless (not (any (λ (d : Cell). same (nameOf c) (nameOf d)) (before (l .cells) (l .n)))) 5 at
       (unless (isClean c) 6 at
-      (next (readCells (suc (l .n)) (c ∷ before (l .cells) (l .n)) (cond (lineAt s at .ended) (linesOf s (pastLine s at)) [])) (λ cs. holds (c ∷ cs)))))
+      (next (readCells (suc (l .n)) (c ∷ before (l .cells) (l .n)) (cond (ended (lineAt s at)) (linesOf s (pastLine s at)) [])) (λ cs. holds (c ∷ cs)))))
       ≡ turnOf s at (l .n) (before (l .cells) (l .n)) (wordAt s at)
       (onForm form (λ e f c.
       pickJudged (isRepeated (take (e - at) (drop at s)) (l .cells) (l .n)) (Bad 5)
@@ -92,7 +92,7 @@ module _ (l : Library) (s : List ℕ) (at : ℕ) (h : at < length s) where
   turn = ap (readCells (l .n) (before (l .cells) (l .n))) (lines-at s at h) ∙ go (ltb (l .n) 32) refl
     where
       go : (b : Bool) → ltb (l .n) 32 ≡ b
-          → readCells (l .n) (before (l .cells) (l .n)) (lineAt s at ∷ cond (lineAt s at .ended) (linesOf s (pastLine s at)) [])
+          → readCells (l .n) (before (l .cells) (l .n)) (lineAt s at ∷ cond (ended (lineAt s at)) (linesOf s (pastLine s at)) [])
           ≡ turnOf s at (l .n) (before (l .cells) (l .n)) (wordAt s at) (judgedAt l s at)
       go true e = rw e (by-form (formAt s at) refl)
       go false e = rw e

@@ -7,7 +7,7 @@ use mathlib.Core.List.{List, [], _∷_}
 use lib.Dec.{eqb, ltb, leb}
 use lib.ListN.{length, getD, drop, replicate}
 use Rattle.model.specs.Base.{all, any, elem, same, lowest}
-use Rattle.model.specs.Text.{Line, text, linesFrom}
+use Rattle.model.specs.Text.{Line, ended, text, linesFrom}
 use Rattle.model.specs.Reading.{Read, holds, fault, next, unless, from?}
 use Rattle.model.specs.Cells.{nameOf, cellsOf}
 use Rattle.model.specs.Graph.{Graph, unplaced, varOf}
@@ -91,7 +91,7 @@ cells-early k before (l ∷ ls) =
 lines-early : (ls : List Line) → Faults Early (readLibraryLines ls)
 unfolding readLibraryLines
 lines-early [] = in-fault Early 2 0 refl
-lines-early (l ∷ ls) = in-unless Early (l .ended && same (l .bytes) (text "cell pins table area d0 d1 d2 d3")) 2 0 (readCells 0 [] ls) refl (cells-early 0 [] ls)
+lines-early (l ∷ ls) = in-unless Early (ended l && same (l .bytes) (text "cell pins table area d0 d1 d2 d3")) 2 0 (readCells 0 [] ls) refl (cells-early 0 [] ls)
 
 pub library-early : (s : List ℕ) → Faults Early (readLibrary s)
 unfolding readLibrary

@@ -1,12 +1,12 @@
 -- The graph's text, read: its header, then its graph, or the first refusal of 7 to 14 with its place. Assumes nothing.
-use Prim.Native.Nat.{ℕ, suc, _+_, _*_, _%_}
+use Prim.Native.Nat.{ℕ, _+_, _*_, _%_}
 use mathlib.Core.Bool.{Bool, true, false, not, cond, _&&_, _||_}
 use mathlib.Core.Option.{Option, none, some}
 use mathlib.Core.List.{List, [], _∷_, _++_, map}
 use lib.Dec.{eqb, leb}
 use lib.ListN.{length, getD, drop, replicate}
 use Rattle.model.specs.Base.{all, keep, elem, same, andThen, only}
-use Rattle.model.specs.Text.{Line, text, linesFrom, fields, numbers}
+use Rattle.model.specs.Text.{Line, ended, nextOf, text, linesFrom, fields, numbers}
 use Rattle.model.specs.Reading.{Read, holds, fault, next, unless, from?, Ruling}
 use Rattle.model.specs.Graph.{Graph, varOf}
 use Rattle.model.specs.declared.Header.{Header}
@@ -26,8 +26,8 @@ unfolding andThen only numbers fields same text headerOfNumbers
 headerOf [] = none
 headerOf (l ∷ ls) =
     let ws = fields (l .bytes) in
-    andThen (only (l .ended && (eqb (length ws) 6 && same (getD ws 0 []) (text "aag"))) (drop 1 ws)) (λ vs.
-    andThen (numbers vs) (λ ns. some (headerOfNumbers (suc (length (l .bytes))) ns)))
+    andThen (only (ended l && (eqb (length ws) 6 && same (getD ws 0 []) (text "aag"))) (drop 1 ws)) (λ vs.
+    andThen (numbers vs) (λ ns. some (headerOfNumbers (nextOf l) ns)))
 
 -- "M exceeds 4,095, O exceeds 4,096, or I + A exceeds M": none of them
 unfoldable pub inLimits : Header → Bool
@@ -91,7 +91,7 @@ pub record Item : Type 0 where
 -- the literals of a due line: "one space between, byte 10 after each line"
 unfoldable pub itemLiterals : Kind → Line → Option (List ℕ)
 unfolding andThen only numbers fields howMany
-itemLiterals k l = let ws = fields (l .bytes) in andThen (only (l .ended && eqb (length ws) (howMany k)) ws) numbers
+itemLiterals k l = let ws = fields (l .bytes) in andThen (only (ended l && eqb (length ws) (howMany k)) ws) numbers
 
 -- the due lines, 11 to 13 "line by line"; `end` is the text's length, `size` is M, `before` the variables defined so far
 unfoldable pub readDue : ℕ → ℕ → List ℕ → List Kind → List Line → Read (List Item)

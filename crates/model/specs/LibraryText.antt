@@ -6,7 +6,7 @@ use mathlib.Core.List.{List, [], _∷_, _++_}
 use lib.Dec.{eqb, leb, ltb}
 use lib.ListN.{length, getD, drop, replicate}
 use Rattle.model.specs.Base.{all, any, same, andThen, only}
-use Rattle.model.specs.Text.{Line, text, linesFrom, fields, numbers, hexTable, isName}
+use Rattle.model.specs.Text.{Line, ended, text, linesFrom, fields, numbers, hexTable, isName}
 use Rattle.model.specs.Reading.{Read, holds, fault, next, unless, from?}
 use Rattle.model.specs.Cells.{nameOf}
 use Rattle.model.specs.declared.Cell.{Cell}
@@ -28,7 +28,7 @@ cellOfFields ws =
 -- "byte 10 ends every line"
 unfoldable pub cellOfLine : Line → Option Cell
 unfolding andThen only cellOfFields fields
-cellOfLine l = andThen (only (l .ended) (fields (l .bytes))) cellOfFields
+cellOfLine l = andThen (only (ended l) (fields (l .bytes))) cellOfFields
 
 -- no "table bit at or above row 2^pins", and no "delay of an absent pin" that "isn't 0"
 unfoldable pub isClean : Cell → Bool
@@ -50,7 +50,7 @@ readCells k before (l ∷ ls) =
 unfoldable pub readLibraryLines : List Line → Read (List Cell)
 unfolding unless same text readCells
 readLibraryLines [] = fault 2 0
-readLibraryLines (l ∷ ls) = unless (l .ended && same (l .bytes) (text "cell pins table area d0 d1 d2 d3")) 2 0 (readCells 0 [] ls)
+readLibraryLines (l ∷ ls) = unless (ended l && same (l .bytes) (text "cell pins table area d0 d1 d2 d3")) 2 0 (readCells 0 [] ls)
 
 -- the cells of a library's text
 unfoldable pub readLibrary : List ℕ → Read (List Cell)

@@ -43,18 +43,26 @@ unfolding split
 parts sep [] = []
 parts sep (b ∷ bs) = split (eqb b sep) b (parts sep bs)
 
--- a line: its first byte's offset, its bytes without byte 10, and whether byte 10 ends it
+-- a line: its first byte's offset, its contents, and how many bytes end it: none where the text ends first, else byte 10
 pub record Line : Type 0 where
   pub offset : ℕ
   pub bytes : List ℕ
-  pub ended : Bool
+  pub ending : ℕ
+
+-- the line has its end
+abbrev pub ended : Line → Bool
+ended l = ltb 0 (l .ending)
+
+-- where the next line begins: behind the contents and the end
+abbrev pub nextOf : Line → ℕ
+nextOf l = l .offset + (length (l .bytes) + l .ending)
 
 -- the lines of a text that begins at an offset; `held` are the line's bytes so far, the last first
 unfoldable pub linesFrom : ℕ → List ℕ → List ℕ → List Line
 linesFrom at [] [] = []
-linesFrom at (h ∷ hs) [] = record { offset = at; bytes = reverse (h ∷ hs); ended = false } ∷ []
+linesFrom at (h ∷ hs) [] = record { offset = at; bytes = reverse (h ∷ hs); ending = 0 } ∷ []
 linesFrom at held (b ∷ bs) = elim (eqb b 10) [
-  | true ↦ record { offset = at; bytes = reverse held; ended = true } ∷ linesFrom (at + suc (length held)) [] bs
+  | true ↦ record { offset = at; bytes = reverse held; ending = 1 } ∷ linesFrom (at + suc (length held)) [] bs
   | false ↦ linesFrom at (b ∷ held) bs
 ]
 

@@ -10,21 +10,21 @@ use mathlib.Core.Path.{_≡_, refl, sym, ap, _∙_, subst}
 use mathlib.Core.Bool.{Bool, true, false, cond, _&&_}
 use mathlib.Core.Option.{Option, none, some}
 use mathlib.Core.List.{List, [], _∷_, _++_, reverse, append-nil, reverse-cons}
-use lib.Dec.{eqb, eqb·suc-suc}
+use lib.Dec.{eqb, ltb, eqb·suc-suc}
 use lib.ListN.{length, drop, getD, length-append, length-drop, drop-of-length-le}
 use lib.Seq.{append-snoc, getD-append-seam, drop-append-add, drop-drop, getD-drop, drop-cons}
 use borrow.Author.Tests.{ne-eqb, eqb-true, lt-ltb, le-ltb}
 use Rattle.model.specs.Base.{andThen, only}
-use Rattle.model.specs.Text.{onto, split, Line, linesFrom, fields}
+use Rattle.model.specs.Text.{onto, split, Line, ended, linesFrom, fields}
 use Rattle.text.specs.Fields.{wordOf, wordAt, endAt, isByte}
 use Rattle.text.proofs.Bytes.{and-left, and-right}
-use Rattle.text.specs.Lines.{lineOf, endedOf, lineAt, pastLine, wordsAt, sepsAt, afterAt}
+use Rattle.text.specs.Lines.{lineOf, endingOf, endedOf, lineAt, pastLine, wordsAt, sepsAt, afterAt}
 
 -- ---- lines
 
 -- the lines behind the one that l begins, of which k bytes came before
 rest : ℕ → ℕ → List ℕ → List Line
-rest at k l = cond (endedOf l) (linesFrom (at + suc (k + length (lineOf l))) [] (drop (suc (length (lineOf l))) l)) []
+rest at k l = cond (endedOf l) (linesFrom (at + (k + length (lineOf l) + endingOf l)) [] (drop (length (lineOf l) + endingOf l) l)) []
 
 abbrev pickLines : Bool → List Line → List Line → List Line
 pickLines true a b = a
@@ -33,14 +33,14 @@ pickLines false a b = b
 -- one byte of a text
 lines-step : (at : ℕ) (held : List ℕ) (b : ℕ) (l : List ℕ)
     → linesFrom at held (b ∷ l)
-    ≡ pickLines (eqb b 10) (record { offset = at; bytes = reverse held; ended = true } ∷ linesFrom (at + suc (length held)) [] l) (linesFrom at (b ∷ held) l)
+    ≡ pickLines (eqb b 10) (record { offset = at; bytes = reverse held; ending = 1 } ∷ linesFrom (at + suc (length held)) [] l) (linesFrom at (b ∷ held) l)
 unfolding linesFrom
-lines-step at [] b l = go (eqb b 10) (record { offset = at; bytes = []; ended = true } ∷ linesFrom (at + 1) [] l) (linesFrom at (b ∷ []) l)
+lines-step at [] b l = go (eqb b 10) (record { offset = at; bytes = []; ending = 1 } ∷ linesFrom (at + 1) [] l) (linesFrom at (b ∷ []) l)
   where
     go : (t : Bool) (x y : List Line) → elim t [ true ↦ x | false ↦ y ] ≡ pickLines t x y
     go true x y = refl
     go false x y = refl
-lines-step at (h ∷ hs) b l = go (eqb b 10) (record { offset = at; bytes = reverse (h ∷ hs); ended = true } ∷ linesFrom (at + suc (length (h ∷ hs))) [] l) (linesFrom at (b ∷ h ∷ hs) l)
+lines-step at (h ∷ hs) b l = go (eqb b 10) (record { offset = at; bytes = reverse (h ∷ hs); ending = 1 } ∷ linesFrom (at + suc (length (h ∷ hs))) [] l) (linesFrom at (b ∷ h ∷ hs) l)
   where
     go : (t : Bool) (x y : List Line) → elim t [ true ↦ x | false ↦ y ] ≡ pickLines t x y
     go true x y = refl
@@ -48,21 +48,22 @@ lines-step at (h ∷ hs) b l = go (eqb b 10) (record { offset = at; bytes = reve
 
 -- a line and those behind it, of which k bytes came before
 abbrev whole : ℕ → ℕ → List ℕ → List ℕ → List Line
-whole at k held l = record { offset = at; bytes = held ++ lineOf l; ended = endedOf l } ∷ rest at k l
+whole at k held l = record { offset = at; bytes = held ++ lineOf l; ending = endingOf l } ∷ rest at k l
 
 whole-end : (at k b : ℕ) (held l : List ℕ) → eqb b 10 ≡ true
-    → whole at k held (b ∷ l) ≡ record { offset = at; bytes = held; ended = true } ∷ linesFrom (at + suc k) [] l
-unfolding lineOf endedOf rest
-whole-end at k b held l e = rw (e, append-nil held, add-zero k)
+    → whole at k held (b ∷ l) ≡ record { offset = at; bytes = held; ending = 1 } ∷ linesFrom (at + suc k) [] l
+unfolding lineOf endingOf rest
+whole-end at k b held l e = let q : k + 0 + 1 ≡ suc k = omega arith in rw (e, append-nil held, q)
 
 whole-more : (at k b : ℕ) (held l : List ℕ) → eqb b 10 ≡ false → whole at k held (b ∷ l) ≡ whole at (suc k) (held ++ (b ∷ [])) l
-unfolding lineOf endedOf rest
+unfolding lineOf endingOf rest
 whole-more at k b held l e =
-    let q : k + suc (length (lineOf l)) ≡ suc k + length (lineOf l) = omega arith in
-    rw (e, append-snoc held b (lineOf l), q)
+    let q : k + suc (length (lineOf l)) + endingOf l ≡ suc k + length (lineOf l) + endingOf l = omega arith in
+    let r : suc (length (lineOf l)) + endingOf l ≡ suc (length (lineOf l) + endingOf l) = omega arith in
+    rw (e, append-snoc held b (lineOf l), q, r)
 
 held-end : (at h : ℕ) (hs : List ℕ) → linesFrom at (h ∷ hs) [] ≡ whole at (length (h ∷ hs)) (reverse (h ∷ hs)) []
-unfolding linesFrom lineOf endedOf rest
+unfolding linesFrom lineOf endingOf rest
 held-end at h hs = rw (append-nil (reverse (h ∷ hs)))
 
 held-on : (at h : ℕ) (hs l : List ℕ) → linesFrom at (h ∷ hs) l ≡ whole at (length (h ∷ hs)) (reverse (h ∷ hs)) l
@@ -70,7 +71,7 @@ held-on at h hs [] = held-end at h hs
 held-on at h hs (b ∷ l) = lines-step at (h ∷ hs) b l ∙ go (eqb b 10) refl (held-on at b (h ∷ hs) l)
   where
     go : (t : Bool) → eqb b 10 ≡ t → linesFrom at (b ∷ h ∷ hs) l ≡ whole at (length (b ∷ h ∷ hs)) (reverse (b ∷ h ∷ hs)) l
-        → pickLines t (record { offset = at; bytes = reverse (h ∷ hs); ended = true } ∷ linesFrom (at + suc (length (h ∷ hs))) [] l) (linesFrom at (b ∷ h ∷ hs) l)
+        → pickLines t (record { offset = at; bytes = reverse (h ∷ hs); ending = 1 } ∷ linesFrom (at + suc (length (h ∷ hs))) [] l) (linesFrom at (b ∷ h ∷ hs) l)
         ≡ whole at (length (h ∷ hs)) (reverse (h ∷ hs)) (b ∷ l)
     go true e more = sym (whole-end at (length (h ∷ hs)) b (reverse (h ∷ hs)) l e)
     go false e more =
@@ -81,14 +82,14 @@ held-on at h hs (b ∷ l) = lines-step at (h ∷ hs) b l ∙ go (eqb b 10) refl 
 lines-on : (at b : ℕ) (l : List ℕ) → linesFrom at [] (b ∷ l) ≡ whole at 0 [] (b ∷ l)
 lines-on at b l = lines-step at [] b l ∙ go (eqb b 10) refl
   where
-    go : (t : Bool) → eqb b 10 ≡ t → pickLines t (record { offset = at; bytes = []; ended = true } ∷ linesFrom (at + 1) [] l) (linesFrom at (b ∷ []) l) ≡ whole at 0 [] (b ∷ l)
+    go : (t : Bool) → eqb b 10 ≡ t → pickLines t (record { offset = at; bytes = []; ending = 1 } ∷ linesFrom (at + 1) [] l) (linesFrom at (b ∷ []) l) ≡ whole at 0 [] (b ∷ l)
     go true e = sym (whole-end at 0 b [] l e)
     go false e = held-on at b [] l ∙ sym (whole-more at 0 b [] l e)
 
-behind-is : (s : List ℕ) (at : ℕ) → whole at 0 [] (drop at s) ≡ record { offset = at; bytes = lineOf (drop at s); ended = endedOf (drop at s) }
-    ∷ cond (endedOf (drop at s)) (linesFrom (at + suc (length (lineOf (drop at s)))) [] (drop (at + suc (length (lineOf (drop at s)))) s)) []
+behind-is : (s : List ℕ) (at : ℕ) → whole at 0 [] (drop at s) ≡ record { offset = at; bytes = lineOf (drop at s); ending = endingOf (drop at s) }
+    ∷ cond (endedOf (drop at s)) (linesFrom (at + (length (lineOf (drop at s)) + endingOf (drop at s))) [] (drop (at + (length (lineOf (drop at s)) + endingOf (drop at s))) s)) []
 unfolding rest
-behind-is s at = rw (drop-drop (suc (length (lineOf (drop at s)))) at s, zero-add (length (lineOf (drop at s))))
+behind-is s at = rw (drop-drop (length (lineOf (drop at s)) + endingOf (drop at s)) at s, zero-add (length (lineOf (drop at s))))
 
 -- no line begins at the end
 pub lines-none : (s : List ℕ) (at : ℕ) → length s ≤ at → linesFrom at [] (drop at s) ≡ []
@@ -97,7 +98,7 @@ lines-none s at h = rw (drop-of-length-le s h)
 
 -- the line at a place, and those behind it
 pub lines-at : (s : List ℕ) (at : ℕ) → at < length s
-    → linesFrom at [] (drop at s) ≡ lineAt s at ∷ cond (lineAt s at .ended) (linesFrom (pastLine s at) [] (drop (pastLine s at) s)) []
+    → linesFrom at [] (drop at s) ≡ lineAt s at ∷ cond (ended (lineAt s at)) (linesFrom (pastLine s at) [] (drop (pastLine s at) s)) []
 unfolding lineAt pastLine
 lines-at s at h = ap (linesFrom at []) d ∙ lines-on at (getD s at 0) (drop (suc at) s) ∙ ap (whole at 0 []) (sym d) ∙ behind-is s at
   where
@@ -108,17 +109,17 @@ lines-at s at h = ap (linesFrom at []) d ∙ lines-on at (getD s at 0) (drop (su
 
 -- what stands behind the field that l begins with: nothing, a space, or byte 10
 data View (l : List ℕ) : Type 0 where
-  atEnd : length l ≡ length (wordOf l) → endedOf l ≡ false → View l
-  atSpace : (r : List ℕ) → l ≡ wordOf l ++ 32 ∷ r → fields (lineOf l) ≡ wordOf l ∷ fields (lineOf r) → endedOf l ≡ endedOf r
+  atEnd : length l ≡ length (wordOf l) → endingOf l ≡ 0 → View l
+  atSpace : (r : List ℕ) → l ≡ wordOf l ++ 32 ∷ r → fields (lineOf l) ≡ wordOf l ∷ fields (lineOf r) → endingOf l ≡ endingOf r
       → length (lineOf l) ≡ length (wordOf l) + suc (length (lineOf r)) → View l
-  atLine : (r : List ℕ) → l ≡ wordOf l ++ 10 ∷ r → fields (lineOf l) ≡ wordOf l ∷ [] → endedOf l ≡ true → length (lineOf l) ≡ length (wordOf l) → View l
+  atLine : (r : List ℕ) → l ≡ wordOf l ++ 10 ∷ r → fields (lineOf l) ≡ wordOf l ∷ [] → endingOf l ≡ 1 → length (lineOf l) ≡ length (wordOf l) → View l
 
 view-space : (l : List ℕ) → View (32 ∷ l)
-unfolding wordOf lineOf endedOf fields split
+unfolding wordOf lineOf endingOf fields split
 view-space l = atSpace l refl refl refl (sym (zero-add (suc (length (lineOf l)))))
 
 view-line : (l : List ℕ) → View (10 ∷ l)
-unfolding wordOf lineOf endedOf fields split
+unfolding wordOf lineOf endingOf fields split
 view-line l = atLine l refl refl refl refl
 
 -- any other byte goes onto the field
@@ -131,29 +132,29 @@ module _ (b : ℕ) (l : List ℕ) (notSpace : eqb b 32 ≡ false) (notLine : eqb
   unfolding lineOf
   line-on = rw notLine
 
-  ended-on : endedOf (b ∷ l) ≡ endedOf l
-  unfolding endedOf
-  ended-on = rw notLine
+  ending-on : endingOf (b ∷ l) ≡ endingOf l
+  unfolding endingOf
+  ending-on = rw notLine
 
   fields-on : (w : List ℕ) (ws : List (List ℕ)) → fields (lineOf l) ≡ w ∷ ws → fields (lineOf (b ∷ l)) ≡ (b ∷ w) ∷ ws
   unfolding fields split onto
   fields-on w ws e = rw (line-on, notSpace, e)
 
   view-on : View l → View (b ∷ l)
-  view-on (atEnd e f) = atEnd (ap suc e ∙ ap length (sym word-on)) (ended-on ∙ f)
+  view-on (atEnd e f) = atEnd (ap suc e ∙ ap length (sym word-on)) (ending-on ∙ f)
   view-on (atSpace r own parts ends long) =
       atSpace r (ap (λ (x : List ℕ). b ∷ x) own ∙ ap (λ (x : List ℕ). x ++ 32 ∷ r) (sym word-on))
       (fields-on (wordOf l) (fields (lineOf r)) parts ∙ ap (λ (x : List ℕ). x ∷ fields (lineOf r)) (sym word-on))
-      (ended-on ∙ ends)
+      (ending-on ∙ ends)
       (omega (arith, ap length line-on, ap length word-on))
   view-on (atLine r own parts ends long) =
       atLine r (ap (λ (x : List ℕ). b ∷ x) own ∙ ap (λ (x : List ℕ). x ++ 10 ∷ r) (sym word-on))
       (fields-on (wordOf l) [] parts ∙ ap (λ (x : List ℕ). x ∷ []) (sym word-on))
-      (ended-on ∙ ends)
+      (ending-on ∙ ends)
       (ap length line-on ∙ ap suc long ∙ ap length (sym word-on))
 
 view-none : View []
-unfolding wordOf endedOf
+unfolding wordOf endingOf
 view-none = atEnd refl refl
 
 view : (l : List ℕ) → View l
@@ -190,8 +191,8 @@ end-is : (s : List ℕ) (at : ℕ) → endAt s at ≡ at + length (wordOf (drop 
 unfolding endAt wordAt
 end-is s at = refl
 
-end-plus : (s : List ℕ) (at : ℕ) (l : List ℕ) → length l ≡ length (wordOf (drop at s)) → endAt s at + 1 ≡ at + suc (length l)
-end-plus s at l e = omega (arith, end-is s at)
+end-plus : (s : List ℕ) (at : ℕ) (l : List ℕ) (n : ℕ) → length l ≡ length (wordOf (drop at s)) → n ≡ 1 → endAt s at + 1 ≡ at + (length l + n)
+end-plus s at l n e f = omega (arith, end-is s at)
 
 no-byte : (s : List ℕ) (at : ℕ) → length (drop at s) ≡ length (wordAt s at) → (y : ℕ) → isByte s (endAt s at) y ≡ false
 unfolding endAt
@@ -199,7 +200,7 @@ no-byte s at e y = let h : length s ≤ at + length (wordAt s at) = omega (arith
 
 -- the fields of the line at a place, where byte 10 ends it
 unfoldable pub lineFields : List ℕ → ℕ → Option (List (List ℕ))
-lineFields s at = only (lineAt s at .ended) (fields (lineAt s at .bytes))
+lineFields s at = only (ended (lineAt s at)) (fields (lineAt s at .bytes))
 
 -- those of a list that has n
 unfoldable pub ofLength : ℕ → List (List ℕ) → Option (List (List ℕ))
@@ -266,26 +267,27 @@ fields-at (suc k) s at = inner-field k s at (view (drop at s)) (fields-at k s (e
 never : {X : Type 0} {b : Bool} → b ≡ false → b ≡ true → X
 never {b = b} e f = let z : _≡_ {A = ℕ} 0 1 = cc in absurd (omega arith)
 
-last-past : (s : List ℕ) (at : ℕ) → View (drop at s) → isByte s (endAt s at) 10 ≡ true → (endedOf (drop at s) ≡ true) × (endAt s at + 1 ≡ at + suc (length (lineOf (drop at s))))
+last-past : (s : List ℕ) (at : ℕ) → View (drop at s) → isByte s (endAt s at) 10 ≡ true → (endedOf (drop at s) ≡ true) × (endAt s at + 1 ≡ at + (length (lineOf (drop at s)) + endingOf (drop at s)))
 unfolding wordAt
 last-past s at (atEnd e f) h = never (no-byte s at e 10) h
 last-past s at (atSpace r own parts ends long) h = never (byte-test s at 32 r own 10) h
-last-past s at (atLine r own parts ends long) h = (ends, end-plus s at (lineOf (drop at s)) long)
+last-past s at (atLine r own parts ends long) h = (ap (ltb 0) ends, end-plus s at (lineOf (drop at s)) (endingOf (drop at s)) long ends)
 
 inner-past : (k : ℕ) (s : List ℕ) (at : ℕ) → View (drop at s) → (isByte s (endAt s at) 32 && sepsAt k s (endAt s at + 1)) ≡ true
     → (sepsAt k s (endAt s at + 1) ≡ true
-    → (endedOf (drop (endAt s at + 1) s) ≡ true) × (afterAt k s (endAt s at + 1) ≡ endAt s at + 1 + suc (length (lineOf (drop (endAt s at + 1) s)))))
-    → (endedOf (drop at s) ≡ true) × (afterAt k s (endAt s at + 1) ≡ at + suc (length (lineOf (drop at s))))
+    → (endedOf (drop (endAt s at + 1) s) ≡ true) × (afterAt k s (endAt s at + 1) ≡ endAt s at + 1 + (length (lineOf (drop (endAt s at + 1) s)) + endingOf (drop (endAt s at + 1) s))))
+    → (endedOf (drop at s) ≡ true) × (afterAt k s (endAt s at + 1) ≡ at + (length (lineOf (drop at s)) + endingOf (drop at s)))
 unfolding wordAt
 inner-past k s at (atEnd e f) h more = never (no-byte s at e 32) (and-left (isByte s (endAt s at) 32) (sepsAt k s (endAt s at + 1)) h)
 inner-past k s at (atSpace r own parts ends long) h more =
     let d : drop (endAt s at + 1) s ≡ r = behind-byte s at 32 r own in
     let m = more (and-right (isByte s (endAt s at) 32) (sepsAt k s (endAt s at + 1)) h) in
     let q : length (lineOf (drop (endAt s at + 1) s)) ≡ length (lineOf r) = ap (λ (l : List ℕ). length (lineOf l)) d in
-    (ends ∙ ap endedOf (sym d) ∙ m .0, m .1 ∙ omega (arith, end-is s at))
+    let u : endingOf (drop at s) ≡ endingOf (drop (endAt s at + 1) s) = ends ∙ ap endingOf (sym d) in
+    (ap (ltb 0) u ∙ m .0, m .1 ∙ omega (arith, end-is s at))
 inner-past k s at (atLine r own parts ends long) h more = never (byte-test s at 10 r own 32) (and-left (isByte s (endAt s at) 32) (sepsAt k s (endAt s at + 1)) h)
 
-pub past-at : (k : ℕ) (s : List ℕ) (at : ℕ) → sepsAt k s at ≡ true → (lineAt s at .ended ≡ true) × (afterAt k s at ≡ pastLine s at)
+pub past-at : (k : ℕ) (s : List ℕ) (at : ℕ) → sepsAt k s at ≡ true → (ended (lineAt s at) ≡ true) × (afterAt k s at ≡ pastLine s at)
 unfolding sepsAt afterAt lineAt pastLine
 past-at zero s at e = last-past s at (view (drop at s)) e
 past-at (suc k) s at e = inner-past k s at (view (drop at s)) e (past-at k s (endAt s at + 1))

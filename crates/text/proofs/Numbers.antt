@@ -12,7 +12,7 @@ use mathlib.Core.List.{List, [], _∷_}
 use lib.Dec.{eqb}
 use lib.ListN.{length}
 use Rattle.model.specs.Base.{andThen, only}
-use Rattle.model.specs.Text.{fields, number, numbers}
+use Rattle.model.specs.Text.{ended, fields, number, numbers}
 use Rattle.text.specs.declared.Cursor.{Cursor}
 use Rattle.text.specs.Fields.{wordAt, endAt, isByte, onNumber, numberOf, numberThen}
 use Rattle.text.specs.Lines.{lineAt, pastLine, wordsAt, sepsAt, afterAt, numbersAt}
@@ -26,9 +26,9 @@ both true ws n = refl
 both false ws n = refl
 
 module _ (k : ℕ) (s : List ℕ) (at : ℕ) where
-  pub line-words : only (lineAt s at .ended && eqb (length (fields (lineAt s at .bytes))) (suc k)) (fields (lineAt s at .bytes)) ≡ only (sepsAt k s at) (wordsAt k s at)
+  pub line-words : only (ended (lineAt s at) && eqb (length (fields (lineAt s at .bytes))) (suc k)) (fields (lineAt s at .bytes)) ≡ only (sepsAt k s at) (wordsAt k s at)
   unfolding lineFields
-  line-words = both (lineAt s at .ended) (fields (lineAt s at .bytes)) (suc k) ∙ fields-at k s at
+  line-words = both (ended (lineAt s at)) (fields (lineAt s at .bytes)) (suc k) ∙ fields-at k s at
 
 -- the last number
 last-number : (o : Option ℕ) (b : Bool) (w : List ℕ) (p : ℕ) → number w ≡ o
@@ -63,5 +63,5 @@ unfolding andThen only
 some-only true ws ns e = refl
 some-only false ws ns e = let z : _≡_ {A = ℕ} 0 1 = cc in absurd (omega arith)
 
-pub numbers-ended : (k : ℕ) (s : List ℕ) (at : ℕ) (ns : List ℕ) → numbersAt k s at ≡ some ns → (lineAt s at .ended ≡ true) × (afterAt k s at ≡ pastLine s at)
+pub numbers-ended : (k : ℕ) (s : List ℕ) (at : ℕ) (ns : List ℕ) → numbersAt k s at ≡ some ns → (ended (lineAt s at) ≡ true) × (afterAt k s at ≡ pastLine s at)
 numbers-ended k s at ns e = past-at k s at (some-only (sepsAt k s at) (wordsAt k s at) ns (numbers-at k s at ∙ e))

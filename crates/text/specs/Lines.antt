@@ -3,10 +3,10 @@ use Prim.Native.Nat.{ℕ, zero, suc, _+_}
 use mathlib.Core.Bool.{Bool, true, false, _&&_}
 use mathlib.Core.Option.{Option, none, some}
 use mathlib.Core.List.{List, [], _∷_}
-use lib.Dec.{eqb}
+use lib.Dec.{eqb, ltb}
 use lib.ListN.{length, drop}
 use Rattle.model.specs.Base.{andThen}
-use Rattle.model.specs.Text.{Line}
+use Rattle.model.specs.Text.{Line, nextOf}
 use Rattle.text.specs.declared.Cursor.{Cursor}
 use Rattle.text.specs.Fields.{pickBytes, wordAt, endAt, isByte, onNumber, numberThen}
 
@@ -14,23 +14,30 @@ abbrev pub pickBool : Bool → Bool → Bool → Bool
 pickBool true a b = a
 pickBool false a b = b
 
--- the bytes before the first byte 10, and whether there is one
+abbrev pub pickN : Bool → ℕ → ℕ → ℕ
+pickN true a b = a
+pickN false a b = b
+
+-- the bytes before the first byte 10, and how many bytes end the line: that one, or none
 unfoldable pub lineOf : List ℕ → List ℕ
 lineOf [] = []
 lineOf (b ∷ bs) = pickBytes (eqb b 10) [] (b ∷ lineOf bs)
 
-unfoldable pub endedOf : List ℕ → Bool
-endedOf [] = false
-endedOf (b ∷ bs) = pickBool (eqb b 10) true (endedOf bs)
+unfoldable pub endingOf : List ℕ → ℕ
+endingOf [] = 0
+endingOf (b ∷ bs) = pickN (eqb b 10) 1 (endingOf bs)
 
--- the line that begins at a place, and the place past it and its byte 10
+abbrev pub endedOf : List ℕ → Bool
+endedOf l = ltb 0 (endingOf l)
+
+-- the line that begins at a place, and the place where the next begins
 unfoldable pub lineAt : List ℕ → ℕ → Line
-unfolding lineOf endedOf
-lineAt s at = record { offset = at; bytes = lineOf (drop at s); ended = endedOf (drop at s) }
+unfolding lineOf endingOf
+lineAt s at = record { offset = at; bytes = lineOf (drop at s); ending = endingOf (drop at s) }
 
 unfoldable pub pastLine : List ℕ → ℕ → ℕ
-unfolding lineOf
-pastLine s at = at + suc (length (lineOf (drop at s)))
+unfolding lineAt
+pastLine s at = nextOf (lineAt s at)
 
 -- the field at a place and k more, whatever bytes stand between them
 unfoldable pub wordsAt : ℕ → List ℕ → ℕ → List (List ℕ)

@@ -10,7 +10,7 @@ use lib.Dec.{T, eqb, leb, leb→le, le→leb, lit<, T-not, not-T}
 use lib.ListN.{length, getD, drop, replicate, length-append, length-map}
 use mir.Facts.{and-yes, yes-and, eqb-yes, eqb-no, leb-yes}
 use Rattle.model.specs.Base.{all, elem, keep, each, only}
-use Rattle.model.specs.Text.{Line, linesFrom, fields, numbers}
+use Rattle.model.specs.Text.{Line, ended, linesFrom, fields, numbers}
 use Rattle.model.specs.Reading.{holds, next, unless, from?}
 use Rattle.model.specs.Graph.{And, Graph, varOf, unplaced}
 use Rattle.model.specs.GraphText.{headerOf, inLimits, readHeader, Kind, anInput, anOutput, anAnd, howMany, defines, due, Item, itemLiterals, readDue, uses, definedBy, checkUses, sameKind, isKind, graphOf, readGraph}
@@ -50,10 +50,10 @@ unfolding readDue itemLiterals
 due-step end size before k ks l ls is e =
     let a = next-out (from? (itemLiterals k l) 11 (l .offset)) _ is e in
     let ns = a .0 in
-    let o = then-out (only (l .ended && eqb (length (fields (l .bytes))) (howMany k)) (fields (l .bytes))) numbers ns (from-out (itemLiterals k l) 11 (l .offset) ns (a .1)) in
-    let t = only-out (l .ended && eqb (length (fields (l .bytes))) (howMany k)) (fields (l .bytes)) (o .0) (o .1) in
+    let o = then-out (only (ended l && eqb (length (fields (l .bytes))) (howMany k)) (fields (l .bytes))) numbers ns (from-out (itemLiterals k l) 11 (l .offset) ns (a .1)) in
+    let t = only-out (ended l && eqb (length (fields (l .bytes))) (howMany k)) (fields (l .bytes)) (o .0) (o .1) in
     let long : length ns ≡ howMany k =
-    numbers-length (o .0) ns (o .2) ∙ ap length (sym (t .1)) ∙ eqb-yes (and-yes (l .ended) (eqb (length (fields (l .bytes))) (howMany k)) (t .0) .1) in
+    numbers-length (o .0) ns (o .2) ∙ ap length (sym (t .1)) ∙ eqb-yes (and-yes (ended l) (eqb (length (fields (l .bytes))) (howMany k)) (t .0) .1) in
     let b = unless-out (all (λ (n : ℕ). leb n (2 * size + 1)) ns && (not (defines k) || (eqb (getD ns 0 0 % 2) 0 && not (eqb (getD ns 0 0) 0)))) 12 (l .offset) _ is (a .2) in
     let p = and-yes (all (λ (n : ℕ). leb n (2 * size + 1)) ns) (not (defines k) || (eqb (getD ns 0 0 % 2) 0 && not (eqb (getD ns 0 0) 0))) (b .0) in
     let c = unless-out (not (defines k && elem (varOf (getD ns 0 0)) before)) 13 (l .offset) _ is (b .1) in

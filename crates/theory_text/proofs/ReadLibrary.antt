@@ -10,7 +10,7 @@ use lib.ListN.{length, getD, take, drop, replicate, length-drop, take-append-dro
 use lib.Seq.{take-append-seam}
 use mir.Facts.{and-yes, yes-and, eqb-yes, yes-eqb, leb-yes, yes-leb}
 use Rattle.model.specs.Base.{all, any, same, andThen, only}
-use Rattle.model.specs.Text.{Line, text, linesFrom, fields, numbers, hexTable, isName}
+use Rattle.model.specs.Text.{Line, ended, text, linesFrom, fields, numbers, hexTable, isName}
 use Rattle.model.specs.Reading.{holds, from?}
 use Rattle.model.specs.Cells.{nameOf}
 use Rattle.model.specs.LibraryText.{nameBytes, cellOfFields, cellOfLine, isClean, readCells, readLibraryLines, readLibrary}
@@ -75,7 +75,7 @@ fields-written ws c e =
 
 line-written : (l : Line) (c : Cell) → cellOfLine l ≡ some c → Written c
 unfolding cellOfLine
-line-written l c e = let o = then-out (only (l .ended) (fields (l .bytes))) cellOfFields c e in fields-written (o .0) c (o .2)
+line-written l c e = let o = then-out (only (ended l) (fields (l .bytes))) cellOfFields c e in fields-written (o .0) c (o .2)
 
 written-fits : (c : Cell) → Written c → T (isClean c) → T (cellFits c)
 unfolding isClean cellFits
@@ -166,7 +166,7 @@ library-lines : (ls : List Line) (cells : List Cell) → readLibraryLines ls ≡
 unfolding readLibraryLines
 library-lines [] cells e = absurd (fault-never e)
 library-lines (l ∷ ls) cells e =
-    (ls, unless-out (l .ended && same (l .bytes) (text "cell pins table area d0 d1 d2 d3")) 2 0 (readCells 0 [] ls) cells e .1)
+    (ls, unless-out (ended l && same (l .bytes) (text "cell pins table area d0 d1 d2 d3")) 2 0 (readCells 0 [] ls) cells e .1)
 
 -- a library text that is read gives a library that fits
 pub library-fits : (bytes : List ℕ) (cells : List Cell) → readLibrary bytes ≡ holds cells → T (libraryFits cells)
