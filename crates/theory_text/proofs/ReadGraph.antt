@@ -29,9 +29,9 @@ abbrev andOf : Item → And
 andOf i = record { var = head i; left = getD (i .literals) 1 0; right = getD (i .literals) 2 0 }
 
 -- an item in range and of its kind's length
-record Good (size : ℕ) (i : Item) : Type 0 where
-  long : length (i .literals) ≡ howMany (i .kind)
-  low : T (all (λ (n : ℕ). leb n (2 * size + 1)) (i .literals))
+pub record Good (size : ℕ) (i : Item) : Type 0 where
+  pub long : length (i .literals) ≡ howMany (i .kind)
+  pub low : T (all (λ (n : ℕ). leb n (2 * size + 1)) (i .literals))
 
 -- what one due line gives
 record Step (end size : ℕ) (before : List ℕ) (k : Kind) (ks : List Kind) (ls : List Line) (is : List Item) : Type 0 where
@@ -96,10 +96,10 @@ due-good end size before (k ∷ ks) (l ∷ ls) is e i m =
     go (inr n) later = later n
 
 -- a variable that is defined: new, not 0, and in range
-record Fresh (size : ℕ) (before : List ℕ) (x : ℕ) : Type 0 where
-  isNew : ¬ List·Memᴰ x before
-  nonzero : ¬ (x ≡ 0)
-  small : x ≤ size
+pub record Fresh (size : ℕ) (before : List ℕ) (x : ℕ) : Type 0 where
+  pub isNew : ¬ List·Memᴰ x before
+  pub nonzero : ¬ (x ≡ 0)
+  pub small : x ≤ size
 
 step-fresh : (end size : ℕ) (before : List ℕ) (k : Kind) (ks : List Kind) (ls : List Line) (is : List Item) (s : Step end size before k ks ls is) → defines k ≡ true → Fresh size before (head (s .item))
 unfolding varOf defines howMany
@@ -162,6 +162,28 @@ due-fresh end size before (k ∷ ks) (l ∷ ls) is e =
         subst (Both before) (sym (defined-cons false (s .item) (s .rest) (ap defines (s .isKind′) ∙ d)))
         (subst (λ (t : Bool). Both (cond t (head (s .item) ∷ before) before) (definedBy (s .rest))) d r)
 
+-- ---- what is known of lines that were read, however they were read
+
+abbrev pub kindsOf : List Item → List Kind
+kindsOf is = map (λ (i : Item). i .kind) is
+
+-- the kinds are those that are due; every literal is in range; every variable is defined once, in range, and none is 0
+pub record Lawful (h : Header) (is : List Item) : Type 0 where
+  pub kinds : kindsOf is ≡ due h
+  pub good : (i : Item) → List·Memᴰ i is → Good (h .size) i
+  pub fresh : (x : ℕ) → List·Memᴰ x (definedBy is) → Fresh (h .size) [] x
+  pub once : Distinct (definedBy is)
+
+pub due-lawful : (end : ℕ) (h : Header) (ls : List Line) (is : List Item) → readDue end (h .size) [] (due h) ls ≡ holds is → Lawful h is
+due-lawful end h ls is e =
+    let f = due-fresh end (h .size) [] (due h) ls is e in
+    record {
+      kinds = due-kinds end (h .size) [] (due h) ls is e;
+      good = due-good end (h .size) [] (due h) ls is e;
+      fresh = f .0;
+      once = f .1;
+    }
+
 -- ---- the layout of the lines
 
 abbrev ins : List Item → List ℕ
@@ -169,9 +191,6 @@ ins is = map head (keep (isKind anInput) is)
 
 abbrev ans : List Item → List ℕ
 ans is = map head (keep (isKind anAnd) is)
-
-abbrev kinds : List Item → List Kind
-kinds is = map (λ (i : Item). i .kind) is
 
 keep-of : (k j : Kind) (i : Item) (is : List Item) → i .kind ≡ j → keep (isKind k) (i ∷ is) ≡ cond (sameKind k j) (i ∷ keep (isKind k) is) (keep (isKind k) is)
 unfolding keep isKind
@@ -181,7 +200,7 @@ defined-of : (j : Kind) (i : Item) (is : List Item) → i .kind ≡ j → define
 defined-of j i is e = defined-cons (defines j) i is (ap defines e)
 
 -- only ANDs are left
-of-ands : (a : ℕ) (is : List Item) → kinds is ≡ replicate a anAnd → (ins is ≡ []) × (ans is ≡ definedBy is)
+of-ands : (a : ℕ) (is : List Item) → kindsOf is ≡ replicate a anAnd → (ins is ≡ []) × (ans is ≡ definedBy is)
 unfolding definedBy keep sameKind defines
 of-ands zero [] e = (refl, refl)
 of-ands zero (i ∷ is) e = absurd (cons≢nil e)
@@ -194,7 +213,7 @@ of-ands (suc a) (i ∷ is) e =
     )
 
 -- outputs are left, and then ANDs
-of-outputs : (o a : ℕ) (is : List Item) → kinds is ≡ replicate o anOutput ++ replicate a anAnd → (ins is ≡ []) × (ans is ≡ definedBy is)
+of-outputs : (o a : ℕ) (is : List Item) → kindsOf is ≡ replicate o anOutput ++ replicate a anAnd → (ins is ≡ []) × (ans is ≡ definedBy is)
 unfolding definedBy keep sameKind defines
 of-outputs zero a is e = of-ands a is e
 of-outputs (suc o) a [] e = absurd (nil≢cons e)
@@ -206,7 +225,7 @@ of-outputs (suc o) a (i ∷ is) e =
     )
 
 -- the inputs' and the ANDs' variables, in this order, are those that the lines define
-of-all : (n o a : ℕ) (is : List Item) → kinds is ≡ replicate n anInput ++ (replicate o anOutput ++ replicate a anAnd) → ins is ++ ans is ≡ definedBy is
+of-all : (n o a : ℕ) (is : List Item) → kindsOf is ≡ replicate n anInput ++ (replicate o anOutput ++ replicate a anAnd) → ins is ++ ans is ≡ definedBy is
 unfolding definedBy keep sameKind defines
 of-all zero o a is e = let r = of-outputs o a is e in ap (λ (xs : List ℕ). xs ++ ans is) (r .0) ∙ r .1
 of-all (suc n) o a [] e = absurd (nil≢cons e)
@@ -270,20 +289,17 @@ use-in i k e h n b later =
 
 -- ---- the graph
 
-module _ (end : ℕ) (h : Header) (ls : List Line) (is : List Item) (r : readDue end (h .size) [] (due h) ls ≡ holds is)
+module _ (h : Header) (is : List Item) (lawful : Lawful h is)
     (used : (i : Item) → List·Memᴰ i is → T (all (λ (l : ℕ). elem (varOf l) (0 ∷ definedBy is)) (uses i))) where
   abbrev whole : Graph
   whole = graphOf (h .size) is
-
-  fresh : ((x : ℕ) → List·Memᴰ x (definedBy is) → Fresh (h .size) [] x) × Distinct (definedBy is)
-  fresh = due-fresh end (h .size) [] (due h) ls is r
 
   vars : whole .inputs ++ andVars whole ≡ definedBy is
   unfolding graphOf due
   vars =
       ap (λ (xs : List ℕ). ins is ++ xs)
       (map-map (λ (a : And). a .var) andOf (keep (isKind anAnd) is))
-      ∙ of-all (h .inputs) (h .outputs) (h .ands) is (due-kinds end (h .size) [] (due h) ls is r)
+      ∙ of-all (h .inputs) (h .outputs) (h .ands) is (lawful .kinds)
 
   -- a literal that a line of kind k has at place n is of a variable that is defined, or 0
   known : (k : Kind) (i : Item) → List·Memᴰ i (keep (isKind k) is) → (n : ℕ) → n < howMany k → (defines k ≡ true → 0 < n)
@@ -292,7 +308,7 @@ module _ (end : ℕ) (h : Header) (ls : List Line) (is : List Item) (r : readDue
   known k i m n b later =
       let o = keep-out (isKind k) is m in
       let e : i .kind ≡ k = kind-is k (i .kind) (o .1) in
-      let long : length (i .literals) ≡ howMany k = due-good end (h .size) [] (due h) ls is r i (o .0) .long ∙ ap howMany e in
+      let long : length (i .literals) ≡ howMany k = lawful .good i (o .0) .long ∙ ap howMany e in
       let t : T (elem (varOf (getD (i .literals) n 0)) (0 ∷ definedBy is)) =
       all-of (λ (l : ℕ). elem (varOf l) (0 ∷ definedBy is)) (uses i) (used i (o .0)) (getD (i .literals) n 0) (use-in i k e long n b later) in
       subst (λ (xs : List ℕ). List·Memᴰ (varOf (getD (i .literals) n 0)) (0 ∷ xs)) (sym vars)
@@ -301,9 +317,9 @@ module _ (end : ℕ) (h : Header) (ls : List Line) (is : List Item) (r : readDue
   accepted : unplaced whole ≡ [] → Accepted whole
   unfolding graphOf howMany defines
   accepted p = record {
-    defined = subst (λ (xs : List ℕ). T (distinct (0 ∷ xs))) (sym vars) (once-distinct (0 ∷ definedBy is) ((λ m. fresh .0 0 m .nonzero refl), fresh .1));
+    defined = subst (λ (xs : List ℕ). T (distinct (0 ∷ xs))) (sym vars) (once-distinct (0 ∷ definedBy is) ((λ m. lawful .fresh 0 m .nonzero refl), lawful .once));
     inRange = subst (λ (xs : List ℕ). T (all (λ (v : ℕ). leb v (h .size)) xs)) (sym vars)
-        (all-in (λ (v : ℕ). leb v (h .size)) (definedBy is) (λ x m. le→leb x (h .size) (fresh .0 x m .small)));
+        (all-in (λ (v : ℕ). leb v (h .size)) (definedBy is) (λ x m. le→leb x (h .size) (lawful .fresh x m .small)));
     used = λ l m. either l (List·Memᴰ·append-cases (whole .outputs) m);
     placed = p;
   }
@@ -339,22 +355,22 @@ keep-replicate p (suc n) k = go (p k) (keep-replicate p n k)
     go true e = ap suc e
     go false e = e
 
-count-kinds : (k : Kind) (is : List Item) → length (keep (isKind k) is) ≡ length (keep (sameKind k) (kinds is))
+count-kinds : (k : Kind) (is : List Item) → length (keep (isKind k) is) ≡ length (keep (sameKind k) (kindsOf is))
 unfolding keep isKind
 count-kinds k [] = refl
 count-kinds k (i ∷ is) = go (sameKind k (i .kind)) (count-kinds k is)
   where
-    go : (b : Bool) → length (keep (isKind k) is) ≡ length (keep (sameKind k) (kinds is))
-        → length (cond b (i ∷ keep (isKind k) is) (keep (isKind k) is)) ≡ length (cond b (i .kind ∷ keep (sameKind k) (kinds is)) (keep (sameKind k) (kinds is)))
+    go : (b : Bool) → length (keep (isKind k) is) ≡ length (keep (sameKind k) (kindsOf is))
+        → length (cond b (i ∷ keep (isKind k) is) (keep (isKind k) is)) ≡ length (cond b (i .kind ∷ keep (sameKind k) (kindsOf is)) (keep (sameKind k) (kindsOf is)))
     go true e = ap suc e
     go false e = e
 
-count-due : (k : Kind) (h : Header) (is : List Item) → kinds is ≡ due h
+count-due : (k : Kind) (h : Header) (is : List Item) → Lawful h is
     → length (keep (isKind k) is) ≡ cond (sameKind k anInput) (h .inputs) 0 + (cond (sameKind k anOutput) (h .outputs) 0 + cond (sameKind k anAnd) (h .ands) 0)
 unfolding due
 count-due k h is e =
     count-kinds k is
-    ∙ ap (λ (ks : List Kind). length (keep (sameKind k) ks)) e
+    ∙ ap (λ (ks : List Kind). length (keep (sameKind k) ks)) (e .kinds)
     ∙ both (replicate (h .inputs) anInput) (replicate (h .outputs) anOutput ++ replicate (h .ands) anAnd)
     ∙ ap₂ _+_ (keep-replicate (sameKind k) (h .inputs) anInput)
     (both (replicate (h .outputs) anOutput) (replicate (h .ands) anAnd)
@@ -374,24 +390,25 @@ low-literal size i good n h =
 -- the lines of a graph that is read
 record Lines (bytes : List ℕ) (h : Header) (g : Graph) : Type 0 where
   items : List Item
-  isRead : readDue (length bytes) (h .size) [] (due h) (linesFrom (h .next) [] (drop (h .next) bytes)) ≡ holds items
+  isLawful : Lawful h items
   isUsed : (i : Item) → List·Memᴰ i items → T (all (λ (l : ℕ). elem (varOf l) (0 ∷ definedBy items)) (uses i))
   isGraph : graphOf (h .size) items ≡ g
 
 graph-lines : (bytes : List ℕ) (h : Header) (g : Graph) → readGraph bytes h ≡ holds g → Lines bytes h g
 unfolding readGraph
 graph-lines bytes h g e =
-    let a = next-out (readDue (length bytes) (h .size) [] (due h) (linesFrom (h .next) [] (drop (h .next) bytes))) (λ is. next (checkUses (definedBy is) is) (λ js. holds (graphOf (h .size) js))) g e in
+    let ls = linesFrom (h .next) [] (drop (h .next) bytes) in
+    let a = next-out (readDue (length bytes) (h .size) [] (due h) ls) (λ is. next (checkUses (definedBy is) is) (λ js. holds (graphOf (h .size) js))) g e in
     let b = next-out (checkUses (definedBy (a .0)) (a .0)) (λ js. holds (graphOf (h .size) js)) g (a .2) in
     let u = uses-out (definedBy (a .0)) (a .0) (b .0) (b .1) in
-    record { items = a .0; isRead = a .1; isUsed = u .1; isGraph = ap (graphOf (h .size)) (u .0) ∙ holds-once (b .2) }
+    record { items = a .0; isLawful = due-lawful (length bytes) h ls (a .0) (a .1); isUsed = u .1; isGraph = ap (graphOf (h .size)) (u .0) ∙ holds-once (b .2) }
 
 -- a graph text that is read gives, if all its ANDs can be placed, an accepted graph
 pub graph-accepted : (bytes : List ℕ) (h : Header) (g : Graph) → readGraph bytes h ≡ holds g → unplaced g ≡ [] → Accepted g
 graph-accepted bytes h g e p =
     let s = graph-lines bytes h g e in
     subst Accepted (s .isGraph)
-    (accepted (length bytes) h (linesFrom (h .next) [] (drop (h .next) bytes)) (s .items) (s .isRead) (s .isUsed) (ap unplaced (s .isGraph) ∙ p))
+    (accepted h (s .items) (s .isLawful) (s .isUsed) (ap unplaced (s .isGraph) ∙ p))
 
 -- a graph has the numbers of its header
 pub record Counted (h : Header) (g : Graph) : Type 0 where
@@ -404,17 +421,14 @@ pub graph-counted : (bytes : List ℕ) (h : Header) (g : Graph) → readGraph by
 unfolding graphOf sameKind
 graph-counted bytes h g e = subst (Counted h) (s .isGraph) (record {
   size = refl;
-  inputs = length-map (keep (isKind anInput) (s .items)) head ∙ (let q = count-due anInput h (s .items) layout in omega (arith, q));
-  outputs = length-map (keep (isKind anOutput) (s .items)) (λ (i : Item). getD (i .literals) 0 0) ∙ (let q = count-due anOutput h (s .items) layout in omega (arith, q));
+  inputs = length-map (keep (isKind anInput) (s .items)) head ∙ (let q = count-due anInput h (s .items) (s .isLawful) in omega (arith, q));
+  outputs = length-map (keep (isKind anOutput) (s .items)) (λ (i : Item). getD (i .literals) 0 0) ∙ (let q = count-due anOutput h (s .items) (s .isLawful) in omega (arith, q));
   ands = length-map (keep (isKind anAnd) (s .items)) andOf
-      ∙ (let q = count-due anAnd h (s .items) layout in omega (arith, q));
+      ∙ (let q = count-due anAnd h (s .items) (s .isLawful) in omega (arith, q));
 })
   where
     s : Lines bytes h g
     s = graph-lines bytes h g e
-
-    layout : kinds (s .items) ≡ due h
-    layout = due-kinds (length bytes) (h .size) [] (due h) (linesFrom (h .next) [] (drop (h .next) bytes)) (s .items) (s .isRead)
 
 -- "A literal exceeds 2M+1": none does
 pub record LowLiterals (g : Graph) : Type 0 where
@@ -439,7 +453,7 @@ graph-low bytes h g e = subst LowLiterals (s .isGraph) (record {
     low : (k : Kind) (i : Item) → List·Memᴰ i (keep (isKind k) (s .items)) → (n : ℕ) → n < howMany k → getD (i .literals) n 0 ≤ 2 * h .size + 1
     low k i m n b =
         let o = keep-out (isKind k) (s .items) m in
-        low-literal (h .size) i (due-good (length bytes) (h .size) [] (due h) (linesFrom (h .next) [] (drop (h .next) bytes)) (s .items) (s .isRead) i (o .0)) n
+        low-literal (h .size) i (s .isLawful .good i (o .0)) n
         (subst (λ (j : Kind). n < howMany j) (sym (kind-is k (i .kind) (o .1))) b)
 
 -- ---- the header
