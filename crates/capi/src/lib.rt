@@ -1,8 +1,7 @@
 // The call for C and Rust. A slice is a pointer and a number of elements; the answer is the five values that document 01 names.
 use model::Answer;
 ghost use mathlib.Core.Path.{_≡_};
-ghost use lib.ListN.{length};
-ghost use Rattle.model.specs.Mapper.{mapTexts, returned, returnedBy, textAfter, workAfter};
+ghost use Rattle.model.specs.Mapper.{callOf, mapTexts, returned, returnedBy, textAfter, workAfter};
 ghost use Rattle.model.specs.Demands.{Values, Earliest};
 ghost use Rattle.capi.specs.Answers.{answered};
 
@@ -45,11 +44,11 @@ pub extern "C" fn mapper_map(
     work: &mut [u16],
     text: &mut [u8],
 ) -> MapperAnswer
-    ensures answers { λ r. ⌜ r ≡ answered (returnedBy (mapTexts (now (cells .entry)) (now (graph .entry)) (length (now (work .entry))) (length (now (text .entry))))) ⌝ }
-    ensures words { λ _. ⌜ now (work .exit) ≡ workAfter (mapTexts (now (cells .entry)) (now (graph .entry)) (length (now (work .entry))) (length (now (text .entry)))) (now (work .entry)) ⌝ }
-    ensures bytes { λ _. ⌜ now (text .exit) ≡ textAfter (mapTexts (now (cells .entry)) (now (graph .entry)) (length (now (work .entry))) (length (now (text .entry)))) (now (text .entry)) ⌝ }
-    ensures values { λ _. ⌜ Values (now (cells .entry)) (now (graph .entry)) (length (now (work .entry))) (length (now (text .entry))) ⌝ }
-    ensures earliest { λ _. ⌜ Earliest (now (cells .entry)) (now (graph .entry)) (length (now (work .entry))) (length (now (text .entry))) ⌝ }
+    ensures answers { λ r. ⌜ r ≡ answered (returnedBy (mapTexts (callOf (now (cells .entry)) (now (graph .entry)) (now (work .entry)) (now (text .entry))))) ⌝ }
+    ensures words { λ _. ⌜ now (work .exit) ≡ workAfter (mapTexts (callOf (now (cells .entry)) (now (graph .entry)) (now (work .entry)) (now (text .entry)))) (now (work .entry)) ⌝ }
+    ensures bytes { λ _. ⌜ now (text .exit) ≡ textAfter (mapTexts (callOf (now (cells .entry)) (now (graph .entry)) (now (work .entry)) (now (text .entry)))) (now (text .entry)) ⌝ }
+    ensures values { λ _. ⌜ Values (callOf (now (cells .entry)) (now (graph .entry)) (now (work .entry)) (now (text .entry))) ⌝ }
+    ensures earliest { λ _. ⌜ Earliest (callOf (now (cells .entry)) (now (graph .entry)) (now (work .entry)) (now (text .entry))) ⌝ }
 {
     answer(mapper::map_texts(cells, graph, work, text))
 }

@@ -12,7 +12,7 @@ use Rattle.model.specs.Cells.{cellsOf, libraryOf, libraryAnswer}
 use Rattle.model.specs.LibraryText.{readLibrary}
 use Rattle.model.specs.GraphText.{readHeader, readGraph}
 use Rattle.model.specs.Netlist.{Outcome, refused, mapped, mapGraph}
-use Rattle.model.specs.Mapper.{Design, within, mapDesign, readTexts, mapTexts, answerOf, returned}
+use Rattle.model.specs.Mapper.{Call, callOf, Design, within, mapDesign, readTexts, mapTexts, answerOf, returned}
 use Rattle.model.specs.Demands.{Memory}
 use Rattle.model.specs.declared.Cell.{Cell}
 use Rattle.model.specs.declared.Library.{Library}
@@ -33,10 +33,10 @@ use Rattle.mapper.proofs.Numbers.{library-early}
 use Rattle.mapper.proofs.Ends.{left-early, left-as}
 
 -- what a call leaves is what demand 1 asks
-pub memory-of : (library graph work text : List ℕ) (a : Answer) (y u : List ℕ) → Left (mapTexts library graph (length work) (length text)) work text a y u → Memory library graph work text a y u
-memory-of library graph work text a y u l = record {
+pub memory-of : (c : Call) (work text : List ℕ) (a : Answer) (y u : List ℕ) → Left (mapTexts c) work text a y u → Memory c work text a y u
+memory-of c work text a y u l = record {
   answers = l .told .answers;
-  returns = ap returned (l .told .answers) ∙ answer-returns (mapTexts library graph (length work) (length text));
+  returns = ap returned (l .told .answers) ∙ answer-returns (mapTexts c);
   words = l .words;
   bytes = l .told .bytes;
 }
@@ -51,43 +51,51 @@ within-fits bytes (mapped t f) = go (leb (length t) bytes) (leb→le (length t) 
     go true y = y tt
     go false y = tt
 
-texts-fit : (library graph : List ℕ) (words bytes : ℕ) → Fits (answerOf (mapTexts library graph words bytes)) bytes
+texts-fit : (c : Call) → Fits (answerOf (mapTexts c)) (c .bytes)
 unfolding mapTexts mapDesign
-texts-fit library graph words bytes = go (readTexts library graph words)
+texts-fit c = go (readTexts c)
   where
-    go : (r : Read Design) → Fits (answerOf (mapDesign bytes r)) bytes
-    go (holds d) = within-fits bytes (mapGraph (d .cells) (d .graph))
+    go : (r : Read Design) → Fits (answerOf (mapDesign (c .bytes) r)) (c .bytes)
+    go (holds d) = within-fits (c .bytes) (mapGraph (d .cells) (d .graph))
     go (fault n k) = unfold answerOf in tt
 
-pub memory-fits : (library graph work text : List ℕ) (a : Answer) (y u : List ℕ) → Memory library graph work text a y u → Fits a (length text)
-memory-fits library graph work text a y u m = subst (λ (x : Answer). Fits x (length text)) (sym (m .answers)) (texts-fit library graph (length work) (length text))
+pub memory-fits : (c : Call) (work text : List ℕ) (a : Answer) (y u : List ℕ) → Memory c work text a y u → Fits a (c .bytes)
+memory-fits c work text a y u m = subst (λ (x : Answer). Fits x (c .bytes)) (sym (m .answers)) (texts-fit c)
 
 -- ---- 1
 
 module _ (library graph work text : List ℕ) where
-  behind : Read Design
-  behind = next (readLibrary library) (λ cells. next (readHeader graph) (λ h. unless (leb (need (h .size) (h .outputs)) (length work)) 10 0
-      (next (readGraph graph h) (λ g. holds (record { cells = cells; graph = g })))))
+  abbrev call : Call
+  call = callOf library graph work text
 
-  texts-are : readTexts library graph (length work) ≡ unless (leb (length library) 65536 && leb (length graph) 65536) 1 0 behind
-  unfolding readTexts behind
+  -- 7 to 14
+  behindCells : List Cell → Read Design
+  behindCells cells = next (readHeader graph) (λ h. unless (leb (need (h .size) (h .outputs)) (length work)) 10 0
+      (next (readGraph graph h) (λ g. holds (record { cells = cells; graph = g }))))
+
+  -- 2 to 14
+  behind : Read Design
+  behind = next (readLibrary library) behindCells
+
+  texts-are : readTexts call ≡ unless (leb (length library) 65536 && leb (length graph) 65536) 1 0 behind
+  unfolding readTexts behind behindCells
   texts-are = refl
 
-  one : (leb (length library) 65536 && leb (length graph) 65536) ≡ false → Memory library graph work text (Turned 1 0) work text
+  one : (leb (length library) 65536 && leb (length graph) 65536) ≡ false → Memory call work text (Turned 1 0) work text
   unfolding mapTexts mapDesign unless
   one e =
-      memory-of library graph work text (Turned 1 0) work text
+      memory-of call work text (Turned 1 0) work text
       (left-as (ap (λ (r : Read Design). mapDesign (length text) r) (texts-are ∙ ap (λ (b : Bool). unless b 1 0 behind) e)) (left-early 1 0 work text refl))
 
   -- "A text is longer than 65,536 bytes"
-  pub long-library : 65536 < length library → Memory library graph work text (Turned 1 0) work text
+  pub long-library : 65536 < length library → Memory call work text (Turned 1 0) work text
   long-library l = one (go (leb (length library) 65536) (leb→le (length library) 65536))
     where
       go : (b : Bool) → (T b → length library ≤ 65536) → (b && leb (length graph) 65536) ≡ false
       go true y = absurd (let z : length library ≤ 65536 = y tt in omega arith)
       go false y = refl
 
-  pub long-graph : 65536 < length graph → Memory library graph work text (Turned 1 0) work text
+  pub long-graph : 65536 < length graph → Memory call work text (Turned 1 0) work text
   long-graph l = one (both (leb (length library) 65536) (leb (length graph) 65536) (leb→le (length graph) 65536))
     where
       both : (a b : Bool) → (T b → length graph ≤ 65536) → (a && b) ≡ false
@@ -96,7 +104,7 @@ module _ (library graph work text : List ℕ) where
       both false b y = refl
 
   module _ (short : length library ≤ 65536) (brief : length graph ≤ 65536) where
-    entered : mapTexts library graph (length work) (length text) ≡ mapDesign (length text) behind
+    entered : mapTexts call ≡ mapDesign (length text) behind
     unfolding mapTexts unless
     entered =
         ap (λ (r : Read Design). mapDesign (length text) r)
@@ -109,26 +117,25 @@ module _ (library graph work text : List ℕ) where
 
     module _ (l : LibraryAnswer) (told : l ≡ libraryAnswer (readLibrary library)) where
       -- 2 to 6
-      pub library-stops : (n k : ℕ) → l .verdict ≡ Refused n k → Memory library graph work text (Turned n k) work text
+      pub library-stops : (n k : ℕ) → l .verdict ≡ Refused n k → Memory call work text (Turned n k) work text
       unfolding libraryAnswer behind next mapDesign
       library-stops n k e = go (readLibrary library) refl (sym (ap (λ (x : LibraryAnswer). x .verdict) told) ∙ e)
         where
-          go : (r : Read (List Cell)) → readLibrary library ≡ r → libraryAnswer r .verdict ≡ Refused n k → Memory library graph work text (Turned n k) work text
+          go : (r : Read (List Cell)) → readLibrary library ≡ r → libraryAnswer r .verdict ≡ Refused n k → Memory call work text (Turned n k) work text
           go (holds cs) q z = absurd (let x : _≡_ {A = ℕ} 0 1 = cc in omega arith)
           go (fault m j) q z =
               let x : m ≡ n = cc in let y : j ≡ k = cc in
               let f : readLibrary library ≡ fault n k = q ∙ (λ i. fault (x i) (y i)) in
-              memory-of library graph work text (Turned n k) work text
-              (left-as (entered ∙ ap (λ (r : Read (List Cell)). mapDesign (length text) (next r (λ cells. next (readHeader graph) (λ h. unless (leb (need (h .size) (h .outputs)) (length work)) 10 0
-              (next (readGraph graph h) (λ g. holds (record { cells = cells; graph = g }))))))) f)
+              memory-of call work text (Turned n k) work text
+              (left-as (entered ∙ ap (λ (r : Read (List Cell)). mapDesign (length text) (next r behindCells)) f)
               (left-early n k work text (library-early library .number n k f)))
 
       pub record IsRead : Type 0 where
         pub ok : LibraryOk (l .library)
-        pub goes : mapTexts library graph (length work) (length text) ≡ headerFor (l .library) graph (length work) (length text)
+        pub goes : mapTexts call ≡ headerFor (l .library) graph (length work) (length text)
 
       pub library-read : l .verdict ≡ Accepted → IsRead
-      unfolding libraryAnswer behind next mapDesign headerFor
+      unfolding libraryAnswer behind behindCells next mapDesign headerFor
       library-read e = go (readLibrary library) refl (sym (ap (λ (x : LibraryAnswer). x .verdict) told) ∙ e)
         where
           go : (r : Read (List Cell)) → readLibrary library ≡ r → libraryAnswer r .verdict ≡ Accepted → IsRead
@@ -138,6 +145,5 @@ module _ (library graph work text : List ℕ) where
               let same : cellsOf (libraryOf cs) ≡ cs = cells-back cs in
               record {
                 ok = subst LibraryOk (sym is) (library-ok library cs q);
-                goes = entered ∙ ap (λ (r : Read (List Cell)). mapDesign (length text) (next r (λ cells. next (readHeader graph) (λ h. unless (leb (need (h .size) (h .outputs)) (length work)) 10 0
-                    (next (readGraph graph h) (λ g. holds (record { cells = cells; graph = g }))))))) (q ∙ ap holds (sym (ap cellsOf is ∙ same)));
+                goes = entered ∙ ap (λ (r : Read (List Cell)). mapDesign (length text) (next r behindCells)) (q ∙ ap holds (sym (ap cellsOf is ∙ same)));
               }

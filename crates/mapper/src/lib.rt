@@ -11,6 +11,7 @@ ghost use Rattle.model.specs.Limits.{need};
 ghost use Rattle.model.specs.Reading.{holds};
 ghost use Rattle.model.specs.Graph.{Graph};
 ghost use Rattle.model.specs.GraphText.{readHeader};
+ghost use Rattle.model.specs.Mapper.{callOf};
 ghost use Rattle.model.specs.Demands.{Memory, Values, Earliest};
 ghost use Rattle.netlist.specs.Mapped.{Mapped};
 ghost use Rattle.mapper.specs.Stages.{Fits, Told, Left, LibraryOk, Loaded, Placed, Cut, printedFor, cutFor, placedFor, loadedFor, graphFor, headerFor};
@@ -99,9 +100,9 @@ fn map_header(graph: &[u8], lib: Library, work: &mut [u16], text: &mut [u8]) -> 
 // A library text and a graph text mapped: the netlist at the start of text memory, or the first refusal that applies. The clauses carry the
 // names of the demands; `fits` says that the netlist's length is within text memory.
 pub fn map_texts(cells: &[u8], graph: &[u8], work: &mut [u16], text: &mut [u8]) -> Answer
-    ensures memory { λ r. ⌜ Memory (now (cells .entry)) (now (graph .entry)) (now (work .entry)) (now (text .entry)) r (now (work .exit)) (now (text .exit)) ⌝ }
-    ensures values { λ _. ⌜ Values (now (cells .entry)) (now (graph .entry)) (length (now (work .entry))) (length (now (text .entry))) ⌝ }
-    ensures earliest { λ _. ⌜ Earliest (now (cells .entry)) (now (graph .entry)) (length (now (work .entry))) (length (now (text .entry))) ⌝ }
+    ensures memory { λ r. ⌜ Memory (callOf (now (cells .entry)) (now (graph .entry)) (now (work .entry)) (now (text .entry))) (now (work .entry)) (now (text .entry)) r (now (work .exit)) (now (text .exit)) ⌝ }
+    ensures values { λ _. ⌜ Values (callOf (now (cells .entry)) (now (graph .entry)) (now (work .entry)) (now (text .entry))) ⌝ }
+    ensures earliest { λ _. ⌜ Earliest (callOf (now (cells .entry)) (now (graph .entry)) (now (work .entry)) (now (text .entry))) ⌝ }
     ensures fits { λ r. ⌜ Fits r (length (now (text .entry))) ⌝ }
 {
     if cells.len() > 65536 {

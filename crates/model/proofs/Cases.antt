@@ -18,7 +18,7 @@ use Rattle.model.specs.Netlist.{Outcome, refused, mapped}
 use Rattle.model.specs.Reading.{Read, fault, next, Ruling, verdictRuling}
 use Rattle.model.specs.Reading.{holds as reads}
 use Rattle.model.specs.GraphText.{readHeader, readGraph, headerAnswer, headerRuling, headerValues}
-use Rattle.model.specs.Mapper.{mapTexts, answerOf, Returned, returned, returnedBy, textAfter, workAfter}
+use Rattle.model.specs.Mapper.{Call, mapTexts, answerOf, Returned, returned, returnedBy, textAfter, workAfter}
 use Rattle.model.specs.Blif.{readFigures}
 use Rattle.model.specs.declared.Figures.{Figures}
 use Rattle.model.specs.declared.Verdict.the-variants.{Accepted, Refused}
@@ -102,10 +102,14 @@ unfoldable pub ofGraph : (Graph → Bool) → Read Graph → Bool
 ofGraph p (reads g) = p g
 ofGraph p (fault n k) = false
 
+-- a call on a library and a graph's text, with so many words and bytes lent
+abbrev pub given : List ℕ → String → ℕ → ℕ → Call
+given l g words bytes = record { library = l; graph = text g; words = words; bytes = bytes }
+
 -- "It lends 32,768 words and 65,536 bytes."
 unfoldable pub mapText : List ℕ → String → Outcome
 unfolding mapTexts text
-mapText l g = mapTexts l (text g) 32768 65536
+mapText l g = mapTexts (given l g 32768 65536)
 
 unfoldable pub graphText : String → Read Graph
 unfolding readHeader readGraph next text
@@ -116,8 +120,8 @@ unfolding isPrint isGiven isRefusal sameCuts ofGraph mapText mapTexts text graph
 holds (prints l g t count area arrival) = isPrint t count area arrival (mapText l g)
 holds (gives l g count arrival) = isGiven count arrival (mapText l g)
 holds (refuses l g n k) = isRefusal n k (mapText l g)
-holds (lacks l g words bytes n k) = isRefusal n k (mapTexts l (text g) words bytes)
-holds (suffices l g words bytes count arrival) = isGiven count arrival (mapTexts l (text g) words bytes)
+holds (lacks l g words bytes n k) = isRefusal n k (mapTexts (given l g words bytes))
+holds (suffices l g words bytes count arrival) = isGiven count arrival (mapTexts (given l g words bytes))
 holds (lists g v cuts) = ofGraph (λ h. sameCuts cuts (cutsOf h v)) (graphText g)
 holds (computes g cut v f) = ofGraph (λ h. eqb f (cutTable h cut v)) (graphText g)
 holds (takes order r q) = eqb q (rowMap (getD orders order []) r)
@@ -371,8 +375,8 @@ isReturned number value count area arrival r =
 pub returns-are : T (
     isReturned 0 117 2 3 30 (returned (answerOf (mapText library graphB)))
     && (isReturned 0 117 2 3 30 (returnedBy (mapText library graphB))
-    && (isReturned 18 117 0 0 0 (returned (answerOf (mapTexts library (text graphB) 641 116)))
-    && isReturned 18 117 0 0 0 (returnedBy (mapTexts library (text graphB) 641 116))))
+    && (isReturned 18 117 0 0 0 (returned (answerOf (mapTexts (given library graphB 641 116))))
+    && isReturned 18 117 0 0 0 (returnedBy (mapTexts (given library graphB 641 116)))))
     )
 unfolding isReturned returned returnedBy answerOf mapText mapTexts library graphB text
 returns-are = tt

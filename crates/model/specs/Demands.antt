@@ -1,4 +1,4 @@
--- The three demands as types, for every library text, graph text, number of lent words and number of lent bytes. Assumes nothing.
+-- The three demands as types, for every call: library text, graph text, number of lent words and number of lent bytes. Assumes nothing.
 use Prim.Native.Nat.{ℕ, suc, _*_, _≤_, _<_}
 use mathlib.Core.Path.{_≡_}
 use mathlib.Core.Bool.{Bool, true, false}
@@ -16,7 +16,7 @@ use Rattle.model.specs.Choice.{feeds, cellOf, absent, chosen, preference
 use Rattle.model.specs.Cover.{IsOwn, Allowed, Needed, arrivalBy, Cover, CoverArrivals}
 use Rattle.model.specs.Netlist.{Outcome, refused, mapped, gates, figuresOf, netlistText, netName, sum, largest}
 use Rattle.model.specs.Blif.{GateLine, Binding, Blif, readBlif, readFigures, named, drives, fedBy, pinNames, outputName, NetValues, NetArrivals}
-use Rattle.model.specs.Mapper.{Design, readTexts, mapTexts, answerOf, returned, returnedBy, textAfter, workAfter}
+use Rattle.model.specs.Mapper.{Call, Design, readTexts, mapTexts, answerOf, returned, returnedBy, textAfter, workAfter}
 use Rattle.model.specs.declared.Cell.{Cell}
 use Rattle.model.specs.declared.Source.{Source}
 use Rattle.model.specs.declared.Figures.{Figures}
@@ -28,12 +28,13 @@ Distinct [] = Unit
 Distinct (x ∷ xs) = (¬ List·Memᴰ x xs) × Distinct xs
 
 -- ---- Demand 1: "after a call on arbitrary bytes the lent memory holds what document 01 says and nothing else"; every call ends "with a
--- netlist or with the first of the eighteen numbered refusals that applies": what a call leaves of the lent memory, and its answer
-pub record Memory (library graph work text : List ℕ) (answer : Answer) (workLeft textLeft : List ℕ) : Type 0 where
-  pub answers : answer ≡ answerOf (mapTexts library graph (length work) (length text))
-  pub returns : returned answer ≡ returnedBy (mapTexts library graph (length work) (length text))
-  pub words : workLeft ≡ workAfter (mapTexts library graph (length work) (length text)) work
-  pub bytes : textLeft ≡ textAfter (mapTexts library graph (length work) (length text)) text
+-- netlist or with the first of the eighteen numbered refusals that applies": a call's answer, and what it leaves of work and text, the memory lent to
+-- it (c is `callOf` of the texts and of this memory)
+pub record Memory (c : Call) (work text : List ℕ) (answer : Answer) (workLeft textLeft : List ℕ) : Type 0 where
+  pub answers : answer ≡ answerOf (mapTexts c)
+  pub returns : returned answer ≡ returnedBy (mapTexts c)
+  pub words : workLeft ≡ workAfter (mapTexts c) work
+  pub bytes : textLeft ≡ textAfter (mapTexts c) text
 
 -- ---- what is printed
 
@@ -43,21 +44,19 @@ unfolding drives
 drivenNets n = n .inputs ++ map drives (n .gates)
 
 -- the text t is printed with figures f for a design, reads back as n, and its `# gates` line says f
-pub record Printed (library graph : List ℕ) (words bytes : ℕ) (t : List ℕ) (f : Figures) (d : Design) (n : Blif) : Type 0 where
-  pub design : readTexts library graph words ≡ holds d
-  pub outcome : mapTexts library graph words bytes ≡ mapped t f
+pub record Printed (c : Call) (t : List ℕ) (f : Figures) (d : Design) (n : Blif) : Type 0 where
+  pub design : readTexts c ≡ holds d
+  pub outcome : mapTexts c ≡ mapped t f
   pub reads : readBlif t ≡ some n
   pub says : readFigures t ≡ some f
 
--- a statement of what is printed for two texts
-abbrev pub OfPrinted : (List Cell → Graph → Figures → Blif → Type 0) → List ℕ → List ℕ → ℕ → ℕ → Type 0
-OfPrinted P library graph words bytes =
-    (t : List ℕ) (f : Figures) (d : Design) (n : Blif) → Printed library graph words bytes t f d n → P (d .cells) (d .graph) f n
+-- a statement of what a call prints
+abbrev pub OfPrinted : (List Cell → Graph → Figures → Blif → Type 0) → Call → Type 0
+OfPrinted P c = (t : List ℕ) (f : Figures) (d : Design) (n : Blif) → Printed c t f d n → P (d .cells) (d .graph) f n
 
 -- what is printed is read from a design, and reads back
-abbrev pub Readable : List ℕ → List ℕ → ℕ → ℕ → Type 0
-Readable library graph words bytes =
-    (t : List ℕ) (f : Figures) → mapTexts library graph words bytes ≡ mapped t f → (d : Design) × (n : Blif) × Printed library graph words bytes t f d n
+abbrev pub Readable : Call → Type 0
+Readable c = (t : List ℕ) (f : Figures) → mapTexts c ≡ mapped t f → (d : Design) × (n : Blif) × Printed c t f d n
 
 -- "Inputs and outputs keep the file's order." "Nets are `p` or `m` (negative) and the variable". Each gate is of a listed cell and binds its
 -- pins and its output; no net is driven twice, and every net that is used is driven
@@ -113,15 +112,14 @@ NoEarlier cells g f n =
     → at (netName l) ≤ arrival l
 
 -- "Where no refusal tried before 16 applies and no AND is over 24 cuts"
-pub record Mappable (library graph : List ℕ) (words : ℕ) (d : Design) : Type 0 where
-  pub design : readTexts library graph words ≡ holds d
+pub record Mappable (c : Call) (d : Design) : Type 0 where
+  pub design : readTexts c ≡ holds d
   pub placed : unplaced (d .graph) ≡ []
   pub few : crowded (d .graph) ≡ []
 
--- a statement of the outcome for two texts that can be mapped
-abbrev pub OfMappable : (ℕ → Outcome → List Cell → Graph → Type 0) → List ℕ → List ℕ → ℕ → ℕ → Type 0
-OfMappable P library graph words bytes =
-    (d : Design) → Mappable library graph words d → P bytes (mapTexts library graph words bytes) (d .cells) (d .graph)
+-- a statement of the outcome of a call whose texts can be mapped
+abbrev pub OfMappable : (ℕ → Outcome → List Cell → Graph → Type 0) → Call → Type 0
+OfMappable P c = (d : Design) → Mappable c d → P (c .bytes) (mapTexts c) (d .cells) (d .graph)
 
 -- every cover has arrivals, and on the phases that it needs no others: where there is no cover there are no sources for one
 pub record Timed (cells : List Cell) (g : Graph) (outs : List ℕ) (c : Cover cells g outs) : Type 0 where
@@ -177,19 +175,19 @@ pub record Chosen (bytes : ℕ) (outcome : Outcome) (cells : List Cell) (g : Gra
   pub covers : ((l : ℕ) → List·Memᴰ l (g .outputs) → Cover cells g (l ∷ [])) → ChosenCover cells g
   pub preferred : (l : ℕ) → List·Memᴰ (varOf l) (placingOrder g) → Preferred cells g l
 
--- ---- demands 2 and 3 together, for two texts and so many words and bytes lent
+-- ---- demands 2 and 3 together, for a call
 
 -- Demand 2, with the figures
-pub record Values (library graph : List ℕ) (words bytes : ℕ) : Type 0 where
-  pub readable : Readable library graph words bytes
-  pub formed : OfPrinted Formed library graph words bytes
-  pub gated : OfPrinted Gated library graph words bytes
-  pub values : OfPrinted SameValues library graph words bytes
-  pub figures : OfPrinted SameFigures library graph words bytes
+pub record Values (c : Call) : Type 0 where
+  pub readable : Readable c
+  pub formed : OfPrinted Formed c
+  pub gated : OfPrinted Gated c
+  pub values : OfPrinted SameValues c
+  pub figures : OfPrinted SameFigures c
 
 -- Demand 3
-pub record Earliest (library graph : List ℕ) (words bytes : ℕ) : Type 0 where
-  pub earliest : OfPrinted NoEarlier library graph words bytes
-  pub timed : OfMappable CoversTimed library graph words bytes
-  pub decided : OfMappable Decided library graph words bytes
-  pub choice : OfMappable Chosen library graph words bytes
+pub record Earliest (c : Call) : Type 0 where
+  pub earliest : OfPrinted NoEarlier c
+  pub timed : OfMappable CoversTimed c
+  pub decided : OfMappable Decided c
+  pub choice : OfMappable Chosen c

@@ -14,20 +14,31 @@ use Rattle.model.specs.declared.Cell.{Cell}
 use Rattle.model.specs.declared.Answer.{Answer}
 use Rattle.model.specs.declared.Answer.the-variants.{Mapped, Refused}
 
+-- what a call is given: the library's text, the graph's text, and how many words and bytes are lent to it
+pub record Call : Type 0 where
+  pub library : List ℕ
+  pub graph : List ℕ
+  pub words : ℕ
+  pub bytes : ℕ
+
+-- the call on two texts, with work memory and text memory lent
+abbrev pub callOf : List ℕ → List ℕ → List ℕ → List ℕ → Call
+callOf library graph work text = record { library = library; graph = graph; words = length work; bytes = length text }
+
 -- what the two texts hold
 pub record Design : Type 0 where
   pub cells : List Cell
   pub graph : Graph
 
 -- refusals 1 to 14: "Work memory has fewer than 160(M+1) + O 16-bit words" stands between the header's and those of the due lines
-unfoldable pub readTexts : List ℕ → List ℕ → ℕ → Read Design
+unfoldable pub readTexts : Call → Read Design
 unfolding next unless readLibrary readHeader readGraph need
-readTexts library graph words =
-    unless (leb (length library) 65536 && leb (length graph) 65536) 1 0
-    (next (readLibrary library) (λ cells.
-    next (readHeader graph) (λ h.
-    unless (leb (need (h .size) (h .outputs)) words) 10 0
-    (next (readGraph graph h) (λ g. holds (record { cells = cells; graph = g }))))))
+readTexts c =
+    unless (leb (length (c .library)) 65536 && leb (length (c .graph)) 65536) 1 0
+    (next (readLibrary (c .library)) (λ cells.
+    next (readHeader (c .graph)) (λ h.
+    unless (leb (need (h .size) (h .outputs)) (c .words)) 10 0
+    (next (readGraph (c .graph) h) (λ g. holds (record { cells = cells; graph = g }))))))
 
 -- "Text memory is shorter than the netlist; place, the length needed."
 unfoldable pub within : ℕ → Outcome → Outcome
@@ -40,10 +51,10 @@ unfolding within mapGraph
 mapDesign bytes (holds d) = within bytes (mapGraph (d .cells) (d .graph))
 mapDesign bytes (fault n k) = refused n k
 
--- the outcome for a library text and a graph text, with so many words and so many bytes lent
-unfoldable pub mapTexts : List ℕ → List ℕ → ℕ → ℕ → Outcome
+-- the outcome of a call
+unfoldable pub mapTexts : Call → Outcome
 unfolding mapDesign readTexts
-mapTexts library graph words bytes = mapDesign bytes (readTexts library graph words)
+mapTexts c = mapDesign (c .bytes) (readTexts c)
 
 -- ---- the answer, and the lent memory
 

@@ -18,7 +18,7 @@ use Rattle.model.specs.Choice.{chosen}
 use Rattle.model.specs.Cover.{output}
 use Rattle.model.specs.Netlist.{Gate, Outcome, refused, mapped, mapGraph, gates, figuresOf, netName, sum, largest}
 use Rattle.model.specs.Blif.{GateLine, Blif, readBlif, readFigures, named, drives}
-use Rattle.model.specs.Mapper.{Design, readTexts, mapTexts, mapDesign, within}
+use Rattle.model.specs.Mapper.{Call, Design, readTexts, mapTexts, mapDesign, within}
 use Rattle.model.specs.Demands.{drivenNets, Printed, OfPrinted, Readable, Formed, Gated, SameValues, SameFigures, NoEarlier, OfMappable, CoversTimed, Decided, Chosen, choiceText, choiceFigures, Values, Earliest}
 use Rattle.model.specs.declared.Cell.{Cell}
 use Rattle.model.specs.declared.Figures.{Figures}
@@ -53,48 +53,47 @@ record Known (t : List ℕ) (f : Figures) (d : Design) : Type 0 where
   reads : readBlif t ≡ some (chosenBlif d)
   says : readFigures t ≡ some f
 
-known : (library graph : List ℕ) (words bytes : ℕ) (t : List ℕ) (f : Figures) (d : Design) → readTexts library graph words ≡ holds d → mapTexts library graph words bytes ≡ mapped t f
-    → Known t f d
-known library graph words bytes t f d e o =
-    let c = printed-choice library graph words bytes d e t f o in
-    let fit = design-library library graph words d e in
-    let ok = design-accepted library graph words d e (c .placed) in
+known : (c : Call) (t : List ℕ) (f : Figures) (d : Design) → readTexts c ≡ holds d → mapTexts c ≡ mapped t f → Known t f d
+known c t f d e o =
+    let k = printed-choice c d e t f o in
+    let fit = design-library c d e in
+    let ok = design-accepted c d e (k .placed) in
     record {
       library = fit;
       graph = ok;
-      choice = c;
-      reads = ap readBlif (c .isText) ∙ back (d .cells) fit (d .graph) ok (c .covered) (choiceFigures (d .cells) (d .graph));
-      says = ap readFigures (c .isText)
-          ∙ figures-said (d .cells) fit (d .graph) ok (c .covered) (choiceFigures (d .cells) (d .graph))
-          ∙ ap some (sym (c .areFigures));
+      choice = k;
+      reads = ap readBlif (k .isText) ∙ back (d .cells) fit (d .graph) ok (k .covered) (choiceFigures (d .cells) (d .graph));
+      says = ap readFigures (k .isText)
+          ∙ figures-said (d .cells) fit (d .graph) ok (k .covered) (choiceFigures (d .cells) (d .graph))
+          ∙ ap some (sym (k .areFigures));
     }
 
 -- a statement of every printed netlist, from one of the chosen gates
 of-printed : (P : List Cell → Graph → Figures → Blif → Type 0) → ((t : List ℕ) (f : Figures) (d : Design) → Known t f d → P (d .cells) (d .graph) f (chosenBlif d))
-    → (library graph : List ℕ) (words bytes : ℕ) → OfPrinted P library graph words bytes
-of-printed P h library graph words bytes t f d n p =
-    let k = known library graph words bytes t f d (p .design) (p .outcome) in
+    → (c : Call) → OfPrinted P c
+of-printed P h c t f d n p =
+    let k = known c t f d (p .design) (p .outcome) in
     let q : _≡_ {A = Option Blif} (some n) (some (chosenBlif d)) = sym (p .reads) ∙ k .reads in
     let e : n ≡ chosenBlif d = cc in
     subst (P (d .cells) (d .graph) f) (sym e) (h t f d k)
 
-pub readable : (library graph : List ℕ) (words bytes : ℕ) → Readable library graph words bytes
+pub readable : (c : Call) → Readable c
 unfolding mapTexts mapDesign
-readable library graph words bytes t f o = go (readTexts library graph words) refl o
+readable c t f o = go (readTexts c) refl o
   where
-    go : (r : Read Design) → readTexts library graph words ≡ r → mapDesign bytes r ≡ mapped t f → (d : Design) × (n : Blif) × Printed library graph words bytes t f d n
+    go : (r : Read Design) → readTexts c ≡ r → mapDesign (c .bytes) r ≡ mapped t f → (d : Design) × (n : Blif) × Printed c t f d n
     go (fault n k) e q = absurd (refused-never q)
-    go (holds d) e q = let k = known library graph words bytes t f d e o in (d, chosenBlif d, record { design = e; outcome = o; reads = k .reads; says = k .says })
+    go (holds d) e q = let k = known c t f d e o in (d, chosenBlif d, record { design = e; outcome = o; reads = k .reads; says = k .says })
 
-pub formed : (library graph : List ℕ) (words bytes : ℕ) → OfPrinted Formed library graph words bytes
+pub formed : (c : Call) → OfPrinted Formed c
 formed = of-printed Formed (λ t f d k. well-formed (d .cells) (k .library) (d .graph) (k .graph) (k .choice .covered) f)
 
-pub gated : (library graph : List ℕ) (words bytes : ℕ) → OfPrinted Gated library graph words bytes
+pub gated : (c : Call) → OfPrinted Gated c
 gated = of-printed Gated (λ t f d k. gates-gated (d .cells) (k .library) (d .graph) (k .graph) (k .choice .covered) f)
 
 -- ---- demand 2
 
-pub values : (library graph : List ℕ) (words bytes : ℕ) → OfPrinted SameValues library graph words bytes
+pub values : (c : Call) → OfPrinted SameValues c
 unfolding blifOf literalValue
 values = of-printed SameValues (λ t f d k. record {
   graphHas = λ setting. (valueOf (d .graph) setting, values-exist (d .graph) (k .graph) setting);
@@ -108,7 +107,7 @@ values = of-printed SameValues (λ t f d k. record {
       (defined-placed (d .graph) (k .graph) (varOf l) (k .graph .used l (Memᴰ·append-left (each (λ (a : And). a .left ∷ a .right ∷ []) (d .graph .ands)) m))))));
 })
 
-pub figures : (library graph : List ℕ) (words bytes : ℕ) → OfPrinted SameFigures library graph words bytes
+pub figures : (c : Call) → OfPrinted SameFigures c
 unfolding blifOf lineOf figuresOf
 figures = of-printed SameFigures (λ t f d k.
     let ts = gates (d .cells) (d .graph) (chosen (d .cells) (d .graph)) in
@@ -136,7 +135,7 @@ figures = of-printed SameFigures (λ t f d k.
 
 -- ---- demand 3
 
-pub no-earlier : (library graph : List ℕ) (words bytes : ℕ) → OfPrinted NoEarlier library graph words bytes
+pub no-earlier : (c : Call) → OfPrinted NoEarlier c
 unfolding blifOf drivenNets
 no-earlier = of-printed NoEarlier at-net
   where
@@ -160,8 +159,8 @@ no-earlier = of-printed NoEarlier at-net
             ∙ ap (λ (x : ℕ). chosen (d .cells) (d .graph) x .arrival) s))
             (choice-earliest (d .cells) (d .graph) (k .graph) (d .graph .outputs) c arrival times l n .1)
 
-pub covers-timed : (library graph : List ℕ) (words bytes : ℕ) → OfMappable CoversTimed library graph words bytes
-covers-timed library graph words bytes d p = cover-timed (d .cells) (d .graph) (design-accepted library graph words d (p .design) (p .placed))
+pub covers-timed : (c : Call) → OfMappable CoversTimed c
+covers-timed c d p = cover-timed (d .cells) (d .graph) (design-accepted c d (p .design) (p .placed))
 
 numberOf : Outcome → ℕ
 numberOf (refused n k) = n
@@ -180,21 +179,21 @@ within-seventeen bytes (mapped t f) k = (
     go true e = refused-never (sym e)
     go false e = let q : _≡_ {A = ℕ} 18 17 = ap numberOf e in omega arith
 
-pub decided : (library graph : List ℕ) (words bytes : ℕ) → OfMappable Decided library graph words bytes
-decided library graph words bytes d p = record {
+pub decided : (c : Call) → OfMappable Decided c
+decided c d p = record {
   seventeen = λ k.
       let s = seventeen-iff (d .cells) (d .graph) ok (p .few) k in
-      let w = within-seventeen bytes (mapGraph (d .cells) (d .graph)) k in
+      let w = within-seventeen (c .bytes) (mapGraph (d .cells) (d .graph)) k in
       ((λ e. s .0 (w .0 (sym is ∙ e))), (λ u. is ∙ w .1 (s .1 u)));
-  prints = λ c h. is ∙ ap (within bytes) (choice-printed (d .cells) (d .graph) ok (p .few) c) ∙ fits h;
-  eighteen = λ c h. is ∙ ap (within bytes) (choice-printed (d .cells) (d .graph) ok (p .few) c) ∙ lacks h;
+  prints = λ covers h. is ∙ ap (within (c .bytes)) (choice-printed (d .cells) (d .graph) ok (p .few) covers) ∙ fits h;
+  eighteen = λ covers h. is ∙ ap (within (c .bytes)) (choice-printed (d .cells) (d .graph) ok (p .few) covers) ∙ lacks h;
 }
   where
     ok : Accepted (d .graph)
-    ok = design-accepted library graph words d (p .design) (p .placed)
+    ok = design-accepted c d (p .design) (p .placed)
 
-    is : mapTexts library graph words bytes ≡ within bytes (mapGraph (d .cells) (d .graph))
-    is = outcome-is library graph words bytes d (p .design)
+    is : mapTexts c ≡ within (c .bytes) (mapGraph (d .cells) (d .graph))
+    is = outcome-is c d (p .design)
 
     t : List ℕ
     t = choiceText (d .cells) (d .graph)
@@ -202,39 +201,39 @@ decided library graph words bytes d p = record {
     f : Figures
     f = choiceFigures (d .cells) (d .graph)
 
-    fits : length t ≤ bytes → within bytes (mapped t f) ≡ mapped t f
-    fits h = unfold within in ap (λ (b : Bool). cond b (mapped t f) (refused 18 (length t))) (is-true (leb (length t) bytes) (le→leb (length t) bytes h))
+    fits : length t ≤ c .bytes → within (c .bytes) (mapped t f) ≡ mapped t f
+    fits h = unfold within in ap (λ (b : Bool). cond b (mapped t f) (refused 18 (length t))) (is-true (leb (length t) (c .bytes)) (le→leb (length t) (c .bytes) h))
 
-    lacks : bytes < length t → within bytes (mapped t f) ≡ refused 18 (length t)
-    lacks h = unfold within in go (leb (length t) bytes) (leb→le (length t) bytes)
+    lacks : c .bytes < length t → within (c .bytes) (mapped t f) ≡ refused 18 (length t)
+    lacks h = unfold within in go (leb (length t) (c .bytes)) (leb→le (length t) (c .bytes))
       where
-        go : (b : Bool) → (T b → length t ≤ bytes) → cond b (mapped t f) (refused 18 (length t)) ≡ refused 18 (length t)
-        go true y = absurd (let z : length t ≤ bytes = y tt in omega arith)
+        go : (b : Bool) → (T b → length t ≤ c .bytes) → cond b (mapped t f) (refused 18 (length t)) ≡ refused 18 (length t)
+        go true y = absurd (let z : length t ≤ c .bytes = y tt in omega arith)
         go false y = refl
 
-pub choice : (library graph : List ℕ) (words bytes : ℕ) → OfMappable Chosen library graph words bytes
-choice library graph words bytes d p =
-    let ok = design-accepted library graph words d (p .design) (p .placed) in
+pub choice : (c : Call) → OfMappable Chosen c
+choice c d p =
+    let ok = design-accepted c d (p .design) (p .placed) in
     record { covers = choice-cover (d .cells) (d .graph) ok; preferred = choice-preferred (d .cells) (d .graph) ok }
 
 -- ---- together
 
 -- "the printed netlist, read by BLIF's rules with the listed cells' tables, gives every output the value that the AIGER graph gives it"
-pub demand-values : (library graph : List ℕ) (words bytes : ℕ) → Values library graph words bytes
-demand-values library graph words bytes = record {
-  readable = readable library graph words bytes;
-  formed = formed library graph words bytes;
-  gated = gated library graph words bytes;
-  values = values library graph words bytes;
-  figures = figures library graph words bytes;
+pub demand-values : (c : Call) → Values c
+demand-values c = record {
+  readable = readable c;
+  formed = formed c;
+  gated = gated c;
+  values = values c;
+  figures = figures c;
 }
 
 -- "for each net of the printed netlist, every cover of the outputs that has this net gives it an arrival no earlier"
-pub demand-earliest : (library graph : List ℕ) (words bytes : ℕ) → Earliest library graph words bytes
-demand-earliest library graph words bytes =
+pub demand-earliest : (c : Call) → Earliest c
+demand-earliest c =
     record {
-      earliest = no-earlier library graph words bytes;
-      timed = covers-timed library graph words bytes;
-      decided = decided library graph words bytes;
-      choice = choice library graph words bytes;
+      earliest = no-earlier c;
+      timed = covers-timed c;
+      decided = decided c;
+      choice = choice c;
     }

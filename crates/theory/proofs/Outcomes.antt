@@ -13,7 +13,7 @@ use Rattle.model.specs.Graph.{Graph, unplaced}
 use Rattle.model.specs.Cuts.{crowded}
 use Rattle.model.specs.Choice.{absent, chosen}
 use Rattle.model.specs.Netlist.{Outcome, refused, mapped, mapGraph, mapPlaced, mapCut, mapChosen, printed, uncovered}
-use Rattle.model.specs.Mapper.{Design, readTexts, mapTexts, mapDesign, within}
+use Rattle.model.specs.Mapper.{Call, Design, readTexts, mapTexts, mapDesign, within}
 use Rattle.model.specs.Demands.{choiceText, choiceFigures}
 use Rattle.model.specs.declared.Cell.{Cell}
 use Rattle.model.specs.declared.Phase.{Phase}
@@ -85,11 +85,11 @@ within-mapped bytes (mapped u h) t f e = go (leb (length u) bytes) e
     go true q = q
     go false q = absurd (refused-never q)
 
-module _ (library graph : List ℕ) (words bytes : ℕ) (d : Design) (e : readTexts library graph words ≡ holds d) where
+module _ (c : Call) (d : Design) (e : readTexts c ≡ holds d) where
   -- the outcome of texts that are read
-  pub outcome-is : mapTexts library graph words bytes ≡ within bytes (mapGraph (d .cells) (d .graph))
+  pub outcome-is : mapTexts c ≡ within (c .bytes) (mapGraph (d .cells) (d .graph))
   unfolding mapTexts mapDesign
-  outcome-is = ap (mapDesign bytes) e
+  outcome-is = ap (mapDesign (c .bytes)) e
 
-  pub printed-choice : (t : List ℕ) (f : Figures) → mapTexts library graph words bytes ≡ mapped t f → FromChoice (d .cells) (d .graph) t f
-  printed-choice t f h = from-choice (d .cells) (d .graph) t f (within-mapped bytes (mapGraph (d .cells) (d .graph)) t f (sym outcome-is ∙ h))
+  pub printed-choice : (t : List ℕ) (f : Figures) → mapTexts c ≡ mapped t f → FromChoice (d .cells) (d .graph) t f
+  printed-choice t f h = from-choice (d .cells) (d .graph) t f (within-mapped (c .bytes) (mapGraph (d .cells) (d .graph)) t f (sym outcome-is ∙ h))

@@ -11,7 +11,7 @@ use Rattle.model.specs.Reading.{holds}
 use Rattle.model.specs.LibraryText.{readLibrary, isClean}
 use Rattle.model.specs.GraphText.{readHeader, readGraph}
 use Rattle.model.specs.Graph.{unplaced}
-use Rattle.model.specs.Mapper.{Design, readTexts}
+use Rattle.model.specs.Mapper.{Call, Design, readTexts}
 use Rattle.model.specs.declared.Cell.{Cell}
 use Rattle.model.specs.declared.Header.{Header}
 use Rattle.theory_graph.proofs.Accepted.{Accepted, libraryFits}
@@ -20,49 +20,49 @@ use Rattle.theory_text.proofs.ReadLibrary.{Written, library-fits, libra
 use Rattle.theory_text.proofs.ReadGraph.{graph-accepted, GraphFits, graph-fits}
 
 -- the two texts were read: the library's, the header's and the graph's, with words enough
-pub record Texts (library graph : List ℕ) (words : ℕ) (d : Design) : Type 0 where
+pub record Texts (c : Call) (d : Design) : Type 0 where
   pub header : Header
-  pub shortLibrary : length library ≤ 65536
-  pub shortGraph : length graph ≤ 65536
-  pub isLibrary : readLibrary library ≡ holds (d .cells)
-  pub isHeader : readHeader graph ≡ holds header
-  pub enough : need (header .size) (header .outputs) ≤ words
-  pub isGraph : readGraph graph header ≡ holds (d .graph)
+  pub shortLibrary : length (c .library) ≤ 65536
+  pub shortGraph : length (c .graph) ≤ 65536
+  pub isLibrary : readLibrary (c .library) ≡ holds (d .cells)
+  pub isHeader : readHeader (c .graph) ≡ holds header
+  pub enough : need (header .size) (header .outputs) ≤ c .words
+  pub isGraph : readGraph (c .graph) header ≡ holds (d .graph)
 
-pub texts-read : (library graph : List ℕ) (words : ℕ) (d : Design) → readTexts library graph words ≡ holds d → Texts library graph words d
+pub texts-read : (c : Call) (d : Design) → readTexts c ≡ holds d → Texts c d
 unfolding readTexts
-texts-read library graph words d e =
-    let a = unless-out (leb (length library) 65536 && leb (length graph) 65536) 1 0 _ d e in
-    let p = and-yes (leb (length library) 65536) (leb (length graph) 65536) (a .0) in
-    let b = next-out (readLibrary library) _ d (a .1) in
-    let c = next-out (readHeader graph) _ d (b .2) in
-    let f = unless-out (leb (need (c .0 .size) (c .0 .outputs)) words) 10 0 _ d (c .2) in
-    let g = next-out (readGraph graph (c .0)) (λ x. holds (record { cells = b .0; graph = x })) d (f .1) in
-    subst (Texts library graph words) (holds-once (g .2)) (record {
-      header = c .0;
+texts-read c d e =
+    let a = unless-out (leb (length (c .library)) 65536 && leb (length (c .graph)) 65536) 1 0 _ d e in
+    let p = and-yes (leb (length (c .library)) 65536) (leb (length (c .graph)) 65536) (a .0) in
+    let b = next-out (readLibrary (c .library)) _ d (a .1) in
+    let k = next-out (readHeader (c .graph)) _ d (b .2) in
+    let f = unless-out (leb (need (k .0 .size) (k .0 .outputs)) (c .words)) 10 0 _ d (k .2) in
+    let g = next-out (readGraph (c .graph) (k .0)) (λ x. holds (record { cells = b .0; graph = x })) d (f .1) in
+    subst (Texts c) (holds-once (g .2)) (record {
+      header = k .0;
       shortLibrary = leb-yes (p .0);
       shortGraph = leb-yes (p .1);
       isLibrary = b .1;
-      isHeader = c .1;
+      isHeader = k .1;
       enough = leb-yes (f .0);
       isGraph = g .1;
     })
 
-module _ (library graph : List ℕ) (words : ℕ) (d : Design) (e : readTexts library graph words ≡ holds d) where
+module _ (c : Call) (d : Design) (e : readTexts c ≡ holds d) where
   -- the library is free of refusals 3 to 6
   pub design-library : T (libraryFits (d .cells))
-  design-library = library-fits library (d .cells) (texts-read library graph words d e .isLibrary)
+  design-library = library-fits (c .library) (d .cells) (texts-read c d e .isLibrary)
 
   pub design-few : length (d .cells) ≤ 32
-  design-few = library-few library (d .cells) (texts-read library graph words d e .isLibrary)
+  design-few = library-few (c .library) (d .cells) (texts-read c d e .isLibrary)
 
-  pub design-written : (c : Cell) → List·Memᴰ c (d .cells) → Written c × T (isClean c)
-  design-written = library-written library (d .cells) (texts-read library graph words d e .isLibrary)
+  pub design-written : (k : Cell) → List·Memᴰ k (d .cells) → Written k × T (isClean k)
+  design-written = library-written (c .library) (d .cells) (texts-read c d e .isLibrary)
 
   -- the graph is free of refusals 9 and 12
   pub design-graph : GraphFits (d .graph)
-  design-graph = let t = texts-read library graph words d e in graph-fits graph (t .header) (d .graph) (t .isHeader) (t .isGraph)
+  design-graph = let t = texts-read c d e in graph-fits (c .graph) (t .header) (d .graph) (t .isHeader) (t .isGraph)
 
   -- and of 13 to 15, if all its ANDs can be placed
   pub design-accepted : unplaced (d .graph) ≡ [] → Accepted (d .graph)
-  design-accepted = let t = texts-read library graph words d e in graph-accepted graph (t .header) (d .graph) (t .isGraph)
+  design-accepted = let t = texts-read c d e in graph-accepted (c .graph) (t .header) (d .graph) (t .isGraph)
