@@ -7,9 +7,9 @@ use mathlib.Core.Bool.{Bool, true, false, not, cond, _&&_}
 use mathlib.Core.Option.{none, some}
 use mathlib.Core.Logic.{_⊎_, inl, inr}
 use mathlib.Core.List.{List, [], _∷_}
-use Prim.Native.Nat.{ℕ, zero, suc, _+_, _-_, _/_, _%_, _≤_, _<_, min}
+use Prim.Native.Nat.{ℕ, zero, suc, _+_, _-_, _/_, _%_, _≤_, _<_}
 use native.Mathlib.Omega.{arith}
-use lib.Bits.{bitAnd, and-step, and-le-l}
+use lib.Bits.{and-le-l}
 use lib.Dec.{eqb, ltb}
 use lib.ListN.{length}
 use borrow.Author.Tests.{lt-ltb}
@@ -19,27 +19,8 @@ use Rattle.model.specs.Cuts.{leafBit, walk, cutTable}
 use Rattle.model.specs.Matching.{phaseTable}
 use Rattle.model.specs.Table.{value}
 use Rattle.truth.specs.Variant.{leafTable}
-use Rattle.truth.proofs.Tables.{table-small, tabulate-same, tabulate-value, value-complement, value-pattern}
+use Rattle.truth.proofs.Tables.{table-small, tabulate-same, tabulate-value, value-and, value-complement, value-pattern}
 use Rattle.cones.specs.Table.{leafWord, literalWord, nodeWord, orWord, walkWord}
-
--- bits of a bitwise and
-and-low : (a b : ℕ) → a < 2 → b < 2 → eqb (min a b) 1 ≡ (eqb a 1 && eqb b 1)
-and-low zero zero ha hb = refl
-and-low zero (suc zero) ha hb = refl
-and-low zero (suc (suc b)) ha hb = absurd (omega arith)
-and-low (suc zero) zero ha hb = refl
-and-low (suc zero) (suc zero) ha hb = refl
-and-low (suc zero) (suc (suc b)) ha hb = absurd (omega arith)
-and-low (suc (suc a)) b ha hb = absurd (omega arith)
-
-bit-and : (r a b : ℕ) → bit (bitAnd a b) r ≡ (bit a r && bit b r)
-unfolding bit
-bit-and zero a b =
-    let e : bitAnd a b % 2 ≡ min (a % 2) (b % 2) = omega (arith, and-step a b) in
-    ap (λ (x : ℕ). eqb x 1) e ∙ and-low (a % 2) (b % 2) (omega arith) (omega arith)
-bit-and (suc r) a b =
-    let e : bitAnd a b / 2 ≡ bitAnd (a / 2) (b / 2) = omega (arith, and-step a b) in
-    ap (λ (x : ℕ). bit x r) e ∙ bit-and r (a / 2) (b / 2)
 
 -- a leaf's table is a word, and its rows are the leaf's bits
 leaf-small : (j : ℕ) → leafTable j < 65536
@@ -107,12 +88,12 @@ module _ (g : Graph) (ls : List ℕ) (few : length ls ≤ 4) (r : ℕ) (row : r 
 
   node-bit : (look : ℕ → ℕ) (val : ℕ → Bool) (v : ℕ) (k : Node) → ((u : ℕ) → look u < 65536) → ((u : ℕ) → bit (look u) r ≡ val u)
       → bit (nodeWord look k) r ≡ nodeValue (λ u. false) val v k
-  unfolding nodeWord nodeValue
+  unfolding nodeWord nodeValue value
   node-bit look val v constant small same = zero-bit r
   node-bit look val v input small same = zero-bit r
   node-bit look val v undefined small same = zero-bit r
   node-bit look val v (both l q) small same =
-      bit-and r (literalWord look l) (literalWord look q) ∙ ap₂ _&&_ (literal-bit look val l small same) (literal-bit look val q small same)
+      value-and (literalWord look l) (literalWord look q) r ∙ ap₂ _&&_ (literal-bit look val l small same) (literal-bit look val q small same)
 
   pub walk-bit : (f v : ℕ) → bit (walkWord f (node g) ls v) r ≡ walk f g ls r v
   unfolding walkWord walk orElse Both

@@ -3,14 +3,16 @@
 --     tabulate-small      a table of n rows is below 2 ^ n; `table-small`: one of 16 rows is below 65536
 --     tables-same         tables of 16 rows with equal rows are equal
 --     value-complement    a row of the complement
+--     value-and           a row of `&` of two tables; `value-or`: of `|`
 --     value-pattern       row r of a leaf's table is the leaf's bit of r
 --     power               how many rows so many pins have, by a shift
 -- Assumes nothing.
-use mathlib.Core.Path.{_≡_, refl, sym, ap, _∙_}
-use mathlib.Core.Bool.{Bool, true, false, not}
-use Prim.Native.Nat.{ℕ, zero, suc, _+_, _-_, _*_, _/_, _%_, _^_, _<_, _≤_}
+use mathlib.Core.Path.{_≡_, refl, sym, ap, ap₂, _∙_}
+use mathlib.Core.Bool.{Bool, true, false, not, _&&_, _||_}
+use Prim.Native.Nat.{ℕ, zero, suc, _+_, _-_, _*_, _/_, _%_, _^_, _<_, _≤_, min, max}
 use native.Mathlib.Nat.{pow-suc}
 use native.Mathlib.Omega.{arith}
+use lib.Bits.{bitAnd, and-step, bitOr, or-step}
 use lib.Dec.{eqb}
 use lib.Pow.{shr-shr, shl-exact}
 use borrow.Author.Tests.{eqb-true, eqb-false}
@@ -108,6 +110,42 @@ bit-not (suc n) (suc r) x y e h = bit-not n r (x / 2) (y / 2) (omega (arith, pow
 pub value-complement : (t r : ℕ) → t < 65536 → r < 16 → value (65535 - t) r ≡ not (value t r)
 unfolding value
 value-complement t r ht hr = bit-not 16 r t (65535 - t) (omega arith) hr
+
+-- ---- two tables joined row by row
+
+-- an operation that goes by binary digits goes by rows
+module _ (op digit : ℕ → ℕ → ℕ) (join : Bool → Bool → Bool) (step : (a b : ℕ) → op a b ≡ op (a / 2) (b / 2) * 2 + digit (a % 2) (b % 2))
+    (joins : (a b : Bool) → digit (one a) (one b) ≡ one (join a b)) where
+  joined : (a b : ℕ) → op a b ≡ one (join (bit a 0) (bit b 0)) + 2 * op (a / 2) (b / 2)
+  joined a b = omega (arith, step a b, sym (ap₂ digit (one-low a) (one-low b)) ∙ joins (bit a 0) (bit b 0))
+
+  bit-joined : (r a b : ℕ) → bit (op a b) r ≡ join (bit a r) (bit b r)
+  unfolding bit
+  bit-joined zero a b = ap (λ (x : ℕ). bit x 0) (joined a b) ∙ low-one (join (bit a 0) (bit b 0)) (op (a / 2) (b / 2))
+  bit-joined (suc r) a b =
+      ap (λ (x : ℕ). bit (x / 2) r) (joined a b) ∙ ap (λ (x : ℕ). bit x r) (half-one (join (bit a 0) (bit b 0)) (op (a / 2) (b / 2))) ∙ bit-joined r (a / 2) (b / 2)
+
+and-joins : (a b : Bool) → min (one a) (one b) ≡ one (a && b)
+unfolding one
+and-joins true true = refl
+and-joins true false = refl
+and-joins false true = refl
+and-joins false false = refl
+
+pub value-and : (t u r : ℕ) → value (bitAnd t u) r ≡ (value t r && value u r)
+unfolding value
+value-and t u r = bit-joined bitAnd min _&&_ and-step and-joins r t u
+
+or-joins : (a b : Bool) → max (one a) (one b) ≡ one (a || b)
+unfolding one
+or-joins true true = refl
+or-joins true false = refl
+or-joins false true = refl
+or-joins false false = refl
+
+pub value-or : (t u r : ℕ) → value (bitOr t u) r ≡ (value t r || value u r)
+unfolding value
+value-or t u r = bit-joined bitOr max _||_ or-step or-joins r t u
 
 -- ---- a leaf
 
