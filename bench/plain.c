@@ -15,6 +15,7 @@
 typedef uint8_t u8; typedef uint16_t u16; typedef uint32_t u32; typedef uint64_t u64;
 
 #define L 24u                     /* cut limit */
+#define EACH (16u + 6u * L)       /* words for each variable */
 #define LIMIT 65536u
 typedef struct { u8 name[8]; u8 len, pins; u16 table, area, d[4]; } Cell;
 typedef struct { u32 n; Cell c[32]; } Library;
@@ -125,7 +126,7 @@ static u32 W;                                    /* M + 1; a parameter of every 
 #define SIZE(c)   w[16 * W + (c)]
 #define LEAF(i, c) w[(16 + L * (1 + (i))) * W + (c)]
 #define FUN(c)    w[(16 + L * 5) * W + (c)]
-#define OUTS(k)   w[160 * W + (k)]
+#define OUTS(k)   w[EACH * W + (k)]
 enum { UNDEF, CONST, INPUT, AND };
 enum { NOTHING, OWN, MATCHED, INVERTER };        /* source: kind + 4 * cell */
 #define NOARR 0x7fffffffu
@@ -161,7 +162,7 @@ static Answer read_header(const u8 *t, u32 len, u64 words, Header *h)
     h->m = v[0]; h->i = v[1]; h->l = v[2]; h->o = v[3]; h->a = v[4]; h->at = r.at;
     if (h->l) return refused(8, 0);
     if (h->m > 4095 || h->o > 4096 || h->i + h->a > h->m) return refused(9, 0);
-    if (words < 160u * (h->m + 1) + h->o) return refused(10, 0);
+    if (words < EACH * (h->m + 1) + h->o) return refused(10, 0);
     return refused(0, 0);
 }
 static u32 line_offset(const u8 *t, u32 k)       /* where line k begins; it does */

@@ -4,6 +4,8 @@ usage: cases.py"""
 import pathlib, random, re
 HERE = pathlib.Path(__file__).resolve().parent
 WORDS = 80000
+CUT_LIMIT = 24
+WORDS_EACH = 16 + 6 * CUT_LIMIT  # of each variable
 
 def number(f):
     """0 to 65,535 in decimal without leading zeros, or None"""
@@ -28,7 +30,7 @@ def read(t):
         return "refused 8 0"
     if m > 4095 or o > 4096 or i + a > m:
         return "refused 9 0"
-    if 160 * (m + 1) + o > WORDS:
+    if WORDS_EACH * (m + 1) + o > WORDS:
         return "refused 10 0"
     lines, defined = [], {0}
     for kind in "i" * i + "o" * o + "a" * a:
@@ -87,10 +89,12 @@ def texts():
     out = list(marked)
     # a symbol table behind the last AND line, and the same cut short
     out += [b_ + b"i0 x\no0 y\nc\n", b_ + b"\n", b_ + b"6 2 4\n", b_ + b"x"] + [b_[:n] for n in range(len(b_))]
-    # the header
+    # the header; one with just as many words as there are, one with a word more
+    most = (WORDS - 1) // WORDS_EACH - 1
+    rest = WORDS - WORDS_EACH * (most + 1)
     for h in [b"", b"\n", b"aag\n", b"aag ", b"aig 0 0 0 0 0\n", b"aag  0 0 0 0 0\n", b" aag 0 0 0 0 0\n", b"aag 0 0 0 0\n", b"aag 0 0 0 0 0 0\n", b"aag 0 0 0 0 0 \n", b"aag 0 0 0 0 0",
               b"aag 00 0 0 0 0\n", b"aag 0 0 0 0 01\n", b"aag 65536 0 0 0 0\n", b"aag 65535 0 1 0 0\n", b"aag 65535 0 0 0 0\n", b"aag 4096 0 0 0 0\n", b"aag 4095 0 0 0 0\n", b"aag 0 0 0 4096 0\n",
-              b"aag 0 0 0 4097 0\n", b"aag 1 1 0 0 1\n", b"aag 0 0 1 0 0\n", b"aag 0 0 0 0 0\r\n", b"AAG 0 0 0 0 0\n", b"aag 5 2 0 0 4\n", b"aag 498 0 0 160 0\n", b"aag 498 0 0 161 0\n", b"aag -1 0 0 0 0\n"]:
+              b"aag 0 0 0 4097 0\n", b"aag 1 1 0 0 1\n", b"aag 0 0 1 0 0\n", b"aag 0 0 0 0 0\r\n", b"AAG 0 0 0 0 0\n", b"aag 5 2 0 0 4\n", b"aag %d 0 0 %d 0\n" % (most, rest), b"aag %d 0 0 %d 0\n" % (most, rest + 1), b"aag -1 0 0 0 0\n"]:
         out.append(h)
     # lines that break their form, literals out of range, variables defined twice or nowhere
     for old, new in [(b"\n2\n", b"\n02\n"), (b"\n2\n", b"\n2 \n"), (b"\n2\n", b"\n\n"), (b"\n2\n", b"\n3\n"), (b"\n2\n", b"\n0\n"), (b"\n2\n", b"\n8\n"), (b"\n2\n", b"\n9\n"), (b"\n4\n", b"\n2\n"),

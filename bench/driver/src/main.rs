@@ -1,7 +1,7 @@
 //! Maps graph files with one library file, through the static library or,
 //! with `--other`, through the reference mapper, and prints a line for each.
 
-use other::{ours, reference};
+use other::{ours, reference, WORDS_EACH};
 use std::{env, fs, process::exit};
 
 const USAGE: &str = "usage: driver [--other] [--time] [--calls N] CELLS GRAPH...";
@@ -73,7 +73,7 @@ fn main() {
     for file in &files[1..] {
         let graph = read(file);
         let [m, o, ands] = header(&graph);
-        let mut work = vec![0; 160 * (m + 1) + o];
+        let mut work = vec![0; WORDS_EACH * (m + 1) + o];
         let mut answer = reference::Answer::default();
         let mut least = f64::INFINITY;
         for _ in 0..calls {

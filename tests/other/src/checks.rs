@@ -2,7 +2,7 @@
 //! They are functions and not tests, so that the mutants run through the same.
 
 use crate::gen::{self, Case, Graph, Lent, Rng};
-use crate::{blif, brute, judge, reference};
+use crate::{blif, brute, judge, reference, CUT_LIMIT, WORDS_EACH};
 use std::collections::BTreeMap;
 
 pub type Check = Result<String, String>;
@@ -137,7 +137,7 @@ pub fn damage() -> Check {
     for on_cells in [true, false] {
         for damaged in gen::all_damage(if on_cells { &cells } else { &graph }) {
             let (cells, graph) = if on_cells { (&damaged, &graph) } else { (&cells, &damaged) };
-            let words = reference::words_needed(graph).unwrap_or(0).min(160 * 200);
+            let words = reference::words_needed(graph).unwrap_or(0).min(WORDS_EACH * 200);
             let (answer, _) = reference::map(cells, graph, words, 10_000);
             let judged = judge::judge(cells, graph, words);
             let same = match judged {
@@ -248,7 +248,7 @@ pub fn all_covers(cases: usize, seed: u64) -> Check {
         let count = rng.between(0, 6);
         let cells = gen::library(&mut rng, count);
         let ands = rng.between(1, 5);
-        let graph = gen::graph(&mut rng, 4, ands, 24);
+        let graph = gen::graph(&mut rng, 4, ands, CUT_LIMIT);
         against_all_covers(&cells, graph, &mut gone)?;
     }
     let Gone { graphs, too_wide, mappings, bare } = gone;

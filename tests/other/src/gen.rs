@@ -1,5 +1,6 @@
 //! Makes libraries, graphs, faults and damage from a fixed seed.
 
+use crate::{CUT_LIMIT, WORDS_EACH};
 use std::sync::OnceLock;
 
 // ---------------------------------------------------------------- chance
@@ -323,12 +324,12 @@ pub fn circuit(rng: &mut Rng, inputs: usize, parts: usize, cap: usize) -> Shape 
     shape
 }
 
-/// A shape whose last AND has exactly so many cuts, and no other over 24; the
+/// A shape whose last AND has exactly so many cuts, and no other over the limit; the
 /// smallest that a fixed search comes across.
 pub fn shape_with_cuts(wanted: usize) -> &'static Shape {
     static FOUND: OnceLock<Vec<Shape>> = OnceLock::new();
-    let found = FOUND.get_or_init(|| (24..=25).map(search).collect());
-    &found[wanted - 24]
+    let found = FOUND.get_or_init(|| (CUT_LIMIT..=CUT_LIMIT + 1).map(search).collect());
+    &found[wanted - CUT_LIMIT]
 }
 
 fn search(wanted: usize) -> Shape {
@@ -343,7 +344,7 @@ fn search(wanted: usize) -> Shape {
                 continue;
             }
             shape.push((a, rng.one_in(2)), (b, rng.one_in(2)));
-            if shape.last_count() == 25 || shape.last_count() == wanted {
+            if shape.last_count() == CUT_LIMIT + 1 || shape.last_count() == wanted {
                 break;
             }
         }
@@ -387,7 +388,7 @@ impl Graph {
     }
 
     pub fn words(&self) -> usize {
-        160 * (self.top + 1) + self.outputs.len()
+        WORDS_EACH * (self.top + 1) + self.outputs.len()
     }
 
     /// A good text read back.
@@ -524,8 +525,8 @@ pub fn large_graph(rng: &mut Rng, top: usize) -> Graph {
         let some = rng.between(2, 5);
         let some_ands = rng.between(3, 25);
         let block = match rng.below(4) {
-            0 => shape(rng, some, some_ands, 24),
-            _ => circuit(rng, some, some_ands.div_ceil(2), 24),
+            0 => shape(rng, some, some_ands, CUT_LIMIT),
+            _ => circuit(rng, some, some_ands.div_ceil(2), CUT_LIMIT),
         };
         let mut fed: Vec<usize> = (1..=inputs).collect();
         rng.shuffle(&mut fed);
@@ -626,7 +627,7 @@ pub fn case(rng: &mut Rng) -> Case {
     let mut case = match kind {
         0..=54 => {
             let most = rng.pick(&[3, 6, 12, 25, 40]);
-            let mut text = graph(rng, 8, most, 24).text();
+            let mut text = graph(rng, 8, most, CUT_LIMIT).text();
             if rng.one_in(6) {
                 let trailing: Vec<u8> = (0..rng.below(20)).map(|_| rng.word() as u8).collect();
                 text.extend(trailing);
@@ -634,17 +635,17 @@ pub fn case(rng: &mut Rng) -> Case {
             Case::new("graph", cells, text)
         }
         55..=64 => {
-            let cap = rng.pick(&[25, 26, 100]);
-            Case::new("around 24 cuts", cells, graph(rng, 6, 20, cap).text())
+            let cap = rng.pick(&[CUT_LIMIT + 1, CUT_LIMIT + 2, 100]);
+            Case::new("around the limit of cuts", cells, graph(rng, 6, 20, cap).text())
         }
         65..=70 => {
-            let mut graph = graph(rng, 6, 12, 24);
+            let mut graph = graph(rng, 6, 12, CUT_LIMIT);
             make_circle(rng, &mut graph);
             Case::new("circle", cells, graph.text())
         }
         71..=80 => return faults(rng),
         81..=94 => {
-            let graph = graph(rng, 4, 6, 24).text();
+            let graph = graph(rng, 4, 6, CUT_LIMIT).text();
             let (cells, graph) =
                 if rng.one_in(2) { (damaged(rng, &cells), graph) } else { (cells, damaged(rng, &graph)) };
             Case::new("damage", cells, graph)
@@ -652,14 +653,14 @@ pub fn case(rng: &mut Rng) -> Case {
         95 => {
             let cells = library_text(&library(rng, 33));
             let offset = cells[..cells.len() - 1].iter().rposition(|&byte| byte == 10).map_or(0, |end| end + 1);
-            Case::new("33 cells", cells, graph(rng, 3, 3, 24).text()).expect(3, offset)
+            Case::new("33 cells", cells, graph(rng, 3, 3, CUT_LIMIT).text()).expect(3, offset)
         }
         96 => {
             let top = rng.between(60, 400);
             let cells = if rng.one_in(3) { cells } else { library_text(&full_library()) };
             Case::new("large", cells, large_graph(rng, top).text())
         }
-        _ => Case::new("tiny", cells, graph(rng, 2, 2, 24).text()),
+        _ => Case::new("tiny", cells, graph(rng, 2, 2, CUT_LIMIT).text()),
     };
     case.words = lent(rng);
     case.text = lent(rng);
@@ -859,7 +860,7 @@ pub fn faults(rng: &mut Rng) -> Case {
                 places.push((15, next));
             }
             16 => {
-                let shape = shape_with_cuts(25);
+                let shape = shape_with_cuts(CUT_LIMIT + 1);
                 let variable = |node: usize| if node <= shape.inputs { node } else { next + node - shape.inputs - 1 };
                 for (index, ends) in shape.ands.iter().enumerate() {
                     let [a, b] = ends.map(|(node, negative)| 2 * variable(node) + usize::from(negative));
@@ -943,10 +944,11 @@ pub fn faults(rng: &mut Rng) -> Case {
         found.push((7, 0));
     }
     let mut case = Case::new("faults", cells_text, Vec::new())
-        .words(Lent::This(160 * (graph.top + 1) + outputs))
+        .words(Lent::This(WORDS_EACH * (graph.top + 1) + outputs))
         .text(Lent::Exact);
     if wanted(rng, 3 * rarity) {
-        case.words = Lent::This(if rng.one_in(2) { 160 * (graph.top + 1) + outputs - 1 } else { rng.below(900) });
+        case.words =
+            Lent::This(if rng.one_in(2) { WORDS_EACH * (graph.top + 1) + outputs - 1 } else { rng.below(900) });
         found.push((10, 0));
     }
     let offsets: Vec<usize> =
@@ -1036,7 +1038,8 @@ pub fn limits() -> Vec<Case> {
     // M, O, I + A.
     for top in [0, 1, 4_094, 4_095, 4_096, 65_535] {
         let graph = format!("aag {top} 0 0 0 0\n").into_bytes();
-        let case = Case::new(format!("M of {top}"), cells.clone(), graph).words(Lent::This(160 * (top.min(4_095) + 1)));
+        let case =
+            Case::new(format!("M of {top}"), cells.clone(), graph).words(Lent::This(WORDS_EACH * (top.min(4_095) + 1)));
         add(case.expect(if top > 4_095 { 9 } else { 0 }, 0));
     }
     for outputs in [4_095, 4_096, 4_097] {
@@ -1084,7 +1087,7 @@ pub fn limits() -> Vec<Case> {
     }
 
     // Cuts.
-    for (wanted, number) in [(24, 0), (25, 16)] {
+    for (wanted, number) in [(CUT_LIMIT, 0), (CUT_LIMIT + 1, 16)] {
         let shape = shape_with_cuts(wanted);
         let top = shape.nodes() - 1;
         let literal = |(node, negative): End| 2 * node + usize::from(negative);
@@ -1099,7 +1102,7 @@ pub fn limits() -> Vec<Case> {
         add(case.expect(number, if number == 16 { top } else { 0 }));
     }
     let (graph, place) = restart();
-    add(Case::new("two ANDs with 25 cuts", cells.clone(), graph.text()).expect(16, place));
+    add(Case::new("two ANDs with a cut too many", cells.clone(), graph.text()).expect(16, place));
 
     // The largest figures: a slow chain, and an inverter on every input.
     let slow = format!("{NAMES_LINE}inv 1 0001 65535 65535 0 0 0\nnand2 2 0007 65535 65535 65535 0 0\n");
@@ -1134,11 +1137,11 @@ pub fn limits() -> Vec<Case> {
     cases
 }
 
-/// Two ANDs with 25 cuts each: X waits for an AND numbered just above it, and
+/// Two ANDs with a cut too many: X waits for an AND numbered just above it, and
 /// Y, numbered higher still, is ready before that. From the lowest again X is
 /// placed first; a sweep would come to Y first.
 fn restart() -> (Graph, usize) {
-    let mut shape = shape_with_cuts(25).clone();
+    let mut shape = shape_with_cuts(CUT_LIMIT + 1).clone();
     // Only what the last AND stands on.
     let last = shape.nodes() - 1;
     let mut used = vec![false; shape.nodes()];

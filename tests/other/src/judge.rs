@@ -2,6 +2,7 @@
 //! loosely, prints what it understood and compares the bytes. Used where no
 //! one knows by construction what a damaged text brings.
 
+use crate::WORDS_EACH;
 use std::collections::BTreeSet;
 
 /// A line's text, its offset, and whether it is the wanted form.
@@ -90,7 +91,7 @@ pub fn judge(cells: &[u8], graph: &[u8], words: usize) -> Option<(u32, usize)> {
     if m >= 4096 || o >= 4097 || m < i + a {
         return Some((9, 0));
     }
-    if words < 160 * m + 160 + o {
+    if words < WORDS_EACH * m + WORDS_EACH + o {
         return Some((10, 0));
     }
     let mut defined = vec![false; m + 1];

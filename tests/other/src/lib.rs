@@ -22,6 +22,13 @@ macro_rules! plain_or {
     };
 }
 
+/// Refusal 16: "An AND, used or not, has more than 24 cuts".
+pub const CUT_LIMIT: usize = 24;
+
+/// Refusal 10: "fewer than 160(M+1) + O 16-bit words": 16 for each variable, and
+/// 6 for each of its cuts.
+pub const WORDS_EACH: usize = 16 + 6 * CUT_LIMIT;
+
 pub mod blif;
 pub mod brute;
 pub mod checks;

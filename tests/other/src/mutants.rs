@@ -18,7 +18,7 @@ pub fn is_on(mutant: u32) -> bool {
 
 /// Number and what is wrong.
 pub const LIST: [(u32, &str); 20] = [
-    (1, "an AND with 25 cuts is accepted"),
+    (1, "an AND with a cut too many is accepted"),
     (2, "a tie between cell and inverter goes to the inverter"),
     (3, "a cut's function walks on below a leaf whose operands are leaves too"),
     (4, "placing goes on upwards instead of from the lowest again"),

@@ -1,5 +1,6 @@
 //! Another mapper, plain and slow. Quoted sentences are document 01's.
 
+use crate::{CUT_LIMIT, WORDS_EACH};
 use std::collections::{BTreeMap, BTreeSet};
 
 #[derive(Clone, Copy, Debug, Default, PartialEq, Eq)]
@@ -194,7 +195,7 @@ fn read_header(line: &[u8]) -> Option<[usize; 5]> {
 /// The words of work memory that a graph text asks for, if its header reads.
 pub fn words_needed(text: &[u8]) -> Option<usize> {
     let [m, _, _, o, _] = line_at(text, 0).and_then(read_header)?;
-    Some(160 * (m + 1) + o)
+    Some(WORDS_EACH * (m + 1) + o)
 }
 
 /// Refusals 7 to 14.
@@ -209,7 +210,7 @@ pub fn read_graph(text: &[u8], words: usize) -> Result<Graph, Refusal> {
     if m > 4_095 || o > 4_096 || plain_or!(17, i + a > m, i + a >= m && m > 0) {
         return refuse(9, 0);
     }
-    if words < 160 * (m + 1) + o {
+    if words < WORDS_EACH * (m + 1) + o {
         return refuse(10, 0);
     }
 
@@ -318,7 +319,7 @@ pub fn cut_lists(graph: &Graph, order: &[u16]) -> Result<Vec<Vec<Vec<u16>>>, Ref
                     }
                 }
             }
-            if set.len() > plain_or!(1, 24, 25) {
+            if set.len() > plain_or!(1, CUT_LIMIT, CUT_LIMIT + 1) {
                 return refuse(16, usize::from(variable));
             }
         }

@@ -1,7 +1,7 @@
 //! The cases of the program crate `map_run` and what it must print:
 //! `cases GRAPHS FOLDER` writes FOLDER/stdin and FOLDER/stdout.
 
-use other::reference::map;
+use other::{reference::map, WORDS_EACH};
 use std::{env, fs, path::PathBuf};
 
 const NAMES: &str = "cell pins table area d0 d1 d2 d3\n";
@@ -56,12 +56,13 @@ fn main() {
     let free = format!("{NAMES}inv 1 0001 1 0 0 0 0\nnand2 2 0007 2 20 20 0 0\nand2 2 0008 2 20 20 0 0\n");
     c.add(&free, "aag 3 2 0 2 1\n2\n4\n6\n7\n6 2 4\n", 32768, 65536);
     // the unmarked: M, cells, work and text memory, L, cuts
-    c.add(&library, "aag 4095 0 0 0 0\n", 655360, 65536);
-    c.add(&library, "aag 4095 0 0 0 0\n", 655359, 65536);
-    c.add(&library, "aag 4096 0 0 0 0\n", 659456, 65536);
+    c.add(&library, "aag 4095 0 0 0 0\n", WORDS_EACH * 4096, 65536);
+    c.add(&library, "aag 4095 0 0 0 0\n", WORDS_EACH * 4096 - 1, 65536);
+    c.add(&library, "aag 4096 0 0 0 0\n", WORDS_EACH * 4096 + 4096, 65536);
     c.add(&cells(32), b, 32768, 65536);
     c.add(&cells(33), b, 32768, 65536);
-    for (words, bytes) in [(641, 117), (640, 117), (641, 116), (0, 0)] {
+    let need = WORDS_EACH * 4 + 1;
+    for (words, bytes) in [(need, 117), (need - 1, 117), (need, 116), (0, 0)] {
         c.add(&library, b, words, bytes);
     }
     c.add(&library, "aag 1 0 1 0 0\n2 2\n", 32768, 65536);

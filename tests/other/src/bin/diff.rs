@@ -11,7 +11,7 @@
 
 use other::gen::{self, Case, Lent, Rng};
 use other::reference::{self, Answer};
-use other::{checks, ours};
+use other::{checks, ours, WORDS_EACH};
 use std::path::{Path, PathBuf};
 use std::time::{Duration, Instant};
 use std::{env, fs, process};
@@ -98,7 +98,7 @@ struct Difference {
 }
 
 /// Work memory of any graph that is accepted, and some more.
-const MOST_WORDS: usize = 160 * 4_096 + 4_096 + 2_000;
+const MOST_WORDS: usize = WORDS_EACH * 4_096 + 4_096 + 2_000;
 
 fn compare(case: &Case, rng: &mut Rng, tally: &mut Tally) -> Result<(), Difference> {
     let words = case.words.of(reference::words_needed(&case.graph).unwrap_or(64)).min(MOST_WORDS);
