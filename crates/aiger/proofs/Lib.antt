@@ -2,7 +2,6 @@
 -- `Storing`: a graph that grows line by line, and the words that hold it. `DueLines`: the due lines, as the crate model says them.
 -- `Loading`: a turn of the loop is a line of the model's. `Loads`: the passes are the model's reading, and what `load` leaves.
 -- `Seeking`: the first number that passes a test. `Users`: the lowest user of each variable. `Placed`: placing, as the words have it. `Orders`: placing is the model's placing order.
--- `Whole`: all words as one list, and all that is known of a graph that is read.
 pub mod Head
 pub mod Judging
 pub mod Storing
@@ -13,4 +12,3 @@ pub mod Seeking
 pub mod Users
 pub mod Placed
 pub mod Orders
-pub mod Whole

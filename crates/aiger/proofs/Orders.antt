@@ -3,7 +3,7 @@
 --     order-law        the slots that are filled hold `placeF`
 --     place-verdict    `place` answers `placingVerdict`
 --     place-law        and the words hold `placingOrder`
---     holds-graph, holds-order     what the layers above ask for
+--     holds-graph      the words hold the graph, as the layers above ask
 --     place-asks       what `place` asks is what an accepted `load` leaves
 -- Assumes nothing.
 use mathlib.Core.Path.{_≡_, refl, sym, ap, _∙_, subst}
@@ -25,7 +25,7 @@ use Rattle.model.specs.declared.Header.{Header}
 use Rattle.model.specs.declared.Verdict.the-variants.{Accepted, Refused}
 use Rattle.words.specs.Layout.{Room, RoomFor, kindAt, leftAt, rightAt, placeAt, outputAt}
 use Rattle.words.specs.Record.{nodeOf, nodeAt}
-use Rattle.words.specs.Holding.{HoldsGraph, HoldsOrder}
+use Rattle.words.specs.Holding.{HoldsGraph}
 use Rattle.text.proofs.Bytes.{and-left, and-right}
 use Rattle.theory_graph.proofs.Lists.{by-eqb, elem-in, elem-out, map-in, map-out, keep-in, keep-out, is-true}
 use Rattle.theory_graph.proofs.Values.{Found, node-and}
@@ -45,7 +45,7 @@ mem-index : (xs : List ℕ) (u : ℕ) → List·Memᴰ u xs → (i : ℕ) × (i 
 mem-index (x ∷ xs) u (List·Memᴰ·head e) = (0, omega arith, sym e)
 mem-index (x ∷ xs) u (List·Memᴰ·tail n) = let r = mem-index xs u n in (suc (r .0), omega (arith, r .1), r .2)
 
-pub not-elem : (u : ℕ) (xs : List ℕ) → elem u xs ≡ false → ¬ List·Memᴰ u xs
+not-elem : (u : ℕ) (xs : List ℕ) → elem u xs ≡ false → ¬ List·Memᴰ u xs
 not-elem u xs e n = let t : elem u xs ≡ true = elem-in u xs n in let z : _≡_ {A = ℕ} 0 1 = cc in omega arith
 
 placed-word : (w : List ℕ) (m : ℕ) (order : List ℕ) → Ordered w m order → (u : ℕ) → u ≤ m → not (eqb (placeAt w m u) 0) ≡ elem u order
@@ -378,13 +378,6 @@ module _ (w₀ : List ℕ) (h : Header) (fit : Fit h w₀) (w : List ℕ) (g : G
 
   pub holds-graph : HoldsGraph w g
   holds-graph = let t = graph-here (g .size) (hold .size) in record { room = t .0; nodes = t .1; outputs = t .2 }
-
-module _ (w₀ : List ℕ) (h : Header) (w : List ℕ) (g : Graph) (hold : Holding w₀ h w g (placingOrder g)) where
-  order-here : (m : ℕ) → m ≡ h .size → Ordered w m (placingOrder g)
-  order-here m e = rw e (hold .held .ordered)
-
-  pub holds-order : HoldsOrder w g
-  holds-order = let t = order-here (g .size) (hold .size) in record { slots = t .slots; places = t .places; waiting = t .waiting }
 
 -- ---- from `load` to `place`
 

@@ -1,14 +1,10 @@
 -- The words that hold a graph, every word of them said: the nodes and the first slots of the placing order in their columns, zeros in the other columns,
 -- the output literals, and all other words as they were. Assumes nothing.
 use mathlib.Core.Path.{_≡_}
-use mathlib.Core.Bool.{cond}
-use mathlib.Core.List.{List, [], _∷_, _++_, map, List·Memᴰ}
-use Prim.Native.Nat.{ℕ, _+_, _*_, _≤_, _<_}
-use lib.Dec.{eqb}
+use mathlib.Core.List.{List, List·Memᴰ}
+use Prim.Native.Nat.{ℕ, _+_, _≤_, _<_}
 use lib.ListN.{length, getD}
-use Rattle.model.specs.Base.{below}
 use Rattle.model.specs.Graph.{Graph, Node, constant, input, undefined, both, node}
-use Rattle.words.specs.Put.{putAt, zeros}
 use Rattle.words.specs.Layout.{kindAt, leftAt, rightAt, slotAt, placeAt, outputAt, countAddr, listsFrom, outputAddr}
 
 -- the three words of a node
@@ -48,30 +44,3 @@ pub record Loaded (w₀ : List ℕ) (m : ℕ) (w : List ℕ) (g : Graph) (order 
   pub others : (a : ℕ) → listsFrom m ≤ a → a < outputAddr m 0 → getD w a 0 ≡ getD w₀ a 0
   pub outs : (i : ℕ) → i < length (g .outputs) → outputAt w m i ≡ getD (g .outputs) i 0
   pub behind : (a : ℕ) → outputAddr m (length (g .outputs)) ≤ a → getD w a 0 ≡ getD w₀ a 0
-
--- ---- the same as one list
-
--- 1 and the index of v in a list that begins at index i, or 0
-unfoldable pub placeFrom : ℕ → List ℕ → ℕ → ℕ
-placeFrom i [] v = 0
-placeFrom i (x ∷ xs) v = cond (eqb v x) (i + 1) (placeFrom (i + 1) xs v)
-
--- a word for each variable
-abbrev pub column : ℕ → (ℕ → ℕ) → List ℕ
-column m f = map f (below (m + 1))
-
--- the columns of a graph, with `order` placed: kinds, operands, slots and places, and zeros in the others
-unfoldable pub graphColumns : ℕ → Graph → List ℕ → List ℕ
-unfolding placeFrom
-graphColumns m g order =
-    column m (λ v. kindOf (node g v))
-    ++ (column m (λ v. leftOf (node g v))
-    ++ (column m (λ v. rightOf (node g v))
-    ++ (column m (λ i. getD order i 0)
-    ++ (column m (λ v. placeFrom 0 order v)
-    ++ zeros (11 * (m + 1))))))
-
--- words with the graph in its columns and its output literals in theirs
-unfoldable pub graphWords : List ℕ → ℕ → Graph → List ℕ → List ℕ
-unfolding graphColumns
-graphWords w m g order = putAt (putAt w 0 (graphColumns m g order)) (outputAddr m 0) (g .outputs)

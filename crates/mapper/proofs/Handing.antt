@@ -26,7 +26,7 @@ use Rattle.aiger.specs.Passes.{Fit, loadedWords}
 use Rattle.aiger.specs.Placing.{Operands, placedWords}
 use Rattle.aiger.proofs.Judging.{fit-length}
 use Rattle.aiger.proofs.Loads.{Holding, load-law}
-use Rattle.aiger.proofs.Orders.{holding-operands, place-law, holds-graph, holds-order}
+use Rattle.aiger.proofs.Orders.{holding-operands, place-law, holds-graph}
 use Rattle.cuts.specs.Represents.{Represents, Uncut}
 use Rattle.cutting.specs.Enumerated.{placedOf, enumerated}
 use Rattle.cutting.specs.Listed.{Listed}
