@@ -25,9 +25,10 @@ use Rattle.text.specs.Fields.{onNumber, numberOf, numberThen}
 use Rattle.text.specs.Lines.{lineAt, pastLine, afterAt, numbersAt}
 use Rattle.text.proofs.Found.{past, found, number-is}
 use Rattle.text.proofs.Numbers.{line-words, numbers-at, numbers-ended}
+use Rattle.placing.specs.Placing.{pickN}
 use Rattle.aiger.specs.declared.Literals.{Literals}
 use Rattle.aiger.specs.declared.LineRead.the-variants.{Read as ALine, Broken as NoLine}
-use Rattle.aiger.specs.Lines.{pickN, dueCode, dueCount, literals, oneLine, andLine, lineRead, literalsFit}
+use Rattle.aiger.specs.Lines.{dueCode, dueCount, literals, oneLine, andLine, lineRead, literalsFit}
 use Rattle.aiger.proofs.Head.{three-is}
 
 -- ---- what is due

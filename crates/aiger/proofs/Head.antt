@@ -28,12 +28,12 @@ use Rattle.text.specs.Lines.{lineAt, pastLine, wordsAt, sepsAt, afterAt, number
 use Rattle.text.proofs.Found.{past, found, number-is}
 use Rattle.text.proofs.Bridge.{lines-at, past-at}
 use Rattle.text.proofs.Numbers.{line-words, numbers-at}
+use Rattle.placing.specs.Loaded.{Fit}
 use Rattle.aiger.specs.declared.Three.{Three}
 use Rattle.aiger.specs.declared.Three.the-variants.{Numbers, Broken as NoThree}
 use Rattle.aiger.specs.declared.HeaderForm.{HeaderForm}
 use Rattle.aiger.specs.declared.HeaderForm.the-variants.{Is, Broken as NoForm}
 use Rattle.aiger.specs.Lines.{threeAt, onThree, pickStep, aag, tagAt, headerRecord, numbersForm, formAt}
-use Rattle.aiger.specs.Passes.{Fit}
 
 -- ---- the limits
 

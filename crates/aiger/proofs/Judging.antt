@@ -15,14 +15,13 @@ use borrow.Author.Tests.{le-leb, lt-leb, leb-true, lt-ltb, le-ltb}
 use Rattle.model.specs.declared.Header.{Header}
 use Rattle.model.specs.declared.Verdict.the-variants.{Accepted, Refused}
 use Rattle.text.proofs.Bytes.{and-left, and-right}
-use Rattle.words.specs.Layout.{Room}
 use Rattle.aiger.specs.declared.Literals.{Literals}
 use Rattle.aiger.specs.declared.LineRead.{LineRead}
 use Rattle.aiger.specs.declared.LineRead.the-variants.{Read as ALine, Broken as NoLine}
 use Rattle.aiger.specs.declared.Judged.the-variants.{Good, Bad}
 use Rattle.aiger.specs.declared.Turn.the-variants.{To, Refused as Stop}
 use Rattle.aiger.specs.Lines.{dueCode, dueCount, lineRead, onLine, literalsFit, mayDefine, isTaken, pickJudged, judgedAt}
-use Rattle.aiger.specs.Passes.{Fit, LiteralsFit, storedLine, turnAt, turnWords, linesVerdict, linesWords, checkAt, checkVerdict}
+use Rattle.aiger.specs.Passes.{LiteralsFit, storedLine, turnAt, turnWords, linesVerdict, linesWords, checkAt, checkVerdict}
 
 module _ (m : ℕ) (l : Literals) where
   pub fit-known : literalsFit m l ≡ true → LiteralsFit m l
@@ -117,10 +116,6 @@ module _ (s : List ℕ) (h : Header) (k at : ℕ) (w : List ℕ) where
   unfolding checkVerdict
   check-end j i = ap (λ (x : ℕ). checkVerdict s h x k at w) i
 
--- the header still fits words of the same length
-pub fit-length : (h : Header) (w x : List ℕ) → Fit h w → length x ≡ length w → Fit h x
-fit-length h w x f e = record { room = record { small = f .room .small; room = omega arith }; outs = f .outs; lines = f .lines }
-
 -- ---- the loops: what the lines from line k on give is what all lines give
 
 pub record Rest (s : List ℕ) (h : Header) (w : List ℕ) (k at : ℕ) (x : List ℕ) : Type 0 where
@@ -181,6 +176,3 @@ module _ (s : List ℕ) (h : Header) (w : List ℕ) (k at : ℕ) (r : Left s h w
 
   pub left-end : dueCount h ≤ k → Accepted ≡ checkVerdict s h (dueCount h) 0 (h .next) w
   left-end l = sym (r .verdict ∙ check-end s h k at w (dueCount h - k) (omega arith))
-
-pub fit-room : (h : Header) (w : List ℕ) → Fit h w → Room w (h .size)
-fit-room h w f = record { small = f .room .small; room = omega arith }

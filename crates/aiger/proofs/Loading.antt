@@ -27,15 +27,17 @@ use Rattle.text.specs.Lines.{lineAt, pastLine}
 use Rattle.text.proofs.Bytes.{and-left, and-right}
 use Rattle.text.proofs.Bridge.{lines-at, lines-none}
 use Rattle.theory_graph.proofs.Lists.{by-eqb}
+use Rattle.placing.specs.Loaded.{Fit, kindOf, leftOf, rightOf, Loaded, Within, Sure}
+use Rattle.placing.specs.Placing.{putPlaced}
+use Rattle.placing.proofs.Slots.{within-snoc, place-holds}
 use Rattle.aiger.specs.declared.Literals.{Literals}
 use Rattle.aiger.specs.declared.LineRead.the-variants.{Read as ALine, Broken as NoLine}
 use Rattle.aiger.specs.declared.Judged.the-variants.{Good, Bad}
 use Rattle.aiger.specs.declared.Turn.the-variants.{To, Refused as Stop}
 use Rattle.aiger.specs.Lines.{dueCode, dueCount, lineRead, literalsFit, mayDefine, isTaken, pickJudged, judgedAt}
-use Rattle.aiger.specs.Passes.{Fit, LiteralsFit, putPlaced, storedInput, storedLine, turnAt, turnWords, opened}
-use Rattle.aiger.specs.Loaded.{kindOf, leftOf, rightOf, Loaded}
+use Rattle.aiger.specs.Passes.{LiteralsFit, storedInput, storedLine, turnAt, turnWords, opened}
 use Rattle.aiger.proofs.Judging.{fit-known, turn-none, turn-good, turn-bad}
-use Rattle.aiger.proofs.Storing.{Within, node-holds, place-holds, output-holds, opened-holds, withInput, withOutput, withAnd, nothing, Free, free-node, free-placed, kind-none, input-new, input-other, and-new, and-other, output-node, node-none}
+use Rattle.aiger.proofs.Storing.{node-holds, output-holds, opened-holds, withInput, withOutput, withAnd, nothing, Free, free-node, free-placed, kind-none, input-new, input-other, and-new, and-other, output-node, node-none}
 use Rattle.aiger.proofs.DueLines.{code, dueKind, due-code, due-at, itemList, Short, LineView, broken, whole, view, all-fit}
 
 -- ---- the graph of the lines so far
@@ -56,13 +58,6 @@ more anAnd before l = varOf (l .first) ∷ before
 abbrev pub itemOf : Kind → ℕ → Literals → Item
 itemOf k at l = record { kind = k; offset = at; literals = itemList k l }
 
--- an AND of the graph is its variable's node, and its literals are in range
-pub record Sure (m : ℕ) (g : Graph) (a : And) : Type 0 where
-  pub var : a .var ≤ m
-  pub node : node g (a .var) ≡ both (a .left) (a .right)
-  pub left : a .left ≤ 2 * m + 1
-  pub right : a .right ≤ 2 * m + 1
-
 pub record State (h : Header) (w₀ : List ℕ) (k : ℕ) (w : List ℕ) (before : List ℕ) (g : Graph) : Type 0 where
   pub held : Loaded w₀ (h .size) w g (0 ∷ g .inputs)
   pub known : (v : ℕ) → v ≤ h .size → (v ≡ 0 → ⊥) → elem v before ≡ not (eqb (kindAt w (h .size) v) 0)
@@ -71,12 +66,6 @@ pub record State (h : Header) (w₀ : List ℕ) (k : ℕ) (w : List ℕ) (before
   pub gates : length (g .ands) ≡ k - (h .inputs + h .outputs)
   pub small : Within (h .size) (0 ∷ g .inputs)
   pub sure : (a : And) → List·Memᴰ a (g .ands) → Sure (h .size) g a
-
-pub within-snoc : (m : ℕ) (xs : List ℕ) (v : ℕ) → v ≤ m → Within m xs → Within m (xs ++ (v ∷ []))
-within-snoc m xs v l h i k =
-    by-eqb i (length xs)
-    (λ e. subst (λ (x : ℕ). x ≤ m) (sym (ap (λ (j : ℕ). getD (xs ++ (v ∷ [])) j 0) e ∙ getD-append-seam xs v [] 0)) l)
-    (λ d. let b : i < length xs = omega (arith, length-append xs (v ∷ [])) in subst (λ (x : ℕ). x ≤ m) (sym (List·getD-append xs (v ∷ []) 0 i b)) (h i b))
 
 -- what is defined, with v more
 module _ (w₀ : List ℕ) (m : ℕ) (w x : List ℕ) (g g′ : Graph) (o o′ : List ℕ) (before : List ℕ) (v c : ℕ) (held : Loaded w₀ m w g o) (then : Loaded w₀ m x g′ o′)
@@ -153,7 +142,7 @@ module _ (h : Header) (w₀ : List ℕ) (fit : Fit h w₀) (k : ℕ) (w : List �
         let slot : length (0 ∷ g .inputs) ≡ k + 1 = omega (arith, st .ins) in
         let room′ : Room (putNode w (h .size) (l .first / 2) 2 0 0) (h .size) = record { small = fit .room .small; room = omega (arith, fit .room .room, input-node .long) } in
         subst (λ (i : ℕ). Loaded w₀ (h .size) (putPlaced (putNode w (h .size) (l .first / 2) 2 0 0) (h .size) i (l .first / 2)) (withInput g (l .first / 2)) (0 ∷ g .inputs ++ (l .first / 2 ∷ []))) slot
-        (place-holds w₀ (h .size) (putNode w (h .size) (l .first / 2) 2 0 0) (withInput g (l .first / 2)) (0 ∷ g .inputs) room′ few (st .small) input-node (l .first / 2) inside (omega (arith, fit .lines)) (free-placed g (l .first / 2) free))
+        (place-holds w₀ (h .size) (putNode w (h .size) (l .first / 2) 2 0 0) (withInput g (l .first / 2)) (0 ∷ g .inputs) room′ (st .small) input-node (l .first / 2) inside (omega (arith, fit .lines)) (free-placed g (l .first / 2) free))
 
     input-more : k < h .inputs → State h w₀ (k + 1) (storedInput w (h .size) k (l .first / 2)) (varOf (l .first) ∷ before) (withInput g (l .first / 2))
     unfolding varOf

@@ -2,6 +2,7 @@
 --     lines-law        11 to 13, and the words that the lines leave
 --     check-law        14
 --     load-law         both: `load` answers `readGraph`, and where that holds a graph the words hold it
+--     place-asks       what `placing::place` asks is what an accepted `load` leaves
 -- Assumes nothing.
 use mathlib.Core.Path.{_≡_, refl, sym, ap, _∙_, subst}
 use mathlib.Core.Bool.{Bool, true, false, not, _||_}
@@ -21,17 +22,20 @@ use Rattle.model.specs.declared.Verdict.{Verdict}
 use Rattle.model.specs.declared.Verdict.the-variants.{Accepted, Refused}
 use Rattle.words.specs.Layout.{kindAt}
 use Rattle.text.proofs.Bytes.{and-true}
+use Rattle.placing.specs.Loaded.{Fit, kindOf, Holding}
+use Rattle.placing.specs.Placing.{Operands}
+use Rattle.placing.proofs.Slots.{fit-length}
+use Rattle.placing.proofs.Orders.{holding-operands}
 use Rattle.aiger.specs.declared.Literals.{Literals}
 use Rattle.aiger.specs.declared.LineRead.the-variants.{Read as ALine}
 use Rattle.aiger.specs.declared.Turn.the-variants.{To, Refused as Stop}
 use Rattle.aiger.specs.Lines.{dueCode, dueCount, lineRead, literalsFit, isKnown, usesKnown}
-use Rattle.aiger.specs.Passes.{Fit, storedLine, turnAt, turnWords, linesVerdict, linesWords, checkAt, checkVerdict, opened, loadedWords, onTurn, pickTurn}
-use Rattle.aiger.specs.Loaded.{Loaded, kindOf}
+use Rattle.aiger.specs.Passes.{storedLine, turnAt, turnWords, linesVerdict, linesWords, checkAt, checkVerdict, opened, loadedWords, onTurn, pickTurn}
 use Rattle.aiger.proofs.Judging.{fit-known}
 use Rattle.theory_graph.proofs.Lists.{by-eqb}
-use Rattle.aiger.proofs.Storing.{Within, nothing}
+use Rattle.aiger.proofs.Storing.{nothing}
 use Rattle.aiger.proofs.DueLines.{code, dueKind, due-code, due-end, Short}
-use Rattle.aiger.proofs.Loading.{grown, more, itemOf, andOf, Sure, State, state-first, linesOf, Step, stops, goes, step}
+use Rattle.aiger.proofs.Loading.{grown, more, itemOf, andOf, State, state-first, linesOf, Step, stops, goes, step}
 
 -- ---- the graph of the items
 
@@ -232,16 +236,6 @@ check-same known (i ∷ is) js e = go (all (λ (l : ℕ). elem (varOf l) (0 ∷ 
     go false more q = absurd (fault-holds q)
     go true more q = let n = next-holds (checkUses known is) (λ ks. i ∷ ks) js q in ap (λ (ks : List Item). i ∷ ks) (more (n .0) (n .1)) ∙ sym (n .2)
 
--- the words w hold the graph g of an accepted text with this header, with `order` placed; w₀ were the words before
-pub record Holding (w₀ : List ℕ) (h : Header) (w : List ℕ) (g : Graph) (order : List ℕ) : Type 0 where
-  pub size : g .size ≡ h .size
-  pub ins : length (g .inputs) ≡ h .inputs
-  pub outs : length (g .outputs) ≡ h .outputs
-  pub gates : length (g .ands) ≡ h .ands
-  pub held : Loaded w₀ (h .size) w g order
-  pub small : Within (h .size) order
-  pub sure : (a : And) → List·Memᴰ a (g .ands) → Sure (h .size) g a
-
 module _ (s : List ℕ) (h : Header) (w : List ℕ) (fit : Fit h w) where
   abbrev words : List ℕ
   words = linesWords s h (dueCount h) 0 (h .next) (opened w (h .size))
@@ -343,3 +337,17 @@ module _ (s : List ℕ) (h : Header) (w : List ℕ) (fit : Fit h w) where
 
     pub load-stop : (a b : ℕ) → r ≡ Refused a b → (Refused a b ≡ verdictOf (readGraph s h)) × (y ≡ loadedWords w s h)
     load-stop a b e = (load-refused a b (same-verdict ∙ e), loaded)
+
+-- ---- what `place` asks
+
+accepted-holds : {A : Type 0} (r : Read A) → verdictOf r ≡ Accepted → (a : A) × (r ≡ holds a)
+unfolding verdictOf
+accepted-holds (holds a) e = (a, refl)
+accepted-holds (fault n k) e = let z : _≡_ {A = ℕ} 0 1 = cc in absurd (omega arith)
+
+-- what `place` asks is what an accepted `load` leaves in the words x
+pub place-asks : (w x : List ℕ) (s : List ℕ) (h : Header) → Fit h w → verdictOf (readGraph s h) ≡ Accepted → x ≡ loadedWords w s h → Fit h x × Operands x (h .size)
+place-asks w x s h fit e i =
+    let r = accepted-holds (readGraph s h) e in
+    let hold = load-law s h w fit (r .0) (r .1) in
+    (fit-length h w x fit (ap length i ∙ hold .held .long), subst (λ (y : List ℕ). Operands y (h .size)) (sym i) (holding-operands w h (loadedWords w s h) (r .0) (0 ∷ r .0 .inputs) hold))

@@ -1,5 +1,5 @@
 -- A graph that grows by a line, and the words that hold it:
---     node-holds, place-holds, output-holds     the words hold it with a node, a slot of the placing order or an output more
+--     node-holds, output-holds     the words hold it with a node or an output more
 --     input-new, input-other, and-new, and-other, output-node     its nodes with a line more
 --     opened-holds     nothing but variable 0 at first
 -- Assumes nothing.
@@ -21,8 +21,9 @@ use Rattle.words.proofs.Putting.{length-put, get-put-above}
 use Rattle.words.proofs.Parts.{word-put, word-apart, zero-put}
 use Rattle.words.proofs.Chosen.{node-length, node-apart}
 use Rattle.theory_graph.proofs.Lists.{by-eqb, elem-in, getD-in}
-use Rattle.aiger.specs.Passes.{putPlaced, opened}
-use Rattle.aiger.specs.Loaded.{kindOf, leftOf, rightOf, Ordered, Loaded}
+use Rattle.placing.specs.Loaded.{kindOf, leftOf, rightOf, Within, Ordered, Loaded}
+use Rattle.placing.proofs.Slots.{elem-snoc, place-holds}
+use Rattle.aiger.specs.Passes.{opened}
 
 -- ---- the words of a node that was stored
 
@@ -49,64 +50,6 @@ module _ (w : List ℕ) (m v k l r : ℕ) (fits : Room w m) (within : v ≤ m) w
   right-stored : rightAt (putNode w m v k l r) m v ≡ r
   unfolding putNode
   right-stored = word-put (putAt (putAt w (kindAddr m v) (k ∷ [])) (leftAddr m v) (l ∷ [])) (rightAddr m v) r (omega (arith, fits .room, two-long))
-
--- ---- a variable that was placed
-
-module _ (w : List ℕ) (m i v : ℕ) (fits : Room w m) (slot : i ≤ m) (within : v ≤ m) where
-  slot-long : length (putAt w (slotAddr m i) (v ∷ [])) ≡ length w
-  slot-long = length-put w (slotAddr m i) (v ∷ []) (omega (arith, fits .room))
-
-  pub placed-long : length (putPlaced w m i v) ≡ length w
-  unfolding putPlaced
-  placed-long = length-put (putAt w (slotAddr m i) (v ∷ [])) (placeAddr m v) ((i + 1) ∷ []) (omega (arith, fits .room, slot-long)) ∙ slot-long
-
-  pub placed-apart : (a : ℕ) → (a ≡ slotAddr m i → ⊥) → (a ≡ placeAddr m v → ⊥) → getD (putPlaced w m i v) a 0 ≡ getD w a 0
-  unfolding putPlaced
-  placed-apart a x y =
-      word-apart (putAt w (slotAddr m i) (v ∷ [])) (placeAddr m v) (i + 1) (omega (arith, fits .room, slot-long)) a y
-      ∙ word-apart w (slotAddr m i) v (omega (arith, fits .room)) a x
-
-  slot-stored : slotAt (putPlaced w m i v) m i ≡ v
-  unfolding putPlaced
-  slot-stored =
-      word-apart (putAt w (slotAddr m i) (v ∷ [])) (placeAddr m v) (i + 1) (omega (arith, fits .room, slot-long)) (slotAddr m i) (omega arith)
-      ∙ word-put w (slotAddr m i) v (omega (arith, fits .room))
-
-  pub place-stored : placeAt (putPlaced w m i v) m v ≡ i + 1
-  unfolding putPlaced
-  place-stored = word-put (putAt w (slotAddr m i) (v ∷ [])) (placeAddr m v) (i + 1) (omega (arith, fits .room, slot-long))
-
--- elements of a list are below a bound
-abbrev pub Within : ℕ → List ℕ → Type 0
-Within m xs = (i : ℕ) → i < length xs → getD xs i 0 ≤ m
-
--- one more in the placing order
-pub ordered-more : (w : List ℕ) (m : ℕ) (order : List ℕ) (v : ℕ) → Room w m → length order ≤ m → v ≤ m → Within m order → ¬ List·Memᴰ v order
-    → Ordered w m order → Ordered (putPlaced w m (length order) v) m (order ++ (v ∷ []))
-ordered-more w m order v fits slot within small new o = record {
-  slots = λ i h. in-slot i (omega (arith, length-append order (v ∷ [])));
-  empty = λ i h k. placed-apart w m (length order) v fits slot within (slotAddr m i) (omega (arith, length-append order (v ∷ []))) (omega arith) ∙ o .empty i (omega (arith, length-append order (v ∷ []))) k;
-  places = λ i h. in-place i (omega (arith, length-append order (v ∷ [])));
-  waiting = λ u h n. placed-apart w m (length order) v fits slot within (placeAddr m u) (omega arith) (λ e. n (Memᴰ·append-right order (List·Memᴰ·head (omega arith)))) ∙ o .waiting u h (λ k. n (Memᴰ·append-left (v ∷ []) k));
-}
-  where
-    in-slot : (i : ℕ) → i ≤ length order → slotAt (putPlaced w m (length order) v) m i ≡ getD (order ++ (v ∷ [])) i 0
-    in-slot i h =
-        by-eqb i (length order)
-        (λ e. ap (slotAt (putPlaced w m (length order) v) m) e ∙ slot-stored w m (length order) v fits slot within ∙ sym (ap (λ (j : ℕ). getD (order ++ (v ∷ [])) j 0) e ∙ getD-append-seam order v [] 0))
-        (λ d. placed-apart w m (length order) v fits slot within (slotAddr m i) (omega arith) (omega arith) ∙ o .slots i (omega arith) ∙ sym (List·getD-append order (v ∷ []) 0 i (omega arith)))
-
-    in-place : (i : ℕ) → i ≤ length order → placeAt (putPlaced w m (length order) v) m (getD (order ++ (v ∷ [])) i 0) ≡ i + 1
-    in-place i h =
-        by-eqb i (length order)
-        (λ e. ap (placeAt (putPlaced w m (length order) v) m) (ap (λ (j : ℕ). getD (order ++ (v ∷ [])) j 0) e ∙ getD-append-seam order v [] 0) ∙ place-stored w m (length order) v fits slot within ∙ omega arith)
-        (λ d.
-        let l : i < length order = omega arith in
-        let s : getD order i 0 ≤ m = small i l in
-        let x : (getD order i 0 ≡ v) → ⊥ = λ e. new (subst (λ (u : ℕ). List·Memᴰ u order) e (getD-in order i 0 l)) in
-        ap (placeAt (putPlaced w m (length order) v) m) (List·getD-append order (v ∷ []) 0 i l)
-        ∙ placed-apart w m (length order) v fits slot within (placeAddr m (getD order i 0)) (omega arith) (λ e. x (omega arith))
-        ∙ o .places i l)
 
 -- the order is as before where its words are
 pub ordered-same : (w x : List ℕ) (m : ℕ) (order : List ℕ) → ((i : ℕ) → i ≤ m → slotAt x m i ≡ slotAt w m i) → ((v : ℕ) → v ≤ m → placeAt x m v ≡ placeAt w m v)
@@ -145,22 +88,6 @@ module _ (w₀ : List ℕ) (m : ℕ) (w : List ℕ) (g : Graph) (order : List �
         behind = λ a b. apart a (omega (arith, ap length same)) (omega (arith, ap length same)) (omega (arith, ap length same)) ∙ held .behind a (omega (arith, ap length same));
       }
 
-  -- with a variable more in the placing order
-  pub place-holds : (v : ℕ) → v ≤ m → length order ≤ m → ¬ List·Memᴰ v order → Loaded w₀ m (putPlaced w m (length order) v) g (order ++ (v ∷ []))
-  place-holds v within slot new =
-      let apart = placed-apart w m (length order) v fits slot within in
-      record {
-        long = placed-long w m (length order) v fits slot within ∙ held .long;
-        kinds = λ u h. apart (kindAddr m u) (omega arith) (omega arith) ∙ held .kinds u h;
-        lefts = λ u h. apart (leftAddr m u) (omega arith) (omega arith) ∙ held .lefts u h;
-        rights = λ u h. apart (rightAddr m u) (omega arith) (omega arith) ∙ held .rights u h;
-        ordered = ordered-more w m order v fits slot within small new (held .ordered);
-        zero = λ a b e. apart a (omega arith) (omega arith) ∙ held .zero a b e;
-        others = λ a b e. apart a (omega arith) (omega arith) ∙ held .others a b e;
-        outs = λ i h. apart (outputAddr m i) (omega arith) (omega arith) ∙ held .outs i h;
-        behind = λ a b. apart a (omega arith) (omega arith) ∙ held .behind a b;
-      }
-
   -- with an output more
   pub output-holds : (x : ℕ) (g′ : Graph) → outputAddr m (length (g .outputs)) < length w → g′ .outputs ≡ g .outputs ++ (x ∷ []) → ((u : ℕ) → node g′ u ≡ node g u)
       → Loaded w₀ m (putAt w (outputAddr m (length (g .outputs))) (x ∷ [])) g′ order
@@ -194,11 +121,6 @@ withOutput g l = record { size = g .size; inputs = g .inputs; outputs = g .outpu
 
 abbrev pub withAnd : Graph → And → Graph
 withAnd g a = record { size = g .size; inputs = g .inputs; outputs = g .outputs; ands = g .ands ++ (a ∷ []) }
-
-pub elem-snoc : (u v : ℕ) (xs : List ℕ) → (u ≡ v → ⊥) → elem u (xs ++ (v ∷ [])) ≡ elem u xs
-unfolding elem any
-elem-snoc u v [] d = rw (ne-eqb u v d)
-elem-snoc u v (x ∷ xs) d = rw (elem-snoc u v xs d)
 
 find-snoc : (u : ℕ) (a : And) (as′ : List And) → (u ≡ a .var → ⊥) → findAnd u (as′ ++ (a ∷ [])) ≡ findAnd u as′
 unfolding findAnd
@@ -353,4 +275,4 @@ module _ (w : List ℕ) (m : ℕ) (fits : Room w m) where
 
   pub opened-holds : Loaded w m (opened w m) (nothing m) (0 ∷ [])
   unfolding opened first cleared
-  opened-holds = place-holds w m first (nothing m) [] first-fits (omega arith) (λ i h. absurd (omega arith)) first-holds 0 (omega arith) (omega arith) List·Memᴰ·not-nil
+  opened-holds = place-holds w m first (nothing m) [] first-fits (λ i h. absurd (omega arith)) first-holds 0 (omega arith) (omega arith) List·Memᴰ·not-nil

@@ -12,6 +12,7 @@ use Rattle.text.specs.declared.Step.the-variants.{Broken as NoStep}
 use Rattle.text.specs.Fields.{wordAt, endAt, onNumber, onStep, numberThen, byteAt}
 use Rattle.text.specs.Lines.{pickBool}
 use Rattle.words.specs.Layout.{kindAt}
+use Rattle.placing.specs.Placing.{pickN}
 use Rattle.aiger.specs.declared.Literals.{Literals}
 use Rattle.aiger.specs.declared.LineRead.{LineRead}
 use Rattle.aiger.specs.declared.LineRead.the-variants.{Read as ALine, Broken as NoLine}
@@ -60,10 +61,6 @@ unfoldable pub formAt : List ℕ → HeaderForm
 formAt s = onStep (tagAt s) (λ c. numbersForm s (c .at)) NoForm
 
 -- ---- the due lines
-
-abbrev pub pickN : Bool → ℕ → ℕ → ℕ
-pickN true a b = a
-pickN false a b = b
 
 -- due line k: 2 an input, 0 an output, 3 an AND
 abbrev pub dueCode : Header → ℕ → ℕ

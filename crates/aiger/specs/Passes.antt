@@ -8,8 +8,9 @@ use Rattle.model.specs.declared.Header.{Header}
 use Rattle.model.specs.declared.Verdict.{Verdict}
 use Rattle.model.specs.declared.Verdict.the-variants.{Accepted, Refused}
 use Rattle.words.specs.Put.{putAt, zeros}
-use Rattle.words.specs.Layout.{RoomFor, slotAddr, placeAddr, outputAddr, listsFrom}
+use Rattle.words.specs.Layout.{outputAddr, listsFrom}
 use Rattle.words.specs.Record.{putNode}
+use Rattle.placing.specs.Placing.{pickWords, putPlaced}
 use Rattle.aiger.specs.declared.Literals.{Literals}
 use Rattle.aiger.specs.declared.Judged.{Judged}
 use Rattle.aiger.specs.declared.Judged.the-variants.{Good, Bad}
@@ -17,21 +18,11 @@ use Rattle.aiger.specs.declared.Turn.{Turn}
 use Rattle.aiger.specs.declared.Turn.the-variants.{To, Refused as Stop}
 use Rattle.aiger.specs.Lines.{dueCode, dueCount, lineRead, onLine, literalsFit, judgedAt, usesKnown}
 
--- enough words for an accepted header
-pub record Fit (h : Header) (w : List ℕ) : Type 0 where
-  pub room : RoomFor w (h .size) (h .outputs)
-  pub outs : h .outputs ≤ 4096
-  pub lines : h .inputs + h .ands ≤ h .size
-
 -- no "literal exceeds 2M+1"
 pub record LiteralsFit (m : ℕ) (l : Literals) : Type 0 where
   pub first : l .first ≤ 2 * m + 1
   pub left : l .left ≤ 2 * m + 1
   pub right : l .right ≤ 2 * m + 1
-
-abbrev pub pickWords : Bool → List ℕ → List ℕ → List ℕ
-pickWords true a b = a
-pickWords false a b = b
 
 abbrev pub pickTurn : Bool → Turn → Turn → Turn
 pickTurn true a b = a
@@ -46,10 +37,6 @@ onTurn (To at) f e = f at
 onTurn (Stop n k) f e = e n k
 
 -- ---- what a line leaves
-
--- v in slot i of the placing order
-unfoldable pub putPlaced : List ℕ → ℕ → ℕ → ℕ → List ℕ
-putPlaced w m i v = putAt (putAt w (slotAddr m i) (v ∷ [])) (placeAddr m v) ((i + 1) ∷ [])
 
 unfoldable pub storedInput : List ℕ → ℕ → ℕ → ℕ → List ℕ
 unfolding putPlaced

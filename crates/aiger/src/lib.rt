@@ -1,4 +1,4 @@
-// AIGER's ASCII form, read: the header, the due lines into the lent words, and the placing order.
+// AIGER's ASCII form, read: the header, and the due lines into the lent words.
 // "`aag M I L O A`, then I input lines, O output lines and A lines `left right right`."
 ghost use mathlib.Core.Path.{_≡_};
 ghost use Prim.Native.Nat.{ℕ, _+_, _*_, _≤_, _<_};
@@ -8,10 +8,9 @@ ghost use Rattle.model.specs.Limits.{need};
 ghost use Rattle.model.specs.Reading.{holds, verdictOf};
 ghost use Rattle.model.specs.GraphText.{readHeader, headerAnswer, inLimits, readGraph};
 ghost use Rattle.words.specs.Layout.{Room};
+ghost use Rattle.placing.specs.Loaded.{Fit};
 ghost use Rattle.aiger.specs.Lines.{threeAt, tagAt, headerRecord, numbersForm, formAt, dueCode, dueCount, oneLine, andLine, lineRead, literalsFit, mayDefine, isTaken, judgedAt, isKnown, usesKnown};
-ghost use Rattle.aiger.specs.Passes.{Fit, LiteralsFit, putPlaced, storedInput, storedLine, turnAt, turnWords, linesVerdict, linesWords, checkAt, checkVerdict, opened, loadedWords};
-ghost use Rattle.aiger.specs.Placing.{Operands, isWaiting, isPlaced, isReady, waitingFrom, readyFrom, placedWords, placedVerdict};
-ghost use Rattle.aiger.specs.Users.{userPut, Users, seekOn};
+ghost use Rattle.aiger.specs.Passes.{LiteralsFit, storedInput, storedLine, turnAt, turnWords, linesVerdict, linesWords, checkAt, checkVerdict, opened, loadedWords};
 use model::Header;
 use model::HeaderAnswer;
 use model::Verdict;
@@ -288,22 +287,13 @@ fn judge(s: &[u8], at: usize, work: &[u16], m: usize, kind: usize) -> Judged
 
 // ---- what a line leaves in the words
 
-// A variable in a slot of the placing order.
-fn place_at(work: &mut [u16], m: usize, i: usize, v: usize)
-    requires { ⌜ Room (now work) m × (i ≤ m) × (v ≤ m) ⌝ }
-    ensures { λ _. ⌜ now (work .exit) ≡ putPlaced (now (work .entry)) m i v ⌝ }
-{
-    words::set_slot(work, m, i, v);
-    words::set_place(work, m, v, i + 1);
-}
-
 // "Placing order: variable 0 and the inputs first".
 fn store_input(work: &mut [u16], m: usize, k: usize, v: usize)
     requires { ⌜ Room (now work) m × (k < m) × (v ≤ m) ⌝ }
     ensures { λ _. ⌜ now (work .exit) ≡ storedInput (now (work .entry)) m k v ⌝ }
 {
     words::store_node(work, m, v, 2, 0, 0);
-    place_at(work, m, k + 1, v);
+    placing::place_at(work, m, k + 1, v);
 }
 
 fn store_line(work: &mut [u16], h: Header, k: usize, l: Literals)
@@ -436,7 +426,7 @@ fn open_words(work: &mut [u16], m: usize)
 {
     words::clear_columns(work, m);
     words::store_node(work, m, 0, 1, 0, 0);
-    place_at(work, m, 0, 0);
+    placing::place_at(work, m, 0, 0);
 }
 
 // The graph behind an accepted header, into the lent words; or the first refusal of 11 to 14.
@@ -449,157 +439,5 @@ pub fn load(s: &[u8], h: Header, work: &mut [u16]) -> Verdict
     match read_lines(s, work, h) {
         Verdict::Accepted => check_lines(s, work, h),
         Verdict::Refused(n, place) => Verdict::Refused(n, place),
-    }
-}
-
-// ---- the placing order
-
-// "M exceeds 4,095" is refused, and variable 0 is one more.
-const VARIABLES: usize = 4096;
-
-// An AND that is not placed.
-fn waits(work: &[u16], m: usize, v: usize) -> bool
-    requires { ⌜ Room (now work) m × (v ≤ m) ⌝ }
-    ensures { λ r. ⌜ r ≡ isWaiting (now (work .entry)) m v ⌝ }
-{
-    if words::kind(work, m, v) != 3 {
-        return false;
-    }
-    words::place(work, m, v) == 0
-}
-
-fn is_placed(work: &[u16], m: usize, l: usize) -> bool
-    requires { ⌜ Room (now work) m × (l ≤ 2 * m + 1) ⌝ }
-    ensures { λ r. ⌜ r ≡ isPlaced (now (work .entry)) m l ⌝ }
-{
-    words::place(work, m, l / 2) != 0
-}
-
-// An AND "whose operands are both placed", and that is not placed itself.
-fn ready(work: &[u16], m: usize, v: usize) -> bool
-    requires { ⌜ Room (now work) m × Operands (now work) m × (v ≤ m) ⌝ }
-    ensures { λ r. ⌜ r ≡ isReady (now (work .entry)) m v ⌝ }
-{
-    if !waits(work, m, v) {
-        return false;
-    }
-    if !is_placed(work, m, words::left(work, m, v)) {
-        return false;
-    }
-    is_placed(work, m, words::right(work, m, v))
-}
-
-// The first AND from a variable on that is not placed, or M + 1.
-fn first_waiting(work: &[u16], m: usize, from: usize) -> usize
-    requires { ⌜ Room (now work) m × (from ≤ m + 1) ⌝ }
-    ensures { λ r. ⌜ r ≡ waitingFrom (now (work .entry)) m from ⌝ }
-{
-    let mut v = from;
-    while v <= m {
-        if waits(work, m, v) {
-            return v;
-        }
-        v += 1;
-    }
-    v
-}
-
-// The first AND from a variable on that can be placed, or M + 1.
-fn first_ready(work: &[u16], m: usize, from: usize) -> usize
-    requires { ⌜ Room (now work) m × Operands (now work) m × (from ≤ m + 1) ⌝ }
-    ensures { λ r. ⌜ r ≡ readyFrom (now (work .entry)) m from ⌝ }
-{
-    let mut u = from;
-    while u <= m {
-        if ready(work, m, u) {
-            return u;
-        }
-        u += 1;
-    }
-    u
-}
-
-// For each variable the lowest AND that uses it, or a number above every AND's, as here, where none is put down yet.
-fn no_users() -> [u16; VARIABLES]
-    ensures { λ r. ⌜ ((w : List ℕ) (m : ℕ) → Users w m m r) ⌝ }
-{
-    [4096u16; VARIABLES]
-}
-
-// An AND put down as the user of its operands.
-fn put_user(work: &[u16], m: usize, v: usize, users: &mut [u16; VARIABLES])
-    requires { ⌜ Room (now work) m × Operands (now work) m × (v ≤ m) ⌝ }
-    ensures { λ _. ⌜ now (users .exit) ≡ userPut (now (work .entry)) m v (now (users .entry)) ⌝ }
-{
-    if words::kind(work, m, v) == 3 {
-        let left = words::left(work, m, v) / 2;
-        let right = words::right(work, m, v) / 2;
-        users[left] = v as u16;
-        users[right] = v as u16;
-    }
-}
-
-// All ANDs put down, from the highest down, so that the lowest user stays.
-fn put_users(work: &[u16], m: usize, users: &mut [u16; VARIABLES])
-    requires { ⌜ Room (now work) m × Operands (now work) m × Users (now work) m m (now users) ⌝ }
-    ensures { λ _. ⌜ Users (now (work .entry)) m 0 (now (users .exit)) ⌝ }
-{
-    let mut v = m;
-    while v > 0 {
-        put_user(work, m, v, users);
-        v -= 1;
-    }
-}
-
-// A word as a variable's number.
-fn wide(x: u16) -> usize
-    ensures { λ r. ⌜ r ≡ x ⌝ }
-{
-    x as usize
-}
-
-// Where the next AND is sought once v is placed, below which none was ready: what that made ready uses v.
-fn seek_on(users: &[u16; VARIABLES], v: usize) -> usize
-    requires { ⌜ v < 4096 ⌝ }
-    ensures { λ r. ⌜ r ≡ seekOn (now (users .entry)) v ⌝ }
-{
-    let u = wide(users[v]);
-    if u < v { u } else { v + 1 }
-}
-
-// "again and again the lowest-numbered AND whose operands are both placed". Below `scan` none is ready, so a chain of ANDs costs one pass,
-// whichever way it is numbered.
-fn place_ands(work: &mut [u16], h: Header, users: &[u16; VARIABLES])
-    requires { ⌜ Fit h (now work) × Operands (now work) (h .size) × Users (now work) (h .size) 0 (now users) ⌝ }
-    ensures { λ _. ⌜ now (work .exit) ≡ placedWords (now (work .entry)) h ⌝ }
-{
-    let end = h.inputs + 1 + h.ands;
-    let mut slot = h.inputs + 1;
-    let mut scan = 1;
-    while slot < end {
-        let v = first_ready(work, h.size, scan);
-        if v > h.size {
-            return;
-        }
-        place_at(work, h.size, slot, v);
-        scan = seek_on(users, v);
-        slot += 1;
-    }
-}
-
-// "Some AND can't be placed; place, the lowest such variable."
-pub fn place(work: &mut [u16], h: Header) -> Verdict
-    requires { ⌜ Fit h (now work) × Operands (now work) (h .size) ⌝ }
-    ensures answer { λ r. ⌜ r ≡ placedVerdict (now (work .entry)) h ⌝ }
-    ensures left { λ _. ⌜ now (work .exit) ≡ placedWords (now (work .entry)) h ⌝ }
-{
-    let mut users = no_users();
-    put_users(work, h.size, &mut users);
-    place_ands(work, h, &users);
-    let v = first_waiting(work, h.size, 1);
-    if v > h.size {
-        Verdict::Accepted
-    } else {
-        Verdict::Refused(15, v)
     }
 }

@@ -1,4 +1,4 @@
-// Each text of the standard input, ended by byte 0, is read as a graph, with the same 80,000 words lent to every one, and one line says what was found:
+// Each text of the standard input, ended by byte 0, is read as a graph and its ANDs are placed, with the same 80,000 words lent to every one, and one line says what was found:
 // `refused`, number and place; or `placed`, the placing order, and the outputs' literals behind `outputs`. cases.py writes the texts, and the lines by a reader of its own.
 ghost use mathlib.Core.Path.{_≡_};
 ghost use Prim.Native.Nat.{_+_, _≤_};
@@ -7,8 +7,8 @@ ghost use Rattle.model.specs.Limits.{need};
 ghost use Rattle.model.specs.Reading.{holds};
 ghost use Rattle.model.specs.GraphText.{readHeader};
 ghost use Rattle.words.specs.Layout.{Room, RoomFor};
-ghost use Rattle.aiger.specs.Passes.{Fit};
-ghost use Rattle.aiger.specs.Placing.{Operands};
+ghost use Rattle.placing.specs.Loaded.{Fit};
+ghost use Rattle.placing.specs.Placing.{Operands};
 use libc::STDIN_FILENO;
 use libc::STDOUT_FILENO;
 use model::Header;
@@ -55,7 +55,7 @@ fn show_outputs(work: &[u16], h: Header)
 fn show_placed(work: &mut [u16], h: Header)
     requires { ⌜ Fit h (now work) × Operands (now work) (h .size) ⌝ }
 {
-    match aiger::place(work, h) {
+    match placing::place(work, h) {
         Verdict::Accepted => {
             show_order(work, h);
             show_outputs(work, h);

@@ -21,12 +21,12 @@ use Rattle.words.specs.Holding.{HoldsGraph, HoldsOrder, HoldsCuts}
 use Rattle.words.proofs.Columns.{room-need}
 use Rattle.theory_graph.proofs.Accepted as accepted
 use Rattle.theory_text.proofs.ReadGraph.{graph-accepted, graph-counted, graph-fits}
-use Rattle.aiger.specs.Loaded.{leftOf, rightOf}
-use Rattle.aiger.specs.Passes.{Fit, loadedWords}
-use Rattle.aiger.specs.Placing.{Operands, placedWords}
-use Rattle.aiger.proofs.Judging.{fit-length}
-use Rattle.aiger.proofs.Loads.{Holding, load-law}
-use Rattle.aiger.proofs.Orders.{holding-operands, place-law, holds-graph}
+use Rattle.placing.specs.Loaded.{Fit, kindOf, leftOf, rightOf, Holding}
+use Rattle.placing.specs.Placing.{Operands, placedWords}
+use Rattle.placing.proofs.Slots.{fit-length}
+use Rattle.placing.proofs.Orders.{holding-operands, place-law, holds-graph}
+use Rattle.aiger.specs.Passes.{loadedWords}
+use Rattle.aiger.proofs.Loads.{load-law}
 use Rattle.cuts.specs.Represents.{Represents, Uncut}
 use Rattle.cutting.specs.Enumerated.{placedOf, enumerated}
 use Rattle.cutting.specs.Listed.{Listed}
@@ -120,7 +120,7 @@ module _ (w : List ℕ) (lib : Library) (h : Header) (g : Graph) (p : Placed w l
       go constant e = omega (arith, hold .held .lefts v l ∙ ap leftOf e)
       go input e = omega (arith, hold .held .lefts v l ∙ ap leftOf e)
       go undefined e = omega (arith, hold .held .lefts v l ∙ ap leftOf e)
-      go (both a b) e = operands .left v l (hold .held .kinds v l ∙ ap Rattle.aiger.specs.Loaded.kindOf e)
+      go (both a b) e = operands .left v l (hold .held .kinds v l ∙ ap kindOf e)
 
   rights : (v : ℕ) → v ≤ h .size → rightAt w (h .size) v ≤ 2 * h .size + 1
   rights v l = go (node g v) refl
@@ -129,7 +129,7 @@ module _ (w : List ℕ) (lib : Library) (h : Header) (g : Graph) (p : Placed w l
       go constant e = omega (arith, hold .held .rights v l ∙ ap rightOf e)
       go input e = omega (arith, hold .held .rights v l ∙ ap rightOf e)
       go undefined e = omega (arith, hold .held .rights v l ∙ ap rightOf e)
-      go (both a b) e = operands .right v l (hold .held .kinds v l ∙ ap Rattle.aiger.specs.Loaded.kindOf e)
+      go (both a b) e = operands .right v l (hold .held .kinds v l ∙ ap kindOf e)
 
   pub represents : Represents w (h .size) (placedOf h) g
   represents =

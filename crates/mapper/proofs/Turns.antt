@@ -21,9 +21,10 @@ use Rattle.model.specs.declared.Answer.the-variants.{Refused as Turned}
 use Rattle.model.specs.declared.Verdict.{Verdict}
 use Rattle.model.specs.declared.Verdict.the-variants.{Accepted, Refused}
 use Rattle.netlist.specs.Mapped.{Mapped}
-use Rattle.aiger.specs.Passes.{Fit, loadedWords}
-use Rattle.aiger.specs.Placing.{placedVerdict, placedWords}
-use Rattle.aiger.proofs.Orders.{place-verdict}
+use Rattle.placing.specs.Loaded.{Fit}
+use Rattle.placing.specs.Placing.{placedVerdict, placedWords}
+use Rattle.placing.proofs.Orders.{place-verdict}
+use Rattle.aiger.specs.Passes.{loadedWords}
 use Rattle.cuts.specs.Listing as lists
 use Rattle.cutting.specs.Enumerated.{placedOf, Ready, enumerated}
 use Rattle.cutting.proofs.Whole.{enumerate-ready, enumerate-verdict}

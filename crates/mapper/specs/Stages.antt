@@ -22,8 +22,7 @@ use Rattle.words.specs.Layout.{neededAddr, listsFrom}
 use Rattle.theory_graph.proofs.Accepted.{Accepted, libraryFits}
 use Rattle.theory_text.proofs.ReadGraph.{GraphFits}
 use Rattle.matching.specs.Variants.{Usable}
-use Rattle.aiger.specs.Passes.{Fit}
-use Rattle.aiger.proofs.Loads.{Holding}
+use Rattle.placing.specs.Loaded.{Fit, Holding}
 use Rattle.cover.proofs.Held.{HeaderOf, Held}
 
 -- ---- what is told of an outcome

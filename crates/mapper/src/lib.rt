@@ -62,7 +62,7 @@ fn place_graph(work: &mut [u16], lib: Library, h: Header, text: &mut [u8]) -> An
     requires { ⌜ ((g : Graph) × Loaded (now work) lib h g) ⌝ }
     ensures { λ r. ⌜ ((g : Graph) → Loaded (now (work .entry)) lib h g → Told (loadedFor lib g (length (now (text .entry)))) (now (text .entry)) r (now (text .exit))) ⌝ }
 {
-    match aiger::place(work, h) {
+    match placing::place(work, h) {
         Verdict::Accepted => cut_graph(work, lib, h, text),
         Verdict::Refused(number, place) => Answer::Refused(number, place),
     }

@@ -1,7 +1,7 @@
 -- `aiger::load` meets its contract, by the laws of its two passes.
 -- Assumes nothing.
 use Rattle.aiger.proofs.Head.{header-fit}
-use Rattle.aiger.proofs.Judging.{fit-length, fit-room}
+use Rattle.placing.proofs.Slots.{fit-length, fit-room}
 use Rattle.aiger.proofs.Loads.{load-done, load-stop}
 use borrow.Author.Needs.{needs}
 use Rattle.aiger.proofs.load.Statement.{statement}

@@ -4,7 +4,8 @@ use mathlib.Core.Path.{ap, _∙_}
 use mathlib.Core.List.{List}
 use Prim.Native.Nat.{ℕ}
 use Rattle.words.specs.Record.{putNode}
-use Rattle.aiger.specs.Passes.{putPlaced, opened}
+use Rattle.placing.specs.Placing.{putPlaced}
+use Rattle.aiger.specs.Passes.{opened}
 use borrow.Author.Needs.{needs}
 use Rattle.aiger.proofs.open_words.Statement.{statement}
 use Rattle.aiger.proofs.open_words.Tie as tie

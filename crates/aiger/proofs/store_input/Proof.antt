@@ -3,7 +3,8 @@
 use mathlib.Core.Path.{ap, _∙_}
 use mathlib.Core.List.{List}
 use Prim.Native.Nat.{ℕ, _+_}
-use Rattle.aiger.specs.Passes.{putPlaced, storedInput}
+use Rattle.placing.specs.Placing.{putPlaced}
+use Rattle.aiger.specs.Passes.{storedInput}
 use borrow.Author.Needs.{needs}
 use Rattle.aiger.proofs.store_input.Statement.{statement}
 use Rattle.aiger.proofs.store_input.Tie as tie

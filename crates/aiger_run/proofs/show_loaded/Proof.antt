@@ -2,7 +2,7 @@
 -- Assumes nothing.
 use mathlib.Core.Path.{sym, _∙_}
 use Rattle.aiger.proofs.Head.{header-fit}
-use Rattle.aiger.proofs.Orders.{place-asks}
+use Rattle.aiger.proofs.Loads.{place-asks}
 use borrow.Author.Needs.{needs}
 use Rattle.aiger_run.proofs.show_loaded.Statement.{statement}
 use Rattle.aiger_run.proofs.show_loaded.Tie as tie

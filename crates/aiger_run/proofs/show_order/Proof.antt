@@ -3,7 +3,7 @@
 use borrow.Author.Needs.{needs}
 use Prim.Native.Nat.{_+_, _-_, _≤_}
 use native.Mathlib.Omega.{arith}
-use Rattle.aiger.proofs.Judging.{fit-room}
+use Rattle.placing.proofs.Slots.{fit-room}
 use Rattle.aiger_run.proofs.show_order.Statement.{statement}
 use Rattle.aiger_run.proofs.show_order.Tie as tie
 

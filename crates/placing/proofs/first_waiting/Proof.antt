@@ -1,0 +1,52 @@
+-- `placing::first_waiting` meets its contract. The invariant: what is sought from here on is what is sought; the measure is what is left.
+-- Assumes nothing.
+use borrow.Author.Needs.{needs}
+use mathlib.Core.Path.{_≡_, sym, _∙_}
+use Prim.Native.Nat.{_+_, _-_, _≤_}
+use native.Mathlib.Omega.{arith}
+use Rattle.placing.specs.Placing.{isWaiting, seek, waitingFrom}
+use Rattle.placing.proofs.Seeking.{seek-here, seek-past, seek-end}
+use Rattle.placing.proofs.Placed.{waiting-is}
+use Rattle.placing.proofs.first_waiting.Statement.{statement}
+use Rattle.placing.proofs.first_waiting.Tie as tie
+
+abbrev Inv-loop : tie.InvT-loop
+Inv-loop work m from v₀ v = (v ≤ m + 1) × (waitingFrom work m from ≡ seek (isWaiting work m) (m + 1 - v) v)
+
+abbrev μ-loop : tie.MeasureT-loop
+μ-loop work m from v₀ v = m + 1 - v
+
+loop-holds : tie.Need-loop-holds Inv-loop μ-loop
+loop-holds c = (c .before .pre .1, waiting-is _ _ _)
+
+waits-requires : tie.Need-waits-requires Inv-loop μ-loop
+waits-requires c κs = search needs
+
+returns : tie.Need-returns Inv-loop μ-loop
+returns c = sym (c .before .before .before .loop .inv .1 ∙ seek-here (isWaiting (c .before .before .before .before .before .args .work .now) (c .before .before .before .before .before .args .m)) _ (c .before .before .before .before .before .args .m - c .before .before .before .loop .v) _ (omega arith) (sym (c .before .waits .ensures) ∙ c .if1 .taken))
+
+add-v : tie.Need-add-v Inv-loop μ-loop
+add-v c = search needs
+
+loop-less : tie.Need-loop-less Inv-loop μ-loop
+loop-less c = search needs
+
+loop-again : tie.Need-loop-again Inv-loop μ-loop
+loop-again c = (omega arith, c .before .before .before .loop .inv .1 ∙ seek-past (isWaiting (c .before .before .before .before .before .args .work .now) (c .before .before .before .before .before .args .m)) _ (c .before .before .before .before .before .args .m + 1 - (c .before .before .before .loop .v + 1)) _ (omega arith) (sym (c .before .waits .ensures) ∙ c .if1 .left))
+
+returns-2 : tie.Need-returns-2 Inv-loop μ-loop
+returns-2 c = sym (c .before .loop .inv .1 ∙ seek-end (isWaiting (c .before .before .before .args .work .now) (c .before .before .before .args .m)) _ _ (omega arith))
+
+pub first-waiting-spec : {M : Type 1} → statement M
+first-waiting-spec =
+    tie.close
+    (tie.spec
+    Inv-loop
+    μ-loop
+    loop-holds
+    waits-requires
+    returns
+    add-v
+    loop-less
+    loop-again
+    returns-2)

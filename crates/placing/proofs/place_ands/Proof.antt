@@ -1,0 +1,78 @@
+-- `placing::place_ands` meets its contract. The invariant: what the slots from here on give is what all slots give; the measure is the slots that are left.
+-- Assumes nothing.
+use borrow.Author.Needs.{needs}
+use Prim.Native.Nat.{_-_}
+use native.Mathlib.Omega.{arith}
+use Rattle.placing.proofs.Slots.{fit-length, fit-room}
+use Rattle.placing.proofs.Placed.{Filled, filled-first, filled-on, filled-off, filled-end}
+use Rattle.placing.proofs.place_ands.Statement.{statement}
+use Rattle.placing.proofs.place_ands.Tie as tie
+
+abbrev Inv-loop : tie.InvT-loop
+Inv-loop work₀ h users end slot₀ scan₀ work slot scan = Filled h work₀ users slot scan work
+
+abbrev μ-loop : tie.MeasureT-loop
+μ-loop work₀ h users end slot₀ scan₀ work slot scan = end - slot
+
+add-end : tie.Need-add-end Inv-loop μ-loop
+add-end c = search needs
+
+add-end-2 : tie.Need-add-end-2 Inv-loop μ-loop
+add-end-2 c = search needs
+
+add-slot : tie.Need-add-slot Inv-loop μ-loop
+add-slot c = search needs
+
+loop-holds : tie.Need-loop-holds Inv-loop μ-loop
+loop-holds c = filled-first _ _ _ (c .before .before .before .before .pre .1) (c .before .before .before .before .pre .2)
+
+first-ready-requires : tie.Need-first-ready-requires Inv-loop μ-loop
+first-ready-requires c κs = let i = c .before .before .loop .inv in (fit-room _ _ (fit-length (c .before .before .before .before .before .before .before .args .h) (c .before .before .before .before .before .before .before .args .work .now) _ (c .before .before .before .before .before .before .before .pre .0) (i .long)), i .operands, i .sought .under)
+
+same-length : tie.Need-same-length Inv-loop μ-loop
+same-length c = search needs
+
+returns : tie.Need-returns Inv-loop μ-loop
+returns c = filled-off (c .before .before .before .before .before .before .before .before .before .before .args .h) (c .before .before .before .before .before .before .before .before .before .before .args .work .now) _ (c .before .before .before .before .before .before .before .before .before .before .pre .0) _ _ _ (c .before .before .before .before .before .loop .inv) _ (c .before .before .first-ready .ensures) (c .before .before .before .before .loop-test .taken) (c .if1 .taken)
+
+place-at-requires : tie.Need-place-at-requires Inv-loop μ-loop
+place-at-requires c κs = (fit-room _ _ (fit-length (c .before .before .before .before .before .before .before .before .before .before .before .args .h) (c .before .before .before .before .before .before .before .before .before .before .before .args .work .now) _ (c .before .before .before .before .before .before .before .before .before .before .before .pre .0) (c .before .before .before .before .before .before .loop .inv .long)), omega (arith, c .before .before .before .before .before .before .before .before .before .before .before .pre .0 .lines), c .before .if1 .left)
+
+seek-on-requires : tie.Need-seek-on-requires Inv-loop μ-loop
+seek-on-requires c κs = omega (arith, c .before .before .before .before .before .before .before .before .before .before .before .before .before .before .pre .0 .room .small, c .before .before .before .before .if1 .left)
+
+add-slot-2 : tie.Need-add-slot-2 Inv-loop μ-loop
+add-slot-2 c = search needs
+
+loop-less : tie.Need-loop-less Inv-loop μ-loop
+loop-less c = search needs
+
+loop-again : tie.Need-loop-again Inv-loop μ-loop
+loop-again c = filled-on (c .before .before .before .before .before .before .before .before .before .before .before .before .before .before .before .args .h) (c .before .before .before .before .before .before .before .before .before .before .before .before .before .before .before .args .work .now) _ (c .before .before .before .before .before .before .before .before .before .before .before .before .before .before .before .pre .0) _ _ _ (c .before .before .before .before .before .before .before .before .before .before .loop .inv) _ (c .before .before .before .before .before .before .before .first-ready .ensures) (c .before .before .before .before .before .before .before .before .before .loop-test .taken) (c .before .before .before .before .before .if1 .left) _ (c .before .before .before .place-at .ensures) _ (c .seek-on .ensures)
+
+same-length-2 : tie.Need-same-length-2 Inv-loop μ-loop
+same-length-2 c = search needs
+
+returns-2 : tie.Need-returns-2 Inv-loop μ-loop
+returns-2 c = filled-end _ _ _ _ _ _ (c .before .loop .inv) (c .loop-test .left)
+
+pub place-ands-spec : {M : Type 1} → statement M
+place-ands-spec =
+    tie.close
+    (tie.spec
+    Inv-loop
+    μ-loop
+    add-end
+    add-end-2
+    add-slot
+    loop-holds
+    first-ready-requires
+    same-length
+    returns
+    place-at-requires
+    seek-on-requires
+    add-slot-2
+    loop-less
+    loop-again
+    same-length-2
+    returns-2)

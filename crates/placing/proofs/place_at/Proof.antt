@@ -1,0 +1,31 @@
+-- `placing::place_at` meets its contract, by those of the two stores.
+-- Assumes nothing.
+use mathlib.Core.Path.{ap, _∙_}
+use mathlib.Core.List.{List, [], _∷_}
+use Prim.Native.Nat.{ℕ, _+_}
+use Rattle.words.specs.Put.{putAt}
+use Rattle.words.specs.Layout.{placeAddr}
+use Rattle.placing.specs.Placing.{putPlaced}
+use borrow.Author.Needs.{needs}
+use Rattle.placing.proofs.place_at.Statement.{statement}
+use Rattle.placing.proofs.place_at.Tie as tie
+
+set-slot-requires : tie.Need-set-slot-requires
+set-slot-requires c κs = search needs
+
+add-set-place : tie.Need-add-set-place
+add-set-place c = search needs
+
+set-place-requires : tie.Need-set-place-requires
+set-place-requires c κs = search needs
+
+same-length : tie.Need-same-length
+same-length c = search needs
+
+returns : tie.Need-returns
+unfolding putPlaced
+returns c = c .before .before .set-place .ensures ∙ ap (λ (x : List ℕ). putAt x (placeAddr (c .before .before .before .before .before .before .before .before .before .args .m) (c .before .before .before .before .before .before .before .before .before .args .v)) ((c .before .before .before .before .before .before .before .before .before .args .i + 1) ∷ [])) (c .before .before .before .before .before .before .set-slot .ensures)
+
+pub place-at-spec : {M : Type 1} → statement M
+place-at-spec =
+    tie.close (tie.spec set-slot-requires add-set-place set-place-requires same-length returns)
