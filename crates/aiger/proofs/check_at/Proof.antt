@@ -22,7 +22,11 @@ fits-requires c κs = search needs
 
 returns : tie.Need-returns
 unfolding checkAt
-returns c = rw (sym (c .before .before .before .before .before .before .due-kind .ensures), sym (c .before .before .before .before .before .read-line .ensures) ∙ c .before .before .before .l .given .1, sym (c .before .fits2 .ensures) ∙ not-true _ (c .if1 .taken))
+returns c =
+    let at-l = c .before .before .before in
+    let at-read-line = at-l .before .before in
+    let at-due-kind = at-read-line .before in
+    rw (sym (at-due-kind .due-kind .ensures), sym (at-read-line .read-line .ensures) ∙ at-l .l .given .1, sym (c .before .fits2 .ensures) ∙ not-true _ (c .if1 .taken))
 
 uses-known-requires : tie.Need-uses-known-requires
 uses-known-requires c κs = (search needs, fit-known _ _ (sym (c .before .fits2 .ensures) ∙ not-false _ (c .if1 .left)))
@@ -32,11 +36,23 @@ enum-told c = search needs
 
 returns-2 : tie.Need-returns-2
 unfolding checkAt
-returns-2 c = rw (sym (c .before .before .before .before .before .before .before .before .due-kind .ensures), sym (c .before .before .before .before .before .before .before .read-line .ensures) ∙ c .before .before .before .before .before .l .given .1, sym (c .before .before .before .fits2 .ensures) ∙ not-false _ (c .before .before .if1 .left), sym (c .before .uses-known .ensures) ∙ c .if2 .taken)
+returns-2 c =
+    let at-if1 = c .before .before in
+    let at-fits2 = at-if1 .before in
+    let at-l = at-fits2 .before .before in
+    let at-read-line = at-l .before .before in
+    let at-due-kind = at-read-line .before in
+    rw (sym (at-due-kind .due-kind .ensures), sym (at-read-line .read-line .ensures) ∙ at-l .l .given .1, sym (at-fits2 .fits2 .ensures) ∙ not-false _ (at-if1 .if1 .left), sym (c .before .uses-known .ensures) ∙ c .if2 .taken)
 
 returns-3 : tie.Need-returns-3
 unfolding checkAt
-returns-3 c = rw (sym (c .before .before .before .before .before .before .before .before .due-kind .ensures), sym (c .before .before .before .before .before .before .before .read-line .ensures) ∙ c .before .before .before .before .before .l .given .1, sym (c .before .before .before .fits2 .ensures) ∙ not-false _ (c .before .before .if1 .left), sym (c .before .uses-known .ensures) ∙ c .if2 .left)
+returns-3 c =
+    let at-if1 = c .before .before in
+    let at-fits2 = at-if1 .before in
+    let at-l = at-fits2 .before .before in
+    let at-read-line = at-l .before .before in
+    let at-due-kind = at-read-line .before in
+    rw (sym (at-due-kind .due-kind .ensures), sym (at-read-line .read-line .ensures) ∙ at-l .l .given .1, sym (at-fits2 .fits2 .ensures) ∙ not-false _ (at-if1 .if1 .left), sym (c .before .uses-known .ensures) ∙ c .if2 .left)
 
 returns-4 : tie.Need-returns-4
 unfolding checkAt

@@ -33,7 +33,11 @@ enum-known-n : tie.Need-enum-known-n Inv-loop μ-loop
 enum-known-n c = search needs
 
 returns : tie.Need-returns Inv-loop μ-loop
-returns c = left-stop _ _ _ _ _ (c .before .before .before .before .before .loop .inv) (c .before .before .before .before .loop-test .taken) _ _ (sym (c .before .before .before .check-at .ensures) ∙ c .before .n .given .1)
+returns c =
+    let at-check-at = c .before .before .before in
+    let at-loop-test = at-check-at .before in
+    let at-loop = at-loop-test .before in
+    left-stop _ _ _ _ _ (at-loop .loop .inv) (at-loop-test .loop-test .taken) _ _ (sym (at-check-at .check-at .ensures) ∙ c .before .n .given .1)
 
 add-k : tie.Need-add-k Inv-loop μ-loop
 add-k c = search needs
@@ -42,7 +46,11 @@ loop-less : tie.Need-loop-less Inv-loop μ-loop
 loop-less c = search needs
 
 loop-again : tie.Need-loop-again Inv-loop μ-loop
-loop-again c = left-on _ _ _ _ _ (c .before .before .before .before .before .loop .inv) (c .before .before .before .before .loop-test .taken) _ (sym (c .before .before .before .check-at .ensures) ∙ c .before .next .given .1)
+loop-again c =
+    let at-check-at = c .before .before .before in
+    let at-loop-test = at-check-at .before in
+    let at-loop = at-loop-test .before in
+    left-on _ _ _ _ _ (at-loop .loop .inv) (at-loop-test .loop-test .taken) _ (sym (at-check-at .check-at .ensures) ∙ c .before .next .given .1)
 
 returns-2 : tie.Need-returns-2 Inv-loop μ-loop
 returns-2 c = left-end _ _ _ _ _ (c .before .loop .inv) (c .loop-test .left)

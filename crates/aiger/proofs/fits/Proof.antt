@@ -23,7 +23,9 @@ add-if2 : tie.Need-add-if2
 add-if2 c = search needs
 
 returns-2 : tie.Need-returns-2
-returns-2 c = sym (fit-left (c .before .before .before .before .args .m) (c .before .before .before .before .args .l) (omega arith) (omega arith))
+returns-2 c =
+    let start = c .before .before .before .before in
+    sym (fit-left (start .args .m) (start .args .l) (omega arith) (omega arith))
 
 mul-result : tie.Need-mul-result
 mul-result c = search needs
@@ -32,7 +34,9 @@ add-result : tie.Need-add-result
 add-result c = search needs
 
 returns-3 : tie.Need-returns-3
-returns-3 c = sym (fit-right (c .before .before .before .before .before .args .m) (c .before .before .before .before .before .args .l) (omega arith) (omega arith))
+returns-3 c =
+    let start = c .before .before .before .before .before in
+    sym (fit-right (start .args .m) (start .args .l) (omega arith) (omega arith))
 
 pub fits-spec : {M : Type 1} → statement M
 fits-spec =

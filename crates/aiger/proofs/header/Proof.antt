@@ -16,7 +16,10 @@ enum-known-h c = search needs
 
 returns : tie.Need-returns
 unfolding headerAnswer
-returns c = sym (ap headerAnswer (header-latches _ _ (sym (c .before .before .before .before .before .header-form .ensures) ∙ c .before .before .before .h .given .1) (ne-eqb _ _ (c .if1 .taken))))
+returns c =
+    let at-h = c .before .before .before in
+    let at-header-form = at-h .before .before in
+    sym (ap headerAnswer (header-latches _ _ (sym (at-header-form .header-form .ensures) ∙ at-h .h .given .1) (ne-eqb _ _ (c .if1 .taken))))
 
 in-limits-requires : tie.Need-in-limits-requires
 in-limits-requires c κs = search needs
@@ -26,11 +29,19 @@ enum-told c = search needs
 
 returns-2 : tie.Need-returns-2
 unfolding headerAnswer
-returns-2 c = sym (ap headerAnswer (header-good _ _ (sym (c .before .before .before .before .before .before .before .header-form .ensures) ∙ c .before .before .before .before .before .h .given .1) (eq-eqb _ _ (c .before .before .if1 .left)) (sym (c .before .in-limits .ensures) ∙ c .if2 .taken)))
+returns-2 c =
+    let at-if1 = c .before .before in
+    let at-h = at-if1 .before .before .before in
+    let at-header-form = at-h .before .before in
+    sym (ap headerAnswer (header-good _ _ (sym (at-header-form .header-form .ensures) ∙ at-h .h .given .1) (eq-eqb _ _ (at-if1 .if1 .left)) (sym (c .before .in-limits .ensures) ∙ c .if2 .taken)))
 
 returns-3 : tie.Need-returns-3
 unfolding headerAnswer
-returns-3 c = sym (ap headerAnswer (header-limits _ _ (sym (c .before .before .before .before .before .before .before .header-form .ensures) ∙ c .before .before .before .before .before .h .given .1) (eq-eqb _ _ (c .before .before .if1 .left)) (sym (c .before .in-limits .ensures) ∙ c .if2 .left)))
+returns-3 c =
+    let at-if1 = c .before .before in
+    let at-h = at-if1 .before .before .before in
+    let at-header-form = at-h .before .before in
+    sym (ap headerAnswer (header-limits _ _ (sym (at-header-form .header-form .ensures) ∙ at-h .h .given .1) (eq-eqb _ _ (at-if1 .if1 .left)) (sym (c .before .in-limits .ensures) ∙ c .if2 .left)))
 
 returns-4 : tie.Need-returns-4
 unfolding headerAnswer

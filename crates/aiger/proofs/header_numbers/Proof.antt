@@ -38,15 +38,32 @@ enum-told-3 c = search needs
 
 returns : tie.Need-returns
 unfolding numbersForm
-returns c = rw (sym (c .before .before .before .before .before .before .before .before .before .before .before .before .number-then .ensures) ∙ c .before .before .before .before .before .before .before .before .before .before .size .given .1, sym (c .before .before .before .before .before .before .before .before .number-then2 .ensures) ∙ c .before .before .before .before .before .before .inputs .given .1, sym (c .before .before .before .before .read-three .ensures) ∙ c .before .before .latches .given .1, c .header-record .ensures)
+returns c =
+    let at-latches = c .before .before in
+    let at-read-three = at-latches .before .before in
+    let at-inputs = at-read-three .before .before in
+    let at-number-then2 = at-inputs .before .before in
+    let at-size = at-number-then2 .before .before in
+    let at-number-then = at-size .before .before in
+    rw (sym (at-number-then .number-then .ensures) ∙ at-size .size .given .1, sym (at-number-then2 .number-then2 .ensures) ∙ at-inputs .inputs .given .1, sym (at-read-three .read-three .ensures) ∙ at-latches .latches .given .1, c .header-record .ensures)
 
 returns-2 : tie.Need-returns-2
 unfolding numbersForm
-returns-2 c = rw (sym (c .before .before .before .before .before .before .before .before .before .before .number-then .ensures) ∙ c .before .before .before .before .before .before .before .before .size .given .1, sym (c .before .before .before .before .before .before .number-then2 .ensures) ∙ c .before .before .before .before .inputs .given .1, sym (c .before .before .read-three .ensures) ∙ c .enum-told .given .1)
+returns-2 c =
+    let at-read-three = c .before .before in
+    let at-inputs = at-read-three .before .before in
+    let at-number-then2 = at-inputs .before .before in
+    let at-size = at-number-then2 .before .before in
+    let at-number-then = at-size .before .before in
+    rw (sym (at-number-then .number-then .ensures) ∙ at-size .size .given .1, sym (at-number-then2 .number-then2 .ensures) ∙ at-inputs .inputs .given .1, sym (at-read-three .read-three .ensures) ∙ c .enum-told .given .1)
 
 returns-3 : tie.Need-returns-3
 unfolding numbersForm
-returns-3 c = rw (sym (c .before .before .before .before .before .before .number-then .ensures) ∙ c .before .before .before .before .size .given .1, sym (c .before .before .number-then2 .ensures) ∙ c .enum-told2 .given .1)
+returns-3 c =
+    let at-number-then2 = c .before .before in
+    let at-size = at-number-then2 .before .before in
+    let at-number-then = at-size .before .before in
+    rw (sym (at-number-then .number-then .ensures) ∙ at-size .size .given .1, sym (at-number-then2 .number-then2 .ensures) ∙ c .enum-told2 .given .1)
 
 returns-4 : tie.Need-returns-4
 unfolding numbersForm

@@ -20,28 +20,48 @@ fits-requires c κs = search needs
 
 returns : tie.Need-returns
 unfolding judgedAt
-returns c = rw (sym (c .before .before .before .before .before .read-line .ensures) ∙ c .before .before .before .l .given .1, sym (c .before .fits2 .ensures) ∙ not-true _ (c .if1 .taken))
+returns c =
+    let at-l = c .before .before .before in
+    let at-read-line = at-l .before .before in
+    rw (sym (at-read-line .read-line .ensures) ∙ at-l .l .given .1, sym (c .before .fits2 .ensures) ∙ not-true _ (c .if1 .taken))
 
 may-define-requires : tie.Need-may-define-requires
 may-define-requires c κs = search needs
 
 returns-2 : tie.Need-returns-2
 unfolding judgedAt
-returns-2 c = rw (sym (c .before .before .before .before .before .before .before .read-line .ensures) ∙ c .before .before .before .before .before .l .given .1, sym (c .before .may-define .ensures) ∙ not-true _ (c .if2 .taken), and-false)
+returns-2 c =
+    let at-l = c .before .before .before .before .before in
+    let at-read-line = at-l .before .before in
+    rw (sym (at-read-line .read-line .ensures) ∙ at-l .l .given .1, sym (c .before .may-define .ensures) ∙ not-true _ (c .if2 .taken), and-false)
 
 taken-requires : tie.Need-taken-requires
 taken-requires c κs = (search needs, fit-known _ _ (sym (c .before .before .before .fits2 .ensures) ∙ not-false _ (c .before .before .if1 .left)) .first)
 
 returns-3 : tie.Need-returns-3
 unfolding judgedAt
-returns-3 c = rw (sym (c .before .before .before .before .before .before .before .before .before .read-line .ensures) ∙ c .before .before .before .before .before .before .before .l .given .1, sym (c .before .before .before .before .before .fits2 .ensures) ∙ not-false _ (c .before .before .before .before .if1 .left), sym (c .before .before .before .may-define .ensures) ∙ not-false _ (c .before .before .if2 .left), sym (c .before .taken .ensures) ∙ c .if3 .taken)
+returns-3 c =
+    let at-if2 = c .before .before in
+    let at-may-define = at-if2 .before in
+    let at-if1 = at-may-define .before in
+    let at-fits2 = at-if1 .before in
+    let at-l = at-fits2 .before .before in
+    let at-read-line = at-l .before .before in
+    rw (sym (at-read-line .read-line .ensures) ∙ at-l .l .given .1, sym (at-fits2 .fits2 .ensures) ∙ not-false _ (at-if1 .if1 .left), sym (at-may-define .may-define .ensures) ∙ not-false _ (at-if2 .if2 .left), sym (c .before .taken .ensures) ∙ c .if3 .taken)
 
 enum-told : tie.Need-enum-told
 enum-told c = search needs
 
 returns-4 : tie.Need-returns-4
 unfolding judgedAt
-returns-4 c = rw (sym (c .before .before .before .before .before .before .before .before .before .read-line .ensures) ∙ c .before .before .before .before .before .before .before .l .given .1, sym (c .before .before .before .before .before .fits2 .ensures) ∙ not-false _ (c .before .before .before .before .if1 .left), sym (c .before .before .before .may-define .ensures) ∙ not-false _ (c .before .before .if2 .left), sym (c .before .taken .ensures) ∙ c .if3 .left)
+returns-4 c =
+    let at-if2 = c .before .before in
+    let at-may-define = at-if2 .before in
+    let at-if1 = at-may-define .before in
+    let at-fits2 = at-if1 .before in
+    let at-l = at-fits2 .before .before in
+    let at-read-line = at-l .before .before in
+    rw (sym (at-read-line .read-line .ensures) ∙ at-l .l .given .1, sym (at-fits2 .fits2 .ensures) ∙ not-false _ (at-if1 .if1 .left), sym (at-may-define .may-define .ensures) ∙ not-false _ (at-if2 .if2 .left), sym (c .before .taken .ensures) ∙ c .if3 .left)
 
 returns-5 : tie.Need-returns-5
 unfolding judgedAt

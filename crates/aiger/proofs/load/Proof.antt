@@ -8,16 +8,22 @@ use Rattle.aiger.proofs.load.Statement.{statement}
 use Rattle.aiger.proofs.load.Tie as tie
 
 open-words-requires : tie.Need-open-words-requires
-open-words-requires c κs = fit-room _ _ (header-fit (c .before .before .before .args .s .now) (c .before .before .before .args .h) (c .before .before .before .args .work .now) (c .before .before .before .pre .0) (c .before .before .before .pre .1))
+open-words-requires c κs =
+    let start = c .before .before .before in
+    fit-room _ _ (header-fit (start .args .s .now) (start .args .h) (start .args .work .now) (start .pre .0) (start .pre .1))
 
 read-lines-requires : tie.Need-read-lines-requires
-read-lines-requires c κs = fit-length _ _ _ (header-fit (c .before .before .before .before .before .before .before .args .s .now) (c .before .before .before .before .before .before .before .args .h) (c .before .before .before .before .before .before .before .args .work .now) (c .before .before .before .before .before .before .before .pre .0) (c .before .before .before .before .before .before .before .pre .1)) (search needs)
+read-lines-requires c κs =
+    let start = c .before .before .before .before .before .before .before in
+    fit-length _ _ _ (header-fit (start .args .s .now) (start .args .h) (start .args .work .now) (start .pre .0) (start .pre .1)) (search needs)
 
 enum-told : tie.Need-enum-told
 enum-told c = search needs
 
 check-lines-requires : tie.Need-check-lines-requires
-check-lines-requires c κs = fit-length _ _ _ (header-fit (c .before .before .before .before .before .before .before .before .before .before .before .before .before .args .s .now) (c .before .before .before .before .before .before .before .before .before .before .before .before .before .args .h) (c .before .before .before .before .before .before .before .before .before .before .before .before .before .args .work .now) (c .before .before .before .before .before .before .before .before .before .before .before .before .before .pre .0) (c .before .before .before .before .before .before .before .before .before .before .before .before .before .pre .1)) (search needs)
+check-lines-requires c κs =
+    let start = c .before .before .before .before .before .before .before .before .before .before .before .before .before in
+    fit-length _ _ _ (header-fit (start .args .s .now) (start .args .h) (start .args .work .now) (start .pre .0) (start .pre .1)) (search needs)
 
 enum-known-n : tie.Need-enum-known-n
 enum-known-n c = search needs
@@ -26,13 +32,22 @@ same-length : tie.Need-same-length
 same-length c = search needs
 
 returns : tie.Need-returns
-returns c = load-done (c .before .before .before .before .before .before .before .before .before .before .before .before .before .before .args .s .now) (c .before .before .before .before .before .before .before .before .before .before .before .before .before .before .args .h) (c .before .before .before .before .before .before .before .before .before .before .before .before .before .before .args .work .now) (header-fit (c .before .before .before .before .before .before .before .before .before .before .before .before .before .before .args .s .now) (c .before .before .before .before .before .before .before .before .before .before .before .before .before .before .args .h) (c .before .before .before .before .before .before .before .before .before .before .before .before .before .before .args .work .now) (c .before .before .before .before .before .before .before .before .before .before .before .before .before .before .pre .0) (c .before .before .before .before .before .before .before .before .before .before .before .before .before .before .pre .1)) _ _ _ (c .before .before .before .before .before .before .before .before .before .before .open-words .ensures) (c .before .before .before .before .before .before .read-lines .ensures .1) (c .before .before .before .before .before .before .read-lines .ensures .0) (c .before .before .enum-told .given .1) _ (c .check-lines .ensures)
+returns c =
+    let at-enum-told = c .before .before in
+    let at-read-lines = at-enum-told .before .before .before .before in
+    let at-open-words = at-read-lines .before .before .before .before in
+    let start = at-open-words .before .before .before .before in
+    load-done (start .args .s .now) (start .args .h) (start .args .work .now) (header-fit (start .args .s .now) (start .args .h) (start .args .work .now) (start .pre .0) (start .pre .1)) _ _ _ (at-open-words .open-words .ensures) (at-read-lines .read-lines .ensures .1) (at-read-lines .read-lines .ensures .0) (at-enum-told .enum-told .given .1) _ (c .check-lines .ensures)
 
 same-length-2 : tie.Need-same-length-2
 same-length-2 c = search needs
 
 returns-2 : tie.Need-returns-2
-returns-2 c = load-stop (c .before .before .before .before .before .before .before .before .before .before .before .before .before .args .s .now) (c .before .before .before .before .before .before .before .before .before .before .before .before .before .args .h) (c .before .before .before .before .before .before .before .before .before .before .before .before .before .args .work .now) (header-fit (c .before .before .before .before .before .before .before .before .before .before .before .before .before .args .s .now) (c .before .before .before .before .before .before .before .before .before .before .before .before .before .args .h) (c .before .before .before .before .before .before .before .before .before .before .before .before .before .args .work .now) (c .before .before .before .before .before .before .before .before .before .before .before .before .before .pre .0) (c .before .before .before .before .before .before .before .before .before .before .before .before .before .pre .1)) _ _ _ (c .before .before .before .before .before .before .before .before .before .open-words .ensures) (c .before .before .before .before .before .read-lines .ensures .1) (c .before .before .before .before .before .read-lines .ensures .0) _ _ (c .before .n .given .1)
+returns-2 c =
+    let at-read-lines = c .before .before .before .before .before in
+    let at-open-words = at-read-lines .before .before .before .before in
+    let start = at-open-words .before .before .before .before in
+    load-stop (start .args .s .now) (start .args .h) (start .args .work .now) (header-fit (start .args .s .now) (start .args .h) (start .args .work .now) (start .pre .0) (start .pre .1)) _ _ _ (at-open-words .open-words .ensures) (at-read-lines .read-lines .ensures .1) (at-read-lines .read-lines .ensures .0) _ _ (c .before .n .given .1)
 
 pub load-spec : {M : Type 1} → statement M
 load-spec =

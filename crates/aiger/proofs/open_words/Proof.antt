@@ -24,7 +24,12 @@ same-length c = search needs
 
 returns : tie.Need-returns
 unfolding opened
-returns c = c .before .before .place-at .ensures ∙ ap (λ (x : List ℕ). putPlaced x (c .before .before .before .before .before .before .before .before .before .before .before .before .before .args .m) 0 0) (c .before .before .before .before .before .before .store-node .ensures ∙ ap (λ (x : List ℕ). putNode x (c .before .before .before .before .before .before .before .before .before .before .before .before .before .args .m) 0 1 0 0) (c .before .before .before .before .before .before .before .before .before .before .clear-columns .ensures))
+returns c =
+    let at-place-at = c .before .before in
+    let at-store-node = at-place-at .before .before .before .before in
+    let at-clear-columns = at-store-node .before .before .before .before in
+    let start = at-clear-columns .before .before .before in
+    at-place-at .place-at .ensures ∙ ap (λ (x : List ℕ). putPlaced x (start .args .m) 0 0) (at-store-node .store-node .ensures ∙ ap (λ (x : List ℕ). putNode x (start .args .m) 0 1 0 0) (at-clear-columns .clear-columns .ensures))
 
 pub open-words-spec : {M : Type 1} → statement M
 open-words-spec =

@@ -26,7 +26,10 @@ loop-holds : tie.Need-loop-holds Inv-loop μ-loop
 loop-holds c = rest-first _ _ _
 
 turn-at-requires : tie.Need-turn-at-requires Inv-loop μ-loop
-turn-at-requires c κs = (fit-length (c .before .before .before .before .before .before .before .args .h) (c .before .before .before .before .before .before .before .args .work .now) _ (c .before .before .before .before .before .before .before .pre) (c .before .before .loop .inv .long), omega arith)
+turn-at-requires c κs =
+    let at-loop = c .before .before in
+    let start = at-loop .before .before .before .before .before in
+    (fit-length (start .args .h) (start .args .work .now) _ (start .pre) (at-loop .loop .inv .long), omega arith)
 
 enum-known-next : tie.Need-enum-known-next Inv-loop μ-loop
 enum-known-next c = search needs
@@ -38,7 +41,11 @@ same-length : tie.Need-same-length Inv-loop μ-loop
 same-length c = search needs
 
 returns : tie.Need-returns Inv-loop μ-loop
-returns c = rest-stop _ _ _ _ _ _ (c .before .before .before .before .before .before .before .before .loop .inv) (c .before .before .before .before .before .before .before .loop-test .taken) _ _ _ (sym (c .before .before .before .before .before .turn-at .ensures .0) ∙ c .before .n .given .1) (c .before .before .before .before .before .turn-at .ensures .1)
+returns c =
+    let at-turn-at = c .before .before .before .before .before in
+    let at-loop-test = at-turn-at .before .before in
+    let at-loop = at-loop-test .before in
+    rest-stop _ _ _ _ _ _ (at-loop .loop .inv) (at-loop-test .loop-test .taken) _ _ _ (sym (at-turn-at .turn-at .ensures .0) ∙ c .before .n .given .1) (at-turn-at .turn-at .ensures .1)
 
 add-k : tie.Need-add-k Inv-loop μ-loop
 add-k c = search needs
@@ -47,7 +54,11 @@ loop-less : tie.Need-loop-less Inv-loop μ-loop
 loop-less c = search needs
 
 loop-again : tie.Need-loop-again Inv-loop μ-loop
-loop-again c = rest-on _ _ _ _ _ _ (c .before .before .before .before .before .before .before .before .loop .inv) (c .before .before .before .before .before .before .before .loop-test .taken) _ _ (sym (c .before .before .before .before .before .turn-at .ensures .0) ∙ c .before .next .given .1) (c .before .before .before .before .before .turn-at .ensures .1) (search needs)
+loop-again c =
+    let at-turn-at = c .before .before .before .before .before in
+    let at-loop-test = at-turn-at .before .before in
+    let at-loop = at-loop-test .before in
+    rest-on _ _ _ _ _ _ (at-loop .loop .inv) (at-loop-test .loop-test .taken) _ _ (sym (at-turn-at .turn-at .ensures .0) ∙ c .before .next .given .1) (at-turn-at .turn-at .ensures .1) (search needs)
 
 same-length-2 : tie.Need-same-length-2 Inv-loop μ-loop
 same-length-2 c = search needs

@@ -35,15 +35,31 @@ enum-told-3 c = search needs
 
 returns : tie.Need-returns
 unfolding threeAt
-returns c = rw (sym (c .before .before .before .before .before .before .before .before .before .before .before .number-then .ensures) ∙ c .before .before .before .before .before .before .before .before .before .a .given .1, sym (c .before .before .before .before .before .before .before .number-then2 .ensures) ∙ c .before .before .before .before .before .b .given .1, sym (c .before .before .before .number-then3 .ensures) ∙ c .before .d .given .1)
+returns c =
+    let at-number-then3 = c .before .before .before in
+    let at-b = at-number-then3 .before .before in
+    let at-number-then2 = at-b .before .before in
+    let at-a = at-number-then2 .before .before in
+    let at-number-then = at-a .before .before in
+    rw (sym (at-number-then .number-then .ensures) ∙ at-a .a .given .1, sym (at-number-then2 .number-then2 .ensures) ∙ at-b .b .given .1, sym (at-number-then3 .number-then3 .ensures) ∙ c .before .d .given .1)
 
 returns-2 : tie.Need-returns-2
 unfolding threeAt
-returns-2 c = rw (sym (c .before .before .before .before .before .before .before .before .before .before .number-then .ensures) ∙ c .before .before .before .before .before .before .before .before .a .given .1, sym (c .before .before .before .before .before .before .number-then2 .ensures) ∙ c .before .before .before .before .b .given .1, sym (c .before .before .number-then3 .ensures) ∙ c .enum-told .given .1)
+returns-2 c =
+    let at-number-then3 = c .before .before in
+    let at-b = at-number-then3 .before .before in
+    let at-number-then2 = at-b .before .before in
+    let at-a = at-number-then2 .before .before in
+    let at-number-then = at-a .before .before in
+    rw (sym (at-number-then .number-then .ensures) ∙ at-a .a .given .1, sym (at-number-then2 .number-then2 .ensures) ∙ at-b .b .given .1, sym (at-number-then3 .number-then3 .ensures) ∙ c .enum-told .given .1)
 
 returns-3 : tie.Need-returns-3
 unfolding threeAt
-returns-3 c = rw (sym (c .before .before .before .before .before .before .number-then .ensures) ∙ c .before .before .before .before .a .given .1, sym (c .before .before .number-then2 .ensures) ∙ c .enum-told2 .given .1)
+returns-3 c =
+    let at-number-then2 = c .before .before in
+    let at-a = at-number-then2 .before .before in
+    let at-number-then = at-a .before .before in
+    rw (sym (at-number-then .number-then .ensures) ∙ at-a .a .given .1, sym (at-number-then2 .number-then2 .ensures) ∙ c .enum-told2 .given .1)
 
 returns-4 : tie.Need-returns-4
 unfolding threeAt

@@ -23,7 +23,11 @@ same-length c = search needs
 
 returns : tie.Need-returns
 unfolding storedInput
-returns c = c .before .before .place-at .ensures ∙ ap (λ (x : List ℕ). putPlaced x (c .before .before .before .before .before .before .before .before .before .args .m) (c .before .before .before .before .before .before .before .before .before .args .k + 1) (c .before .before .before .before .before .before .before .before .before .args .v)) (c .before .before .before .before .before .before .store-node .ensures)
+returns c =
+    let at-place-at = c .before .before in
+    let at-store-node = at-place-at .before .before .before .before in
+    let start = at-store-node .before .before .before in
+    at-place-at .place-at .ensures ∙ ap (λ (x : List ℕ). putPlaced x (start .args .m) (start .args .k + 1) (start .args .v)) (at-store-node .store-node .ensures)
 
 pub store-input-spec : {M : Type 1} → statement M
 store-input-spec =

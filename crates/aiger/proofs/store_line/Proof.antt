@@ -30,14 +30,22 @@ same-length-2 c = search needs
 
 returns-2 : tie.Need-returns-2
 unfolding storedLine
-returns-2 c = rw (le-ltb _ _ (c .before .before .before .before .before .before .before .if1 .left), lt-ltb _ _ (c .before .before .before .before .before .if2 .taken)) (c .before .before .set-output .ensures)
+returns-2 c =
+    let at-set-output = c .before .before in
+    let at-if2 = at-set-output .before .before .before in
+    let at-if1 = at-if2 .before .before in
+    rw (le-ltb _ _ (at-if1 .if1 .left), lt-ltb _ _ (at-if2 .if2 .taken)) (at-set-output .set-output .ensures)
 
 same-length-3 : tie.Need-same-length-3
 same-length-3 c = search needs
 
 returns-3 : tie.Need-returns-3
 unfolding storedLine
-returns-3 c = rw (le-ltb _ _ (c .before .before .before .before .before .before .before .if1 .left), le-ltb _ _ (c .before .before .before .before .before .if2 .left)) (c .before .before .store-node .ensures)
+returns-3 c =
+    let at-store-node = c .before .before in
+    let at-if2 = at-store-node .before .before .before in
+    let at-if1 = at-if2 .before .before in
+    rw (le-ltb _ _ (at-if1 .if1 .left), le-ltb _ _ (at-if2 .if2 .left)) (at-store-node .store-node .ensures)
 
 pub store-line-spec : {M : Type 1} → statement M
 store-line-spec =

@@ -33,7 +33,10 @@ byte-requires c κs = search needs
 
 returns : tie.Need-returns
 unfolding tagAt aag text
-returns c = rw (ap (λ x. same x aag) (sym (part-is _ 0 _ (c .before .before .before .before .before .field-end .ensures))) ∙ sym (c .before .before .same-bytes .ensures) ∙ c .before .if1 .taken, sym (c .before .before .before .before .before .field-end .ensures)) (c .byte .ensures)
+returns c =
+    let at-same-bytes = c .before .before in
+    let at-field-end = at-same-bytes .before .before .before in
+    rw (ap (λ x. same x aag) (sym (part-is _ 0 _ (at-field-end .field-end .ensures))) ∙ sym (at-same-bytes .same-bytes .ensures) ∙ c .before .if1 .taken, sym (at-field-end .field-end .ensures)) (c .byte .ensures)
 
 returns-2 : tie.Need-returns-2
 unfolding tagAt aag text

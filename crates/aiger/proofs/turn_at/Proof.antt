@@ -8,7 +8,9 @@ use Rattle.aiger.proofs.turn_at.Statement.{statement}
 use Rattle.aiger.proofs.turn_at.Tie as tie
 
 returns : tie.Need-returns
-returns c = let t = turn-none (c .before .before .before .args .s .now) (c .before .before .before .args .at) (c .before .before .before .args .work .now) (c .before .before .before .args .h) (c .before .before .before .args .k) (c .if1 .taken) in (sym (t .0), sym (t .1))
+returns c =
+    let start = c .before .before .before in
+    let t = turn-none (start .args .s .now) (start .args .at) (start .args .work .now) (start .args .h) (start .args .k) (c .if1 .taken) in (sym (t .0), sym (t .1))
 
 due-kind-requires : tie.Need-due-kind-requires
 due-kind-requires c κs = search needs
@@ -30,17 +32,27 @@ same-length c = search needs
 
 returns-2 : tie.Need-returns-2
 returns-2 c =
-    let e = ap (judgedAt (c .before .before .before .before .before .before .before .before .before .before .before .before .before .args .s .now) (c .before .before .before .before .before .before .before .before .before .before .before .before .before .args .at) (c .before .before .before .before .before .before .before .before .before .before .before .before .before .args .work .now) (c .before .before .before .before .before .before .before .before .before .before .before .before .before .args .h .size)) (sym (c .before .before .before .before .before .before .before .before .due-kind .ensures)) ∙ sym (c .before .before .before .before .before .before .before .judge .ensures) ∙ c .before .before .before .before .before .l .given .1 in
-    let t = turn-good (c .before .before .before .before .before .before .before .before .before .before .before .before .before .args .s .now) (c .before .before .before .before .before .before .before .before .before .before .before .before .before .args .at) (c .before .before .before .before .before .before .before .before .before .before .before .before .before .args .work .now) (c .before .before .before .before .before .before .before .before .before .before .before .before .before .args .h) (c .before .before .before .before .before .before .before .before .before .before .before .before .before .args .k) _ (c .before .before .before .before .before .before .before .before .before .before .if1 .left) e in
-    (sym (t .0), c .before .before .store-line .ensures ∙ sym (t .1))
+    let at-store-line = c .before .before in
+    let at-l = at-store-line .before .before .before in
+    let at-judge = at-l .before .before in
+    let at-due-kind = at-judge .before in
+    let at-if1 = at-due-kind .before .before in
+    let start = at-if1 .before .before .before in
+    let e = ap (judgedAt (start .args .s .now) (start .args .at) (start .args .work .now) (start .args .h .size)) (sym (at-due-kind .due-kind .ensures)) ∙ sym (at-judge .judge .ensures) ∙ at-l .l .given .1 in
+    let t = turn-good (start .args .s .now) (start .args .at) (start .args .work .now) (start .args .h) (start .args .k) _ (at-if1 .if1 .left) e in
+    (sym (t .0), at-store-line .store-line .ensures ∙ sym (t .1))
 
 same-length-2 : tie.Need-same-length-2
 same-length-2 c = search needs
 
 returns-3 : tie.Need-returns-3
 returns-3 c =
-    let e = ap (judgedAt (c .before .before .before .before .before .before .before .before .before .args .s .now) (c .before .before .before .before .before .before .before .before .before .args .at) (c .before .before .before .before .before .before .before .before .before .args .work .now) (c .before .before .before .before .before .before .before .before .before .args .h .size)) (sym (c .before .before .before .before .due-kind .ensures)) ∙ sym (c .before .before .before .judge .ensures) ∙ c .before .n .given .1 in
-    let t = turn-bad (c .before .before .before .before .before .before .before .before .before .args .s .now) (c .before .before .before .before .before .before .before .before .before .args .at) (c .before .before .before .before .before .before .before .before .before .args .work .now) (c .before .before .before .before .before .before .before .before .before .args .h) (c .before .before .before .before .before .before .before .before .before .args .k) _ (c .before .before .before .before .before .before .if1 .left) e in
+    let at-judge = c .before .before .before in
+    let at-due-kind = at-judge .before in
+    let at-if1 = at-due-kind .before .before in
+    let start = at-if1 .before .before .before in
+    let e = ap (judgedAt (start .args .s .now) (start .args .at) (start .args .work .now) (start .args .h .size)) (sym (at-due-kind .due-kind .ensures)) ∙ sym (at-judge .judge .ensures) ∙ c .before .n .given .1 in
+    let t = turn-bad (start .args .s .now) (start .args .at) (start .args .work .now) (start .args .h) (start .args .k) _ (at-if1 .if1 .left) e in
     (sym (t .0), sym (t .1))
 
 pub turn-at-spec : {M : Type 1} → statement M

@@ -26,7 +26,11 @@ known-requires-3 c κs = search needs
 
 returns-3 : tie.Need-returns-3
 unfolding usesKnown
-returns-3 c = rw (ne-eqb (c .before .before .before .before .before .args .kind) 0 (c .before .before .before .if1 .left), sym (c .before .before .known2 .ensures) ∙ not-false _ (c .before .if2 .left)) (c .known3 .ensures)
+returns-3 c =
+    let at-known2 = c .before .before in
+    let at-if1 = at-known2 .before in
+    let start = at-if1 .before .before in
+    rw (ne-eqb (start .args .kind) 0 (at-if1 .if1 .left), sym (at-known2 .known2 .ensures) ∙ not-false _ (c .before .if2 .left)) (c .known3 .ensures)
 
 pub uses-known-spec : {M : Type 1} → statement M
 uses-known-spec =

@@ -23,7 +23,10 @@ ready-requires : tie.Need-ready-requires Inv-loop μ-loop
 ready-requires c κs = search needs
 
 returns : tie.Need-returns Inv-loop μ-loop
-returns c = sym (c .before .before .before .loop .inv .1 ∙ seek-here (isReady (c .before .before .before .before .before .args .work .now) (c .before .before .before .before .before .args .m)) _ (c .before .before .before .before .before .args .m - c .before .before .before .loop .u) _ (omega arith) (sym (c .before .ready .ensures) ∙ c .if1 .taken))
+returns c =
+    let at-loop = c .before .before .before in
+    let start = at-loop .before .before in
+    sym (at-loop .loop .inv .1 ∙ seek-here (isReady (start .args .work .now) (start .args .m)) _ (start .args .m - at-loop .loop .u) _ (omega arith) (sym (c .before .ready .ensures) ∙ c .if1 .taken))
 
 add-u : tie.Need-add-u Inv-loop μ-loop
 add-u c = search needs
@@ -32,10 +35,15 @@ loop-less : tie.Need-loop-less Inv-loop μ-loop
 loop-less c = search needs
 
 loop-again : tie.Need-loop-again Inv-loop μ-loop
-loop-again c = (omega arith, c .before .before .before .loop .inv .1 ∙ seek-past (isReady (c .before .before .before .before .before .args .work .now) (c .before .before .before .before .before .args .m)) _ (c .before .before .before .before .before .args .m + 1 - (c .before .before .before .loop .u + 1)) _ (omega arith) (sym (c .before .ready .ensures) ∙ c .if1 .left))
+loop-again c =
+    let at-loop = c .before .before .before in
+    let start = at-loop .before .before in
+    (omega arith, at-loop .loop .inv .1 ∙ seek-past (isReady (start .args .work .now) (start .args .m)) _ (start .args .m + 1 - (at-loop .loop .u + 1)) _ (omega arith) (sym (c .before .ready .ensures) ∙ c .if1 .left))
 
 returns-2 : tie.Need-returns-2 Inv-loop μ-loop
-returns-2 c = sym (c .before .loop .inv .1 ∙ seek-end (isReady (c .before .before .before .args .work .now) (c .before .before .before .args .m)) _ _ (omega arith))
+returns-2 c =
+    let start = c .before .before .before in
+    sym (c .before .loop .inv .1 ∙ seek-end (isReady (start .args .work .now) (start .args .m)) _ _ (omega arith))
 
 pub first-ready-spec : {M : Type 1} → statement M
 first-ready-spec =

@@ -23,7 +23,10 @@ waits-requires : tie.Need-waits-requires Inv-loop μ-loop
 waits-requires c κs = search needs
 
 returns : tie.Need-returns Inv-loop μ-loop
-returns c = sym (c .before .before .before .loop .inv .1 ∙ seek-here (isWaiting (c .before .before .before .before .before .args .work .now) (c .before .before .before .before .before .args .m)) _ (c .before .before .before .before .before .args .m - c .before .before .before .loop .v) _ (omega arith) (sym (c .before .waits .ensures) ∙ c .if1 .taken))
+returns c =
+    let at-loop = c .before .before .before in
+    let start = at-loop .before .before in
+    sym (at-loop .loop .inv .1 ∙ seek-here (isWaiting (start .args .work .now) (start .args .m)) _ (start .args .m - at-loop .loop .v) _ (omega arith) (sym (c .before .waits .ensures) ∙ c .if1 .taken))
 
 add-v : tie.Need-add-v Inv-loop μ-loop
 add-v c = search needs
@@ -32,10 +35,15 @@ loop-less : tie.Need-loop-less Inv-loop μ-loop
 loop-less c = search needs
 
 loop-again : tie.Need-loop-again Inv-loop μ-loop
-loop-again c = (omega arith, c .before .before .before .loop .inv .1 ∙ seek-past (isWaiting (c .before .before .before .before .before .args .work .now) (c .before .before .before .before .before .args .m)) _ (c .before .before .before .before .before .args .m + 1 - (c .before .before .before .loop .v + 1)) _ (omega arith) (sym (c .before .waits .ensures) ∙ c .if1 .left))
+loop-again c =
+    let at-loop = c .before .before .before in
+    let start = at-loop .before .before in
+    (omega arith, at-loop .loop .inv .1 ∙ seek-past (isWaiting (start .args .work .now) (start .args .m)) _ (start .args .m + 1 - (at-loop .loop .v + 1)) _ (omega arith) (sym (c .before .waits .ensures) ∙ c .if1 .left))
 
 returns-2 : tie.Need-returns-2 Inv-loop μ-loop
-returns-2 c = sym (c .before .loop .inv .1 ∙ seek-end (isWaiting (c .before .before .before .args .work .now) (c .before .before .before .args .m)) _ _ (omega arith))
+returns-2 c =
+    let start = c .before .before .before in
+    sym (c .before .loop .inv .1 ∙ seek-end (isWaiting (start .args .work .now) (start .args .m)) _ _ (omega arith))
 
 pub first-waiting-spec : {M : Type 1} → statement M
 first-waiting-spec =

@@ -21,13 +21,21 @@ same-length : tie.Need-same-length
 same-length c = search needs
 
 returns : tie.Need-returns
-returns c = let a = c .before .before .before .before .before .before .before .before .before .before .before .before .before .before .args in (answer-all (a .work .now) (a .h) (c .before .before .before .before .before .before .before .before .before .before .before .before .before .before .pre .0) _ _ (c .before .before .before .before .before .before .place-ands .ensures) (c .before .before .first-waiting .ensures) (c .if1 .taken), c .before .before .before .before .before .before .place-ands .ensures)
+returns c =
+    let at-first-waiting = c .before .before in
+    let at-place-ands = at-first-waiting .before .before .before .before in
+    let start = at-place-ands .before .before .before .before .before .before .before .before in
+    let a = start .args in (answer-all (a .work .now) (a .h) (start .pre .0) _ _ (at-place-ands .place-ands .ensures) (at-first-waiting .first-waiting .ensures) (c .if1 .taken), at-place-ands .place-ands .ensures)
 
 same-length-2 : tie.Need-same-length-2
 same-length-2 c = search needs
 
 returns-2 : tie.Need-returns-2
-returns-2 c = let a = c .before .before .before .before .before .before .before .before .before .before .before .before .before .before .args in (answer-some (a .work .now) (a .h) (c .before .before .before .before .before .before .before .before .before .before .before .before .before .before .pre .0) _ _ (c .before .before .before .before .before .before .place-ands .ensures) (c .before .before .first-waiting .ensures) (c .if1 .left), c .before .before .before .before .before .before .place-ands .ensures)
+returns-2 c =
+    let at-first-waiting = c .before .before in
+    let at-place-ands = at-first-waiting .before .before .before .before in
+    let start = at-place-ands .before .before .before .before .before .before .before .before in
+    let a = start .args in (answer-some (a .work .now) (a .h) (start .pre .0) _ _ (at-place-ands .place-ands .ensures) (at-first-waiting .first-waiting .ensures) (c .if1 .left), at-place-ands .place-ands .ensures)
 
 pub place-spec : {M : Type 1} → statement M
 place-spec =

@@ -24,22 +24,38 @@ add-slot : tie.Need-add-slot Inv-loop μ-loop
 add-slot c = search needs
 
 loop-holds : tie.Need-loop-holds Inv-loop μ-loop
-loop-holds c = filled-first _ _ _ (c .before .before .before .before .pre .1) (c .before .before .before .before .pre .2)
+loop-holds c =
+    let start = c .before .before .before .before in
+    filled-first _ _ _ (start .pre .1) (start .pre .2)
 
 first-ready-requires : tie.Need-first-ready-requires Inv-loop μ-loop
-first-ready-requires c κs = let i = c .before .before .loop .inv in (fit-room _ _ (fit-length (c .before .before .before .before .before .before .before .args .h) (c .before .before .before .before .before .before .before .args .work .now) _ (c .before .before .before .before .before .before .before .pre .0) (i .long)), i .operands, i .sought .under)
+first-ready-requires c κs =
+    let at-loop = c .before .before in
+    let start = at-loop .before .before .before .before .before in
+    let i = at-loop .loop .inv in (fit-room _ _ (fit-length (start .args .h) (start .args .work .now) _ (start .pre .0) (i .long)), i .operands, i .sought .under)
 
 same-length : tie.Need-same-length Inv-loop μ-loop
 same-length c = search needs
 
 returns : tie.Need-returns Inv-loop μ-loop
-returns c = filled-off (c .before .before .before .before .before .before .before .before .before .before .args .h) (c .before .before .before .before .before .before .before .before .before .before .args .work .now) _ (c .before .before .before .before .before .before .before .before .before .before .pre .0) _ _ _ (c .before .before .before .before .before .loop .inv) _ (c .before .before .first-ready .ensures) (c .before .before .before .before .loop-test .taken) (c .if1 .taken)
+returns c =
+    let at-first-ready = c .before .before in
+    let at-loop-test = at-first-ready .before .before in
+    let at-loop = at-loop-test .before in
+    let start = at-loop .before .before .before .before .before in
+    filled-off (start .args .h) (start .args .work .now) _ (start .pre .0) _ _ _ (at-loop .loop .inv) _ (at-first-ready .first-ready .ensures) (at-loop-test .loop-test .taken) (c .if1 .taken)
 
 place-at-requires : tie.Need-place-at-requires Inv-loop μ-loop
-place-at-requires c κs = (fit-room _ _ (fit-length (c .before .before .before .before .before .before .before .before .before .before .before .args .h) (c .before .before .before .before .before .before .before .before .before .before .before .args .work .now) _ (c .before .before .before .before .before .before .before .before .before .before .before .pre .0) (c .before .before .before .before .before .before .loop .inv .long)), omega (arith, c .before .before .before .before .before .before .before .before .before .before .before .pre .0 .lines), c .before .if1 .left)
+place-at-requires c κs =
+    let at-loop = c .before .before .before .before .before .before in
+    let start = at-loop .before .before .before .before .before in
+    (fit-room _ _ (fit-length (start .args .h) (start .args .work .now) _ (start .pre .0) (at-loop .loop .inv .long)), omega (arith, start .pre .0 .lines), c .before .if1 .left)
 
 seek-on-requires : tie.Need-seek-on-requires Inv-loop μ-loop
-seek-on-requires c κs = omega (arith, c .before .before .before .before .before .before .before .before .before .before .before .before .before .before .pre .0 .room .small, c .before .before .before .before .if1 .left)
+seek-on-requires c κs =
+    let at-if1 = c .before .before .before .before in
+    let start = at-if1 .before .before .before .before .before .before .before .before .before .before in
+    omega (arith, start .pre .0 .room .small, at-if1 .if1 .left)
 
 add-slot-2 : tie.Need-add-slot-2 Inv-loop μ-loop
 add-slot-2 c = search needs
@@ -48,7 +64,14 @@ loop-less : tie.Need-loop-less Inv-loop μ-loop
 loop-less c = search needs
 
 loop-again : tie.Need-loop-again Inv-loop μ-loop
-loop-again c = filled-on (c .before .before .before .before .before .before .before .before .before .before .before .before .before .before .before .args .h) (c .before .before .before .before .before .before .before .before .before .before .before .before .before .before .before .args .work .now) _ (c .before .before .before .before .before .before .before .before .before .before .before .before .before .before .before .pre .0) _ _ _ (c .before .before .before .before .before .before .before .before .before .before .loop .inv) _ (c .before .before .before .before .before .before .before .first-ready .ensures) (c .before .before .before .before .before .before .before .before .before .loop-test .taken) (c .before .before .before .before .before .if1 .left) _ (c .before .before .before .place-at .ensures) _ (c .seek-on .ensures)
+loop-again c =
+    let at-place-at = c .before .before .before in
+    let at-if1 = at-place-at .before .before in
+    let at-first-ready = at-if1 .before .before in
+    let at-loop-test = at-first-ready .before .before in
+    let at-loop = at-loop-test .before in
+    let start = at-loop .before .before .before .before .before in
+    filled-on (start .args .h) (start .args .work .now) _ (start .pre .0) _ _ _ (at-loop .loop .inv) _ (at-first-ready .first-ready .ensures) (at-loop-test .loop-test .taken) (at-if1 .if1 .left) _ (at-place-at .place-at .ensures) _ (c .seek-on .ensures)
 
 same-length-2 : tie.Need-same-length-2 Inv-loop μ-loop
 same-length-2 c = search needs

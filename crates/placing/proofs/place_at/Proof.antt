@@ -24,7 +24,11 @@ same-length c = search needs
 
 returns : tie.Need-returns
 unfolding putPlaced
-returns c = c .before .before .set-place .ensures ∙ ap (λ (x : List ℕ). putAt x (placeAddr (c .before .before .before .before .before .before .before .before .before .args .m) (c .before .before .before .before .before .before .before .before .before .args .v)) ((c .before .before .before .before .before .before .before .before .before .args .i + 1) ∷ [])) (c .before .before .before .before .before .before .set-slot .ensures)
+returns c =
+    let at-set-place = c .before .before in
+    let at-set-slot = at-set-place .before .before .before .before in
+    let start = at-set-slot .before .before .before in
+    at-set-place .set-place .ensures ∙ ap (λ (x : List ℕ). putAt x (placeAddr (start .args .m) (start .args .v)) ((start .args .i + 1) ∷ [])) (at-set-slot .set-slot .ensures)
 
 pub place-at-spec : {M : Type 1} → statement M
 place-at-spec =

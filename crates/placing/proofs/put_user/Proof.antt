@@ -23,7 +23,11 @@ mul-users : tie.Need-mul-users
 mul-users c = search needs
 
 element-write-users : tie.Need-element-write-users
-element-write-users c = omega (arith, c .before .left .ensures, c .before .before .before .before .before .pre .1 .left (c .before .before .before .before .before .args .v) (c .before .before .before .before .before .pre .2) (sym (c .before .before .before .kind .ensures) ∙ c .before .before .if1 .taken), c .before .before .before .before .before .pre .0 .small)
+element-write-users c =
+    let at-if1 = c .before .before in
+    let at-kind = at-if1 .before in
+    let start = at-kind .before .before in
+    omega (arith, c .before .left .ensures, start .pre .1 .left (start .args .v) (start .pre .2) (sym (at-kind .kind .ensures) ∙ at-if1 .if1 .taken), start .pre .0 .small)
 
 cast-users-2 : tie.Need-cast-users-2
 cast-users-2 c = search needs
@@ -32,13 +36,23 @@ mul-users-2 : tie.Need-mul-users-2
 mul-users-2 c = search needs
 
 element-write-users-2 : tie.Need-element-write-users-2
-element-write-users-2 c = omega (arith, c .right .ensures, c .before .before .before .before .before .pre .1 .right (c .before .before .before .before .before .args .v) (c .before .before .before .before .before .pre .2) (sym (c .before .before .before .kind .ensures) ∙ c .before .before .if1 .taken), c .before .before .before .before .before .pre .0 .small)
+element-write-users-2 c =
+    let at-if1 = c .before .before in
+    let at-kind = at-if1 .before in
+    let start = at-kind .before .before in
+    omega (arith, c .right .ensures, start .pre .1 .right (start .args .v) (start .pre .2) (sym (at-kind .kind .ensures) ∙ at-if1 .if1 .taken), start .pre .0 .small)
 
 returns : tie.Need-returns
-returns c = rw (c .before .left .ensures, c .right .ensures) (sym (put-and (c .before .before .before .before .before .args .work .now) (c .before .before .before .before .before .args .m) (c .before .before .before .before .before .args .v) (c .before .before .before .before .before .args .users .now) (sym (c .before .before .before .kind .ensures) ∙ c .before .before .if1 .taken)))
+returns c =
+    let at-if1 = c .before .before in
+    let at-kind = at-if1 .before in
+    let start = at-kind .before .before in
+    rw (c .before .left .ensures, c .right .ensures) (sym (put-and (start .args .work .now) (start .args .m) (start .args .v) (start .args .users .now) (sym (at-kind .kind .ensures) ∙ at-if1 .if1 .taken)))
 
 returns-2 : tie.Need-returns-2
-returns-2 c = sym (put-other (c .before .before .before .args .work .now) (c .before .before .before .args .m) (c .before .before .before .args .v) (c .before .before .before .args .users .now) (λ e. c .if1 .left (c .before .kind .ensures ∙ e)))
+returns-2 c =
+    let start = c .before .before .before in
+    sym (put-other (start .args .work .now) (start .args .m) (start .args .v) (start .args .users .now) (λ e. c .if1 .left (c .before .kind .ensures ∙ e)))
 
 pub put-user-spec : {M : Type 1} → statement M
 put-user-spec =

@@ -18,7 +18,10 @@ loop-holds : tie.Need-loop-holds Inv-loop μ-loop
 loop-holds c = (omega arith, c .before .pre .2)
 
 put-user-requires : tie.Need-put-user-requires Inv-loop μ-loop
-put-user-requires c κs = (c .before .before .before .before .pre .0, c .before .before .before .before .pre .1, c .before .before .loop .inv .0)
+put-user-requires c κs =
+    let at-loop = c .before .before in
+    let start = at-loop .before .before in
+    (start .pre .0, start .pre .1, at-loop .loop .inv .0)
 
 sub-v : tie.Need-sub-v Inv-loop μ-loop
 sub-v c = omega arith
@@ -28,18 +31,22 @@ loop-less c = omega arith
 
 loop-again : tie.Need-loop-again Inv-loop μ-loop
 loop-again c =
-    let a = c .before .before .before .before .before .args in
-    let l = c .before .before .before .loop in (
+    let at-loop-test = c .before .before in
+    let at-loop = at-loop-test .before in
+    let start = at-loop .before .before in
+    let a = start .args in
+    let l = at-loop .loop in (
       omega arith,
       rw (c .put-user .ensures)
-          (users-put (a .work .now) (a .m) (l .v) (l .users) (c .before .before .before .before .before .pre .0) (c .before .before .before .before .before .pre .1) (c .before .before .loop-test .taken) (l .inv .0) (l .inv .1)),
+          (users-put (a .work .now) (a .m) (l .v) (l .users) (start .pre .0) (start .pre .1) (at-loop-test .loop-test .taken) (l .inv .0) (l .inv .1)),
     )
 
 returns : tie.Need-returns Inv-loop μ-loop
 returns c =
+    let start = c .before .before .before in
     let l = c .before .loop in
     let e : l .v ≡ 0 = omega arith in
-    subst (λ (v : ℕ). Users (c .before .before .before .args .work .now) (c .before .before .before .args .m) v (l .users)) e (l .inv .1)
+    subst (λ (v : ℕ). Users (start .args .work .now) (start .args .m) v (l .users)) e (l .inv .1)
 
 pub put-users-spec : {M : Type 1} → statement M
 put-users-spec =

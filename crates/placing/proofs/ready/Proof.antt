@@ -20,21 +20,40 @@ left-requires : tie.Need-left-requires
 left-requires c κs = search needs
 
 is-placed-requires : tie.Need-is-placed-requires
-is-placed-requires c κs = (search needs, omega (arith, c .left .ensures, c .before .before .before .before .pre .1 .left (c .before .before .before .before .args .v) (c .before .before .before .before .pre .2) (waits-kind (c .before .before .before .before .args .work .now) (c .before .before .before .before .args .m) (c .before .before .before .before .args .v) (sym (c .before .before .waits .ensures) ∙ not-false _ (c .before .if1 .left)))))
+is-placed-requires c κs =
+    let at-waits = c .before .before in
+    let start = at-waits .before .before in
+    (search needs, omega (arith, c .left .ensures, start .pre .1 .left (start .args .v) (start .pre .2) (waits-kind (start .args .work .now) (start .args .m) (start .args .v) (sym (at-waits .waits .ensures) ∙ not-false _ (c .before .if1 .left)))))
 
 returns-2 : tie.Need-returns-2
 unfolding isReady
-returns-2 c = rw (sym (c .before .before .before .before .waits .ensures) ∙ not-false _ (c .before .before .before .if1 .left), ap (isPlaced (c .before .before .before .before .before .before .args .work .now) (c .before .before .before .before .before .before .args .m)) (sym (c .before .before .left .ensures)) ∙ sym (c .before .is-placed .ensures) ∙ not-true _ (c .if2 .taken))
+returns-2 c =
+    let at-left = c .before .before in
+    let at-if1 = at-left .before in
+    let at-waits = at-if1 .before in
+    let start = at-waits .before .before in
+    rw (sym (at-waits .waits .ensures) ∙ not-false _ (at-if1 .if1 .left), ap (isPlaced (start .args .work .now) (start .args .m)) (sym (at-left .left .ensures)) ∙ sym (c .before .is-placed .ensures) ∙ not-true _ (c .if2 .taken))
 
 right-requires : tie.Need-right-requires
 right-requires c κs = search needs
 
 is-placed-requires-2 : tie.Need-is-placed-requires-2
-is-placed-requires-2 c κs = (search needs, omega (arith, c .right .ensures, c .before .before .before .before .before .before .before .pre .1 .right (c .before .before .before .before .before .before .before .args .v) (c .before .before .before .before .before .before .before .pre .2) (waits-kind (c .before .before .before .before .before .before .before .args .work .now) (c .before .before .before .before .before .before .before .args .m) (c .before .before .before .before .before .before .before .args .v) (sym (c .before .before .before .before .before .waits .ensures) ∙ not-false _ (c .before .before .before .before .if1 .left)))))
+is-placed-requires-2 c κs =
+    let at-if1 = c .before .before .before .before in
+    let at-waits = at-if1 .before in
+    let start = at-waits .before .before in
+    (search needs, omega (arith, c .right .ensures, start .pre .1 .right (start .args .v) (start .pre .2) (waits-kind (start .args .work .now) (start .args .m) (start .args .v) (sym (at-waits .waits .ensures) ∙ not-false _ (at-if1 .if1 .left)))))
 
 returns-3 : tie.Need-returns-3
 unfolding isReady
-returns-3 c = rw (sym (c .before .before .before .before .before .before .waits .ensures) ∙ not-false _ (c .before .before .before .before .before .if1 .left), ap (isPlaced (c .before .before .before .before .before .before .before .before .args .work .now) (c .before .before .before .before .before .before .before .before .args .m)) (sym (c .before .before .before .before .left .ensures)) ∙ sym (c .before .before .before .is-placed .ensures) ∙ not-false _ (c .before .before .if2 .left)) (c .is-placed2 .ensures ∙ ap (isPlaced (c .before .before .before .before .before .before .before .before .args .work .now) (c .before .before .before .before .before .before .before .before .args .m)) (c .before .right .ensures))
+returns-3 c =
+    let at-if2 = c .before .before in
+    let at-is-placed = at-if2 .before in
+    let at-left = at-is-placed .before in
+    let at-if1 = at-left .before in
+    let at-waits = at-if1 .before in
+    let start = at-waits .before .before in
+    rw (sym (at-waits .waits .ensures) ∙ not-false _ (at-if1 .if1 .left), ap (isPlaced (start .args .work .now) (start .args .m)) (sym (at-left .left .ensures)) ∙ sym (at-is-placed .is-placed .ensures) ∙ not-false _ (at-if2 .if2 .left)) (c .is-placed2 .ensures ∙ ap (isPlaced (start .args .work .now) (start .args .m)) (c .before .right .ensures))
 
 pub ready-spec : {M : Type 1} → statement M
 ready-spec =
