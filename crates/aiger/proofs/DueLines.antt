@@ -25,6 +25,7 @@ use Rattle.text.specs.Fields.{onNumber, numberOf, numberThen}
 use Rattle.text.specs.Lines.{lineAt, pastLine, afterAt, numbersAt}
 use Rattle.text.proofs.Found.{past, found, number-is}
 use Rattle.text.proofs.Numbers.{line-words, numbers-at, numbers-ended}
+use Rattle.words.specs.Layout.{undefinedKind, inputKind, andKind}
 use Rattle.placing.specs.Placing.{pickN}
 use Rattle.aiger.specs.declared.Literals.{Literals}
 use Rattle.aiger.specs.declared.LineRead.the-variants.{Read as ALine, Broken as NoLine}
@@ -33,11 +34,11 @@ use Rattle.aiger.proofs.Head.{three-is}
 
 -- ---- what is due
 
--- a kind's number in the code
+-- the kind of node that a line of this kind defines
 abbrev pub code : Kind → ℕ
-code anInput = 2
-code anOutput = 0
-code anAnd = 3
+code anInput = inputKind
+code anOutput = undefinedKind
+code anAnd = andKind
 
 abbrev pickKind : Bool → Kind → Kind → Kind
 pickKind true a b = a
@@ -49,7 +50,7 @@ dueKind h k = pickKind (ltb k (h .inputs)) anInput (pickKind (ltb k (h .inputs +
 pub due-code : (h : Header) (k : ℕ) → code (dueKind h k) ≡ dueCode h k
 due-code h k = go (ltb k (h .inputs)) (ltb k (h .inputs + h .outputs))
   where
-    go : (a b : Bool) → code (pickKind a anInput (pickKind b anOutput anAnd)) ≡ pickN a 2 (pickN b 0 3)
+    go : (a b : Bool) → code (pickKind a anInput (pickKind b anOutput anAnd)) ≡ pickN a inputKind (pickN b undefinedKind andKind)
     go true b = refl
     go false true = refl
     go false false = refl
@@ -186,14 +187,14 @@ view-three s at = go (numbersAt 2 s at) refl
         let ends = numbers-ended 2 s at ns e in
         whole l (rw (three-is s at, e)) (item-numbers anAnd s at 2 refl ∙ e ∙ ap some (three-long s at ns e)) tt (ends .0) (ends .1)
 
-read-one : (s : List ℕ) (at kind : ℕ) → eqb kind 3 ≡ false → lineRead s at kind ≡ oneLine s at
+read-one : (s : List ℕ) (at kind : ℕ) → eqb kind andKind ≡ false → lineRead s at kind ≡ oneLine s at
 unfolding lineRead
 read-one s at kind e = rw e
 
 pub view : (k : Kind) (s : List ℕ) (at : ℕ) → LineView s at k
 unfolding howMany
-view anInput s at = view-one anInput s at refl (read-one s at 2 refl) (λ l a b. (refl, (a, b)))
-view anOutput s at = view-one anOutput s at refl (read-one s at 0 refl) (λ l a b. (refl, (a, b)))
+view anInput s at = view-one anInput s at refl (read-one s at inputKind refl) (λ l a b. (refl, (a, b)))
+view anOutput s at = view-one anOutput s at refl (read-one s at undefinedKind refl) (λ l a b. (refl, (a, b)))
 view anAnd s at = view-three s at
 
 -- the test of 12 on a line's literals

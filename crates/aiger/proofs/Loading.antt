@@ -8,11 +8,10 @@ use mathlib.Core.Logic.{_⊎_, inl, inr}
 use mathlib.Core.Bool.{Bool, true, false, not, cond, _&&_, _||_}
 use mathlib.Core.Option.{none, some}
 use mathlib.Core.List.{List, [], _∷_, _++_, List·Memᴰ, List·Memᴰ·append-cases, List·Memᴰ·not-nil, List·Memᴰ·eq-of-singleton}
-use Prim.Native.Nat.{ℕ, suc, _+_, _-_, _*_, _/_, _%_, _≤_, _<_, min}
+use Prim.Native.Nat.{ℕ, suc, _+_, _-_, _/_, _%_, _≤_, _<_, min}
 use native.Mathlib.Omega.{arith}
 use lib.Dec.{eqb, ltb}
-use lib.ListN.{length, getD, drop, List·getD-append, length-append}
-use lib.Seq.{getD-append-seam}
+use lib.ListN.{length, drop, length-append}
 use borrow.Author.Tests.{eqb-true, eqb-false, eq-eqb, ne-eqb, ltb-true, ltb-false, not-true, not-false}
 use Rattle.model.specs.Base.{elem, any}
 use Rattle.model.specs.Text.{Line, ended, linesFrom}
@@ -21,7 +20,7 @@ use Rattle.model.specs.Graph.{And, Graph, undefined, both, node, varOf}
 use Rattle.model.specs.GraphText.{Kind, anInput, anOutput, anAnd, defines, due, Item, itemLiterals, readDue}
 use Rattle.model.specs.declared.Header.{Header}
 use Rattle.words.specs.Put.{putAt}
-use Rattle.words.specs.Layout.{Room, kindAt, outputAddr}
+use Rattle.words.specs.Layout.{Room, undefinedKind, inputKind, andKind, kindAt, outputAddr}
 use Rattle.words.specs.Record.{putNode}
 use Rattle.text.specs.Lines.{lineAt, pastLine}
 use Rattle.text.proofs.Bytes.{and-left, and-right}
@@ -60,7 +59,7 @@ itemOf k at l = record { kind = k; offset = at; literals = itemList k l }
 
 pub record State (h : Header) (w₀ : List ℕ) (k : ℕ) (w : List ℕ) (before : List ℕ) (g : Graph) : Type 0 where
   pub held : Loaded w₀ (h .size) w g (0 ∷ g .inputs)
-  pub known : (v : ℕ) → v ≤ h .size → (v ≡ 0 → ⊥) → elem v before ≡ not (eqb (kindAt w (h .size) v) 0)
+  pub known : (v : ℕ) → v ≤ h .size → (v ≡ 0 → ⊥) → elem v before ≡ not (eqb (kindAt w (h .size) v) undefinedKind)
   pub ins : length (g .inputs) ≡ min k (h .inputs)
   pub outs : length (g .outputs) ≡ min (k - h .inputs) (h .outputs)
   pub gates : length (g .ands) ≡ k - (h .inputs + h .outputs)
@@ -69,19 +68,19 @@ pub record State (h : Header) (w₀ : List ℕ) (k : ℕ) (w : List ℕ) (before
 
 -- what is defined, with v more
 module _ (w₀ : List ℕ) (m : ℕ) (w x : List ℕ) (g g′ : Graph) (o o′ : List ℕ) (before : List ℕ) (v c : ℕ) (held : Loaded w₀ m w g o) (then : Loaded w₀ m x g′ o′)
-    (known : (u : ℕ) → u ≤ m → (u ≡ 0 → ⊥) → elem u before ≡ not (eqb (kindAt w m u) 0)) where
+    (known : (u : ℕ) → u ≤ m → (u ≡ 0 → ⊥) → elem u before ≡ not (eqb (kindAt w m u) undefinedKind)) where
   known-more : kindOf (node g′ v) ≡ suc c → ((u : ℕ) → (u ≡ v → ⊥) → node g′ u ≡ node g u)
-      → (u : ℕ) → u ≤ m → (u ≡ 0 → ⊥) → elem u (v ∷ before) ≡ not (eqb (kindAt x m u) 0)
+      → (u : ℕ) → u ≤ m → (u ≡ 0 → ⊥) → elem u (v ∷ before) ≡ not (eqb (kindAt x m u) undefinedKind)
   unfolding elem any
   known-more n other u l d = by-eqb u v
       (λ e.
       let k : kindAt x m u ≡ suc c = then .kinds u l ∙ ap (λ (y : ℕ). kindOf (node g′ y)) e ∙ n in
-      rw (eq-eqb u v e, ne-eqb (kindAt x m u) 0 (λ z. omega arith)))
+      rw (eq-eqb u v e, ne-eqb (kindAt x m u) undefinedKind (λ z. omega arith)))
       (λ e.
       let k : kindAt x m u ≡ kindAt w m u = then .kinds u l ∙ ap kindOf (other u e) ∙ sym (held .kinds u l) in
       rw (ne-eqb u v e, k) (known u l d))
 
-  known-same : ((u : ℕ) → node g′ u ≡ node g u) → (u : ℕ) → u ≤ m → (u ≡ 0 → ⊥) → elem u before ≡ not (eqb (kindAt x m u) 0)
+  known-same : ((u : ℕ) → node g′ u ≡ node g u) → (u : ℕ) → u ≤ m → (u ≡ 0 → ⊥) → elem u before ≡ not (eqb (kindAt x m u) undefinedKind)
   known-same other u l d =
       let k : kindAt x m u ≡ kindAt w m u = then .kinds u l ∙ ap kindOf (other u) ∙ sym (held .kinds u l) in
       rw k (known u l d)
@@ -91,25 +90,20 @@ sure-other m g g′ a v free other nil s =
     let d : (a .var ≡ v) → ⊥ = λ e. let q : both (a .left) (a .right) ≡ undefined = sym (s .node) ∙ ap (node g) e ∙ nil in let z : _≡_ {A = ℕ} 0 1 = cc in omega arith in
     record { var = s .var; node = other (a .var) d ∙ s .node; left = s .left; right = s .right }
 
--- ---- a line that may define its variable
+-- ---- a line that defines its variable
 
--- 12 and 13 do not apply to a line that defines
+-- the literals of such a line are in range, and its variable is undefined
 pub record Fresh (m : ℕ) (w : List ℕ) (l : Literals) : Type 0 where
   pub fit : LiteralsFit m l
-  pub even : l .first % 2 ≡ 0
-  pub nonzero : l .first ≡ 0 → ⊥
-  pub none : kindAt w m (l .first / 2) ≡ 0
+  pub none : kindAt w m (l .first / 2) ≡ undefinedKind
 
-fresh : (m : ℕ) (w : List ℕ) (kind : ℕ) (l : Literals) → eqb kind 0 ≡ false → literalsFit m l ≡ true → mayDefine kind (l .first) ≡ true → isTaken w m kind (l .first) ≡ false → Fresh m w l
-unfolding mayDefine isTaken
-fresh m w kind l e a b c =
-    let p : (eqb (l .first % 2) 0 && not (eqb (l .first) 0)) ≡ true = subst (λ (t : Bool). (t || (eqb (l .first % 2) 0 && not (eqb (l .first) 0))) ≡ true) e b in
-    let q : not (eqb (kindAt w m (l .first / 2)) 0) ≡ false = subst (λ (t : Bool). (not t && not (eqb (kindAt w m (l .first / 2)) 0)) ≡ false) e c in
+fresh : (m : ℕ) (w : List ℕ) (kind : ℕ) (l : Literals) → eqb kind undefinedKind ≡ false → literalsFit m l ≡ true → isTaken w m kind (l .first) ≡ false → Fresh m w l
+unfolding isTaken
+fresh m w kind l e a c =
+    let q : not (eqb (kindAt w m (l .first / 2)) undefinedKind) ≡ false = subst (λ (t : Bool). (not t && not (eqb (kindAt w m (l .first / 2)) undefinedKind)) ≡ false) e c in
     record {
       fit = fit-known m l a;
-      even = eqb-true (l .first % 2) 0 (and-left (eqb (l .first % 2) 0) (not (eqb (l .first) 0)) p);
-      nonzero = eqb-false (l .first) 0 (not-true (eqb (l .first) 0) (and-right (eqb (l .first % 2) 0) (not (eqb (l .first) 0)) p));
-      none = eqb-true (kindAt w m (l .first / 2)) 0 (not-false (eqb (kindAt w m (l .first / 2)) 0) q);
+      none = eqb-true (kindAt w m (l .first / 2)) undefinedKind (not-false (eqb (kindAt w m (l .first / 2)) undefinedKind) q);
     }
 
 -- ---- one line more
@@ -131,18 +125,18 @@ module _ (h : Header) (w₀ : List ℕ) (fit : Fit h w₀) (k : ℕ) (w : List �
     free : Free g (l .first / 2)
     free = free-node g (l .first / 2) undef
 
-    input-node : Loaded w₀ (h .size) (putNode w (h .size) (l .first / 2) 2 0 0) (withInput g (l .first / 2)) (0 ∷ g .inputs)
+    input-node : Loaded w₀ (h .size) (putNode w (h .size) (l .first / 2) inputKind 0 0) (withInput g (l .first / 2)) (0 ∷ g .inputs)
     input-node =
         let e = input-new g (l .first / 2) free in
-        node-holds w₀ (h .size) w g (0 ∷ g .inputs) room few (st .small) (st .held) (l .first / 2) 2 0 0 (withInput g (l .first / 2)) inside refl (ap kindOf e) (ap leftOf e) (ap rightOf e) (input-other g (l .first / 2))
+        node-holds w₀ (h .size) w g (0 ∷ g .inputs) room few (st .small) (st .held) (l .first / 2) inputKind 0 0 (withInput g (l .first / 2)) inside refl (ap kindOf e) (ap leftOf e) (ap rightOf e) (input-other g (l .first / 2))
 
     input-placed : k < h .inputs → Loaded w₀ (h .size) (storedInput w (h .size) k (l .first / 2)) (withInput g (l .first / 2)) (0 ∷ g .inputs ++ (l .first / 2 ∷ []))
     unfolding storedInput
     input-placed b =
         let slot : length (0 ∷ g .inputs) ≡ k + 1 = omega (arith, st .ins) in
-        let room′ : Room (putNode w (h .size) (l .first / 2) 2 0 0) (h .size) = record { small = fit .room .small; room = omega (arith, fit .room .room, input-node .long) } in
-        subst (λ (i : ℕ). Loaded w₀ (h .size) (putPlaced (putNode w (h .size) (l .first / 2) 2 0 0) (h .size) i (l .first / 2)) (withInput g (l .first / 2)) (0 ∷ g .inputs ++ (l .first / 2 ∷ []))) slot
-        (place-holds w₀ (h .size) (putNode w (h .size) (l .first / 2) 2 0 0) (withInput g (l .first / 2)) (0 ∷ g .inputs) room′ (st .small) input-node (l .first / 2) inside (omega (arith, fit .lines)) (free-placed g (l .first / 2) free))
+        let room′ : Room (putNode w (h .size) (l .first / 2) inputKind 0 0) (h .size) = record { small = fit .room .small; room = omega (arith, fit .room .room, input-node .long) } in
+        subst (λ (i : ℕ). Loaded w₀ (h .size) (putPlaced (putNode w (h .size) (l .first / 2) inputKind 0 0) (h .size) i (l .first / 2)) (withInput g (l .first / 2)) (0 ∷ g .inputs ++ (l .first / 2 ∷ []))) slot
+        (place-holds w₀ (h .size) (putNode w (h .size) (l .first / 2) inputKind 0 0) (withInput g (l .first / 2)) (0 ∷ g .inputs) room′ (st .small) input-node (l .first / 2) inside (omega (arith, fit .lines)) (free-placed g (l .first / 2) free))
 
     input-more : k < h .inputs → State h w₀ (k + 1) (storedInput w (h .size) k (l .first / 2)) (varOf (l .first) ∷ before) (withInput g (l .first / 2))
     unfolding varOf
@@ -157,10 +151,10 @@ module _ (h : Header) (w₀ : List ℕ) (fit : Fit h w₀) (k : ℕ) (w : List �
       sure = λ a n. sure-other (h .size) g (withInput g (l .first / 2)) a (l .first / 2) free (input-other g (l .first / 2)) undef (st .sure a n);
     }
 
-    and-node : Loaded w₀ (h .size) (putNode w (h .size) (l .first / 2) 3 (l .left) (l .right)) (withAnd g (andOf l)) (0 ∷ g .inputs)
+    and-node : Loaded w₀ (h .size) (putNode w (h .size) (l .first / 2) andKind (l .left) (l .right)) (withAnd g (andOf l)) (0 ∷ g .inputs)
     and-node =
         let e = and-new g (andOf l) free in
-        node-holds w₀ (h .size) w g (0 ∷ g .inputs) room few (st .small) (st .held) (l .first / 2) 3 (l .left) (l .right) (withAnd g (andOf l)) inside refl (ap kindOf e) (ap leftOf e) (ap rightOf e) (and-other g (andOf l))
+        node-holds w₀ (h .size) w g (0 ∷ g .inputs) room few (st .small) (st .held) (l .first / 2) andKind (l .left) (l .right) (withAnd g (andOf l)) inside refl (ap kindOf e) (ap leftOf e) (ap rightOf e) (and-other g (andOf l))
 
     and-sure : (a : And) → List·Memᴰ a (g .ands) ⊎ List·Memᴰ a (andOf l ∷ []) → Sure (h .size) (withAnd g (andOf l)) a
     and-sure a (inl n) = sure-other (h .size) g (withAnd g (andOf l)) a (l .first / 2) free (and-other g (andOf l)) undef (st .sure a n)
@@ -168,11 +162,11 @@ module _ (h : Header) (w₀ : List ℕ) (fit : Fit h w₀) (k : ℕ) (w : List �
         subst (Sure (h .size) (withAnd g (andOf l))) (sym (List·Memᴰ·eq-of-singleton n))
         (record { var = inside; node = and-new g (andOf l) free; left = new .fit .left; right = new .fit .right })
 
-    and-more : h .inputs + h .outputs ≤ k → State h w₀ (k + 1) (putNode w (h .size) (l .first / 2) 3 (l .left) (l .right)) (varOf (l .first) ∷ before) (withAnd g (andOf l))
+    and-more : h .inputs + h .outputs ≤ k → State h w₀ (k + 1) (putNode w (h .size) (l .first / 2) andKind (l .left) (l .right)) (varOf (l .first) ∷ before) (withAnd g (andOf l))
     unfolding varOf
     and-more b = record {
       held = and-node;
-      known = known-more w₀ (h .size) w (putNode w (h .size) (l .first / 2) 3 (l .left) (l .right)) g (withAnd g (andOf l)) (0 ∷ g .inputs) (0 ∷ g .inputs) before (l .first / 2) 2 (st .held) and-node (st .known)
+      known = known-more w₀ (h .size) w (putNode w (h .size) (l .first / 2) andKind (l .left) (l .right)) g (withAnd g (andOf l)) (0 ∷ g .inputs) (0 ∷ g .inputs) before (l .first / 2) 2 (st .held) and-node (st .known)
           (ap kindOf (and-new g (andOf l) free)) (and-other g (andOf l));
       ins = omega (arith, st .ins);
       outs = omega (arith, st .outs);
@@ -202,20 +196,20 @@ module _ (h : Header) (w₀ : List ℕ) (fit : Fit h w₀) (k : ℕ) (w : List �
   }
 
   -- whichever line is due
-  state-more : k < dueCount h → literalsFit (h .size) l ≡ true → mayDefine (dueCode h k) (l .first) ≡ true → isTaken w (h .size) (dueCode h k) (l .first) ≡ false
+  state-more : k < dueCount h → literalsFit (h .size) l ≡ true → isTaken w (h .size) (dueCode h k) (l .first) ≡ false
       → State h w₀ (k + 1) (storedLine w h k l) (more (dueKind h k) before l) (grown (dueKind h k) g l)
   unfolding storedLine
-  state-more b f m t = go (ltb k (h .inputs)) (ltb k (h .inputs + h .outputs)) refl refl
+  state-more b f t = go (ltb k (h .inputs)) (ltb k (h .inputs + h .outputs)) refl refl
     where
       go : (x y : Bool) → ltb k (h .inputs) ≡ x → ltb k (h .inputs + h .outputs) ≡ y
           → State h w₀ (k + 1) (storedLine w h k l) (more (dueKind h k) before l) (grown (dueKind h k) g l)
       go true y p q =
-          let d : eqb (dueCode h k) 0 ≡ false = rw p in
-          rw p (input-more (fresh (h .size) w (dueCode h k) l d f m t) (ltb-true k (h .inputs) p))
+          let d : eqb (dueCode h k) undefinedKind ≡ false = rw p in
+          rw p (input-more (fresh (h .size) w (dueCode h k) l d f t) (ltb-true k (h .inputs) p))
       go false true p q = rw (p, q) (output-more (ltb-false k (h .inputs) p) (ltb-true k (h .inputs + h .outputs) q))
       go false false p q =
-          let d : eqb (dueCode h k) 0 ≡ false = rw (p, q) in
-          rw (p, q) (and-more (fresh (h .size) w (dueCode h k) l d f m t) (ltb-false k (h .inputs + h .outputs) q))
+          let d : eqb (dueCode h k) undefinedKind ≡ false = rw (p, q) in
+          rw (p, q) (and-more (fresh (h .size) w (dueCode h k) l d f t) (ltb-false k (h .inputs + h .outputs) q))
 
 -- at the loop's start
 pub state-first : (h : Header) (w : List ℕ) → Fit h w → State h w 0 (opened w (h .size)) [] (nothing (h .size))
@@ -225,7 +219,7 @@ state-first h w fit =
     let held = opened-holds w (h .size) room in
     record {
       held = held;
-      known = λ v l d. let k : kindAt (opened w (h .size)) (h .size) v ≡ 0 = held .kinds v l ∙ ap kindOf (none-yet v d) in rw k;
+      known = λ v l d. let k : kindAt (opened w (h .size)) (h .size) v ≡ undefinedKind = held .kinds v l ∙ ap kindOf (none-yet v d) in rw k;
       ins = omega arith;
       outs = omega arith;
       gates = omega arith;
@@ -239,7 +233,7 @@ state-first h w fit =
 -- ---- the model's line
 
 -- 13, as the words have it
-taken-is : (m : ℕ) (w : List ℕ) (before : List ℕ) (k : Kind) (l : Literals) → ((v : ℕ) → v ≤ m → (v ≡ 0 → ⊥) → elem v before ≡ not (eqb (kindAt w m v) 0))
+taken-is : (m : ℕ) (w : List ℕ) (before : List ℕ) (k : Kind) (l : Literals) → ((v : ℕ) → v ≤ m → (v ≡ 0 → ⊥) → elem v before ≡ not (eqb (kindAt w m v) undefinedKind))
     → literalsFit m l ≡ true → mayDefine (code k) (l .first) ≡ true → (defines k && elem (varOf (l .first)) before) ≡ isTaken w m (code k) (l .first)
 unfolding defines isTaken varOf mayDefine
 taken-is m w before anOutput l known f d = refl
@@ -350,7 +344,7 @@ module _ (s : List ℕ) (h : Header) (w₀ : List ℕ) (fit : Fit h w₀) (k at 
         tried true true false f m c j =
             goes l r short f (turn-good s at w h k l inText j .0) (turn-good s at w h k l inText j .1)
             (model ∙ unless-pass _ 12 at _ (rw (f, m)) ∙ unless-pass _ 13 at _ (rw (taken f m ∙ c)))
-            (state-more h w₀ fit k w before g st l b f m c)
+            (state-more h w₀ fit k w before g st l b f c)
 
     by-view : LineView s at (dueKind h k) → Step s h w₀ k at w before g
     by-view (broken r i) =

@@ -6,7 +6,7 @@
 -- Assumes nothing.
 use mathlib.Core.Path.{_≡_, refl, sym, ap, _∙_, subst}
 use mathlib.Core.Bool.{Bool, true, false, not, _||_}
-use mathlib.Core.List.{List, [], _∷_, _++_, append-nil, List·Memᴰ}
+use mathlib.Core.List.{List, [], _∷_, _++_, append-nil}
 use Prim.Native.Nat.{ℕ, zero, suc, _+_, _*_, _/_, _≤_}
 use native.Mathlib.Omega.{arith}
 use lib.Dec.{eqb}
@@ -20,7 +20,7 @@ use Rattle.model.specs.GraphText.{Kind, anInput, anOutput, anAnd, defines, due,
 use Rattle.model.specs.declared.Header.{Header}
 use Rattle.model.specs.declared.Verdict.{Verdict}
 use Rattle.model.specs.declared.Verdict.the-variants.{Accepted, Refused}
-use Rattle.words.specs.Layout.{kindAt}
+use Rattle.words.specs.Layout.{undefinedKind, constantKind, kindAt}
 use Rattle.text.proofs.Bytes.{and-true}
 use Rattle.placing.specs.Loaded.{Fit, kindOf, Holding}
 use Rattle.placing.specs.Placing.{Operands}
@@ -187,7 +187,7 @@ fails : {A : Type 0} (r : Read A) (k : ℕ) → unless false 14 k r ≡ fault 14
 unfolding unless
 fails r k = refl
 
-module _ (s : List ℕ) (h : Header) (w : List ℕ) (defined : List ℕ) (knows : (v : ℕ) → v ≤ h .size → elem v (0 ∷ defined) ≡ not (eqb (kindAt w (h .size) v) 0)) where
+module _ (s : List ℕ) (h : Header) (w : List ℕ) (defined : List ℕ) (knows : (v : ℕ) → v ≤ h .size → elem v (0 ∷ defined) ≡ not (eqb (kindAt w (h .size) v) undefinedKind)) where
   known-is : (l : ℕ) → l ≤ 2 * h .size + 1 → elem (varOf l) (0 ∷ defined) ≡ isKnown w (h .size) l
   unfolding isKnown varOf
   known-is l b = knows (l / 2) (omega arith)
@@ -262,11 +262,11 @@ module _ (s : List ℕ) (h : Header) (w : List ℕ) (fit : Fit h w) where
   or-nil true = refl
   or-nil false = refl
 
-  knows : (is : List Item) → read ≡ holds is → (v : ℕ) → v ≤ h .size → elem v (0 ∷ definedBy is) ≡ not (eqb (kindAt words (h .size) v) 0)
+  knows : (is : List Item) → read ≡ holds is → (v : ℕ) → v ≤ h .size → elem v (0 ∷ definedBy is) ≡ not (eqb (kindAt words (h .size) v) undefinedKind)
   unfolding elem any node
   knows is e v l = by-eqb v 0
       (λ z.
-      let k : kindAt words (h .size) v ≡ 1 = t .state .held .kinds v l ∙ ap (λ (x : ℕ). kindOf (node (joined (nothing (h .size)) is) x)) z in
+      let k : kindAt words (h .size) v ≡ constantKind = t .state .held .kinds v l ∙ ap (λ (x : ℕ). kindOf (node (joined (nothing (h .size)) is) x)) z in
       rw (eq-eqb v 0 z, k))
       (λ d. rw (ne-eqb v 0 d) (sym (or-nil (any (eqb v) (definedBy is))) ∙ sym (t .knows v) ∙ t .state .known v l d))
     where

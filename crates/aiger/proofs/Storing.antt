@@ -3,9 +3,9 @@
 --     input-new, input-other, and-new, and-other, output-node     its nodes with a line more
 --     opened-holds     nothing but variable 0 at first
 -- Assumes nothing.
-use mathlib.Core.Path.{_≡_, refl, sym, ap, _∙_, subst}
+use mathlib.Core.Path.{_≡_, refl, sym, ap, _∙_}
 use mathlib.Core.Bool.{Bool, true, false, cond}
-use mathlib.Core.List.{List, [], _∷_, _++_, List·Memᴰ, List·Memᴰ·head, List·Memᴰ·tail, List·Memᴰ·not-nil, Memᴰ·append-left, Memᴰ·append-right}
+use mathlib.Core.List.{List, [], _∷_, _++_, List·Memᴰ, List·Memᴰ·head, List·Memᴰ·tail, List·Memᴰ·not-nil, Memᴰ·append-right}
 use Prim.Native.Nat.{ℕ, suc, _+_, _≤_, _<_}
 use native.Mathlib.Omega.{arith}
 use lib.Dec.{eqb}
@@ -15,12 +15,12 @@ use borrow.Author.Tests.{eqb-false, eq-eqb, ne-eqb}
 use Rattle.model.specs.Base.{elem, any}
 use Rattle.model.specs.Graph.{And, Graph, Node, constant, input, undefined, both, findAnd, node}
 use Rattle.words.specs.Put.{putAt, zeros}
-use Rattle.words.specs.Layout.{Room, kindAddr, leftAddr, rightAddr, slotAddr, placeAddr, listsFrom, outputAddr, kindAt, leftAt, rightAt, slotAt, placeAt, outputAt}
+use Rattle.words.specs.Layout.{Room, undefinedKind, constantKind, kindAddr, leftAddr, rightAddr, slotAddr, placeAddr, listsFrom, outputAddr, kindAt, leftAt, rightAt, slotAt, placeAt, outputAt}
 use Rattle.words.specs.Record.{putNode}
 use Rattle.words.proofs.Putting.{length-put, get-put-above}
 use Rattle.words.proofs.Parts.{word-put, word-apart, zero-put}
 use Rattle.words.proofs.Chosen.{node-length, node-apart}
-use Rattle.theory_graph.proofs.Lists.{by-eqb, elem-in, getD-in}
+use Rattle.theory_graph.proofs.Lists.{by-eqb, elem-in}
 use Rattle.placing.specs.Loaded.{kindOf, leftOf, rightOf, Within, Ordered, Loaded}
 use Rattle.placing.proofs.Slots.{elem-snoc, place-holds}
 use Rattle.aiger.specs.Passes.{opened}
@@ -156,7 +156,7 @@ free-node g v e = go (eqb v 0) (elem v (g .inputs)) refl refl e
     go false true x y h = let z : _≡_ {A = ℕ} 0 1 = cc in absurd (omega arith)
     go false false x y h = record { nonzero = eqb-false v 0 x; noInput = y; noAnd = h }
 
-pub kind-none : (n : Node) → kindOf n ≡ 0 → n ≡ undefined
+pub kind-none : (n : Node) → kindOf n ≡ undefinedKind → n ≡ undefined
 kind-none constant e = absurd (omega arith)
 kind-none input e = absurd (omega arith)
 kind-none undefined e = refl
@@ -221,30 +221,30 @@ module _ (w : List ℕ) (m : ℕ) (fits : Room w m) where
   clear-apart a h = get-put-above w 0 (zeros (listsFrom m)) (omega (arith, fits .room, length-replicate {A = ℕ} (listsFrom m) 0)) a (omega (arith, length-replicate {A = ℕ} (listsFrom m) 0))
 
   first : List ℕ
-  first = putNode cleared m 0 1 0 0
+  first = putNode cleared m 0 constantKind 0 0
 
   first-apart : (a : ℕ) → (a ≡ kindAddr m 0 → ⊥) → (a ≡ leftAddr m 0 → ⊥) → (a ≡ rightAddr m 0 → ⊥) → getD first a 0 ≡ getD cleared a 0
   unfolding first
-  first-apart = node-apart cleared m 0 1 0 0 clear-fits (omega arith)
+  first-apart = node-apart cleared m 0 constantKind 0 0 clear-fits (omega arith)
 
   first-long : length first ≡ length w
   unfolding first
-  first-long = node-length cleared m 0 1 0 0 clear-fits (omega arith) ∙ cleared-long
+  first-long = node-length cleared m 0 constantKind 0 0 clear-fits (omega arith) ∙ cleared-long
 
   first-fits : Room first m
   first-fits = record { small = fits .small; room = omega (arith, fits .room, first-long) }
 
-  first-kind : kindAt first m 0 ≡ 1
+  first-kind : kindAt first m 0 ≡ constantKind
   unfolding first
-  first-kind = kind-stored cleared m 0 1 0 0 clear-fits (omega arith)
+  first-kind = kind-stored cleared m 0 constantKind 0 0 clear-fits (omega arith)
 
   first-left : leftAt first m 0 ≡ 0
   unfolding first
-  first-left = left-stored cleared m 0 1 0 0 clear-fits (omega arith)
+  first-left = left-stored cleared m 0 constantKind 0 0 clear-fits (omega arith)
 
   first-right : rightAt first m 0 ≡ 0
   unfolding first
-  first-right = right-stored cleared m 0 1 0 0 clear-fits (omega arith)
+  first-right = right-stored cleared m 0 constantKind 0 0 clear-fits (omega arith)
 
   first-order : Ordered first m []
   first-order = record {

@@ -11,7 +11,7 @@ use Rattle.text.specs.declared.Step.{Step}
 use Rattle.text.specs.declared.Step.the-variants.{Broken as NoStep}
 use Rattle.text.specs.Fields.{wordAt, endAt, onNumber, onStep, numberThen, byteAt}
 use Rattle.text.specs.Lines.{pickBool}
-use Rattle.words.specs.Layout.{kindAt}
+use Rattle.words.specs.Layout.{undefinedKind, inputKind, andKind, kindAt}
 use Rattle.placing.specs.Placing.{pickN}
 use Rattle.aiger.specs.declared.Literals.{Literals}
 use Rattle.aiger.specs.declared.LineRead.{LineRead}
@@ -62,9 +62,9 @@ formAt s = onStep (tagAt s) (λ c. numbersForm s (c .at)) NoForm
 
 -- ---- the due lines
 
--- due line k: 2 an input, 0 an output, 3 an AND
+-- the kind of node that due line k defines: an output line defines none
 abbrev pub dueCode : Header → ℕ → ℕ
-dueCode h k = pickN (ltb k (h .inputs)) 2 (pickN (ltb k (h .inputs + h .outputs)) 0 3)
+dueCode h k = pickN (ltb k (h .inputs)) inputKind (pickN (ltb k (h .inputs + h .outputs)) undefinedKind andKind)
 
 abbrev pub dueCount : Header → ℕ
 dueCount h = h .inputs + h .outputs + h .ands
@@ -83,7 +83,7 @@ pickLine true a b = a
 pickLine false a b = b
 
 unfoldable pub lineRead : List ℕ → ℕ → ℕ → LineRead
-lineRead s at kind = pickLine (eqb kind 3) (andLine s at) (oneLine s at)
+lineRead s at kind = pickLine (eqb kind andKind) (andLine s at) (oneLine s at)
 
 abbrev pub onLine : {A : Type 0} → LineRead → (Literals → A) → A → A
 onLine (ALine l) f e = f l
@@ -95,11 +95,11 @@ literalsFit m l = leb (l .first) (2 * m + 1) && (leb (l .left) (2 * m + 1) && le
 
 -- no "input or left literal is odd or 0"
 unfoldable pub mayDefine : ℕ → ℕ → Bool
-mayDefine kind first = eqb kind 0 || (eqb (first % 2) 0 && not (eqb first 0))
+mayDefine kind first = eqb kind undefinedKind || (eqb (first % 2) 0 && not (eqb first 0))
 
 -- "An input or left variable is already defined."
 unfoldable pub isTaken : List ℕ → ℕ → ℕ → ℕ → Bool
-isTaken w m kind first = not (eqb kind 0) && not (eqb (kindAt w m (first / 2)) 0)
+isTaken w m kind first = not (eqb kind undefinedKind) && not (eqb (kindAt w m (first / 2)) undefinedKind)
 
 abbrev pub pickJudged : Bool → Judged → Judged → Judged
 pickJudged true a b = a
@@ -114,9 +114,9 @@ judgedAt s at w m kind =
 
 -- a literal's variable is defined
 unfoldable pub isKnown : List ℕ → ℕ → ℕ → Bool
-isKnown w m l = not (eqb (kindAt w m (l / 2)) 0)
+isKnown w m l = not (eqb (kindAt w m (l / 2)) undefinedKind)
 
 -- so are the variables that a line uses; an input line's second and third literals are 0
 unfoldable pub usesKnown : List ℕ → ℕ → ℕ → Literals → Bool
 unfolding isKnown
-usesKnown w m kind l = pickBool (eqb kind 0) (isKnown w m (l .first)) (isKnown w m (l .left) && isKnown w m (l .right))
+usesKnown w m kind l = pickBool (eqb kind undefinedKind) (isKnown w m (l .first)) (isKnown w m (l .left) && isKnown w m (l .right))

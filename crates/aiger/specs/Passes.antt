@@ -8,7 +8,7 @@ use Rattle.model.specs.declared.Header.{Header}
 use Rattle.model.specs.declared.Verdict.{Verdict}
 use Rattle.model.specs.declared.Verdict.the-variants.{Accepted, Refused}
 use Rattle.words.specs.Put.{putAt, zeros}
-use Rattle.words.specs.Layout.{outputAddr, listsFrom}
+use Rattle.words.specs.Layout.{constantKind, inputKind, andKind, outputAddr, listsFrom}
 use Rattle.words.specs.Record.{putNode}
 use Rattle.placing.specs.Placing.{pickWords, putPlaced}
 use Rattle.aiger.specs.declared.Literals.{Literals}
@@ -40,14 +40,14 @@ onTurn (Stop n k) f e = e n k
 
 unfoldable pub storedInput : List ℕ → ℕ → ℕ → ℕ → List ℕ
 unfolding putPlaced
-storedInput w m k v = putPlaced (putNode w m v 2 0 0) m (k + 1) v
+storedInput w m k v = putPlaced (putNode w m v inputKind 0 0) m (k + 1) v
 
 unfoldable pub storedLine : List ℕ → Header → ℕ → Literals → List ℕ
 unfolding storedInput
 storedLine w h k l =
     pickWords (ltb k (h .inputs)) (storedInput w (h .size) k (l .first / 2))
     (pickWords (ltb k (h .inputs + h .outputs)) (putAt w (outputAddr (h .size) (k - h .inputs)) (l .first ∷ []))
-    (putNode w (h .size) (l .first / 2) 3 (l .left) (l .right)))
+    (putNode w (h .size) (l .first / 2) andKind (l .left) (l .right)))
 
 -- ---- 11 to 13
 
@@ -84,7 +84,7 @@ checkVerdict s h (suc n) k at w = onTurn (checkAt s at w h k) (λ end. checkVerd
 -- all columns zero but for variable 0, which stands first in the placing order
 unfoldable pub opened : List ℕ → ℕ → List ℕ
 unfolding putPlaced
-opened w m = putPlaced (putNode (putAt w 0 (zeros (listsFrom m))) m 0 1 0 0) m 0 0
+opened w m = putPlaced (putNode (putAt w 0 (zeros (listsFrom m))) m 0 constantKind 0 0) m 0 0
 
 -- the words after the due lines of a text are read, up to the first refusal
 unfoldable pub loadedWords : List ℕ → List ℕ → Header → List ℕ

@@ -1,8 +1,7 @@
 // AIGER's ASCII form, read: the header, and the due lines into the lent words.
 // "`aag M I L O A`, then I input lines, O output lines and A lines `left right right`."
 ghost use mathlib.Core.Path.{_≡_};
-ghost use Prim.Native.Nat.{ℕ, _+_, _*_, _≤_, _<_};
-ghost use mathlib.Core.List.{List};
+ghost use Prim.Native.Nat.{_+_, _*_, _≤_, _<_};
 ghost use lib.ListN.{length};
 ghost use Rattle.model.specs.Limits.{need};
 ghost use Rattle.model.specs.Reading.{holds, verdictOf};
@@ -171,15 +170,19 @@ pub enum Turn {
     Refused(usize, usize),
 }
 
-// What due line k is: 2 an input, 0 an output, 3 an AND.
+// The kind of node that due line k defines: an output line defines none.
 fn due_kind(h: Header, k: usize) -> usize
     requires { ⌜ (h .inputs ≤ 4095) × (h .outputs ≤ 4096) ⌝ }
     ensures { λ r. ⌜ r ≡ dueCode h k ⌝ }
 {
     if k < h.inputs {
-        return 2;
+        return words::INPUT;
     }
-    if k < h.inputs + h.outputs { 0 } else { 3 }
+    if k < h.inputs + h.outputs {
+        words::UNDEFINED
+    } else {
+        words::AND
+    }
 }
 
 fn read_one(s: &[u8], at: usize) -> LineRead
@@ -221,7 +224,7 @@ fn read_and(s: &[u8], at: usize) -> LineRead
 fn read_line(s: &[u8], at: usize, kind: usize) -> LineRead
     ensures { λ r. ⌜ r ≡ lineRead (now (s .entry)) at kind ⌝ }
 {
-    if kind == 3 {
+    if kind == words::AND {
         read_and(s, at)
     } else {
         read_one(s, at)
@@ -246,7 +249,7 @@ fn fits(m: usize, l: Literals) -> bool
 fn may_define(kind: usize, first: usize) -> bool
     ensures { λ r. ⌜ r ≡ mayDefine kind first ⌝ }
 {
-    if kind == 0 {
+    if kind == words::UNDEFINED {
         return true;
     }
     if first % 2 == 0 { first != 0 } else { false }
@@ -257,10 +260,10 @@ fn taken(work: &[u16], m: usize, kind: usize, first: usize) -> bool
     requires { ⌜ Room (now work) m × (first ≤ 2 * m + 1) ⌝ }
     ensures { λ r. ⌜ r ≡ isTaken (now (work .entry)) m kind first ⌝ }
 {
-    if kind == 0 {
+    if kind == words::UNDEFINED {
         return false;
     }
-    words::kind(work, m, first / 2) != 0
+    words::kind(work, m, first / 2) != words::UNDEFINED
 }
 
 // 11, 12 and 13 in this order.
@@ -292,7 +295,7 @@ fn store_input(work: &mut [u16], m: usize, k: usize, v: usize)
     requires { ⌜ Room (now work) m × (k < m) × (v ≤ m) ⌝ }
     ensures { λ _. ⌜ now (work .exit) ≡ storedInput (now (work .entry)) m k v ⌝ }
 {
-    words::store_node(work, m, v, 2, 0, 0);
+    words::store_node(work, m, v, words::INPUT, 0, 0);
     placing::place_at(work, m, k + 1, v);
 }
 
@@ -305,7 +308,7 @@ fn store_line(work: &mut [u16], h: Header, k: usize, l: Literals)
     } else if k < h.inputs + h.outputs {
         words::set_output(work, h.size, h.outputs, k - h.inputs, l.first);
     } else {
-        words::store_node(work, h.size, l.first / 2, 3, l.left, l.right);
+        words::store_node(work, h.size, l.first / 2, words::AND, l.left, l.right);
     }
 }
 
@@ -357,7 +360,7 @@ fn known(work: &[u16], m: usize, l: usize) -> bool
     requires { ⌜ Room (now work) m × (l ≤ 2 * m + 1) ⌝ }
     ensures { λ r. ⌜ r ≡ isKnown (now (work .entry)) m l ⌝ }
 {
-    words::kind(work, m, l / 2) != 0
+    words::kind(work, m, l / 2) != words::UNDEFINED
 }
 
 // What an output line or an AND line uses is defined.
@@ -365,7 +368,7 @@ fn uses_known(work: &[u16], m: usize, kind: usize, l: Literals) -> bool
     requires { ⌜ Room (now work) m × LiteralsFit m l ⌝ }
     ensures { λ r. ⌜ r ≡ usesKnown (now (work .entry)) m kind l ⌝ }
 {
-    if kind == 0 {
+    if kind == words::UNDEFINED {
         return known(work, m, l.first);
     }
     if !known(work, m, l.left) {
@@ -425,7 +428,7 @@ fn open_words(work: &mut [u16], m: usize)
     ensures { λ _. ⌜ now (work .exit) ≡ opened (now (work .entry)) m ⌝ }
 {
     words::clear_columns(work, m);
-    words::store_node(work, m, 0, 1, 0, 0);
+    words::store_node(work, m, 0, words::CONSTANT, 0, 0);
     placing::place_at(work, m, 0, 0);
 }
 

@@ -6,7 +6,7 @@
 --     holds-graph      the words hold the graph, as the layers above ask
 -- Assumes nothing.
 use mathlib.Core.Path.{_≡_, refl, sym, ap, _∙_, subst}
-use mathlib.Core.Bool.{Bool, true, false, not, _&&_}
+use mathlib.Core.Bool.{Bool, true, false, not}
 use mathlib.Core.Option.{none, some}
 use mathlib.Core.List.{List, [], _∷_, _++_, map, append-nil, List·Memᴰ, List·Memᴰ·head, List·Memᴰ·tail, Memᴰ·append-right}
 use Prim.Native.Nat.{ℕ, zero, suc, _+_, _-_, _*_, _/_, _≤_, _<_}
@@ -21,7 +21,7 @@ use Rattle.model.specs.Graph.{And, Graph, Node, constant, input, undefined, bot
 use Rattle.model.specs.Netlist.{placingVerdict}
 use Rattle.model.specs.declared.Header.{Header}
 use Rattle.model.specs.declared.Verdict.the-variants.{Accepted, Refused}
-use Rattle.words.specs.Layout.{Room, RoomFor, kindAt, leftAt, rightAt, placeAt, outputAt}
+use Rattle.words.specs.Layout.{Room, RoomFor, constantKind, andKind, kindAt, leftAt, rightAt, placeAt, outputAt}
 use Rattle.words.specs.Record.{nodeOf, nodeAt}
 use Rattle.words.specs.Holding.{HoldsGraph}
 use Rattle.theory_graph.proofs.Lists.{by-eqb, elem-in, elem-out, map-in, map-out, keep-in, keep-out, is-true}
@@ -58,7 +58,7 @@ not-not false u e = ap not e
 -- ---- an AND, by the words and by the model
 
 module _ (w₀ : List ℕ) (m : ℕ) (g : Graph) (sure : (a : And) → List·Memᴰ a (g .ands) → Sure m g a) (w : List ℕ) (order : List ℕ) (held : Loaded w₀ m w g order) where
-  and-kind : (a : And) → List·Memᴰ a (g .ands) → kindAt w m (a .var) ≡ 3
+  and-kind : (a : And) → List·Memᴰ a (g .ands) → kindAt w m (a .var) ≡ andKind
   and-kind a n = held .kinds (a .var) (sure a n .var) ∙ ap kindOf (sure a n .node)
 
   waiting-and : (a : And) → List·Memᴰ a (g .ands) → isWaiting w m (a .var) ≡ not (elem (a .var) order)
@@ -77,14 +77,14 @@ module _ (w₀ : List ℕ) (m : ℕ) (g : Graph) (sure : (a : And) → List·Mem
       let r : rightAt w m (a .var) ≡ a .right = held .rights (a .var) (s .var) ∙ ap rightOf (s .node) in
       rw (waiting-and a n, l, r, operand (a .left) (s .left), operand (a .right) (s .right), same (a .var), same (varOf (a .left)), same (varOf (a .right)))
 
-  -- a variable of kind 3 is an AND's
-  kind-both : (n : Node) → kindOf n ≡ 3 → n ≡ both (leftOf n) (rightOf n)
+  -- a variable of an AND's kind is an AND's
+  kind-both : (n : Node) → kindOf n ≡ andKind → n ≡ both (leftOf n) (rightOf n)
   kind-both constant e = absurd (omega arith)
   kind-both input e = absurd (omega arith)
   kind-both undefined e = absurd (omega arith)
   kind-both (both l r) e = refl
 
-  and-of : (u : ℕ) → u ≤ m → kindAt w m u ≡ 3 → Found (g .ands) u (leftOf (node g u)) (rightOf (node g u))
+  and-of : (u : ℕ) → u ≤ m → kindAt w m u ≡ andKind → Found (g .ands) u (leftOf (node g u)) (rightOf (node g u))
   and-of u l e = node-and g u (leftOf (node g u)) (rightOf (node g u)) (kind-both (node g u) (sym (held .kinds u l) ∙ e))
 
   -- the ANDs that are ready
@@ -278,7 +278,7 @@ module _ (w₀ : List ℕ) (h : Header) (fit : Fit h w₀) (w : List ℕ) (g : G
   unfolding isWaiting node
   zero-waits u l =
       let z : u ≡ 0 = omega arith in
-      let k : kindAt w (h .size) u ≡ 1 = hold .held .kinds u (omega arith) ∙ ap (λ (x : ℕ). kindOf (node g x)) z in
+      let k : kindAt w (h .size) u ≡ constantKind = hold .held .kinds u (omega arith) ∙ ap (λ (x : ℕ). kindOf (node g x)) z in
       rw k
 
   start : Went w₀ (h .size) g w 1 (0 ∷ g .inputs) (0 ∷ g .inputs)

@@ -21,7 +21,7 @@ use lib.ListN.{length, getD}
 use borrow.Author.Tests.{eqb-true, ne-eqb, leb-true, le-leb, lt-leb, lt-ltb, le-ltb}
 use Rattle.model.specs.declared.Header.{Header}
 use Rattle.model.specs.declared.Verdict.the-variants.{Accepted, Refused}
-use Rattle.words.specs.Layout.{Room, kindAddr, leftAddr, rightAddr, placeAddr, kindAt, leftAt, rightAt, placeAt}
+use Rattle.words.specs.Layout.{Room, andKind, kindAddr, leftAddr, rightAddr, placeAddr, kindAt, leftAt, rightAt, placeAt}
 use Rattle.theory_graph.proofs.Lists.{by-eqb, is-true}
 use Rattle.placing.specs.Loaded.{Fit}
 use Rattle.placing.specs.Placing.{pickN, pickWords, putPlaced, Operands, isWaiting, isPlaced, isReady, seek, waitingFrom, readyFrom, nextAnd, orderWords, orderLow, placedWords, placedVerdict}
@@ -34,13 +34,13 @@ both-true : (a b : Bool) → (a && b) ≡ true → (a ≡ true) × (b ≡ true)
 both-true a b e = let t = and-yes a b (subst T (sym e) tt) in (is-true a (t .0), is-true b (t .1))
 
 module _ (w : List ℕ) (m v : ℕ) where
-  pub waits-kind : isWaiting w m v ≡ true → kindAt w m v ≡ 3
+  pub waits-kind : isWaiting w m v ≡ true → kindAt w m v ≡ andKind
   unfolding isWaiting
-  waits-kind e = eqb-true (kindAt w m v) 3 (both-true (eqb (kindAt w m v) 3) (eqb (placeAt w m v) 0) e .0)
+  waits-kind e = eqb-true (kindAt w m v) andKind (both-true (eqb (kindAt w m v) andKind) (eqb (placeAt w m v) 0) e .0)
 
   pub waits-place : isWaiting w m v ≡ true → placeAt w m v ≡ 0
   unfolding isWaiting
-  waits-place e = eqb-true (placeAt w m v) 0 (both-true (eqb (kindAt w m v) 3) (eqb (placeAt w m v) 0) e .1)
+  waits-place e = eqb-true (placeAt w m v) 0 (both-true (eqb (kindAt w m v) andKind) (eqb (placeAt w m v) 0) e .1)
 
   pub ready-waits : isReady w m v ≡ true → isWaiting w m v ≡ true
   unfolding isReady
@@ -95,7 +95,7 @@ module _ (w : List ℕ) (m i v : ℕ) (fits : Room w m) (slot : i ≤ m) (within
 
   placed-waits : isWaiting (putPlaced w m i v) m v ≡ false
   unfolding isWaiting
-  placed-waits = rw (ne-eqb (placeAt (putPlaced w m i v) m v) 0 (omega (arith, place-stored w m i v fits slot within))) (and-false (eqb (kindAt (putPlaced w m i v) m v) 3))
+  placed-waits = rw (ne-eqb (placeAt (putPlaced w m i v) m v) 0 (omega (arith, place-stored w m i v fits slot within))) (and-false (eqb (kindAt (putPlaced w m i v) m v) andKind))
 
   waits-apart : (u : ℕ) → u ≤ m → ¬ (u ≡ v) → isWaiting (putPlaced w m i v) m u ≡ isWaiting w m u
   unfolding isWaiting

@@ -10,7 +10,7 @@ use native.Mathlib.Omega.{arith}
 use lib.ListN.{length, getD, set, length-set}
 use lib.Seq.{lt-length-set, getD-set-same, getD-set-other}
 use borrow.Author.Tests.{eq-eqb, ne-eqb}
-use Rattle.words.specs.Layout.{Room, kindAt, leftAt, rightAt}
+use Rattle.words.specs.Layout.{Room, andKind, kindAt, leftAt, rightAt}
 use Rattle.theory_graph.proofs.Lists.{by-eqb}
 use Rattle.placing.specs.Placing.{Operands}
 use Rattle.placing.specs.Users.{userPut, Users}
@@ -21,13 +21,13 @@ users-none us e s w m = record { long = e; some = s; left = λ u a b k. absurd (
 -- ---- one AND
 
 module _ (w : List ℕ) (m v : ℕ) (us : List ℕ) where
-  pub put-and : kindAt w m v ≡ 3 → userPut w m v us ≡ set (set us (leftAt w m v / 2) v) (rightAt w m v / 2) v
+  pub put-and : kindAt w m v ≡ andKind → userPut w m v us ≡ set (set us (leftAt w m v / 2) v) (rightAt w m v / 2) v
   unfolding userPut
-  put-and k = rw (eq-eqb (kindAt w m v) 3 k)
+  put-and k = rw (eq-eqb (kindAt w m v) andKind k)
 
-  pub put-other : ¬ (kindAt w m v ≡ 3) → userPut w m v us ≡ us
+  pub put-other : ¬ (kindAt w m v ≡ andKind) → userPut w m v us ≡ us
   unfolding userPut
-  put-other d = rw (ne-eqb (kindAt w m v) 3 d)
+  put-other d = rw (ne-eqb (kindAt w m v) andKind d)
 
 -- what is known of a word and of what was there is known of it after the store
 stored : (P : ℕ → Type 0) (us : List ℕ) (i v k : ℕ) → i < length us → P v → P (getD us k 0) → P (getD (set us i v) k 0)
@@ -36,7 +36,7 @@ stored P us i v k h p q = by-eqb k i
     (λ d. subst P (sym (getD-set-other us i k v 0 d)) q)
 
 module _ (w : List ℕ) (m v : ℕ) (us : List ℕ) (fits : Room w m) (o : Operands w m) (first : 0 < v) (within : v ≤ m) (r : Users w m v us) where
-  module _ (three : kindAt w m v ≡ 3) where
+  module _ (three : kindAt w m v ≡ andKind) where
     left-in : leftAt w m v / 2 < length us
     left-in = omega (arith, o .left v within three, fits .small, r .long)
 
@@ -69,7 +69,7 @@ module _ (w : List ℕ) (m v : ℕ) (us : List ℕ) (fits : Room w m) (o : Opera
           (λ d. both (λ (x : ℕ). x ≤ u) (rightAt w m u / 2) (omega arith) (r .right u (omega arith) b k));
     }
 
-  without : ¬ (kindAt w m v ≡ 3) → Users w m (v - 1) us
+  without : ¬ (kindAt w m v ≡ andKind) → Users w m (v - 1) us
   without n = record {
     long = r .long;
     some = r .some;
@@ -77,8 +77,8 @@ module _ (w : List ℕ) (m v : ℕ) (us : List ℕ) (fits : Room w m) (o : Opera
     right = λ u a b k. r .right u (above u a k) b k;
   }
     where
-      above : (u : ℕ) → v - 1 < u → kindAt w m u ≡ 3 → v < u
+      above : (u : ℕ) → v - 1 < u → kindAt w m u ≡ andKind → v < u
       above u a k = by-eqb u v (λ e. absurd (n (ap (kindAt w m) (sym e) ∙ k))) (λ d. omega arith)
 
   pub users-put : Users w m (v - 1) (userPut w m v us)
-  users-put = by-eqb (kindAt w m v) 3 (λ k. rw (put-and w m v us k) (with-and k)) (λ n. rw (put-other w m v us n) (without n))
+  users-put = by-eqb (kindAt w m v) andKind (λ k. rw (put-and w m v us k) (with-and k)) (λ n. rw (put-other w m v us n) (without n))

@@ -6,7 +6,7 @@ use Prim.Native.Nat.{ℕ, _+_, _*_, _≤_, _<_}
 use lib.ListN.{length, getD}
 use Rattle.model.specs.Graph.{And, Graph, Node, constant, input, undefined, both, node}
 use Rattle.model.specs.declared.Header.{Header}
-use Rattle.words.specs.Layout.{RoomFor, kindAt, leftAt, rightAt, slotAt, placeAt, outputAt, countAddr, listsFrom, outputAddr}
+use Rattle.words.specs.Layout.{RoomFor, undefinedKind, constantKind, inputKind, andKind, kindAt, leftAt, rightAt, slotAt, placeAt, outputAt, countAddr, listsFrom, outputAddr}
 
 -- enough words for an accepted header
 pub record Fit (h : Header) (w : List ℕ) : Type 0 where
@@ -16,10 +16,10 @@ pub record Fit (h : Header) (w : List ℕ) : Type 0 where
 
 -- the three words of a node
 abbrev pub kindOf : Node → ℕ
-kindOf constant = 1
-kindOf input = 2
-kindOf undefined = 0
-kindOf (both l r) = 3
+kindOf constant = constantKind
+kindOf input = inputKind
+kindOf undefined = undefinedKind
+kindOf (both l r) = andKind
 
 abbrev pub leftOf : Node → ℕ
 leftOf constant = 0

@@ -8,7 +8,7 @@ use Rattle.model.specs.declared.Header.{Header}
 use Rattle.model.specs.declared.Verdict.{Verdict}
 use Rattle.model.specs.declared.Verdict.the-variants.{Accepted, Refused}
 use Rattle.words.specs.Put.{putAt}
-use Rattle.words.specs.Layout.{slotAddr, placeAddr, kindAt, leftAt, rightAt, placeAt}
+use Rattle.words.specs.Layout.{andKind, slotAddr, placeAddr, kindAt, leftAt, rightAt, placeAt}
 
 abbrev pub pickN : Bool → ℕ → ℕ → ℕ
 pickN true a b = a
@@ -28,12 +28,12 @@ putPlaced w m i v = putAt (putAt w (slotAddr m i) (v ∷ [])) (placeAddr m v) ((
 
 -- the operands of each AND are literals of the graph
 pub record Operands (w : List ℕ) (m : ℕ) : Type 0 where
-  pub left : (v : ℕ) → v ≤ m → kindAt w m v ≡ 3 → leftAt w m v ≤ 2 * m + 1
-  pub right : (v : ℕ) → v ≤ m → kindAt w m v ≡ 3 → rightAt w m v ≤ 2 * m + 1
+  pub left : (v : ℕ) → v ≤ m → kindAt w m v ≡ andKind → leftAt w m v ≤ 2 * m + 1
+  pub right : (v : ℕ) → v ≤ m → kindAt w m v ≡ andKind → rightAt w m v ≤ 2 * m + 1
 
 -- an AND that is not placed
 unfoldable pub isWaiting : List ℕ → ℕ → ℕ → Bool
-isWaiting w m v = eqb (kindAt w m v) 3 && eqb (placeAt w m v) 0
+isWaiting w m v = eqb (kindAt w m v) andKind && eqb (placeAt w m v) 0
 
 -- a literal's variable is placed
 unfoldable pub isPlaced : List ℕ → ℕ → ℕ → Bool

@@ -26,7 +26,7 @@ fn waits(work: &[u16], m: usize, v: usize) -> bool
     requires { ⌜ Room (now work) m × (v ≤ m) ⌝ }
     ensures { λ r. ⌜ r ≡ isWaiting (now (work .entry)) m v ⌝ }
 {
-    if words::kind(work, m, v) != 3 {
+    if words::kind(work, m, v) != words::AND {
         return false;
     }
     words::place(work, m, v) == 0
@@ -95,7 +95,7 @@ fn put_user(work: &[u16], m: usize, v: usize, users: &mut [u16; VARIABLES])
     requires { ⌜ Room (now work) m × Operands (now work) m × (v ≤ m) ⌝ }
     ensures { λ _. ⌜ now (users .exit) ≡ userPut (now (work .entry)) m v (now (users .entry)) ⌝ }
 {
-    if words::kind(work, m, v) == 3 {
+    if words::kind(work, m, v) == words::AND {
         let left = words::left(work, m, v) / 2;
         let right = words::right(work, m, v) / 2;
         users[left] = v as u16;

@@ -5,9 +5,24 @@ use Prim.Native.Nat.{ℕ, _+_, _*_, _/_, _%_, _≤_}
 use lib.ListN.{length, getD}
 use Rattle.model.specs.Limits.{cutLimit}
 
+-- ---- the kinds of a node
+
+-- cleared words say that nothing is defined
+abbrev pub undefinedKind : ℕ
+undefinedKind = 0
+
+abbrev pub constantKind : ℕ
+constantKind = 1
+
+abbrev pub inputKind : ℕ
+inputKind = 2
+
+abbrev pub andKind : ℕ
+andKind = 3
+
 -- ---- the addresses
 
--- what a variable is: 0 undefined, 1 constant, 2 input, 3 AND
+-- what a variable is
 abbrev pub kindAddr : ℕ → ℕ → ℕ
 kindAddr m v = v
 

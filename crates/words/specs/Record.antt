@@ -9,7 +9,7 @@ use Rattle.model.specs.Limits.{cutLimit}
 use Rattle.model.specs.declared.Cut.{Cut}
 use Rattle.model.specs.Graph.{Node, constant, input, undefined, both}
 use Rattle.words.specs.Put.{putAt}
-use Rattle.words.specs.Layout.{kindAddr, leftAddr, rightAddr, kindAt, leftAt, rightAt, countAt, countAddr, listAddr}
+use Rattle.words.specs.Layout.{constantKind, inputKind, andKind, kindAddr, leftAddr, rightAddr, kindAt, leftAt, rightAt, countAt, countAddr, listAddr}
 
 -- the leaves of a cut
 abbrev pub leavesOf : Cut → List ℕ
@@ -47,7 +47,7 @@ putList w m v cs = putAt (putAt w (countAddr m v) (length cs ∷ [])) (listAddr 
 
 -- what a kind, and the words of the operands, say a variable is
 abbrev pub nodeOf : ℕ → ℕ → ℕ → Node
-nodeOf k l r = cond (eqb k 1) constant (cond (eqb k 2) input (cond (eqb k 3) (both l r) undefined))
+nodeOf k l r = cond (eqb k constantKind) constant (cond (eqb k inputKind) input (cond (eqb k andKind) (both l r) undefined))
 
 -- what a variable is, as the words have it
 unfoldable pub nodeAt : List ℕ → ℕ → ℕ → Node

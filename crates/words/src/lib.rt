@@ -22,6 +22,15 @@ const TABLES: usize = 16 + BLOCK;
 
 const OUTPUTS: usize = TABLES + LIMIT;
 
+// The kinds of a node, as `kind` reads them.
+pub const UNDEFINED: usize = 0;
+
+pub const CONSTANT: usize = 1;
+
+pub const INPUT: usize = 2;
+
+pub const AND: usize = 3;
+
 // "160(M+1) + O 16-bit words".
 pub fn need_words(m: usize, outputs: usize) -> usize
     requires { ⌜ (m ≤ 65535) × (outputs ≤ 65535) ⌝ }
@@ -52,7 +61,7 @@ fn set_word(work: &mut [u16], at: usize, x: u16)
 
 // ---- the columns of one word for each variable
 
-// 0 undefined, 1 constant, 2 input, 3 AND.
+// What a variable is: `UNDEFINED`, `CONSTANT`, `INPUT` or `AND`.
 pub fn kind(work: &[u16], m: usize, v: usize) -> usize
     requires { ⌜ Room (now work) m × (v ≤ m) ⌝ }
     ensures { λ r. ⌜ r ≡ kindAt (now (work .entry)) m v ⌝ }

@@ -3,6 +3,7 @@
 use mathlib.Core.Path.{ap, _∙_}
 use mathlib.Core.List.{List}
 use Prim.Native.Nat.{ℕ}
+use Rattle.words.specs.Layout.{constantKind}
 use Rattle.words.specs.Record.{putNode}
 use Rattle.placing.specs.Placing.{putPlaced}
 use Rattle.aiger.specs.Passes.{opened}
@@ -29,7 +30,7 @@ returns c =
     let at-store-node = at-place-at .before .before .before .before in
     let at-clear-columns = at-store-node .before .before .before .before in
     let start = at-clear-columns .before .before .before in
-    at-place-at .place-at .ensures ∙ ap (λ (x : List ℕ). putPlaced x (start .args .m) 0 0) (at-store-node .store-node .ensures ∙ ap (λ (x : List ℕ). putNode x (start .args .m) 0 1 0 0) (at-clear-columns .clear-columns .ensures))
+    at-place-at .place-at .ensures ∙ ap (λ (x : List ℕ). putPlaced x (start .args .m) 0 0) (at-store-node .store-node .ensures ∙ ap (λ (x : List ℕ). putNode x (start .args .m) 0 constantKind 0 0) (at-clear-columns .clear-columns .ensures))
 
 pub open-words-spec : {M : Type 1} → statement M
 open-words-spec =

@@ -18,7 +18,7 @@ returns c = rw (eq-eqb _ _ (c .before .if1 .taken)) (c .read-and .ensures)
 
 returns-2 : tie.Need-returns-2
 unfolding lineRead
-returns-2 c = rw (ne-eqb (c .before .before .before .args .kind) 3 (c .before .if1 .left)) (c .read-one .ensures)
+returns-2 c = rw (ne-eqb _ _ (c .before .if1 .left)) (c .read-one .ensures)
 
 pub read-line-spec : {M : Type 1} → statement M
 read-line-spec = tie.close (tie.spec read-and-requires read-one-requires returns returns-2)

@@ -15,7 +15,7 @@ kind-requires c κs = search needs
 
 returns-2 : tie.Need-returns-2
 unfolding isTaken
-returns-2 c = rw (ne-eqb (c .before .before .before .args .kind) 0 (c .before .if1 .left), c .kind .ensures)
+returns-2 c = rw (ne-eqb _ _ (c .before .if1 .left), c .kind .ensures)
 
 pub taken-spec : {M : Type 1} → statement M
 taken-spec = tie.close (tie.spec returns kind-requires returns-2)

@@ -19,7 +19,7 @@ known-requires-2 c κs = search needs
 
 returns-2 : tie.Need-returns-2
 unfolding usesKnown
-returns-2 c = rw (ne-eqb (c .before .before .before .before .args .kind) 0 (c .before .before .if1 .left), sym (c .before .known2 .ensures) ∙ not-true _ (c .if2 .taken))
+returns-2 c = rw (ne-eqb _ _ (c .before .before .if1 .left), sym (c .before .known2 .ensures) ∙ not-true _ (c .if2 .taken))
 
 known-requires-3 : tie.Need-known-requires-3
 known-requires-3 c κs = search needs
@@ -30,7 +30,7 @@ returns-3 c =
     let at-known2 = c .before .before in
     let at-if1 = at-known2 .before in
     let start = at-if1 .before .before in
-    rw (ne-eqb (start .args .kind) 0 (at-if1 .if1 .left), sym (at-known2 .known2 .ensures) ∙ not-false _ (c .before .if2 .left)) (c .known3 .ensures)
+    rw (ne-eqb _ _ (at-if1 .if1 .left), sym (at-known2 .known2 .ensures) ∙ not-false _ (c .before .if2 .left)) (c .known3 .ensures)
 
 pub uses-known-spec : {M : Type 1} → statement M
 uses-known-spec =

@@ -2,6 +2,7 @@
 -- Assumes nothing.
 use mathlib.Core.Path.{sym}
 use borrow.Author.Tests.{eq-eqb, ne-eqb}
+use Rattle.words.specs.Layout.{andKind}
 use Rattle.placing.specs.Placing.{isWaiting}
 use borrow.Author.Needs.{needs}
 use Rattle.placing.proofs.waits.Statement.{statement}
@@ -12,14 +13,14 @@ kind-requires c κs = search needs
 
 returns : tie.Need-returns
 unfolding isWaiting
-returns c = rw (sym (c .before .kind .ensures), ne-eqb _ 3 (c .if1 .taken))
+returns c = rw (sym (c .before .kind .ensures), ne-eqb _ andKind (c .if1 .taken))
 
 place-requires : tie.Need-place-requires
 place-requires c κs = search needs
 
 returns-2 : tie.Need-returns-2
 unfolding isWaiting
-returns-2 c = rw (sym (c .before .before .kind .ensures), eq-eqb _ 3 (c .before .if1 .left), c .place .ensures)
+returns-2 c = rw (sym (c .before .before .kind .ensures), eq-eqb _ andKind (c .before .if1 .left), c .place .ensures)
 
 pub waits-spec : {M : Type 1} → statement M
 waits-spec = tie.close (tie.spec kind-requires returns place-requires returns-2)
