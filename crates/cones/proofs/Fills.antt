@@ -1,6 +1,6 @@
 -- What the pass over all cuts goes by:
 --     fresh-noted                 a walk with a new number has noted nothing yet
---     put-kept                    words stored past the notes, in words that differ in notes alone
+--     put-kept                    functions stored, in words that differ in notes alone
 --     one-filled                  one cut's function
 --     node-begin, node-turn       the cuts of one variable, one after the other
 --     pass-begin, pass-turn, pass-end   the variables, one after the other, and the notes cleared
@@ -13,16 +13,17 @@ use Prim.Native.Nat.{ℕ, zero, suc, _+_, _-_, _≤_, _<_}
 use native.Mathlib.Numerals.{add-one}
 use native.Mathlib.Omega.{arith}
 use lib.Dec.{ltb, eqb}
-use lib.ListN.{length, take, getD, set, length-map, length-replicate}
+use lib.ListN.{length, take, getD, length-map, length-replicate}
 use lib.Seq.{ext-getD, take-all, length-take-le}
 use borrow.Author.Tests.{ltb-true, ltb-false, eqb-true, eqb-false}
 use Rattle.model.specs.Limits.{cutLimit}
 use Rattle.words.specs.Put.{putAt, zeros}
-use Rattle.words.specs.Layout.{Room, placeAt, slotAt, countAt, countAddr, listAddr, functionAddr, functionAt, outputAddr, slotAddr, noteAddr, notesFrom, notesTo, listsTo, block}
-use Rattle.words.specs.Record.{nodeAt, cutsAt, Sound}
-use Rattle.words.proofs.Putting.{length-put, get-put, get-put-below, get-put-above, put-none, put-one, put-taken}
-use Rattle.words.proofs.Parts.{get-apart, zero-put}
-use Rattle.words.proofs.Stored.{list-length, cuts-same, sound-same}
+use Rattle.words.specs.Layout.{Room, placeAt, slotAt, countAt, countAddr, outputAddr, slotAddr, noteAddr, notesFrom, notesTo, listsTo}
+use Rattle.words.specs.Record.{nodeAt, cutsAt, functionOf, putFunctions, Sound}
+use Rattle.words.proofs.Putting.{length-put, get-put-below, get-put-above}
+use Rattle.words.proofs.Parts.{zero-put}
+use Rattle.words.proofs.Stored.{count-listed, cuts-same, sound-same}
+use Rattle.words.proofs.Tabled.{function-stored, function-apart, functions-none, functions-more, put-functions-length, put-functions-before, put-functions-behind, put-functions-same}
 use Rattle.cones.specs.Table.{walkWord, Noted, Placed, Kept, Walked}
 use Rattle.cones.specs.Filling.{cutWord, functionsOf, filled, Fresh, FilledOne, Ready}
 use Rattle.cones.proofs.Walks.{kept-then, placed-kept, same-place, same-walk}
@@ -34,32 +35,17 @@ fresh-noted w m walk ls fresh =
 kept-refl : (w : List ℕ) (m : ℕ) → Kept w m w
 kept-refl w m = record { long = refl; below = λ i h. refl; above = λ i h. refl }
 
--- words stored past the notes
-pub put-kept : (w v : List ℕ) (m at : ℕ) (vs : List ℕ) → Kept w m v → notesTo m ≤ at → at + length vs ≤ length w → Kept (putAt w at vs) m (putAt v at vs)
-put-kept w v m at vs kept past fits =
+-- functions stored
+put-kept : (w v : List ℕ) (m u k : ℕ) (fs : List ℕ) → Room w m → u ≤ m → k + length fs ≤ cutLimit → Kept w m v → Kept (putFunctions w m u k fs) m (putFunctions v m u k fs)
+put-kept w v m u k fs room inside few kept =
+    let room-v : Room v m = record { small = room .small; room = omega (arith, room .room, kept .long) } in
+    let same : (i : ℕ) → getD v i 0 ≡ getD w i 0 → getD (putFunctions v m u k fs) i 0 ≡ getD (putFunctions w m u k fs) i 0 =
+    put-functions-same w m u k fs room inside few v (kept .long) in
     record {
-      long = length-put v at vs fits-v ∙ kept .long ∙ sym (length-put w at vs fits);
-      below = λ i h. get-put-below v at vs fits-v i (omega arith) ∙ kept .below i h ∙ sym (get-put-below w at vs fits i (omega arith));
-      above = λ i h. by i h (ltb i at) refl (ltb i (at + length vs)) refl;
+      long = put-functions-length v m u k fs room-v inside few ∙ kept .long ∙ sym (put-functions-length w m u k fs room inside few);
+      below = λ i h. same i (kept .below i h);
+      above = λ i h. same i (kept .above i h);
     }
-  where
-    fits-v : at + length vs ≤ length v
-    fits-v = omega (arith, kept .long)
-
-    by : (i : ℕ) → notesTo m ≤ i → (s : Bool) → ltb i at ≡ s → (t : Bool) → ltb i (at + length vs) ≡ t → getD (putAt v at vs) i 0 ≡ getD (putAt w at vs) i 0
-    by i h true e t f =
-        let l : i < at = ltb-true i at e in
-        get-put-below v at vs fits-v i l ∙ kept .above i h ∙ sym (get-put-below w at vs fits i l)
-    by i h false e true f =
-        let l : at ≤ i = ltb-false i at e in
-        let g : i < at + length vs = ltb-true i (at + length vs) f in
-        let here : i ≡ at + (i - at) = omega arith in
-        ap (λ (j : ℕ). getD (putAt v at vs) j 0) here
-        ∙ get-put v at vs fits-v (i - at) (omega arith)
-        ∙ sym (ap (λ (j : ℕ). getD (putAt w at vs) j 0) here ∙ get-put w at vs fits (i - at) (omega arith))
-    by i h false e false f =
-        let g : at + length vs ≤ i = ltb-false i (at + length vs) f in
-        get-put-above v at vs fits-v i g ∙ kept .above i h ∙ sym (get-put-above w at vs fits i g)
 
 -- what functions are put does not reach: words v that agree with w below the functions
 pub record Under (w : List ℕ) (m : ℕ) (v : List ℕ) : Type 0 where
@@ -75,14 +61,11 @@ module _ (w v : List ℕ) (m : ℕ) (under : Under w m v) (p : Placed w m) where
     same-count : countAt v m u ≡ countAt w m u
     same-count = under .graph (countAddr m u) (omega arith)
 
-    same-words : (i : ℕ) → i < block → getD v (listAddr m u + i) 0 ≡ getD w (listAddr m u + i) 0
-    same-words i h = under .lists (listAddr m u + i) (omega arith) (omega arith)
-
     pub under-sound : Sound w m u → Sound v m u
-    under-sound s = sound-same v w m u same-count same-words s
+    under-sound s = sound-same v w m (λ i a b. under .lists i (omega arith) b) u inside same-count s
 
     pub under-cuts : Sound w m u → cutsAt v m u ≡ cutsAt w m u
-    under-cuts s = cuts-same v w m u same-count same-words (s .few)
+    under-cuts s = cuts-same v w m (λ i a b. under .lists i (omega arith) b) u inside same-count (s .few)
 
     under-word : (ls : List ℕ) → cutWord v m u ls ≡ cutWord w m u ls
     unfolding cutWord
@@ -102,60 +85,57 @@ module _ (w v : List ℕ) (m : ℕ) (under : Under w m v) (p : Placed w m) where
     under-one s k = ap (λ (cs : List (List ℕ)). cutWord v m u (getD cs k [])) (under-cuts s) ∙ under-word (getD (cutsAt w m u) k [])
 
 -- functions put, and then notes, leave the rest as it was
-under-put : (w t v : List ℕ) (m at : ℕ) (vs : List ℕ) → Under w m t → listsTo m ≤ at → at + length vs ≤ length t → Kept (putAt t at vs) m v → Under w m v
-under-put w t v m at vs under past fits kept =
+under-put : (w t v : List ℕ) (m u k : ℕ) (fs : List ℕ) → Under w m t → Room t m → u ≤ m → k + length fs ≤ cutLimit → Kept (putFunctions t m u k fs) m v → Under w m v
+under-put w t v m u k fs under room inside few kept =
     record {
-      long = kept .long ∙ length-put t at vs fits ∙ under .long;
-      graph = λ i h. kept .below i h ∙ get-put-below t at vs fits i (omega arith) ∙ under .graph i h;
-      lists = λ i h l. kept .above i h ∙ get-put-below t at vs fits i (omega arith) ∙ under .lists i h l;
+      long = kept .long ∙ put-functions-length t m u k fs room inside few ∙ under .long;
+      graph = λ i h. kept .below i h ∙ put-functions-before t m u k fs room inside few i (omega arith) ∙ under .graph i h;
+      lists = λ i h l. kept .above i h ∙ put-functions-before t m u k fs room inside few i l ∙ under .lists i h l;
     }
 
 under-refl : (w : List ℕ) (m : ℕ) → Under w m w
 under-refl w m = record { long = refl; graph = λ i h. refl; lists = λ i h l. refl }
 
--- one cut's function: c is the cut, one the words after the walk, x its answer, out the words with it stored
+-- one cut's function: ls are the cut's leaves, one the words after the walk, x its answer, out the words with it stored
 pub one-filled : (w : List ℕ) (m v k walk : ℕ) → Room w m → v ≤ m → k < cutLimit → (ls : List ℕ) → ls ≡ getD (cutsAt w m v) k []
-    → (one out : List ℕ) (x : ℕ) → Walked w m ls walk v one x → out ≡ putAt one (functionAddr m v k) (x ∷ []) → FilledOne w m v k walk out
+    → (one out : List ℕ) (x : ℕ) → Walked w m ls walk v one x → out ≡ putFunctions one m v k (x ∷ []) → FilledOne w m v k walk out
 unfolding cutWord
 one-filled w m v k walk room inside few ls el one out x walked eo =
     let word : x ≡ cutWord w m v (getD (cutsAt w m v) k []) = walked .table (placeAt w m v) (omega arith) ∙ ap (cutWord w m v) el in
-    let at : ℕ = functionAddr m v k in
-    let fits : at + 1 ≤ length one = omega (arith, walked .kept .long, room .room, room .small) in
+    let fits : Room one m = record { small = room .small; room = omega (arith, walked .kept .long, room .room) } in
+    let note : (i : ℕ) → i < listsTo m → getD out i 0 ≡ getD one i 0 =
+    λ i h. ap (λ (q : List ℕ). getD q i 0) eo ∙ put-functions-before one m v k (x ∷ []) fits inside (omega arith) i h in
     record {
       kept =
-          subst (λ (q : List ℕ). Kept (putAt w at (cutWord w m v (getD (cutsAt w m v) k []) ∷ [])) m q) (sym eo)
-          (subst (λ (y : ℕ). Kept (putAt w at (y ∷ [])) m (putAt one at (x ∷ []))) word (put-kept w one m at (x ∷ []) (walked .kept) (omega arith) (omega (arith, room .room, room .small))));
-      fresh =
-          record {
-            before =
-                λ u h.
-                let a : getD out (noteAddr m u + 1) 0 ≡ getD one (noteAddr m u + 1) 0 =
-                ap (λ (q : List ℕ). getD q (noteAddr m u + 1) 0) eo ∙ get-put-below one at (x ∷ []) fits (noteAddr m u + 1) (omega arith) in
-                let b : getD out (noteAddr m u + 2) 0 ≡ getD one (noteAddr m u + 2) 0 =
-                ap (λ (q : List ℕ). getD q (noteAddr m u + 2) 0) eo ∙ get-put-below one at (x ∷ []) fits (noteAddr m u + 2) (omega arith) in
-                omega (arith, walked .noted .old u h);
-          };
+          subst (λ (q : List ℕ). Kept (putFunctions w m v k (cutWord w m v (getD (cutsAt w m v) k []) ∷ [])) m q) (sym eo)
+          (subst (λ (y : ℕ). Kept (putFunctions w m v k (y ∷ [])) m (putFunctions one m v k (x ∷ []))) word (put-kept w one m v k (x ∷ []) room inside (omega arith) (walked .kept)));
+      fresh = record { before = λ u h. omega (arith, walked .noted .old u h, note (noteAddr m u + 1) (omega arith), note (noteAddr m u + 2) (omega arith)) };
     }
 
 -- the words with the first k functions of v
 unfoldable pub part : List ℕ → ℕ → ℕ → ℕ → List ℕ
-part w m v k = putAt w (functionAddr m v 0) (take k (functionsOf w m v))
+part w m v k = putFunctions w m v 0 (take k (functionsOf w m v))
 
 -- the cuts of one variable
 module _ (w : List ℕ) (m v : ℕ) (p : Placed w m) (inside : v ≤ m) (s : Sound w m v) where
   count-functions : length (functionsOf w m v) ≡ countAt w m v
-  unfolding functionsOf cutsAt
-  count-functions = simp length-map (list-length w (listAddr m v) (countAt w m v))
+  unfolding functionsOf
+  count-functions = simp length-map (count-listed w m v)
+
+  few-functions : length (functionsOf w m v) ≤ cutLimit
+  few-functions = omega (arith, count-functions, s .few)
 
   pub node-begin : Kept (part w m v 0) m w
   unfolding part
-  node-begin = subst (λ (q : List ℕ). Kept q m w) (sym (put-none w (functionAddr m v 0))) (kept-refl w m)
+  node-begin = subst (λ (q : List ℕ). Kept q m w) (sym (functions-none w m v 0)) (kept-refl w m)
+
+  -- the first k functions are as many
+  first-few : (k : ℕ) → k ≤ countAt w m v → 0 + length (take k (functionsOf w m v)) ≤ cutLimit
+  first-few k h = omega (arith, length-take-le k (functionsOf w m v) (omega (arith, count-functions)), s .few)
 
   pub node-under : (k : ℕ) → k ≤ countAt w m v → (q : List ℕ) → Kept (part w m v k) m q → Under w m q
   unfolding part
-  node-under k h q kept =
-      let n : length (take k (functionsOf w m v)) ≡ k = length-take-le k (functionsOf w m v) (omega (arith, count-functions)) in
-      under-put w w q m (functionAddr m v 0) (take k (functionsOf w m v)) (under-refl w m) (omega arith) (omega (arith, s .few, p .room .room, p .room .small)) kept
+  node-under k h q kept = under-put w w q m v 0 (take k (functionsOf w m v)) (under-refl w m) (p .room) inside (first-few k h) kept
 
   pub node-turn : (k walk : ℕ) → k < countAt w m v → (q out : List ℕ) → Kept (part w m v k) m q → FilledOne q m v k walk out → Kept (part w m v (k + 1)) m out
   unfolding part functionsOf
@@ -164,33 +144,30 @@ module _ (w : List ℕ) (m v : ℕ) (p : Placed w m) (inside : v ≤ m) (s : Sou
       let fs : List ℕ = functionsOf w m v in
       let x : ℕ = cutWord w m v (getD (cutsAt w m v) k []) in
       let word : cutWord q m v (getD (cutsAt q m v) k []) ≡ x = under-one w q m under p v inside s k in
-      let n : length (take k fs) ≡ k = length-take-le k fs (omega (arith, count-functions)) in
-      let size : length (part w m v k) ≡ length w = length-put w (functionAddr m v 0) (take k fs) (omega (arith, s .few, p .room .room, p .room .small)) in
-      let here : functionAddr m v k ≡ functionAddr m v 0 + k = omega arith in
+      let size : length (part w m v k) ≡ length w = put-functions-length w m v 0 (take k fs) (p .room) inside (first-few k (omega arith)) in
+      let room : Room (part w m v k) m = record { small = p .room .small; room = omega (arith, p .room .room) } in
       let get : getD fs k 0 ≡ x = default (cutsAt w m v) k (omega (arith, count-functions)) in
-      let stored : putAt (part w m v k) (functionAddr m v k) (x ∷ []) ≡ part w m v (k + 1) =
-      ap (λ (j : ℕ). putAt (part w m v k) j (x ∷ [])) here
-      ∙ sym (put-one (part w m v k) (functionAddr m v 0 + k) x (omega (arith, s .few, p .room .room, p .room .small)))
-      ∙ ap (set (part w m v k) (functionAddr m v 0 + k)) (sym get)
-      ∙ put-taken w (functionAddr m v 0) fs k (omega (arith, s .few, p .room .room, p .room .small)) (omega (arith, count-functions)) in
+      let stored : putFunctions (part w m v k) m v k (x ∷ []) ≡ part w m v (k + 1) =
+      ap (λ (y : ℕ). putFunctions (part w m v k) m v k (y ∷ [])) (sym get)
+      ∙ functions-more w m v k fs (p .room) inside few-functions (omega (arith, count-functions)) in
       subst (λ (t : List ℕ). Kept t m out) stored
       (kept-then
-      (put-kept (part w m v k) q m (functionAddr m v k) (x ∷ []) kept (omega arith) (omega (arith, s .few, p .room .room, p .room .small)))
-      (subst (λ (y : ℕ). Kept (putAt q (functionAddr m v k) (y ∷ [])) m out) word (done .kept)))
+      (put-kept (part w m v k) q m v k (x ∷ []) room inside (omega (arith, s .few)) kept)
+      (subst (λ (y : ℕ). Kept (putFunctions q m v k (y ∷ [])) m out) word (done .kept)))
     where
       default : (cs : List (List ℕ)) (j : ℕ) → j < length (map (cutWord w m v) cs) → getD (map (cutWord w m v) cs) j 0 ≡ cutWord w m v (getD cs j [])
       default [] j l = absurd (omega arith)
       default (c ∷ cs) zero l = refl
       default (c ∷ cs) (suc j) l = default cs j (omega arith)
 
-  pub node-end : (k : ℕ) → k ≡ countAt w m v → part w m v k ≡ putAt w (functionAddr m v 0) (functionsOf w m v)
+  pub node-end : (k : ℕ) → k ≡ countAt w m v → part w m v k ≡ putFunctions w m v 0 (functionsOf w m v)
   unfolding part
-  node-end k e = ap (putAt w (functionAddr m v 0)) (take-all k (functionsOf w m v) (omega (arith, count-functions)))
+  node-end k e = ap (putFunctions w m v 0) (take-all k (functionsOf w m v) (omega (arith, count-functions)))
 
 -- all variables, in placing order
 module _ (w : List ℕ) (m n : ℕ) (r : Ready w m n) where
   functions-short : (u : ℕ) → u ≤ m → length (functionsOf w m u) ≤ cutLimit
-  functions-short u h = omega (arith, count-functions w m u (r .placed) h (r .sound u h), r .sound u h .few)
+  functions-short u h = few-functions w m u (r .placed) h (r .sound u h)
 
   pub filled-under : (i : ℕ) → i ≤ n → Under w m (filled w m i)
   unfolding filled
@@ -199,12 +176,12 @@ module _ (w : List ℕ) (m n : ℕ) (r : Ready w m n) where
       let t : List ℕ = filled w m i in
       let under : Under w m t = filled-under i (omega arith) in
       let x : ℕ = slotAt w m i in
-      let short : length (functionsOf w m x) ≤ cutLimit = functions-short x (r .slots i (omega arith)) in
-      under-put w t (putAt t (functionAddr m x 0) (functionsOf w m x)) m (functionAddr m x 0) (functionsOf w m x) under (omega arith)
-      (omega (arith, under .long, r .slots i (omega arith), r .placed .room .room, r .placed .room .small)) (kept-refl _ m)
+      let inside : x ≤ m = r .slots i (omega arith) in
+      under-put w t (putFunctions t m x 0 (functionsOf w m x)) m x 0 (functionsOf w m x) under (under-placed w t m under (r .placed) .room) inside
+      (omega (arith, functions-short x inside)) (kept-refl _ m)
 
-  room-filled : (i : ℕ) → i ≤ n → (x : ℕ) → x ≤ m → functionAddr m x 0 + length (functionsOf w m x) ≤ length (filled w m i)
-  room-filled i h x inside = omega (arith, functions-short x inside, filled-under i h .long, r .placed .room .room)
+  room-filled : (i : ℕ) → i ≤ n → Room (filled w m i) m
+  room-filled i h = under-placed w (filled w m i) m (filled-under i h) (r .placed) .room
 
   -- all words below the functions stay, the notes too
   pub filled-low : (i : ℕ) → i ≤ n → (j : ℕ) → j < listsTo m → getD (filled w m i) j 0 ≡ getD w j 0
@@ -213,7 +190,7 @@ module _ (w : List ℕ) (m n : ℕ) (r : Ready w m n) where
   filled-low (suc i) h j l =
       let x : ℕ = slotAt w m i in
       let inside : x ≤ m = r .slots i (omega arith) in
-      get-put-below (filled w m i) (functionAddr m x 0) (functionsOf w m x) (room-filled i (omega arith) x inside) j (omega arith)
+      put-functions-before (filled w m i) m x 0 (functionsOf w m x) (room-filled i (omega arith)) inside (omega (arith, functions-short x inside)) j l
       ∙ filled-low i (omega arith) j l
 
   pub pass-under : (i : ℕ) → i ≤ n → (v : List ℕ) → Kept (filled w m i) m v → Under w m v
@@ -234,7 +211,7 @@ module _ (w : List ℕ) (m n : ℕ) (r : Ready w m n) where
 
   -- a turn: v are the words at its start, x the variable in slot i, out what `fill_node` leaves
   pub pass-turn : (i : ℕ) → i < n → (v : List ℕ) → Kept (filled w m i) m v → (x : ℕ) → x ≡ slotAt v m i → (out : List ℕ)
-      → Kept (putAt v (functionAddr m x 0) (functionsOf v m x)) m out → Kept (filled w m (i + 1)) m out
+      → Kept (putFunctions v m x 0 (functionsOf v m x)) m out → Kept (filled w m (i + 1)) m out
   unfolding filled
   pass-turn i h v kept x ex out done =
       let under : Under w m v = pass-under i (omega arith) v kept in
@@ -242,10 +219,10 @@ module _ (w : List ℕ) (m n : ℕ) (r : Ready w m n) where
       let same : x ≡ y = ex ∙ under .graph (slotAddr m i) (omega (arith, r .within)) in
       let inside : y ≤ m = r .slots i h in
       let fs : functionsOf v m y ≡ functionsOf w m y = under-functions w v m under (r .placed) y inside (r .sound y inside) in
-      let at : Kept (putAt v (functionAddr m y 0) (functionsOf w m y)) m out =
-      subst (λ (q : List ℕ). Kept (putAt v (functionAddr m y 0) q) m out) fs
-      (subst (λ (z : ℕ). Kept (putAt v (functionAddr m z 0) (functionsOf v m z)) m out) same done) in
-      rw add-one (kept-then (put-kept (filled w m i) v m (functionAddr m y 0) (functionsOf w m y) kept (omega arith) (room-filled i (omega arith) y inside)) at)
+      let at : Kept (putFunctions v m y 0 (functionsOf w m y)) m out =
+      subst (λ (q : List ℕ). Kept (putFunctions v m y 0 q) m out) fs
+      (subst (λ (z : ℕ). Kept (putFunctions v m z 0 (functionsOf v m z)) m out) same done) in
+      rw add-one (kept-then (put-kept (filled w m i) v m y 0 (functionsOf w m y) (room-filled i (omega arith)) inside (omega (arith, functions-short y inside)) kept) at)
 
   -- the notes cleared
   pub pass-end : (i : ℕ) → i ≡ n → (v out : List ℕ) → Kept (filled w m i) m v → out ≡ putAt v (notesFrom m) (zeros (notesTo m - notesFrom m)) → out ≡ filled w m n
@@ -287,12 +264,12 @@ module _ (w : List ℕ) (m n : ℕ) (r : Ready w m n) where
   filled-above (suc i) h j l =
       let x : ℕ = slotAt w m i in
       let inside : x ≤ m = r .slots i (omega arith) in
-      get-put-above (filled w m i) (functionAddr m x 0) (functionsOf w m x) (room-filled i (omega arith) x inside) j (omega (arith, functions-short x inside))
+      put-functions-behind (filled w m i) m x 0 (functionsOf w m x) (room-filled i (omega arith)) inside (omega (arith, functions-short x inside)) j l
       ∙ filled-above i (omega arith) j l
 
   -- function k of the variable in slot j
   pub filled-word : (i : ℕ) → i ≤ n → (j : ℕ) → j < i → (k : ℕ) → k < countAt w m (slotAt w m j)
-      → functionAt (filled w m i) m (slotAt w m j) k ≡ getD (functionsOf w m (slotAt w m j)) k 0
+      → functionOf (filled w m i) m (slotAt w m j) k ≡ getD (functionsOf w m (slotAt w m j)) k 0
   unfolding filled
   filled-word zero h j l k b = absurd (omega arith)
   filled-word (suc i) h j l k b = by (eqb y x) refl (λ less. filled-word i (omega arith) j less k b)
@@ -309,25 +286,27 @@ module _ (w : List ℕ) (m n : ℕ) (r : Ready w m n) where
       inside-y : y ≤ m
       inside-y = r .slots j (omega arith)
 
-      fits : functionAddr m x 0 + length (functionsOf w m x) ≤ length (filled w m i)
-      fits = room-filled i (omega arith) x inside-x
+      fs : List ℕ
+      fs = functionsOf w m x
 
-      by : (t : Bool) → eqb y x ≡ t → (j < i → functionAt (filled w m i) m y k ≡ getD (functionsOf w m y) k 0)
-          → functionAt (putAt (filled w m i) (functionAddr m x 0) (functionsOf w m x)) m y k ≡ getD (functionsOf w m y) k 0
+      short : 0 + length fs ≤ cutLimit
+      short = omega (arith, functions-short x inside-x)
+
+      by : (t : Bool) → eqb y x ≡ t → (j < i → functionOf (filled w m i) m y k ≡ getD (functionsOf w m y) k 0)
+          → functionOf (putFunctions (filled w m i) m x 0 fs) m y k ≡ getD (functionsOf w m y) k 0
       by true e before =
           let same : y ≡ x = eqb-true y x e in
           let count : length (functionsOf w m y) ≡ countAt w m y = count-functions w m y (r .placed) inside-y (r .sound y inside-y) in
-          let few : k < length (functionsOf w m x) = subst (λ (q : ℕ). k < length (functionsOf w m q)) same (omega arith) in
-          let here : functionAddr m y k ≡ functionAddr m x 0 + k = omega arith in
-          ap (λ (q : ℕ). getD (putAt (filled w m i) (functionAddr m x 0) (functionsOf w m x)) q 0) here
-          ∙ get-put (filled w m i) (functionAddr m x 0) (functionsOf w m x) fits k few
+          let few : k < length fs = subst (λ (q : ℕ). k < length (functionsOf w m q)) same (omega arith) in
+          let here : k ≡ 0 + k = omega arith in
+          (λ q. functionOf (putFunctions (filled w m i) m x 0 fs) m (same q) (here q))
+          ∙ function-stored (filled w m i) m x 0 fs (room-filled i (omega arith)) inside-x short k few
           ∙ ap (λ (q : ℕ). getD (functionsOf w m q) k 0) (sym same)
       by false e before =
           let other : (y ≡ x) → ⊥ = eqb-false y x e in
           let less : j < i = earlier j i l other in
-          let short : length (functionsOf w m x) ≤ cutLimit = functions-short x inside-x in
           let few : k < cutLimit = omega (arith, r .sound y inside-y .few) in
-          get-apart (filled w m i) (functionAddr m x 0) (functionsOf w m x) fits (functionAddr m y k) (λ q b′ s. other (omega arith))
+          function-apart (filled w m i) m x 0 fs (room-filled i (omega arith)) inside-x short y k inside-y few (λ q b′ o s. other o)
           ∙ before less
         where
           earlier : (j i : ℕ) → j < suc i → (slotAt w m j ≡ slotAt w m i → ⊥) → j < i

@@ -3,9 +3,8 @@ use mathlib.Core.Path.{_≡_}
 use mathlib.Core.List.{List, [], _∷_, map}
 use Prim.Native.Nat.{ℕ, zero, suc, _+_, _≤_, _<_}
 use lib.ListN.{getD}
-use Rattle.words.specs.Put.{putAt}
-use Rattle.words.specs.Layout.{placeAt, slotAt, walkAt, functionAddr, notesFrom, notesTo}
-use Rattle.words.specs.Record.{nodeAt, cutsAt, Sound}
+use Rattle.words.specs.Layout.{placeAt, slotAt, walkAt, notesFrom, notesTo}
+use Rattle.words.specs.Record.{nodeAt, cutsAt, putFunctions, Sound}
 use Rattle.cones.specs.Table.{walkWord, Placed, Kept}
 
 -- the function of the cut of v that has these leaves
@@ -20,9 +19,9 @@ functionsOf w m v = map (cutWord w m v) (cutsAt w m v)
 
 -- the words with the functions of the first n variables of the placing order
 unfoldable pub filled : List ℕ → ℕ → ℕ → List ℕ
-unfolding functionsOf putAt
+unfolding functionsOf
 filled w m zero = w
-filled w m (suc i) = putAt (filled w m i) (functionAddr m (slotAt w m i) 0) (functionsOf w m (slotAt w m i))
+filled w m (suc i) = putFunctions (filled w m i) m (slotAt w m i) 0 (functionsOf w m (slotAt w m i))
 
 -- every walk that noted something has a number below this
 pub record Fresh (w : List ℕ) (m walk : ℕ) : Type 0 where
@@ -30,12 +29,12 @@ pub record Fresh (w : List ℕ) (m walk : ℕ) : Type 0 where
 
 -- cut k of v has its function, and the walk its notes
 pub record FilledOne (w : List ℕ) (m v k walk : ℕ) (out : List ℕ) : Type 0 where
-  pub kept : Kept (putAt w (functionAddr m v k) (cutWord w m v (getD (cutsAt w m v) k []) ∷ [])) m out
+  pub kept : Kept (putFunctions w m v k (cutWord w m v (getD (cutsAt w m v) k []) ∷ [])) m out
   pub fresh : Fresh out m (walk + 1)
 
 -- all cuts of v have their functions
 pub record FilledNode (w : List ℕ) (m v : ℕ) (out : List ℕ) (next : ℕ) : Type 0 where
-  pub kept : Kept (putAt w (functionAddr m v 0) (functionsOf w m v)) m out
+  pub kept : Kept (putFunctions w m v 0 (functionsOf w m v)) m out
   pub fresh : Fresh out m next
 
 -- the words hold a placed graph with its cut lists, of which n variables are placed, and no notes

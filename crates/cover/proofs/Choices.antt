@@ -30,16 +30,17 @@ use Rattle.theory_graph.proofs.Lists.{map-same, getD-in}
 use Rattle.theory_graph.proofs.Placing.{order-small}
 use Rattle.theory_graph.proofs.Runs.{run-split}
 use Rattle.theory_cover.proofs.Turns.{phaseStep}
-use Rattle.words.specs.Layout.{functionAt, positiveAddr, negativeAddr, listsFrom}
+use Rattle.words.specs.Layout.{positiveAddr, negativeAddr, listsFrom}
+use Rattle.words.specs.Record.{leavesAt, functionOf}
 use Rattle.words.specs.Phases.{phaseIn, phasesAt}
 use Rattle.words.specs.Holding.{HoldsPhases}
 use Rattle.words.proofs.Chosen.{phase-none}
+use Rattle.words.proofs.Stored.{held-count, held-cut}
 use Rattle.matching.specs.Variants.{Usable}
-use Rattle.cover.specs.Asked.{cutOf}
 use Rattle.cover.specs.Choosing.{foundOn, foundAt, foundFrom, bestAt, ownPhase, directOf, directAt, chosenTurn, chosenUp, Early, Unchosen}
 use Rattle.cover.proofs.Keeping.{PhasesKept, graph-kept, order-kept, cuts-kept}
 use Rattle.cover.proofs.Marks.{nets-in}
-use Rattle.cover.proofs.Held.{HeaderOf, Held, placed-is, leaf-small, slots-in, cuts-in, cut-held, count-held}
+use Rattle.cover.proofs.Held.{HeaderOf, Held, placed-is, leaf-small, slots-in, cuts-in}
 use Rattle.cover.proofs.Needing.{Covered}
 use Rattle.cover.proofs.Turning.{turn-here, turn-other, up-after}
 
@@ -77,8 +78,8 @@ module _ (lib : Library) (g : Graph) (w : List ℕ) (h : Held w g) (known : ℕ 
     at-held : foundAt (cellsOf lib) w (g .size) v neg k ≡ cutPhases (cellsOf lib) g known v neg k (getD (cutsOf g v) k [])
     unfolding foundAt foundOn cutPhases
     at-held =
-        let c : cutOf w (g .size) v k ≡ getD (cutsOf g v) k [] = cut-held w g h v k small (omega (arith, count-held w g h v small)) in
-        let f : functionAt w (g .size) v k ≡ cutTable g (getD (cutsOf g v) k []) v = h .cuts .functions v i k b in
+        let c : leavesAt w (g .size) v k ≡ getD (cutsOf g v) k [] = held-cut w g (h .cuts) v small k b in
+        let f : functionOf w (g .size) v k ≡ cutTable g (getD (cutsOf g v) k []) v = h .cuts .functions v i k b in
         let ls : List ℕ = getD (cutsOf g v) k [] in
         let xs : List Match = cutMatches (cellsOf lib) 0 k (length ls) (phaseTable neg (cutTable g ls v)) in
         let e : map (matchPhase (cellsOf lib) (phasesAt w (g .size)) ls) xs ≡ map (matchPhase (cellsOf lib) known ls) xs =
@@ -102,7 +103,7 @@ module _ (lib : Library) (g : Graph) (w : List ℕ) (h : Held w g) (known : ℕ 
   best-held : bestAt (cellsOf lib) w (g .size) v neg ≡ choose (matchPhases (cellsOf lib) g known v neg 0 (cutsOf g v))
   unfolding bestAt
   best-held =
-      ap (λ (n : ℕ). choose (foundFrom (cellsOf lib) w (g .size) v neg 0 n)) (count-held w g h v small) ∙ ap choose (from-held (length (cutsOf g v)) 0 (omega arith))
+      ap (λ (n : ℕ). choose (foundFrom (cellsOf lib) w (g .size) v neg 0 n)) (held-count w g (h .cuts) v small) ∙ ap choose (from-held (length (cutsOf g v)) 0 (omega arith))
 
   of-held : (n : Node) → directOf (cellsOf lib) w (g .size) v neg n ≡ direct (cellsOf lib) g known v (cutsOf g v) neg n
   unfolding directOf direct ownPhase

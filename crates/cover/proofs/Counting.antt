@@ -4,7 +4,7 @@
 -- Assumes nothing.
 use Prim.Native.Nat.{ℕ, zero, suc, _+_, _≤_}
 use native.Mathlib.Omega.{arith}
-use mathlib.Core.Path.{_≡_, refl, sym, ap, subst, _∙_}
+use mathlib.Core.Path.{_≡_, refl, sym, ap, subst}
 use mathlib.Core.Bool.{Bool, true, false}
 use mathlib.Core.List.{List, [], _∷_, _++_, List·Memᴰ, List·Memᴰ·not-nil}
 use lib.Dec.{T, ltb}
@@ -14,10 +14,9 @@ use Rattle.model.specs.Limits.{cutLimit}
 use Rattle.model.specs.Base.{below, from}
 use Rattle.model.specs.Graph.{And, Graph, placingOrder, span}
 use Rattle.model.specs.Cuts.{cutsOf, crowded}
-use Rattle.words.specs.Layout.{countAt, listAddr}
-use Rattle.words.specs.Record.{cutsAt}
+use Rattle.words.specs.Layout.{countAt}
 use Rattle.words.specs.Holding.{HoldsCuts}
-use Rattle.words.proofs.Stored.{list-length}
+use Rattle.words.proofs.Stored.{held-count}
 use Rattle.theory_graph.proofs.Lists.{below-in, keep-in}
 use Rattle.theory_graph.proofs.Accepted.{Accepted, andVars}
 use Rattle.theory_graph.proofs.Placing.{order-once, order-small, defined-placed}
@@ -56,9 +55,5 @@ few-cuts g free v = by-elem v (placingOrder g) (λ m. go m (ltb cutLimit (length
     go m true e = absurd (List·Memᴰ·not-nil (subst (λ (l : List ℕ). List·Memᴰ v l) free (keep-in (λ (u : ℕ). ltb cutLimit (length (cutsOf g u))) m (subst T (sym e) tt))))
     go m false e = ltb-false cutLimit (length (cutsOf g v)) e
 
-pub count-is : (w : List ℕ) (g : Graph) → HoldsCuts w g → (v : ℕ) → v ≤ g .size → countAt w (g .size) v ≡ length (cutsOf g v)
-unfolding cutsAt
-count-is w g h v l = sym (list-length w (listAddr (g .size) v) (countAt w (g .size) v)) ∙ ap length (h .lists v l)
-
 pub count-few : (w : List ℕ) (g : Graph) → Accepted g → crowded g ≡ [] → HoldsCuts w g → (v : ℕ) → v ≤ g .size → countAt w (g .size) v ≤ cutLimit
-count-few w g ok free h v l = omega (arith, count-is w g h v l, few-cuts g free v)
+count-few w g ok free h v l = omega (arith, held-count w g h v l, few-cuts g free v)

@@ -27,11 +27,11 @@ use Rattle.model.specs.declared.Phase.{Phase}
 use Rattle.model.specs.declared.Source.the-variants.{Input, Cell as Matched}
 use Rattle.theory_graph.proofs.Lists.{map-out}
 use Rattle.theory_cover.proofs.Matches.{cutMatches-out, inverter-out}
-use Rattle.words.specs.Layout.{countAt, functionAt}
-use Rattle.words.specs.Record.{nodeAt}
+use Rattle.words.specs.Layout.{countAt}
+use Rattle.words.specs.Record.{nodeAt, leavesAt, functionOf}
 use Rattle.words.specs.Phases.{MatchFits, PhaseFits, phasesAt, phaseAt}
 use Rattle.matching.specs.Variants.{Usable}
-use Rattle.cover.specs.Asked.{cutOf, CutsIn}
+use Rattle.cover.specs.Asked.{CutsIn}
 use Rattle.cover.specs.Choosing.{foundOn, foundAt, foundFrom, bestAt, ownPhase, directOf, directAt, Early}
 use Rattle.cover.proofs.Marks.{nets-in}
 
@@ -132,23 +132,23 @@ module _ (lib : Library) (u : Usable lib) (w : List ℕ) (m t : ℕ) (e : Early 
   -- ---- the cuts of a variable
 
   module _ (cuts : CutsIn w m) (v : ℕ) (b : v ≤ m) (neg : Bool) where
-    inside : (k : ℕ) → k < countAt w m v → (j : ℕ) → getD (cutOf w m v k) j 0 ≤ m
-    inside k h j = go (ltb j (length (cutOf w m v k))) refl
+    inside : (k : ℕ) → k < countAt w m v → (j : ℕ) → getD (leavesAt w m v k) j 0 ≤ m
+    inside k h j = go (ltb j (length (leavesAt w m v k))) refl
       where
-        go : (s : Bool) → ltb j (length (cutOf w m v k)) ≡ s → getD (cutOf w m v k) j 0 ≤ m
-        go true q = cuts .within v k j b h (ltb-true j (length (cutOf w m v k)) q)
-        go false q = omega (arith, List·getD-eq-default (cutOf w m v k) 0 (ltb-false j (length (cutOf w m v k)) q))
+        go : (s : Bool) → ltb j (length (leavesAt w m v k)) ≡ s → getD (leavesAt w m v k) j 0 ≤ m
+        go true q = cuts .within v k j b h (ltb-true j (length (leavesAt w m v k)) q)
+        go false q = omega (arith, List·getD-eq-default (leavesAt w m v k) 0 (ltb-false j (length (leavesAt w m v k)) q))
 
     at-fit : (k : ℕ) → k < countAt w m v → (p : Phase) → List·Memᴰ p (foundAt (cellsOf lib) w m v neg k) → Fitting (t + 65535) p
     unfolding foundAt
-    at-fit k h p i = go (same (cutOf w m v k) (v ∷ [])) i
+    at-fit k h p i = go (same (leavesAt w m v k) (v ∷ [])) i
       where
         few : k < cutLimit
         few = omega (arith, cuts .few v b)
 
-        go : (s : Bool) → List·Memᴰ p (cond s [] (foundOn (cellsOf lib) w m k (cutOf w m v k) (phaseTable neg (functionAt w m v k)))) → Fitting (t + 65535) p
+        go : (s : Bool) → List·Memᴰ p (cond s [] (foundOn (cellsOf lib) w m k (leavesAt w m v k) (phaseTable neg (functionOf w m v k)))) → Fitting (t + 65535) p
         go true j = absurd (List·Memᴰ·not-nil j)
-        go false j = found-fit (cutOf w m v k) (inside k h) k (phaseTable neg (functionAt w m v k)) few p j
+        go false j = found-fit (leavesAt w m v k) (inside k h) k (phaseTable neg (functionOf w m v k)) few p j
 
     from-fit : (n k : ℕ) → k + n ≤ countAt w m v → (p : Phase) → List·Memᴰ p (foundFrom (cellsOf lib) w m v neg k n) → Fitting (t + 65535) p
     unfolding foundFrom

@@ -15,7 +15,8 @@ use Rattle.model.specs.Matching.{phaseTable}
 use Rattle.model.specs.Choice.{noPhase, choose, earlier}
 use Rattle.model.specs.declared.Cell.{Cell}
 use Rattle.model.specs.declared.Library.{Library}
-use Rattle.words.specs.Layout.{countAt, functionAt}
+use Rattle.words.specs.Layout.{countAt}
+use Rattle.words.specs.Record.{leavesAt, functionOf}
 use Rattle.words.specs.Phases.{phasesAt}
 use Rattle.matching.specs.Sheet.{isListed}
 use Rattle.matching.specs.Best.{lastTime, unmatched, bestOf, phaseAs}
@@ -23,7 +24,6 @@ use Rattle.matching.proofs.Choosing.{choose-append}
 use Rattle.matching.proofs.Arriving.{phase-late}
 use Rattle.matching.proofs.Walking.{walking-none}
 use Rattle.matching.proofs.Matching.{best-match-chosen}
-use Rattle.cover.specs.Asked.{cutOf}
 use Rattle.cover.specs.Choosing.{timesAt, foundOn, foundAt, foundFrom, bestAt, Early, SheetIn}
 use Rattle.cover.proofs.Leaves.{times-of, times-quick}
 
@@ -40,14 +40,14 @@ module _ (lib : Library) (sheet : List ℕ) (h : SheetIn lib sheet) (w : List �
       ∙ on-best
 
 module _ (cells : List Cell) (w : List ℕ) (m v : ℕ) (neg : Bool) where
-  pub at-alone : (k : ℕ) → same (cutOf w m v k) (v ∷ []) ≡ true → noPhase ≡ choose (foundAt cells w m v neg k)
+  pub at-alone : (k : ℕ) → same (leavesAt w m v k) (v ∷ []) ≡ true → noPhase ≡ choose (foundAt cells w m v neg k)
   unfolding foundAt choose
-  at-alone k e = sym (ap (λ (b : Bool). choose (cond b [] (foundOn cells w m k (cutOf w m v k) (phaseTable neg (functionAt w m v k))))) e)
+  at-alone k e = sym (ap (λ (b : Bool). choose (cond b [] (foundOn cells w m k (leavesAt w m v k) (phaseTable neg (functionOf w m v k))))) e)
 
-  pub at-cut : (k : ℕ) → same (cutOf w m v k) (v ∷ []) ≡ false
-      → choose (foundOn cells w m k (cutOf w m v k) (phaseTable neg (functionAt w m v k))) ≡ choose (foundAt cells w m v neg k)
+  pub at-cut : (k : ℕ) → same (leavesAt w m v k) (v ∷ []) ≡ false
+      → choose (foundOn cells w m k (leavesAt w m v k) (phaseTable neg (functionOf w m v k))) ≡ choose (foundAt cells w m v neg k)
   unfolding foundAt
-  at-cut k e = sym (ap (λ (b : Bool). choose (cond b [] (foundOn cells w m k (cutOf w m v k) (phaseTable neg (functionAt w m v k))))) e)
+  at-cut k e = sym (ap (λ (b : Bool). choose (cond b [] (foundOn cells w m k (leavesAt w m v k) (phaseTable neg (functionOf w m v k))))) e)
 
   -- the cuts from number k on, of n
   pub from-none : (n : ℕ) → noPhase ≡ choose (foundFrom cells w m v neg n (n - n))

@@ -14,7 +14,6 @@ use Rattle.model.specs.Graph.{And, Graph, varOf, negated, placingOrder}
 use Rattle.model.specs.Cuts.{cutsOf, crowded, cutTable, cutAt as listedAt}
 use Rattle.model.specs.Matching.{phaseTable}
 use Rattle.model.specs.Table.{orders}
-use Rattle.model.specs.Choice.{chosen}
 use Rattle.model.specs.Cover.{IsMatch}
 use Rattle.model.specs.declared.Cell.{Cell}
 use Rattle.model.specs.declared.Header.{Header}
@@ -22,8 +21,10 @@ use Rattle.model.specs.declared.Library.{Library}
 use Rattle.model.specs.declared.Match.{Match}
 use Rattle.model.specs.declared.Phase.{Phase}
 use Rattle.words.specs.Layout.{Room, countAt}
+use Rattle.words.specs.Record.{leavesAt}
 use Rattle.words.specs.Holding.{HoldsGraph, HoldsOrder, HoldsCuts, HoldsPhases}
 use Rattle.words.proofs.Columns.{room-need}
+use Rattle.words.proofs.Stored.{held-count, held-cut}
 use Rattle.truth.specs.Variant.{placesOf, placesBelow}
 use Rattle.truth.proofs.Variants.{places-fit}
 use Rattle.theory_graph.proofs.Lists.{getD-in}
@@ -33,9 +34,8 @@ use Rattle.theory_order.proofs.Recursion.{cuts-exactly, cut-leaf}
 use Rattle.theory_cover.proofs.Matches.{fits-places}
 use Rattle.theory_cover.proofs.Sound.{is-match}
 use Rattle.matching.specs.Variants.{Usable}
-use Rattle.cover.specs.Asked.{cutOf, OutputsIn, SlotsIn, CutsIn, MatchIn, MatchesIn}
-use Rattle.cover.proofs.Counting.{few-placed, all-placed, few-cuts, count-is}
-use Rattle.cover.proofs.Marks.{cut-listed}
+use Rattle.cover.specs.Asked.{OutputsIn, SlotsIn, CutsIn, MatchIn, MatchesIn}
+use Rattle.cover.proofs.Counting.{few-placed, all-placed, few-cuts}
 
 -- the numbers of the header are those of the graph
 pub record HeaderOf (h : Header) (g : Graph) : Type 0 where
@@ -92,22 +92,15 @@ module _ (w : List ℕ) (g : Graph) (h : Held w g) where
             (output-small g (h .accepted) (getD (g .outputs) i 0) (getD-in (g .outputs) i 0 l));
       }
 
-  -- cut k of v, as the words have it
-  pub cut-held : (v k : ℕ) → v ≤ g .size → k < countAt w (g .size) v → cutOf w (g .size) v k ≡ getD (cutsOf g v) k []
-  cut-held v k l b = sym (cut-listed w (g .size) v k b) ∙ ap (λ (cs : List (List ℕ)). getD cs k []) (h .cuts .lists v l)
-
-  pub count-held : (v : ℕ) → v ≤ g .size → countAt w (g .size) v ≡ length (cutsOf g v)
-  count-held v l = count-is w g (h .cuts) v l
-
   pub cuts-in : CutsIn w (g .size)
   cuts-in =
       record {
         room = room;
-        few = λ v l. omega (arith, count-held v l, few-cuts g (h .free) v);
+        few = λ v l. omega (arith, held-count w g (h .cuts) v l, few-cuts g (h .free) v);
         within =
             λ v k j l b i.
-            let e : cutOf w (g .size) v k ≡ getD (cutsOf g v) k [] = cut-held v k l b in
-            let n : k < length (cutsOf g v) = omega (arith, count-held v l) in
+            let n : k < length (cutsOf g v) = omega (arith, held-count w g (h .cuts) v l) in
+            let e : leavesAt w (g .size) v k ≡ getD (cutsOf g v) k [] = held-cut w g (h .cuts) v l k n in
             let i′ : j < length (getD (cutsOf g v) k []) = subst (λ (c : List ℕ). j < length c) e i in
             subst (λ (c : List ℕ). getD c j 0 ≤ g .size) (sym e)
             (leaf-small g (h .accepted) v (getD (cutsOf g v) k []) (getD-in (cutsOf g v) k [] n) (getD (getD (cutsOf g v) k []) j 0) (getD-in (getD (cutsOf g v) k []) j 0 i′));
@@ -117,13 +110,13 @@ module _ (w : List ℕ) (g : Graph) (h : Held w g) where
   match-in : (cells : List Cell) (l : ℕ) (x : Match) → l / 2 ≤ g .size → IsMatch cells g l x → MatchIn cells w (g .size) (l / 2) x
   unfolding varOf listedAt
   match-in cells l x b i =
-      let n : x .cut < countAt w (g .size) (l / 2) = omega (arith, count-held (l / 2) b, i .hasCut) in
+      let n : x .cut < countAt w (g .size) (l / 2) = omega (arith, held-count w g (h .cuts) (l / 2) b, i .hasCut) in
       record {
         cut = n;
         cell = i .hasCell;
         order = i .hasOrder;
         places =
-            subst (λ (c : List ℕ). T (placesBelow (cellAt cells (x .cell) .pins) (placesOf (x .order)) (length c))) (sym (cut-held (l / 2) (x .cut) b n))
+            subst (λ (c : List ℕ). T (placesBelow (cellAt cells (x .cell) .pins) (placesOf (x .order)) (length c))) (sym (held-cut w g (h .cuts) (l / 2) b (x .cut) (i .hasCut)))
             (subst T (places-fit (cellAt cells (x .cell)) (getD orders (x .order) []) (length (getD (cutsOf g (l / 2)) (x .cut) [])))
             (fits-places (cellAt cells (x .cell)) (getD orders (x .order) []) (x .mask) (length (getD (cutsOf g (l / 2)) (x .cut) []))
             (phaseTable (negated l) (cutTable g (getD (cutsOf g (l / 2)) (x .cut) []) (l / 2))) (i .agrees)));

@@ -17,17 +17,18 @@ use Rattle.model.specs.declared.Cell.{Cell}
 use Rattle.model.specs.declared.Library.{Library}
 use Rattle.model.specs.declared.Phase.{Phase}
 use Rattle.words.specs.Put.{putAt}
-use Rattle.words.specs.Layout.{Room, RoomFor, kindAt, leftAt, rightAt, slotAt, placeAt, countAt, functionAt, outputAt, neededAddr, positiveAddr, countsTo, listsFrom, listAddr, cutAddr}
-use Rattle.words.specs.Record.{cutAt, leavesOf, nodeOf, nodeAt, cutsAt}
+use Rattle.words.specs.Layout.{Room, RoomFor, kindAt, leftAt, rightAt, slotAt, placeAt, countAt, outputAt, neededAddr, positiveAddr, negativeAddr, countsTo, listsFrom}
+use Rattle.words.specs.Record.{leavesOf, leavesAt, functionOf, nodeOf, nodeAt, cutsAt}
 use Rattle.words.specs.Phases.{sourceOf, phaseIn, phasesAt, phaseAt, putNeeded}
 use Rattle.words.specs.Holding.{HoldsGraph, HoldsOrder, HoldsCuts, HoldsPhases}
 use Rattle.words.proofs.Putting.{length-put, get-put-below, get-put-above}
-use Rattle.words.proofs.Stored.{cuts-same}
+use Rattle.words.proofs.Stored.{cut-same, cuts-same}
+use Rattle.words.proofs.Tabled.{function-same}
 use Rattle.theory_graph.proofs.Accepted.{Accepted}
 use Rattle.theory_graph.proofs.Lists.{getD-in}
 use Rattle.theory_graph.proofs.Placing.{order-small}
-use Rattle.cover.proofs.Counting.{few-placed, count-few}
-use Rattle.cover.specs.Asked.{cutOf, OutputsIn, SlotsIn, CutsIn, MatchesIn}
+use Rattle.cover.proofs.Counting.{few-placed, few-cuts, count-few}
+use Rattle.cover.specs.Asked.{OutputsIn, SlotsIn, CutsIn, MatchesIn}
 
 -- all words before a and from b on are as before, and so is their number
 pub record Kept (a b : ℕ) (v w : List ℕ) : Type 0 where
@@ -81,14 +82,11 @@ module _ (m a b : ℕ) (v w : List ℕ) (k : Kept a b v w) (from : countsTo m �
   pub count-kept : (u : ℕ) → u ≤ m → countAt w m u ≡ countAt v m u
   count-kept u h = k .before _ (omega arith)
 
-  pub kind-kept : (u : ℕ) → u ≤ m → kindAt w m u ≡ kindAt v m u
-  kind-kept u h = k .before _ (omega arith)
-
   pub output-kept : (i : ℕ) → outputAt w m i ≡ outputAt v m i
   output-kept i = k .behind _ (omega arith)
 
-  pub function-kept : (u i : ℕ) → functionAt w m u i ≡ functionAt v m u i
-  function-kept u i = k .behind _ (omega arith)
+  pub function-kept : (u n : ℕ) → u ≤ m → n < cutLimit → functionOf w m u n ≡ functionOf v m u n
+  function-kept u n h l = function-same w v m (λ i a b. k .behind i (omega arith)) u n h l
 
   pub node-kept : (u : ℕ) → u ≤ m → nodeAt w m u ≡ nodeAt v m u
   unfolding nodeAt
@@ -98,22 +96,11 @@ module _ (m a b : ℕ) (v w : List ℕ) (k : Kept a b v w) (from : countsTo m �
       let z : rightAt w m u ≡ rightAt v m u = k .before _ (omega arith) in
       λ i. nodeOf (x i) (y i) (z i)
 
-  pub cut-kept : (u n : ℕ) → cutAt w (cutAddr m u n) ≡ cutAt v (cutAddr m u n)
-  unfolding cutAt
-  cut-kept u n =
-      let at : ℕ = cutAddr m u n in
-      let e₀ : getD w at 0 ≡ getD v at 0 = k .behind at (omega arith) in
-      let e₁ : getD w (at + 1) 0 ≡ getD v (at + 1) 0 = k .behind (at + 1) (omega arith) in
-      let e₂ : getD w (at + 2) 0 ≡ getD v (at + 2) 0 = k .behind (at + 2) (omega arith) in
-      let e₃ : getD w (at + 3) 0 ≡ getD v (at + 3) 0 = k .behind (at + 3) (omega arith) in
-      let e₄ : getD w (at + 4) 0 ≡ getD v (at + 4) 0 = k .behind (at + 4) (omega arith) in
-      λ i. record { leaves = e₁ i ∷ e₂ i ∷ e₃ i ∷ e₄ i ∷ []; count = e₀ i }
-
-  pub leaves-kept : (u n : ℕ) → cutOf w m u n ≡ cutOf v m u n
-  leaves-kept u n = ap leavesOf (cut-kept u n)
+  pub leaves-kept : (u n : ℕ) → u ≤ m → n < cutLimit → leavesAt w m u n ≡ leavesAt v m u n
+  leaves-kept u n h l = ap leavesOf (cut-same w v m (λ i a b. k .behind i (omega arith)) u h n l)
 
   pub list-kept : (u : ℕ) → u ≤ m → countAt v m u ≤ cutLimit → cutsAt w m u ≡ cutsAt v m u
-  list-kept u h few = cuts-same w v m u (count-kept u h) (λ i l. k .behind (listAddr m u + i) (omega arith)) few
+  list-kept u h few = cuts-same w v m (λ i a b. k .behind i (omega arith)) u h (count-kept u h) few
 
   pub cuts-in-kept : CutsIn v m → CutsIn w m
   cuts-in-kept r =
@@ -123,7 +110,8 @@ module _ (m a b : ℕ) (v w : List ℕ) (k : Kept a b v w) (from : countsTo m �
         within =
             λ u n j h l i.
             let c : n < countAt v m u = omega (arith, count-kept u h) in
-            subst (λ (x : List ℕ). getD x j 0 ≤ m) (sym (leaves-kept u n)) (r .within u n j h c (subst (λ (x : List ℕ). j < length x) (leaves-kept u n) i));
+            let same : leavesAt w m u n ≡ leavesAt v m u n = leaves-kept u n h (omega (arith, r .few u h)) in
+            subst (λ (x : List ℕ). getD x j 0 ≤ m) (sym same) (r .within u n j h c (subst (λ (x : List ℕ). j < length x) same i));
       }
 
   pub slots-in-kept : (n : ℕ) → SlotsIn v m n → SlotsIn w m n
@@ -145,8 +133,8 @@ module _ (m a b : ℕ) (v w : List ℕ) (k : Kept a b v w) (from : countsTo m �
 
     pub phases-same : (u : ℕ) → phasesAt w m u ≡ phasesAt v m u
     phases-same u =
-        let p = in-kept (8 * (m + 1) + 4 * u) (omega arith) in
-        let n = in-kept (12 * (m + 1) + 4 * u) (omega arith) in
+        let p = in-kept (positiveAddr m u) (omega arith) in
+        let n = in-kept (negativeAddr m u) (omega arith) in
         λ i. record { positive = p i; negative = n i }
 
     pub phase-kept : (l : ℕ) → phaseAt w m l ≡ phaseAt v m l
@@ -165,7 +153,7 @@ module _ (m a b : ℕ) (v w : List ℕ) (k : Kept a b v w) (from : countsTo m �
                 cut = omega (arith, o .cut, count-kept (l / 2) h);
                 cell = o .cell;
                 order = o .order;
-                places = rw (leaves-kept (l / 2) (x .cut)) (o .places);
+                places = rw (leaves-kept (l / 2) (x .cut) h (omega (arith, o .cut, r .cuts .few (l / 2) h))) (o .places);
               };
         }
 
@@ -193,7 +181,7 @@ module _ (g : Graph) (a b : ℕ) (v w : List ℕ) (k : Kept a b v w) (from : cou
   cuts-kept ok free h =
       record {
         lists = λ u l. list-kept (g .size) a b v w k from to u l (count-few v g ok free h u l) ∙ h .lists u l;
-        functions = λ u p i l. function-kept (g .size) a b v w k from to u i ∙ h .functions u p i l;
+        functions = λ u p i l. function-kept (g .size) a b v w k from to u i (order-small g ok u p) (omega (arith, few-cuts g free u)) ∙ h .functions u p i l;
       }
 
   pub phases-kept : (cells : List Cell) → b ≤ positiveAddr (g .size) 0 → HoldsPhases v cells g → HoldsPhases w cells g

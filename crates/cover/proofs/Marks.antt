@@ -27,13 +27,13 @@ use Rattle.model.specs.declared.Source.the-variants.{Input, Cell as Matched, In
 use Rattle.theory_graph.proofs.Literals.{lit-var, lit-neg, opposite-var}
 use Rattle.truth.specs.Variant.{placesOf}
 use Rattle.truth.proofs.Variants.{places-four}
-use Rattle.words.specs.Layout.{Room, neededAddr, countAt, slotAt, outputAt, listAddr, cutAddr}
-use Rattle.words.specs.Record.{cutAt, leavesOf, cutsAt}
+use Rattle.words.specs.Layout.{Room, neededAddr, slotAt, outputAt}
+use Rattle.words.specs.Record.{cutOf, leavesOf, leavesAt, cutsAt}
 use Rattle.words.specs.Phases.{putNeeded, phasesAt, phaseAt, positiveAt, isNeeded}
 use Rattle.words.proofs.Columns.{room-need}
-use Rattle.words.proofs.Stored.{list-get}
+use Rattle.words.proofs.Stored.{cut-listed}
 use Rattle.matching.specs.Variants.{Usable}
-use Rattle.cover.specs.Asked.{cutOf, PinsIn, OutputsIn, SlotsIn, CutsIn, MatchIn, MatchesIn}
+use Rattle.cover.specs.Asked.{PinsIn, OutputsIn, SlotsIn, CutsIn, MatchIn, MatchesIn}
 use Rattle.cover.specs.Marking.{putAll, putOutputs, feedsAt, fedOnce, fedAll, fedTurn, fedDown}
 use Rattle.cover.proofs.Nets.{place-below, nets-taken}
 use Rattle.cover.proofs.Keeping.{NeedsKept, kept-same, kept-on, need-kept, room-kept, outputs-in-kept, slots-in-kept, matches-in-kept}
@@ -65,7 +65,7 @@ module _ (lib : Library) (w : List ℕ) (m v : ℕ) (x : Match) (u : Usable lib)
   four : cellAt (cellsOf lib) (x .cell) .pins ≤ length (placesOf (x .order))
   four = omega (arith, u .pins (x .cell), places-four (x .order) (i .order))
 
-  pub match-pins : PinsIn (cutAt w (cutAddr m v (x .cut)) .leaves) m (x .order) (cellAt (cellsOf lib) (x .cell) .pins)
+  pub match-pins : PinsIn (cutOf w m v (x .cut) .leaves) m (x .order) (cellAt (cellsOf lib) (x .cell) .pins)
   match-pins =
       record {
         known = i .order;
@@ -73,24 +73,20 @@ module _ (lib : Library) (w : List ℕ) (m v : ℕ) (x : Match) (u : Usable lib)
         within =
             λ j h.
             let p : ℕ = getD (placesOf (x .order)) j 0 in
-            let b : p < length (cutOf w m v (x .cut)) = place-below (cellAt (cellsOf lib) (x .cell) .pins) (placesOf (x .order)) (length (cutOf w m v (x .cut))) j four h (i .places) in
-            subst (λ (y : ℕ). y ≤ m) (leaf-is (cutAt w (cutAddr m v (x .cut))) p b) (cuts .within v (x .cut) p inside (i .cut) b);
+            let b : p < length (leavesAt w m v (x .cut)) = place-below (cellAt (cellsOf lib) (x .cell) .pins) (placesOf (x .order)) (length (leavesAt w m v (x .cut))) j four h (i .places) in
+            subst (λ (y : ℕ). y ≤ m) (leaf-is (cutOf w m v (x .cut)) p b) (cuts .within v (x .cut) p inside (i .cut) b);
       }
 
-  pub match-nets : matchNets (cellsOf lib) (cutOf w m v (x .cut)) x
-      ≡ fedNets (cellAt (cellsOf lib) (x .cell) .pins) (placesOf (x .order)) (x .mask) (cutAt w (cutAddr m v (x .cut)) .leaves)
+  pub match-nets : matchNets (cellsOf lib) (leavesAt w m v (x .cut)) x
+      ≡ fedNets (cellAt (cellsOf lib) (x .cell) .pins) (placesOf (x .order)) (x .mask) (cutOf w m v (x .cut) .leaves)
   unfolding matchNets
   match-nets =
-      nets-taken (cellAt (cellsOf lib) (x .cell) .pins) (placesOf (x .order)) (x .mask) (cutAt w (cutAddr m v (x .cut)) .count) (cutAt w (cutAddr m v (x .cut)) .leaves) (i .places)
+      nets-taken (cellAt (cellsOf lib) (x .cell) .pins) (placesOf (x .order)) (x .mask) (cutOf w m v (x .cut) .count) (cutOf w m v (x .cut) .leaves) (i .places)
 
 -- ---- what feeds a phase
 
-pub cut-listed : (w : List ℕ) (m v k : ℕ) → k < countAt w m v → getD (cutsAt w m v) k [] ≡ cutOf w m v k
-unfolding cutsAt
-cut-listed w m v k h = list-get w (listAddr m v) (countAt w m v) k h
-
 pub feeds-matched : (cells : List Cell) (w : List ℕ) (m l : ℕ) (x : Match) → MatchIn cells w m (l / 2) x → phaseAt w m l .source ≡ Matched x
-    → feedsAt cells w m l ≡ matchNets cells (cutOf w m (l / 2) (x .cut)) x
+    → feedsAt cells w m l ≡ matchNets cells (leavesAt w m (l / 2) (x .cut)) x
 unfolding feeds listedAt varOf
 feeds-matched cells w m l x i e =
     ap (feeds cells (cutsAt w m) l) e ∙ ap (λ (c : List ℕ). matchNets cells c x) (cut-listed w m (l / 2) (x .cut) (i .cut))
@@ -129,7 +125,7 @@ feeds-in lib w m l r h y i = go (phaseAt w m l .source) refl
     go (Matched x) e =
         let j = r .matches l h x e in
         let p = match-pins lib w m (l / 2) x (r .usable) (r .cuts) h j in
-        nets-in (cellAt (cellsOf lib) (x .cell) .pins) (placesOf (x .order)) (x .mask) (cutAt w (cutAddr m (l / 2) (x .cut)) .leaves) m (p .within) y
+        nets-in (cellAt (cellsOf lib) (x .cell) .pins) (placesOf (x .order)) (x .mask) (cutOf w m (l / 2) (x .cut) .leaves) m (p .within) y
         (subst (λ (ls : List ℕ). List·Memᴰ y ls) (feeds-matched (cellsOf lib) w m l x j e ∙ match-nets lib w m (l / 2) x (r .usable) (r .cuts) h j) i)
 
 -- ---- only words of the needed phases are written

@@ -11,15 +11,11 @@ use Rattle.model.specs.declared.Cut.{Cut}
 use Rattle.model.specs.declared.Library.{Library}
 use Rattle.model.specs.declared.Match.{Match}
 use Rattle.model.specs.declared.Source.the-variants.{Cell as Matched}
-use Rattle.words.specs.Layout.{Room, RoomFor, slotAt, countAt, outputAt, cutAddr}
-use Rattle.words.specs.Record.{cutAt, leavesOf}
+use Rattle.words.specs.Layout.{Room, RoomFor, slotAt, countAt, outputAt}
+use Rattle.words.specs.Record.{leavesOf, leavesAt}
 use Rattle.words.specs.Phases.{phaseAt}
 use Rattle.truth.specs.Variant.{placesOf, placesBelow}
 use Rattle.matching.specs.Variants.{Usable}
-
--- the leaves of cut k of v
-abbrev pub cutOf : List ℕ → ℕ → ℕ → ℕ → List ℕ
-cutOf w m v k = leavesOf (cutAt w (cutAddr m v k))
 
 -- each output is a literal of the graph
 pub record OutputsIn (w : List ℕ) (m o : ℕ) : Type 0 where
@@ -42,14 +38,14 @@ pub record LeavesIn (w : List ℕ) (m : ℕ) (c : Cut) : Type 0 where
 pub record CutsIn (w : List ℕ) (m : ℕ) : Type 0 where
   pub room : Room w m
   pub few : (v : ℕ) → v ≤ m → countAt w m v ≤ cutLimit
-  pub within : (v k j : ℕ) → v ≤ m → k < countAt w m v → j < length (cutOf w m v k) → getD (cutOf w m v k) j 0 ≤ m
+  pub within : (v k j : ℕ) → v ≤ m → k < countAt w m v → j < length (leavesAt w m v k) → getD (leavesAt w m v k) j 0 ≤ m
 
 -- a match of v: one of its cuts, a cell of the library, an order, and a leaf for each pin
 pub record MatchIn (cells : List Cell) (w : List ℕ) (m v : ℕ) (x : Match) : Type 0 where
   pub cut : x .cut < countAt w m v
   pub cell : x .cell < length cells
   pub order : x .order < 24
-  pub places : T (placesBelow (cellAt cells (x .cell) .pins) (placesOf (x .order)) (length (cutOf w m v (x .cut))))
+  pub places : T (placesBelow (cellAt cells (x .cell) .pins) (placesOf (x .order)) (length (leavesAt w m v (x .cut))))
 
 -- each pin of a cell under an order has a leaf that is a variable of the graph
 pub record PinsIn (leaves : List ℕ) (m order pins : ℕ) : Type 0 where

@@ -16,15 +16,15 @@ use Rattle.model.specs.declared.Library.{Library}
 use Rattle.model.specs.declared.Phase.{Phase}
 use Rattle.model.specs.declared.Source.the-variants.{Input}
 use Rattle.words.specs.Put.{putAt}
-use Rattle.words.specs.Layout.{slotAt, countAt, functionAt, positiveAddr, negativeAddr}
-use Rattle.words.specs.Record.{nodeAt}
+use Rattle.words.specs.Layout.{slotAt, countAt, positiveAddr, negativeAddr}
+use Rattle.words.specs.Record.{nodeAt, leavesAt, functionOf}
 use Rattle.words.specs.Phases.{phaseWords, phasesAt, phaseAt}
 use Rattle.matching.specs.Variants.{Usable}
 use Rattle.matching.specs.Sheet.{SheetOf}
 use Rattle.matching.specs.Inverters.{inverterOf}
 use Rattle.matching.specs.declared.Inverter.{Inverter}
 use Rattle.matching.specs.Best.{never, timeOf}
-use Rattle.cover.specs.Asked.{cutOf, SlotsIn, CutsIn}
+use Rattle.cover.specs.Asked.{SlotsIn, CutsIn}
 
 -- ---- what the matches give
 
@@ -49,7 +49,7 @@ foundOn cells w m k cut f = map (matchPhase cells (phasesAt w m) cut) (cutMatche
 -- what those on cut number k of v give, unless it is "the variable alone"
 unfoldable pub foundAt : List Cell → List ℕ → ℕ → ℕ → Bool → ℕ → List Phase
 unfolding foundOn phaseTable same
-foundAt cells w m v neg k = cond (same (cutOf w m v k) (v ∷ [])) [] (foundOn cells w m k (cutOf w m v k) (phaseTable neg (functionAt w m v k)))
+foundAt cells w m v neg k = cond (same (leavesAt w m v k) (v ∷ [])) [] (foundOn cells w m k (leavesAt w m v k) (phaseTable neg (functionOf w m v k)))
 
 -- and those on the n cuts from number k on
 unfoldable pub foundFrom : List Cell → List ℕ → ℕ → ℕ → Bool → ℕ → ℕ → List Phase

@@ -20,11 +20,11 @@ ghost use Rattle.model.specs.Graph.{opposite};
 ghost use Rattle.model.specs.Matching.{matchNets, fedNets};
 ghost use Rattle.model.specs.Netlist.{isInverted};
 ghost use Rattle.model.specs.Limits.{cutLimit};
-ghost use Rattle.words.specs.Layout.{Room, outputAt, countAt, functionAt};
-ghost use Rattle.words.specs.Record.{leavesOf};
+ghost use Rattle.words.specs.Layout.{Room, outputAt, countAt};
+ghost use Rattle.words.specs.Record.{leavesOf, leavesAt, functionOf};
 ghost use Rattle.words.specs.Phases.{phaseAt};
 ghost use Rattle.truth.specs.Variant.{placesOf};
-ghost use Rattle.cover.specs.Asked.{cutOf, PinsIn, LeavesIn, OutputsIn, SlotsIn, CutsIn, MatchIn, MatchesIn};
+ghost use Rattle.cover.specs.Asked.{PinsIn, LeavesIn, OutputsIn, SlotsIn, CutsIn, MatchIn, MatchesIn};
 ghost use Rattle.matching.specs.Variants.{Usable};
 ghost use Rattle.matching.specs.Best.{timeOf};
 ghost use Rattle.matching.specs.Inverters.{inverted};
@@ -172,7 +172,7 @@ fn match_cut(
 // The function of cut number k of v.
 fn table(work: &[u16], m: usize, v: usize, k: usize) -> u16
     requires { ⌜ Room (now work) m × (v ≤ m) × (k < cutLimit) ⌝ }
-    ensures { λ r. ⌜ r ≡ functionAt (now (work .entry)) m v k ⌝ }
+    ensures { λ r. ⌜ r ≡ functionOf (now (work .entry)) m v k ⌝ }
 {
     words::function(work, m, v, k) as u16
 }
@@ -365,7 +365,7 @@ fn mark_pins(work: &mut [u16], m: usize, leaves: [u16; 4], order: usize, mask: u
 // The nets that feed a match are needed.
 fn mark_match(work: &mut [u16], lib: Library, m: usize, v: usize, x: Match)
     requires { ⌜ Usable lib × CutsIn (now work) m × (v ≤ m) × MatchIn (cellsOf lib) (now work) m v x ⌝ }
-    ensures { λ _. ⌜ now (work .exit) ≡ putAll (now (work .entry)) m (matchNets (cellsOf lib) (cutOf (now (work .entry)) m v (x .cut)) x) ⌝ }
+    ensures { λ _. ⌜ now (work .exit) ≡ putAll (now (work .entry)) m (matchNets (cellsOf lib) (leavesAt (now (work .entry)) m v (x .cut)) x) ⌝ }
 {
     let cut = words::load_cut(work, m, v, x.cut);
     let leaves = cut.leaves;

@@ -19,9 +19,9 @@ use Rattle.model.specs.Graph.{constant, input, undefined, both, varOf}
 use Rattle.model.specs.Cuts.{nodeCuts}
 use Rattle.model.specs.declared.Verdict.{Verdict}
 use Rattle.model.specs.declared.Verdict.the-variants.{Accepted, Refused}
-use Rattle.words.specs.Layout.{Room, kindAt, leftAt, rightAt, slotAt, countAt, listAddr, leftAddr, rightAddr, slotAddr, countsFrom, countsTo, listsFrom, listsTo}
-use Rattle.words.specs.Record.{nodeOf, nodeAt, listAt, cutsAt, putList, AllGood, Sound}
-use Rattle.words.proofs.Stored.{put-list-length, put-list-below, put-list-middle, put-list-above, put-list-cuts, put-list-other, put-list-sound, put-list-sound-other}
+use Rattle.words.specs.Layout.{Room, kindAt, leftAt, rightAt, slotAt, countAt, leftAddr, rightAddr, slotAddr, countsFrom, countsTo, listsFrom, listsTo}
+use Rattle.words.specs.Record.{nodeOf, nodeAt, cutsAt, putList, AllGood, Sound}
+use Rattle.words.proofs.Stored.{none-listed, put-list-length, put-list-below, put-list-middle, put-list-above, put-list-cuts, put-list-other, put-list-sound, put-list-sound-other}
 use Rattle.cuts.specs.Listing.{Known, Ready, Operands, State, cutsNow, few, listed, stepCuts, join, onward, listing, stored}
 use Rattle.cuts.proofs.Nodes.{now-good}
 
@@ -36,15 +36,12 @@ pub record Held (w : List ℕ) (m : ℕ) (known : Known) (v : List ℕ) : Type 0
   pub is : v ≡ stored w m known
 
 pub held-begin : (w : List ℕ) (m n : ℕ) → Ready w m n → Held w m [] w
-unfolding stored find cutsAt listAt
+unfolding stored find
 held-begin w m n r =
-    record { long = refl; below = λ i h. refl; middle = λ i h l. refl; above = λ i h. refl; sound = λ u h. begin u (r .none-yet u h); cuts = λ u h. empty u (r .none-yet u h); is = refl }
+    record { long = refl; below = λ i h. refl; middle = λ i h l. refl; above = λ i h. refl; sound = λ u h. begin u (r .none-yet u h); cuts = λ u h. none-listed w m u (r .none-yet u h); is = refl }
   where
-    empty : (u : ℕ) → countAt w m u ≡ 0 → cutsAt w m u ≡ []
-    empty u e = ap (listAt w (listAddr m u)) e
-
     begin : (u : ℕ) → countAt w m u ≡ 0 → Sound w m u
-    begin u e = record { few = omega arith; narrow = λ k h. absurd (omega arith); good = subst AllGood (sym (empty u e)) tt }
+    begin u e = record { few = omega arith; narrow = λ k h. absurd (omega arith); good = subst AllGood (sym (none-listed w m u e)) tt }
 
 module _ (w : List ℕ) (m n : ℕ) (r : Ready w m n) (known : Known) (v : List ℕ) (held : Held w m known v) where
   pub held-operands : Operands v m

@@ -16,9 +16,9 @@ use lib.ListN.{length, take, drop, length-append, length-drop, List·getD-eq-def
 use lib.Seq.{drop-cons, drop-length, length-take-le}
 use borrow.Author.Tests.{le-leb, lt-leb, ltb-true, ltb-false}
 use Rattle.model.specs.Base.{union}
-use Rattle.words.specs.Layout.{countAt, listAddr, cutAddr}
-use Rattle.words.specs.Record.{leavesOf, cutAt, padded, cutsAt, Leaves, Good, Sound}
-use Rattle.words.proofs.Stored.{list-get, list-length, good-get}
+use Rattle.words.specs.Layout.{countAt}
+use Rattle.words.specs.Record.{leavesAt, padded, cutsAt, Leaves, Good, Sound}
+use Rattle.words.proofs.Stored.{count-listed, cut-listed, good-get}
 use Rattle.cuts.specs.Keys.{Rising, keyFrom, key, added, addedCut, rowKeys, bump, Head}
 use Rattle.cuts.proofs.Merging.{bump-small, bump-other, union-long}
 
@@ -82,20 +82,14 @@ row-wide c d ds ks h = rw (lt-leb (length (union compare c d)) 4 h)
 
 -- the cuts of v in the words w, by number
 module _ (w : List ℕ) (m v : ℕ) where
-  pub count-is : length (cutsAt w m v) ≡ countAt w m v
-  unfolding cutsAt
-  count-is = list-length w (listAddr m v) (countAt w m v)
-
-  pub at-hand : (j : ℕ) → j < countAt w m v → drop j (cutsAt w m v) ≡ leavesOf (cutAt w (cutAddr m v j)) ∷ drop (suc j) (cutsAt w m v)
-  unfolding cutsAt
+  pub at-hand : (j : ℕ) → j < countAt w m v → drop j (cutsAt w m v) ≡ leavesAt w m v j ∷ drop (suc j) (cutsAt w m v)
   at-hand j h =
-      drop-cons (cutsAt w m v) j [] (omega (arith, count-is))
-      ∙ ap (λ (c : List ℕ). c ∷ drop (suc j) (cutsAt w m v)) (list-get w (listAddr m v) (countAt w m v) j h)
+      drop-cons (cutsAt w m v) j [] (omega (arith, count-listed w m v))
+      ∙ ap (λ (c : List ℕ). c ∷ drop (suc j) (cutsAt w m v)) (cut-listed w m v j h)
 
-  pub cut-good : Sound w m v → (j : ℕ) → j < countAt w m v → Good (leavesOf (cutAt w (cutAddr m v j)))
-  unfolding cutsAt
+  pub cut-good : Sound w m v → (j : ℕ) → j < countAt w m v → Good (leavesAt w m v j)
   cut-good s j h =
-      subst Good (list-get w (listAddr m v) (countAt w m v) j h) (good-get (cutsAt w m v) j (s .good) (omega (arith, count-is)))
+      subst Good (cut-listed w m v j h) (good-get (cutsAt w m v) j (s .good) (omega (arith, count-listed w m v)))
 
   pub none-left : drop (countAt w m v) (cutsAt w m v) ≡ []
-  none-left = rw (← count-is) (drop-length (cutsAt w m v))
+  none-left = rw (← count-listed w m v) (drop-length (cutsAt w m v))

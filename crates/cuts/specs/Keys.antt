@@ -1,7 +1,7 @@
 -- A cut as one number, its key: its size and its four leaves, the first highest, so that "by size, then by ascending leaves compared left to right" is the order of the keys.
 -- A list being built has room for one cut more than the limit; what comes after that is left out. Assumes nothing.
 use mathlib.Core.Bool.{Bool, true, false, cond}
-use mathlib.Core.List.{List, [], _∷_, _++_}
+use mathlib.Core.List.{List, [], _∷_, map}
 use Prim.Native.Nat.{ℕ, zero, suc, _+_, _*_, _/_, _%_, _≤_, compare}
 use lib.Dec.{ltb, leb, eqb}
 use lib.ListN.{length, take, getD}
@@ -10,7 +10,8 @@ use Rattle.model.specs.Base.{insert, union}
 use Rattle.model.specs.Graph.{Node, constant, input, undefined, both, varOf}
 use Rattle.model.specs.Limits.{cutLimit}
 use Rattle.words.specs.Put.{putAt}
-use Rattle.words.specs.Layout.{countAddr, listAddr}
+use Rattle.words.specs.Layout.{countAddr}
+use Rattle.words.specs.Record.{putCuts}
 
 -- n leaves more, in base 4096: a leaf is a variable, and "M exceeds 4,095" is turned back
 unfoldable pub keyFrom : ℕ → ℕ → List ℕ → ℕ
@@ -27,16 +28,9 @@ unfoldable pub keyWords : ℕ → List ℕ
 keyWords k =
     k / 4096 / 4096 / 4096 / 4096 ∷ k / 4096 / 4096 / 4096 % 4096 ∷ k / 4096 / 4096 % 4096 ∷ k / 4096 % 4096 ∷ k % 4096 ∷ []
 
--- the words of a list of keys
-unfoldable pub flatKeys : List ℕ → List ℕ
-unfolding keyWords
-flatKeys [] = []
-flatKeys (k ∷ ks) = keyWords k ++ flatKeys ks
-
 -- the words with the cuts that keys stand for stored for a variable
 unfoldable pub putKeys : List ℕ → ℕ → ℕ → List ℕ → List ℕ
-unfolding flatKeys
-putKeys w m v ks = putAt (putAt w (countAddr m v) (length ks ∷ [])) (listAddr m v) (flatKeys ks)
+putKeys w m v ks = putCuts (putAt w (countAddr m v) (length ks ∷ [])) m v 0 (map keyWords ks)
 
 -- one cut more than the limit
 abbrev pub keyRoom : ℕ

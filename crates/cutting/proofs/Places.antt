@@ -1,6 +1,5 @@
 -- In the words that represent an accepted graph each AND is placed behind its operands:
 --     and-placed, operands-in     an AND and its operands' variables are placed
---     operands-small              an operand is a literal of the graph
 --     place-of                    a variable's place is 1 and its index in the placing order
 --     placed                      what the walks over cones ask for
 -- Assumes nothing.
@@ -44,14 +43,6 @@ module _ (g : Graph) (ok : Accepted g) (v l r : ℕ) (e : node g v ≡ both l r)
     subst (λ (x : ℕ). List·Memᴰ (varOf x) (placingOrder g)) (found .isLeft) (used-placed (found .line .left) (List·Memᴰ·head refl)),
     subst (λ (x : ℕ). List·Memᴰ (varOf x) (placingOrder g)) (found .isRight) (used-placed (found .line .right) (List·Memᴰ·tail (List·Memᴰ·head refl))),
   )
-
-  -- "A literal exceeds 2M+1" is turned back
-  pub operands-small : (l ≤ 2 * g .size + 1) × (r ≤ 2 * g .size + 1)
-  unfolding varOf
-  operands-small =
-      let a : l / 2 ≤ g .size = order-small g ok (varOf l) (operands-in .0) in
-      let b : r / 2 ≤ g .size = order-small g ok (varOf r) (operands-in .1) in
-      (omega arith, omega arith)
 
 -- what is placed and does not come after v comes before it
 in-front : (xs pre : List ℕ) (v : ℕ) (post : List ℕ) → xs ≡ pre ++ (v ∷ post) → (x : ℕ) → List·Memᴰ x xs → ¬ List·Memᴰ x (v ∷ post) → List·Memᴰ x pre

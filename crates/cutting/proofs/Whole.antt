@@ -2,9 +2,7 @@
 --     enumerate-ready             what it asks for
 --     enumerate-verdict           its answer is `cutsVerdict`
 --     enumerate-listed            without a refusal the words hold the cuts of `model` and their functions, and all else stays
---     enumerate-refused           after a refusal they hold the lists of the variables before the one that is turned back
 --     enumerate-represents        the words go on representing the graph
---     listed-count, listed-cut, listed-narrow     a cut of a variable, as it is loaded from the words
 -- Assumes nothing.
 use mathlib.Core.Path.{_≡_, refl, sym, ap, _∙_, subst}
 use mathlib.Core.List.{List, [], _∷_, map, List·Memᴰ}
@@ -13,16 +11,15 @@ use native.Mathlib.Omega.{arith}
 use lib.ListN.{length, getD, length-append}
 use lib.Seq.{getD-append-add}
 use Rattle.model.specs.Graph.{Graph, placingOrder}
-use Rattle.model.specs.Limits.{cutLimit}
 use Rattle.model.specs.Cuts.{cutsOf, cutAt, cutTable}
 use Rattle.model.specs.Netlist.{cutsVerdict}
-use Rattle.model.specs.declared.Verdict.the-variants.{Accepted, Refused}
+use Rattle.model.specs.declared.Verdict.the-variants.{Accepted}
 use Rattle.theory_graph.proofs.Accepted as accepted
 use Rattle.theory_graph.proofs.CutFacts.{cuts-none, length-order}
 use Rattle.theory_order.proofs.Splits.{by-elem, split-at}
-use Rattle.words.specs.Layout.{slotAt, placeAt, countAt, listAddr, cutAddr, listsTo, functionAt}
-use Rattle.words.specs.Record.{leavesOf, cutsAt, cutAt as cutIn}
-use Rattle.words.proofs.Stored.{list-length, list-get}
+use Rattle.words.specs.Layout.{slotAt, placeAt, countAt, listsTo}
+use Rattle.words.specs.Record.{cutsAt, functionOf}
+use Rattle.words.proofs.Stored.{count-listed}
 use Rattle.cuts.specs.Listing as lists
 use Rattle.cuts.specs.Represents.{Represents, Uncut}
 use Rattle.cuts.proofs.Listings.{Held}
@@ -32,7 +29,7 @@ use Rattle.cones.proofs.Fills.{Under, under-cuts, under-sound, filled-under, fi
 use Rattle.cones.proofs.Meaning.{functions-of}
 use Rattle.cutting.specs.Enumerated.{Ready, enumerated}
 use Rattle.cutting.specs.Listed.{Listed}
-use Rattle.cutting.proofs.Passes.{ready-filling, after-accepted, after-refused}
+use Rattle.cutting.proofs.Passes.{ready-filling, after-accepted}
 use Rattle.cutting.proofs.Places.{place-of, placed}
 
 module _ (w : List ℕ) (m n : ℕ) (g : Graph) (rep : Represents w m n g) (ok : accepted.Accepted g) (fresh : Uncut w m) where
@@ -63,9 +60,6 @@ module _ (w : List ℕ) (m n : ℕ) (g : Graph) (rep : Represents w m n g) (ok :
   unfolding out
   ready-out = ready-filling w m n enumerate-ready
 
-  pub enumerate-refused : (number place : ℕ) → cutsVerdict g ≡ Refused number place → enumerated w m n ≡ lists.stored w m (lists.listing w m n .known)
-  enumerate-refused number place e = after-refused w m n number place (enumerate-verdict ∙ e)
-
   module _ (done : cutsVerdict g ≡ Accepted) where
     end : List ℕ
     end = filling.filled out m n
@@ -90,11 +84,10 @@ module _ (w : List ℕ) (m n : ℕ) (g : Graph) (rep : Represents w m n g) (ok :
     cuts-end v h = under-cuts out end m under (ready-out .placed) v h (held .sound v h) ∙ cuts-out v h
 
     count-out : (v : ℕ) → v ≤ m → countAt out m v ≡ length (cutsOf g v)
-    unfolding cutsAt
-    count-out v h = sym (list-length out (listAddr m v) (countAt out m v)) ∙ ap length (cuts-out v h)
+    count-out v h = sym (count-listed out m v) ∙ ap length (cuts-out v h)
 
     -- a function of a placed variable
-    placed-function : (v k : ℕ) → v ≤ m → k < length (cutsOf g v) → List·Memᴰ v (placingOrder g) → functionAt end m v k ≡ cutTable g (cutAt (cutsOf g) v k) v
+    placed-function : (v k : ℕ) → v ≤ m → k < length (cutsOf g v) → List·Memᴰ v (placingOrder g) → functionOf end m v k ≡ cutTable g (cutAt (cutsOf g) v k) v
     unfolding end cutAt
     placed-function v k h b there =
         let s = split-at (placingOrder g) there in
@@ -104,8 +97,8 @@ module _ (w : List ℕ) (m n : ℕ) (g : Graph) (rep : Represents w m n g) (ok :
         let zero-more : j ≡ j + 0 = omega arith in
         let slot : slotAt out m j ≡ v =
         rep-out .order j (omega (arith, rep .long)) ∙ (λ i. getD (s .2 i) (zero-more i) 0) ∙ getD-append-add (s .0) (v ∷ s .1) 0 0 in
-        let word : functionAt (filling.filled out m n) m v k ≡ getD (filling.functionsOf out m v) k 0 =
-        subst (λ (x : ℕ). k < countAt out m x → functionAt (filling.filled out m n) m x k ≡ getD (filling.functionsOf out m x) k 0) slot
+        let word : functionOf (filling.filled out m n) m v k ≡ getD (filling.functionsOf out m v) k 0 =
+        subst (λ (x : ℕ). k < countAt out m x → functionOf (filling.filled out m n) m x k ≡ getD (filling.functionsOf out m x) k 0) slot
         (filled-word out m n ready-out n (omega arith) j (omega (arith, rep .long)) k) (omega (arith, count-out v h)) in
         let tables : filling.functionsOf out m v ≡ map (λ (c : List ℕ). cutTable g c v) (cutsOf g v) =
         functions-of out m (ready-out .placed) g (rep-out .nodes) v h (held .sound v h) (omega arith) (omega (arith, length-order g))
@@ -117,7 +110,7 @@ module _ (w : List ℕ) (m n : ℕ) (g : Graph) (rep : Represents w m n g) (ok :
         table-at (c ∷ cs) zero h = refl
         table-at (c ∷ cs) (suc k) h = table-at cs k (omega arith)
 
-    functions-end : (v k : ℕ) → v ≤ m → k < length (cutsOf g v) → functionAt end m v k ≡ cutTable g (cutAt (cutsOf g) v k) v
+    functions-end : (v k : ℕ) → v ≤ m → k < length (cutsOf g v) → functionOf end m v k ≡ cutTable g (cutAt (cutsOf g) v k) v
     functions-end v k h b =
         by-elem v (placingOrder g) (placed-function v k h b) (λ away. let none : length (cutsOf g v) ≡ 0 = ap length (cuts-none g v away) in absurd (omega arith))
 
@@ -139,24 +132,3 @@ module _ (w : List ℕ) (m n : ℕ) (g : Graph) (rep : Represents w m n g) (ok :
 
     pub enumerate-represents : Represents (enumerated w m n) m n g
     enumerate-represents = represents-kept w (enumerated w m n) m n g rep ok (enumerate-listed .long) (enumerate-listed .below)
-
--- ---- what layers above read of the words
-
-module _ (w : List ℕ) (m : ℕ) (g : Graph) (out : List ℕ) (l : Listed w m g out) (v : ℕ) (h : v ≤ m) where
-  pub listed-count : countAt out m v ≡ length (cutsOf g v)
-  unfolding cutsAt
-  listed-count = sym (list-length out (listAddr m v) (countAt out m v)) ∙ ap length (l .cuts v h)
-
-  -- "more than 24 cuts" is turned back
-  pub listed-few : length (cutsOf g v) ≤ cutLimit
-  listed-few = omega (arith, listed-count, l .sound v h .few)
-
-  module _ (k : ℕ) (b : k < length (cutsOf g v)) where
-    -- cut number k, as `load_cut` gives it
-    pub listed-cut : leavesOf (cutIn out (cutAddr m v k)) ≡ cutAt (cutsOf g) v k
-    unfolding cutsAt cutAt
-    listed-cut = sym (list-get out (listAddr m v) (countAt out m v) k (omega (arith, listed-count))) ∙ ap (λ (cs : List (List ℕ)). getD cs k []) (l .cuts v h)
-
-    pub listed-narrow : cutIn out (cutAddr m v k) .count ≤ 4
-    unfolding cutIn
-    listed-narrow = omega (arith, l .sound v h .narrow k (omega (arith, listed-count)))

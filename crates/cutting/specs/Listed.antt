@@ -5,13 +5,13 @@ use Prim.Native.Nat.{ℕ, _≤_, _<_}
 use lib.ListN.{length, getD}
 use Rattle.model.specs.Graph.{Graph}
 use Rattle.model.specs.Cuts.{cutsOf, cutAt, cutTable}
-use Rattle.words.specs.Layout.{countsFrom, countsTo, listsFrom, outputAddr, functionAt}
-use Rattle.words.specs.Record.{cutsAt, Sound}
+use Rattle.words.specs.Layout.{countsFrom, countsTo, listsFrom, outputAddr}
+use Rattle.words.specs.Record.{cutsAt, functionOf, Sound}
 
 -- the words `out` are those of w with the cuts of g and their functions. All other words stay: kind to place, needed, free, both phases, and from the outputs on
 pub record Listed (w : List ℕ) (m : ℕ) (g : Graph) (out : List ℕ) : Type 0 where
   pub cuts : (v : ℕ) → v ≤ m → cutsAt out m v ≡ cutsOf g v
-  pub functions : (v k : ℕ) → v ≤ m → k < length (cutsOf g v) → functionAt out m v k ≡ cutTable g (cutAt (cutsOf g) v k) v
+  pub functions : (v k : ℕ) → v ≤ m → k < length (cutsOf g v) → functionOf out m v k ≡ cutTable g (cutAt (cutsOf g) v k) v
   pub sound : (v : ℕ) → v ≤ m → Sound out m v
   pub long : length out ≡ length w
   pub below : (i : ℕ) → i < countsFrom m → getD out i 0 ≡ getD w i 0

@@ -13,10 +13,9 @@ use Rattle.model.specs.GraphText.{readHeader, readGraph}
 use Rattle.model.specs.Netlist.{placingVerdict, cutsVerdict}
 use Rattle.model.specs.declared.Library.{Library}
 use Rattle.model.specs.declared.Header.{Header}
-use Rattle.model.specs.declared.Verdict.{Verdict}
 use Rattle.model.specs.declared.Verdict.the-variants.{Accepted, Refused}
-use Rattle.words.specs.Layout.{Room, RoomFor, kindAt, leftAt, rightAt, slotAt, placeAt, countAt, functionAt, outputAt, outputAddr, countAddr, neededAddr, listsFrom}
-use Rattle.words.specs.Record.{nodeAt, cutsAt}
+use Rattle.words.specs.Layout.{Room, RoomFor, leftAt, rightAt, slotAt, placeAt, placeAddr, outputAt, outputAddr, countAddr, neededAddr, listsFrom}
+use Rattle.words.specs.Record.{nodeAt, cutsAt, functionOf}
 use Rattle.words.specs.Holding.{HoldsGraph, HoldsOrder, HoldsCuts}
 use Rattle.words.proofs.Columns.{room-need}
 use Rattle.theory_graph.proofs.Accepted as accepted
@@ -31,8 +30,8 @@ use Rattle.cuts.specs.Represents.{Represents, Uncut}
 use Rattle.cutting.specs.Enumerated.{placedOf, enumerated}
 use Rattle.cutting.specs.Listed.{Listed}
 use Rattle.cutting.proofs.Whole.{enumerate-listed, enumerate-represents}
-use Rattle.cover.proofs.Held.{HeaderOf, Held, placed-is}
-use Rattle.mapper.specs.Stages.{LibraryOk, Given, Loaded, Placed, Cut}
+use Rattle.cover.proofs.Held.{placed-is}
+use Rattle.mapper.specs.Stages.{LibraryOk, Loaded, Placed, Cut}
 
 verdicts-differ : {n k : ℕ} → ¬ (Refused n k ≡ Accepted)
 verdicts-differ e = let z : _≡_ {A = ℕ} 0 1 = cc in omega arith
@@ -182,14 +181,14 @@ module _ (w : List ℕ) (lib : Library) (h : Header) (g : Graph) (p : Placed w l
           slots = subst (λ (m : ℕ). (i : ℕ) → i < length (placingOrder g) → slotAt out m i ≡ getD (placingOrder g) i 0) (sym (hold .size)) (λ i l. again .order i (omega arith));
           places = subst (λ (m : ℕ). (i : ℕ) → i < length (placingOrder g) → placeAt out m (getD (placingOrder g) i 0) ≡ i + 1) (sym (hold .size)) (λ i l. again .places i (omega arith));
           waiting = subst (λ (m : ℕ). (v : ℕ) → v ≤ m → ¬ List·Memᴰ v (placingOrder g) → placeAt out m v ≡ 0) (sym (hold .size))
-              (λ v l n. listed .below (4 * (h .size + 1) + v) (omega arith) ∙ hold .held .ordered .waiting v l n);
+              (λ v l n. listed .below (placeAddr (h .size) v) (omega arith) ∙ hold .held .ordered .waiting v l n);
         }
 
     cuts : HoldsCuts out g
     unfolding cutAt
     cuts = record {
       lists = subst (λ (m : ℕ). (v : ℕ) → v ≤ m → cutsAt out m v ≡ cutsOf g v) (sym (hold .size)) (listed .cuts);
-      functions = subst (λ (m : ℕ). (v : ℕ) → List·Memᴰ v (placingOrder g) → (k : ℕ) → k < length (cutsOf g v) → functionAt out m v k ≡ cutTable g (getD (cutsOf g v) k []) v) (sym (hold .size))
+      functions = subst (λ (m : ℕ). (v : ℕ) → List·Memᴰ v (placingOrder g) → (k : ℕ) → k < length (cutsOf g v) → functionOf out m v k ≡ cutTable g (getD (cutsOf g v) k []) v) (sym (hold .size))
           (λ v m k l. listed .functions v k (subst (λ (s : ℕ). v ≤ s) (hold .size) (Rattle.theory_graph.proofs.Placing.order-small g ok v m)) l);
     }
 

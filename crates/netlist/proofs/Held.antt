@@ -2,7 +2,6 @@
 --     gated, named        every access is inside the words
 --     text-held           the text
 --     measured-held       its length and its figures
---     reads-back          the netlist reads back as its gates
 -- Assumes nothing.
 use mathlib.Core.Path.{_≡_, refl, sym, ap, ap₂, subst, _∙_}
 use mathlib.Core.Bool.{Bool, true, false, not, cond, _&&_, true≢false}
@@ -36,21 +35,17 @@ use Rattle.model.specs.declared.Source.{Source}
 use Rattle.model.specs.declared.Source.the-variants.{Input, Cell as Matched, Inverter as Inverted, Nothing}
 use Rattle.model.specs.declared.Phase.{Phase}
 use Rattle.model.specs.declared.Figures.{Figures}
-use Rattle.words.specs.Layout.{slotAt, outputAt, cutAddr, countAt, listAddr}
-use Rattle.words.specs.Record.{cutAt, cutsAt, leavesOf}
+use Rattle.words.specs.Layout.{slotAt, outputAt}
+use Rattle.words.specs.Record.{cutOf, leavesOf}
 use Rattle.words.specs.Phases.{phaseAt, isNeeded}
 use Rattle.words.proofs.Columns.{room-need}
-use Rattle.words.proofs.Stored.{list-length, list-get}
+use Rattle.words.proofs.Stored.{held-cut}
 use Rattle.theory_graph.proofs.Lists.{keep-in, below-out, getD-in, elem-in, elem-out, map-map, map-same}
 use Rattle.theory_graph.proofs.Placing.{order-once, order-small, defined-placed}
 use Rattle.theory_graph.proofs.CutFacts.{cuts-none}
 use Rattle.theory_cover.proofs.Sound.{chosen-fine, needed-present}
 use Rattle.theory_text.proofs.Names.{library-cell, cell-form}
 use Rattle.theory.proofs.Needs.{listed-needed}
-use Rattle.theory.proofs.Gates.{back}
-use Rattle.theory_text.proofs.ReadBack.{blifOf}
-use Rattle.model.specs.Blif.{readBlif}
-use mathlib.Core.Option.{some}
 use Rattle.netlist.specs.Lines.{lineCell, SourceReady, Gated, matchedGate, invertedGate, gateBy, gateAt, gatesFrom, Named, netAt, netsFrom, spaced, latestFrom, frameText, figuresText, gatesIn, figuresIn, textIn, measuredIn}
 use Rattle.netlist.specs.Mapped.{Mapped, gatesFor, textFor, measuredFor}
 use Rattle.netlist.proofs.Counting.{gate-needed, gate-idle, longer}
@@ -186,12 +181,6 @@ module _ (w : List ℕ) (lib : Library) (h : Header) (g : Graph) (k : Mapped w l
 
   -- ---- gates
 
-  cut-held : (v n : ℕ) → v ≤ g .size → n < length (cutsOf g v) → leavesOf (cutAt w (cutAddr (g .size) v n)) ≡ getD (cutsOf g v) n []
-  unfolding cutsAt
-  cut-held v n b l =
-      let listed : n < countAt w (g .size) v = omega (arith, list-length w (listAddr (g .size) v) (countAt w (g .size) v), ap length (k .cuts .lists v b)) in
-      sym (list-get w (listAddr (g .size) v) (countAt w (g .size) v) n listed) ∙ ap (λ (cs : List (List ℕ)). getD cs n []) (k .cuts .lists v b)
-
   abbrev gateFor : ℕ → Source → Gate
   gateFor l s = record { cell = cellOf (cellsOf lib) s; pins = feeds (cellsOf lib) (cutsOf g) l s; net = l }
 
@@ -200,9 +189,9 @@ module _ (w : List ℕ) (lib : Library) (h : Header) (g : Graph) (k : Mapped w l
   matched-held l x b a =
       let c = cellAt (cellsOf lib) (x .cell) in
       let places = getD orders (x .order) [] in
-      let cut = cutAt w (cutAddr (g .size) (l / 2) (x .cut)) in
+      let cut = cutOf w (g .size) (l / 2) (x .cut) in
       let same = cell-same (x .cell) (a .hasCell) in
-      let leaves : leavesOf cut ≡ cuts.cutAt (cutsOf g) (l / 2) (x .cut) = cut-held (l / 2) (x .cut) b (a .hasCut) in
+      let leaves : leavesOf cut ≡ cuts.cutAt (cutsOf g) (l / 2) (x .cut) = held-cut w g (k .cuts) (l / 2) b (x .cut) (a .hasCut) in
       let fit = fits-places c places (x .mask) (length (cuts.cutAt (cutsOf g) (l / 2) (x .cut))) (phaseTable (negated l) (cutTable g (cuts.cutAt (cutsOf g) (l / 2) (x .cut)) (l / 2))) (a .agrees) in
       let pins =
       ap (λ (d : Cell). fedNets (d .pins) places (x .mask) (cut .leaves)) same
@@ -310,7 +299,3 @@ module _ (w : List ℕ) (lib : Library) (h : Header) (g : Graph) (k : Mapped w l
       let f : figuresIn w lib h ≡ choiceFigures (cellsOf lib) g = ap (figuresIn w lib) same-header ∙ figures-here in
       let t : textIn w lib h (figuresIn w lib h) ≡ textFor lib g (choiceFigures (cellsOf lib) g) = text-held (figuresIn w lib h) ∙ ap (textFor lib g) f in
       λ i. record { length = length (t i); figures = f i }
-
-  -- what is written reads back as the gates
-  pub reads-back : (f : Figures) → readBlif (textFor lib g f) ≡ some (blifOf g (gatesFor lib g))
-  reads-back f = back (cellsOf lib) (k .library) g (k .accepted) (k .covered) f

@@ -19,8 +19,8 @@ use Rattle.model.specs.declared.Match.{Match}
 use Rattle.model.specs.declared.Figures.{Figures}
 use Rattle.model.specs.declared.Source.{Source}
 use Rattle.model.specs.declared.Source.the-variants.{Input, Cell as Matched, Inverter as Inverted, Nothing}
-use Rattle.words.specs.Layout.{Room, RoomFor, slotAt, outputAt, cutAddr}
-use Rattle.words.specs.Record.{cutAt}
+use Rattle.words.specs.Layout.{Room, RoomFor, slotAt, outputAt}
+use Rattle.words.specs.Record.{cutOf}
 use Rattle.words.specs.Phases.{phaseAt, isNeeded}
 use Rattle.netlist.specs.declared.Driver.{Driver}
 use Rattle.netlist.specs.declared.Tally.{Tally}
@@ -67,7 +67,7 @@ unfoldable pub matchedGate : List ℕ → Library → ℕ → ℕ → Match → 
 unfolding varOf fedNets orders
 matchedGate w lib m l x = record {
   cell = lineCell lib (x .cell);
-  pins = fedNets (lineCell lib (x .cell) .pins) (getD orders (x .order) []) (x .mask) (cutAt w (cutAddr m (varOf l) (x .cut)) .leaves);
+  pins = fedNets (lineCell lib (x .cell) .pins) (getD orders (x .order) []) (x .mask) (cutOf w m (varOf l) (x .cut) .leaves);
   net = l;
 }
 

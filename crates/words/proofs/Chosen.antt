@@ -1,5 +1,5 @@
 -- The laws of nodes, phases and needed phases in words, which callers of their loads and stores cite:
---     node-put, node-other        a node that was stored is there, and those of other variables stay
+--     node-length, node-apart     a node that was stored leaves every other word
 --     length-phase                a phase has four words
 --     phase-put, phase-apart      a phase that was stored is loaded, and a store elsewhere leaves it
 --     phase-none                  zeros are no source
@@ -21,8 +21,8 @@ use Rattle.model.specs.declared.Source.{Source}
 use Rattle.model.specs.declared.Source.the-variants.{Input, Cell as Matched, Inverter as Inverted, Nothing}
 use Rattle.model.specs.declared.Phase.{Phase}
 use Rattle.words.specs.Put.{putAt}
-use Rattle.words.specs.Layout.{Room, kindAddr, leftAddr, rightAddr, kindAt, leftAt, rightAt, neededAt, neededAddr, noteAddr, notedAt, walkAt, noteWords}
-use Rattle.words.specs.Record.{nodeOf, nodeAt, putNode}
+use Rattle.words.specs.Layout.{Room, kindAddr, leftAddr, rightAddr, neededAt, neededAddr, noteAddr, notedAt, walkAt, noteWords}
+use Rattle.words.specs.Record.{putNode}
 use Rattle.words.specs.Phases.{MatchFits, SourceFits, PhaseFits, matchWord, sourceWords, arrivalWords, phaseWords, matchOf, kindSource, sourceOf, phaseIn, flagOf, withFlag, isNeeded, putNeeded}
 use Rattle.words.proofs.Putting.{length-put, get-put}
 use Rattle.words.proofs.Parts.{Apart, OfWords, of-words, read-put, read-apart, word-put, word-apart}
@@ -56,35 +56,6 @@ module _ (w : List ℕ) (m v k l r : ℕ) (fits : Room w m) (within : v ≤ m) w
       word-apart two (rightAddr m v) r (omega (arith, fits .room, length-two)) i c
       ∙ word-apart one (leftAddr m v) l (omega (arith, fits .room, length-one)) i b
       ∙ word-apart w (kindAddr m v) k (omega (arith, fits .room)) i a
-
-  kind-now : kindAt (putNode w m v k l r) m v ≡ k
-  unfolding putNode two
-  kind-now =
-      word-apart two (rightAddr m v) r (omega (arith, fits .room, length-two)) (kindAddr m v) (omega arith)
-      ∙ word-apart one (leftAddr m v) l (omega (arith, fits .room, length-one)) (kindAddr m v) (omega arith)
-      ∙ word-put w (kindAddr m v) k (omega (arith, fits .room))
-
-  left-now : leftAt (putNode w m v k l r) m v ≡ l
-  unfolding putNode two
-  left-now =
-      word-apart two (rightAddr m v) r (omega (arith, fits .room, length-two)) (leftAddr m v) (omega arith)
-      ∙ word-put one (leftAddr m v) l (omega (arith, fits .room, length-one))
-
-  right-now : rightAt (putNode w m v k l r) m v ≡ r
-  unfolding putNode two
-  right-now = word-put two (rightAddr m v) r (omega (arith, fits .room, length-two))
-
-  pub node-put : nodeAt (putNode w m v k l r) m v ≡ nodeOf k l r
-  unfolding nodeAt
-  node-put = λ i. nodeOf (kind-now i) (left-now i) (right-now i)
-
-  pub node-other : (u : ℕ) → u ≤ m → (u ≡ v → ⊥) → nodeAt (putNode w m v k l r) m u ≡ nodeAt w m u
-  unfolding nodeAt
-  node-other u h n =
-      let a : kindAt (putNode w m v k l r) m u ≡ kindAt w m u = node-apart (kindAddr m u) (omega arith) (omega arith) (omega arith) in
-      let b : leftAt (putNode w m v k l r) m u ≡ leftAt w m u = node-apart (leftAddr m u) (omega arith) (omega arith) (omega arith) in
-      let c : rightAt (putNode w m v k l r) m u ≡ rightAt w m u = node-apart (rightAddr m u) (omega arith) (omega arith) (omega arith) in
-      λ i. nodeOf (a i) (b i) (c i)
 
 -- ---- phases
 

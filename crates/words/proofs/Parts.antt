@@ -1,8 +1,9 @@
 -- The words from a place on, after words were put: those that were put, where they were put, and those of before, where the two do not meet.
 --     put-whole                   all words put
+--     put-same                    a word that two lists have in common, where the same words are put
 --     part-put                    the words that were put
 --     part-apart                  words that do not meet them
---     part-more, zero-put         a list of words that grows by one, and words that were cleared
+--     zero-put                    words that were cleared
 -- and so for a record that is read out of n words (`OfWords`):
 --     read-put                    it is read out of the words that were put
 --     read-apart                  it is as before, where its words and those do not meet
@@ -17,7 +18,7 @@ use native.Mathlib.Omega.{arith}
 use lib.Dec.{ltb, leb}
 use borrow.Author.Tests.{ltb-true, ltb-false, leb-true, leb-false}
 use lib.ListN.{length, take, drop, getD, length-take, length-drop, length-replicate, getD-replicate}
-use lib.Seq.{drop-length, drop-drop, take-add, getD-take, getD-drop, ext-getD}
+use lib.Seq.{drop-length, getD-take, getD-drop, ext-getD}
 use Rattle.words.specs.Put.{putAt, zeros}
 use Rattle.words.proofs.Putting.{length-put, get-put, get-put-below, get-put-above}
 
@@ -46,6 +47,29 @@ get-apart w at vs fits i h = by (ltb i at) refl
     by true e = get-put-below w at vs fits i (ltb-true i at e)
     by false e = above (leb (at + length vs) i) refl (ltb-false i at e)
 
+-- a word that two lists have in common stays so where the same words are put
+pub put-same : (v w : List ℕ) (at : ℕ) (vs : List ℕ) → length v ≡ length w → at + length vs ≤ length w
+    → (i : ℕ) → getD v i 0 ≡ getD w i 0 → getD (putAt v at vs) i 0 ≡ getD (putAt w at vs) i 0
+put-same v w at vs size fits i same = by (ltb i at) refl (ltb i (at + length vs)) refl
+  where
+    fits-v : at + length vs ≤ length v
+    fits-v = omega arith
+
+    by : (s : Bool) → ltb i at ≡ s → (t : Bool) → ltb i (at + length vs) ≡ t → getD (putAt v at vs) i 0 ≡ getD (putAt w at vs) i 0
+    by true e t f =
+        let l : i < at = ltb-true i at e in
+        get-put-below v at vs fits-v i l ∙ same ∙ sym (get-put-below w at vs fits i l)
+    by false e true f =
+        let l : at ≤ i = ltb-false i at e in
+        let g : i < at + length vs = ltb-true i (at + length vs) f in
+        let here : i ≡ at + (i - at) = omega arith in
+        ap (λ (j : ℕ). getD (putAt v at vs) j 0) here
+        ∙ get-put v at vs fits-v (i - at) (omega arith)
+        ∙ sym (ap (λ (j : ℕ). getD (putAt w at vs) j 0) here ∙ get-put w at vs fits (i - at) (omega arith))
+    by false e false f =
+        let g : at + length vs ≤ i = ltb-false i (at + length vs) f in
+        get-put-above v at vs fits-v i g ∙ same ∙ sym (get-put-above w at vs fits i g)
+
 -- what is read of two lists is the same where their words are
 part-same : (v w : List ℕ) (at n : ℕ) → length v ≡ length w → ((i : ℕ) → i < n → getD v (at + i) 0 ≡ getD w (at + i) 0)
     → take n (drop at v) ≡ take n (drop at w)
@@ -69,15 +93,6 @@ module _ (w : List ℕ) (at : ℕ) (vs : List ℕ) (fits : at + length vs ≤ le
   part-apart j n h =
       part-same (putAt w at vs) w j n (length-put w at vs fits)
       (λ i b. get-apart w at vs fits (j + i) (λ k l e. h .apart i k b l e))
-
--- a list of words that grows: one more put right behind it
-pub part-more : (w : List ℕ) (at n x : ℕ) → at + n < length w → take (n + 1) (drop at (putAt w (at + n) (x ∷ []))) ≡ take n (drop at w) ++ (x ∷ [])
-part-more w at n x h =
-    let fits : at + n + length (x ∷ []) ≤ length w = omega arith in
-    let v : List ℕ = putAt w (at + n) (x ∷ []) in
-    let one : take 1 (drop n (drop at v)) ≡ x ∷ [] = ap (take 1) (drop-drop n at v) ∙ part-put w (at + n) (x ∷ []) fits in
-    let before : take n (drop at v) ≡ take n (drop at w) = part-apart w (at + n) (x ∷ []) fits at n (omega arith) in
-    take-add n 1 (drop at v) ∙ (λ i. before i ++ one i)
 
 -- a word among zeros that were put
 pub zero-put : (w : List ℕ) (at n : ℕ) → at + n ≤ length w → (i : ℕ) → at ≤ i → i < at + n → getD (putAt w at (zeros n)) i 0 ≡ 0

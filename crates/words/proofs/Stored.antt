@@ -1,57 +1,46 @@
--- The laws of cut lists in words, which callers of `load_cut` and `store_cut` cite:
---     cut-put, cut-apart          what was stored is loaded, and a store elsewhere leaves it
---     length-flat                 a list's words are five to a cut
---     list-get, list-length       a cut of a list that is read
+-- The laws of cuts in words, which callers of `load_cut` and `store_cut` cite. Each says what is read, and none where it lies:
+--     cut-stored, cut-apart       what was stored is loaded, and every other cut stays
+--     put-cut-..                  so does every word outside the lists
+--     four-leaves                 a cut has four words for its leaves
+--     cuts-more                   a loop that stores one cut a turn
+--     count-listed, cut-listed    a list that is read, and a cut of it
+--     none-listed                 the list of a variable with no cuts
 --     good-get                    a cut of a list of good ones
---     put-list-..                 what storing a list leaves: the list at its variable, the lists of others, and all words below the counts
+--     cut-same, cuts-same, sound-same     words that agree in the lists have the same cuts
+--     put-list-..                 what storing a list leaves: the list at its variable, the lists of others, and all words outside the counts and the lists
+--     held-count, held-cut        the cuts of a graph, where the words hold them
 -- Assumes nothing.
 use mathlib.Core.Path.{_≡_, refl, sym, ap, _∙_, subst}
-use mathlib.Core.List.{List, [], _∷_, _++_}
-use Prim.Native.Nat.{ℕ, zero, suc, _+_, _*_, _≤_, _<_}
+use mathlib.Core.List.{List, [], _∷_, _++_, map}
+use Prim.Native.Nat.{ℕ, zero, suc, _+_, _≤_, _<_}
 use native.Mathlib.Nat.{add-zero, not-suc-le-zero, le-of-suc-le-suc}
 use native.Mathlib.Omega.{arith}
-use lib.ListN.{length, take, getD, length-append, length-take, List·getD-append}
-use lib.Seq.{getD-append-add}
-use lib.Dec.{ltb}
-use mathlib.Core.Bool.{Bool, true, false}
-use borrow.Author.Tests.{ltb-true, ltb-false}
+use lib.ListN.{length, getD, length-append, length-take}
 use Rattle.model.specs.Limits.{cutLimit}
+use Rattle.model.specs.Graph.{Graph}
+use Rattle.model.specs.Cuts.{cutsOf}
 use Rattle.model.specs.declared.Cut.{Cut}
 use Rattle.words.specs.Put.{putAt}
-use Rattle.words.specs.Layout.{Room, countAt, countAddr, countsFrom, countsTo, block, listAddr, listsFrom, listsTo}
-use Rattle.words.specs.Record.{leavesOf, cutAt, padded, cutWords, flat, listAt, cutsAt, putList, Good, AllGood, Sound}
-use Rattle.words.proofs.Parts.{Apart, OfWords, of-words, read-put, read-apart}
-use Rattle.words.proofs.Putting.{length-put, get-put, get-put-below, get-put-above}
+use Rattle.words.specs.Layout.{Room, countAt, countAddr, countsFrom, countsTo, cutAddr, listsFrom, listsTo}
+use Rattle.words.specs.Places.{cuts}
+use Rattle.words.specs.Record.{leavesOf, cutIn, cutOf, leavesAt, leavesFrom, cutsAt, padded, cutWords, putCut, putCuts, putList, Good, AllGood, Sound}
+use Rattle.words.specs.Holding.{HoldsCuts}
+use Rattle.words.proofs.Putting.{length-put, get-put-below, get-put-above}
+use Rattle.words.proofs.Parts.{Apart, OfWords, of-words, read-put, read-apart, word-put, word-apart}
+use Rattle.words.proofs.Columns.{never-meet}
+
+-- ---- one cut
 
 length-padded : (c : List ℕ) → length (padded c) ≡ 4
 length-padded c = length-take 4 (c ++ 0 ∷ 0 ∷ 0 ∷ 0 ∷ []) ∙ omega (arith, length-append c (0 ∷ 0 ∷ 0 ∷ 0 ∷ []))
 
-pub length-words : (c : List ℕ) → length (cutWords c) ≡ 5
+length-words : (c : List ℕ) → length (cutWords c) ≡ 5
 unfolding cutWords
 length-words c = ap suc (length-padded c)
 
-pub length-flat : (cs : List (List ℕ)) → length (flat cs) ≡ 5 * length cs
-unfolding flat
-length-flat [] = refl
-length-flat (c ∷ cs) = omega (arith, length-append (cutWords c) (flat cs), length-words c, length-flat cs)
-
--- word i of cut k among the words of a list
-flat-at : (cs : List (List ℕ)) (k i : ℕ) → k < length cs → i < 5 → getD (flat cs) (5 * k + i) 0 ≡ getD (cutWords (getD cs k [])) i 0
-unfolding flat
-flat-at [] k i h l = absurd (not-suc-le-zero h)
-flat-at (c ∷ cs) zero i h l =
-    let e : 5 * 0 + i ≡ i = omega arith in
-    ap (λ (j : ℕ). getD (cutWords c ++ flat cs) j 0) e
-    ∙ List·getD-append (cutWords c) (flat cs) 0 i (omega (arith, length-words c))
-flat-at (c ∷ cs) (suc k) i h l =
-    let e : 5 * suc k + i ≡ length (cutWords c) + (5 * k + i) = omega (arith, length-words c) in
-    ap (λ (j : ℕ). getD (cutWords c ++ flat cs) j 0) e
-    ∙ getD-append-add (cutWords c) (flat cs) (5 * k + i) 0
-    ∙ flat-at cs k i (le-of-suc-le-suc h) l
-
 -- a cut is its five words
-same-cut : (v w : List ℕ) (at to : ℕ) → ((k : ℕ) → k < 5 → getD v (at + k) 0 ≡ getD w (to + k) 0) → cutAt v at ≡ cutAt w to
-unfolding cutAt
+same-cut : (v w : List ℕ) (at to : ℕ) → ((k : ℕ) → k < 5 → getD v (at + k) 0 ≡ getD w (to + k) 0) → cutIn v at ≡ cutIn w to
+unfolding cutIn
 same-cut v w at to h =
     let e₀ : getD v at 0 ≡ getD w to 0 = simp add-zero at (h 0 (omega arith)) in
     let e₁ : getD v (at + 1) 0 ≡ getD w (to + 1) 0 = h 1 (omega arith) in
@@ -61,20 +50,12 @@ same-cut v w at to h =
     λ i. record { leaves = e₁ i ∷ e₂ i ∷ e₃ i ∷ e₄ i ∷ []; count = e₀ i }
 
 -- a cut is read out of five words
-pub cut-of-words : OfWords cutAt 5
-cut-of-words = of-words cutAt 5 same-cut
+cut-of-words : OfWords cutIn 5
+cut-of-words = of-words cutIn 5 same-cut
 
 -- the words of a cut read back
-pub take-padded : (c : List ℕ) → length c ≤ 4 → take (length c) (padded c) ≡ c
-take-padded [] h = refl
-take-padded (a ∷ []) h = refl
-take-padded (a ∷ b ∷ []) h = refl
-take-padded (a ∷ b ∷ c ∷ []) h = refl
-take-padded (a ∷ b ∷ c ∷ d ∷ []) h = refl
-take-padded (a ∷ b ∷ c ∷ d ∷ e ∷ ls) h = absurd (omega arith)
-
-words-back : (c : List ℕ) → length c ≤ 4 → leavesOf (cutAt (cutWords c) 0) ≡ c
-unfolding cutAt cutWords
+words-back : (c : List ℕ) → length c ≤ 4 → leavesOf (cutIn (cutWords c) 0) ≡ c
+unfolding cutIn cutWords
 words-back [] h = refl
 words-back (a ∷ []) h = refl
 words-back (a ∷ b ∷ []) h = refl
@@ -82,28 +63,133 @@ words-back (a ∷ b ∷ c ∷ []) h = refl
 words-back (a ∷ b ∷ c ∷ d ∷ []) h = refl
 words-back (a ∷ b ∷ c ∷ d ∷ e ∷ ls) h = absurd (omega arith)
 
--- what was stored is loaded
-pub cut-put : (w : List ℕ) (at : ℕ) (c : List ℕ) → at + 5 ≤ length w → length c ≤ 4 → leavesOf (cutAt (putAt w at (cutWords c)) at) ≡ c
-cut-put w at c h l =
-    let five : length (cutWords c) ≡ 5 = length-words c in
-    ap leavesOf (read-put cutAt 5 cut-of-words w at (cutWords c) (omega arith) five) ∙ words-back c l
+pub four-leaves : (w : List ℕ) (m v k : ℕ) → length (cutOf w m v k .leaves) ≡ 4
+unfolding cutOf cutIn
+four-leaves w m v k = refl
 
--- a store of other words leaves a cut
-pub cut-apart : (w : List ℕ) (at : ℕ) (vs : List ℕ) → at + length vs ≤ length w → (j : ℕ) → Apart j 5 at (length vs) → cutAt (putAt w at vs) j ≡ cutAt w j
-cut-apart w at vs fits j h = read-apart cutAt 5 cut-of-words w at vs fits j h
+-- one cut stored
+module _ (w : List ℕ) (m v k : ℕ) (ws : List ℕ) (fits : Room w m) (inside : v ≤ m) (few : k < cutLimit) (five : length ws ≡ 5) where
+  room-cut : cutAddr m v k + length ws ≤ length w
+  room-cut = omega (arith, fits .room)
 
-pub list-length : (w : List ℕ) (at n : ℕ) → length (listAt w at n) ≡ n
-unfolding listAt
-list-length w at zero = refl
-list-length w at (suc n) = ap suc (list-length w (at + 5) n)
+  pub put-cut-length : length (putCut w m v k ws) ≡ length w
+  unfolding putCut
+  put-cut-length = length-put w (cutAddr m v k) ws room-cut
 
-pub list-get : (w : List ℕ) (at n k : ℕ) → k < n → getD (listAt w at n) k [] ≡ leavesOf (cutAt w (at + 5 * k))
-unfolding listAt
-list-get w at zero k h = absurd (not-suc-le-zero h)
-list-get w at (suc n) zero h = ap (λ (j : ℕ). leavesOf (cutAt w j)) (sym (add-zero at))
-list-get w at (suc n) (suc k) h =
-    let e : at + 5 + 5 * k ≡ at + 5 * suc k = omega arith in
-    list-get w (at + 5) n k (le-of-suc-le-suc h) ∙ ap (λ (j : ℕ). leavesOf (cutAt w j)) e
+  -- all words before the lists and behind them stay
+  pub put-cut-before : (i : ℕ) → i < listsFrom m → getD (putCut w m v k ws) i 0 ≡ getD w i 0
+  unfolding putCut
+  put-cut-before i h = get-put-below w (cutAddr m v k) ws room-cut i (omega arith)
+
+  pub put-cut-behind : (i : ℕ) → listsTo m ≤ i → getD (putCut w m v k ws) i 0 ≡ getD w i 0
+  unfolding putCut
+  put-cut-behind i h = get-put-above w (cutAddr m v k) ws room-cut i (omega arith)
+
+  -- what was stored is loaded
+  pub cut-stored : cutOf (putCut w m v k ws) m v k ≡ cutIn ws 0
+  unfolding cutOf putCut
+  cut-stored = read-put cutIn 5 cut-of-words w (cutAddr m v k) ws room-cut five
+
+  -- every other cut stays
+  pub cut-apart : (u j : ℕ) → u ≤ m → j < cutLimit → (u ≡ v → j ≡ k → ⊥) → cutOf (putCut w m v k ws) m u j ≡ cutOf w m u j
+  unfolding cutOf putCut
+  cut-apart u j h l n =
+      let apart : Apart (cutAddr m u j) 5 (cutAddr m v k) 5 = never-meet m 0 cuts cuts u j v k (h, l) (inside, few) (λ e. n) in
+      read-apart cutIn 5 cut-of-words w (cutAddr m v k) ws room-cut (cutAddr m u j) (subst (Apart (cutAddr m u j) 5 (cutAddr m v k)) (sym five) apart)
+
+-- ---- several cuts, one after the other
+
+pub cuts-more : (w : List ℕ) (m v k : ℕ) (wss : List (List ℕ)) (ws : List ℕ)
+    → putCut (putCuts w m v k wss) m v (k + length wss) ws ≡ putCuts w m v k (wss ++ (ws ∷ []))
+unfolding putCuts
+cuts-more w m v k [] ws = ap (λ (j : ℕ). putCut w m v j ws) (add-zero k)
+cuts-more w m v k (us ∷ wss) ws =
+    let w′ : List ℕ = putCut w m v k us in
+    let e : k + suc (length wss) ≡ suc k + length wss = omega arith in
+    ap (λ (j : ℕ). putCut (putCuts w′ m v (suc k) wss) m v j ws) e ∙ cuts-more w′ m v (suc k) wss ws
+
+-- out is w with the cuts cs stored as those of v from number k on
+record CutsPut (w : List ℕ) (m v k : ℕ) (cs : List (List ℕ)) (out : List ℕ) : Type 0 where
+  long : length out ≡ length w
+  before : (i : ℕ) → i < listsFrom m → getD out i 0 ≡ getD w i 0
+  behind : (i : ℕ) → listsTo m ≤ i → getD out i 0 ≡ getD w i 0
+  other : (u j : ℕ) → u ≤ m → j < cutLimit → (u ≡ v → j < k) → cutOf out m u j ≡ cutOf w m u j
+  stored : (j : ℕ) → j < length cs → cutOf out m v (k + j) ≡ cutIn (cutWords (getD cs j [])) 0
+
+-- one cut stored, and then those behind it
+module _ (w : List ℕ) (m v k : ℕ) (c : List ℕ) (cs : List (List ℕ)) (fits : Room w m) (inside : v ≤ m) (few : k < cutLimit) where
+  five : length (cutWords c) ≡ 5
+  five = length-words c
+
+  begun : List ℕ
+  begun = putCut w m v k (cutWords c)
+
+  room-begun : Room begun m
+  unfolding begun
+  room-begun = record { small = fits .small; room = omega (arith, fits .room, put-cut-length w m v k (cutWords c) fits inside few five) }
+
+  then-rest : (out : List ℕ) → CutsPut begun m v (suc k) cs out → CutsPut w m v k (c ∷ cs) out
+  unfolding begun
+  then-rest out rest =
+      record {
+        long = rest .long ∙ put-cut-length w m v k (cutWords c) fits inside few five;
+        before = λ i h. rest .before i h ∙ put-cut-before w m v k (cutWords c) fits inside few five i h;
+        behind = λ i h. rest .behind i h ∙ put-cut-behind w m v k (cutWords c) fits inside few five i h;
+        other =
+            λ u j h l n.
+            rest .other u j h l (λ e. let b : j < k = n e in omega arith)
+            ∙ cut-apart w m v k (cutWords c) fits inside few five u j h l (λ e s. let b : j < k = n e in omega arith);
+        stored = at;
+      }
+    where
+      at : (j : ℕ) → j < length (c ∷ cs) → cutOf out m v (k + j) ≡ cutIn (cutWords (getD (c ∷ cs) j [])) 0
+      at zero h =
+          ap (cutOf out m v) (add-zero k)
+          ∙ rest .other v k inside few (λ e. omega arith)
+          ∙ cut-stored w m v k (cutWords c) fits inside few five
+      at (suc j) h =
+          let e : k + suc j ≡ suc k + j = omega arith in
+          ap (cutOf out m v) e ∙ rest .stored j (le-of-suc-le-suc h)
+
+cuts-put : (w : List ℕ) (m v k : ℕ) (cs : List (List ℕ)) → Room w m → v ≤ m → k + length cs ≤ cutLimit
+    → CutsPut w m v k cs (putCuts w m v k (map cutWords cs))
+unfolding putCuts begun
+cuts-put w m v k [] fits inside few =
+    record { long = refl; before = λ i h. refl; behind = λ i h. refl; other = λ u j h l n. refl; stored = λ j h. absurd (not-suc-le-zero h) }
+cuts-put w m v k (c ∷ cs) fits inside few =
+    let here : k < cutLimit = omega arith in
+    let w′ : List ℕ = putCut w m v k (cutWords c) in
+    then-rest w m v k c cs fits inside here (putCuts w′ m v (suc k) (map cutWords cs))
+    (cuts-put w′ m v (suc k) cs (room-begun w m v k c cs fits inside here) inside (omega arith))
+
+-- ---- a list that is read
+
+length-from : (w : List ℕ) (m v k n : ℕ) → length (leavesFrom w m v k n) ≡ n
+unfolding leavesFrom
+length-from w m v k zero = refl
+length-from w m v k (suc n) = ap suc (length-from w m v (suc k) n)
+
+get-from : (w : List ℕ) (m v k n j : ℕ) → j < n → getD (leavesFrom w m v k n) j [] ≡ leavesAt w m v (k + j)
+unfolding leavesFrom
+get-from w m v k zero j h = absurd (not-suc-le-zero h)
+get-from w m v k (suc n) zero h = ap (leavesAt w m v) (sym (add-zero k))
+get-from w m v k (suc n) (suc j) h =
+    let e : suc k + j ≡ k + suc j = omega arith in
+    get-from w m v (suc k) n j (le-of-suc-le-suc h) ∙ ap (leavesAt w m v) e
+
+pub count-listed : (w : List ℕ) (m v : ℕ) → length (cutsAt w m v) ≡ countAt w m v
+unfolding cutsAt
+count-listed w m v = length-from w m v 0 (countAt w m v)
+
+pub cut-listed : (w : List ℕ) (m v k : ℕ) → k < countAt w m v → getD (cutsAt w m v) k [] ≡ leavesAt w m v k
+unfolding cutsAt
+cut-listed w m v k h =
+    let e : 0 + k ≡ k = omega arith in
+    get-from w m v 0 (countAt w m v) k h ∙ ap (leavesAt w m v) e
+
+pub none-listed : (w : List ℕ) (m v : ℕ) → countAt w m v ≡ 0 → cutsAt w m v ≡ []
+unfolding cutsAt leavesFrom
+none-listed w m v e = ap (leavesFrom w m v 0) e
 
 pub good-get : (cs : List (List ℕ)) (k : ℕ) → AllGood cs → k < length cs → Good (getD cs k [])
 good-get [] k g h = absurd (not-suc-le-zero h)
@@ -111,160 +197,133 @@ good-get (c ∷ cs) zero g h = g .0
 good-get (c ∷ cs) (suc k) g h = good-get cs k (g .1) (le-of-suc-le-suc h)
 
 -- lists that are read are equal where their cuts are
-list-is : (w : List ℕ) (at : ℕ) (cs : List (List ℕ)) → ((k : ℕ) → k < length cs → leavesOf (cutAt w (at + 5 * k)) ≡ getD cs k []) → listAt w at (length cs) ≡ cs
-unfolding listAt
-list-is w at [] h = refl
-list-is w at (c ∷ cs) h =
-    let first : leavesOf (cutAt w at) ≡ c = ap (λ (j : ℕ). leavesOf (cutAt w j)) (sym (add-zero at)) ∙ h 0 (omega arith) in
-    let rest : listAt w (at + 5) (length cs) ≡ cs =
-    list-is w (at + 5) cs (λ k l. let e : at + 5 + 5 * k ≡ at + 5 * suc k = omega arith in ap (λ (j : ℕ). leavesOf (cutAt w j)) e ∙ h (suc k) (omega arith)) in
+list-is : (w : List ℕ) (m v k : ℕ) (cs : List (List ℕ)) → ((j : ℕ) → j < length cs → leavesAt w m v (k + j) ≡ getD cs j []) → leavesFrom w m v k (length cs) ≡ cs
+unfolding leavesFrom
+list-is w m v k [] h = refl
+list-is w m v k (c ∷ cs) h =
+    let first : leavesAt w m v k ≡ c = ap (leavesAt w m v) (sym (add-zero k)) ∙ h 0 (omega arith) in
+    let rest : leavesFrom w m v (suc k) (length cs) ≡ cs =
+    list-is w m v (suc k) cs (λ j l. let e : suc k + j ≡ k + suc j = omega arith in ap (leavesAt w m v) e ∙ h (suc j) (omega arith)) in
     λ i. first i ∷ rest i
 
-list-same : (v w : List ℕ) (at n : ℕ) → ((k : ℕ) → k < n → cutAt v (at + 5 * k) ≡ cutAt w (at + 5 * k)) → listAt v at n ≡ listAt w at n
-unfolding listAt
-list-same v w at zero h = refl
-list-same v w at (suc n) h =
-    let zero-at : at + 5 * 0 ≡ at = omega arith in
-    let first : cutAt v at ≡ cutAt w at = rw zero-at at (h 0 (omega arith)) in
-    let rest : listAt v (at + 5) n ≡ listAt w (at + 5) n =
-    list-same v w (at + 5) n (λ k l. let e : at + 5 * suc k ≡ at + 5 + 5 * k = omega arith in rw e at (h (suc k) (omega arith))) in
+list-same : (v w : List ℕ) (m u k n : ℕ) → ((j : ℕ) → k ≤ j → j < k + n → cutOf v m u j ≡ cutOf w m u j) → leavesFrom v m u k n ≡ leavesFrom w m u k n
+unfolding leavesFrom
+list-same v w m u k zero h = refl
+list-same v w m u k (suc n) h =
+    let first : cutOf v m u k ≡ cutOf w m u k = h k (omega arith) (omega arith) in
+    let rest : leavesFrom v m u (suc k) n ≡ leavesFrom w m u (suc k) n = list-same v w m u (suc k) n (λ j a b. h j (omega arith) (omega arith)) in
     λ i. leavesOf (first i) ∷ rest i
 
--- a variable's list is the same where its count and its words are
-module _ (v w : List ℕ) (m u : ℕ) (count : countAt v m u ≡ countAt w m u) (words : (i : ℕ) → i < block → getD v (listAddr m u + i) 0 ≡ getD w (listAddr m u + i) 0) where
-  pub cuts-same : countAt w m u ≤ cutLimit → cutsAt v m u ≡ cutsAt w m u
+-- a variable's list is the same where its count and its cuts are
+module _ (v w : List ℕ) (m u : ℕ) (count : countAt v m u ≡ countAt w m u) (same : (k : ℕ) → k < cutLimit → cutOf v m u k ≡ cutOf w m u k) where
+  list-by-cuts : countAt w m u ≤ cutLimit → cutsAt v m u ≡ cutsAt w m u
   unfolding cutsAt
-  cuts-same h =
-      ap (listAt v (listAddr m u)) count
-      ∙ list-same v w (listAddr m u) (countAt w m u)
-      (λ k l.
-      same-cut v w (listAddr m u + 5 * k) (listAddr m u + 5 * k)
-      (λ i b.
-      let e : listAddr m u + 5 * k + i ≡ listAddr m u + (5 * k + i) = omega arith in
-      rw e (words (5 * k + i) (omega arith))))
+  list-by-cuts h = ap (leavesFrom v m u 0) count ∙ list-same v w m u 0 (countAt w m u) (λ k a b. same k (omega arith))
 
-  pub sound-same : Sound w m u → Sound v m u
-  sound-same s =
+  sound-by-cuts : Sound w m u → Sound v m u
+  sound-by-cuts s =
       record {
         few = omega (arith, count, s .few);
         narrow =
             λ k h.
             let l : k < countAt w m u = omega (arith, count) in
-            omega (arith, words (5 * k) (omega (arith, s .few)), s .narrow k l);
-        good = subst AllGood (sym (cuts-same (s .few))) (s .good);
+            subst (λ (c : Cut). c .count ≤ 4) (sym (same k (omega (arith, s .few)))) (s .narrow k l);
+        good = subst AllGood (sym (list-by-cuts (s .few))) (s .good);
       }
 
--- what storing a list leaves
+-- words that agree in the lists
+module _ (v w : List ℕ) (m : ℕ) (lists : (i : ℕ) → listsFrom m ≤ i → i < listsTo m → getD v i 0 ≡ getD w i 0) (u : ℕ) (within : u ≤ m) where
+  pub cut-same : (k : ℕ) → k < cutLimit → cutOf v m u k ≡ cutOf w m u k
+  unfolding cutOf
+  cut-same k h = same-cut v w (cutAddr m u k) (cutAddr m u k) (λ i b. lists (cutAddr m u k + i) (omega arith) (omega arith))
+
+  pub cuts-same : countAt v m u ≡ countAt w m u → countAt w m u ≤ cutLimit → cutsAt v m u ≡ cutsAt w m u
+  cuts-same count h = list-by-cuts v w m u count cut-same h
+
+  pub sound-same : countAt v m u ≡ countAt w m u → Sound w m u → Sound v m u
+  sound-same count s = sound-by-cuts v w m u count cut-same s
+
+-- ---- what storing a list leaves
+
 module _ (w : List ℕ) (m v : ℕ) (cs : List (List ℕ)) (fits : Room w m) (inside : v ≤ m) (few : length cs ≤ cutLimit) where
   counted : List ℕ
   counted = putAt w (countAddr m v) (length cs ∷ [])
 
+  room-count : countAddr m v < length w
+  room-count = omega (arith, fits .room)
+
   length-counted : length counted ≡ length w
   unfolding counted
-  length-counted = length-put w (countAddr m v) (length cs ∷ []) (omega (arith, fits .small, fits .room))
+  length-counted = length-put w (countAddr m v) (length cs ∷ []) (omega (arith, room-count))
 
-  room-flat : listAddr m v + length (flat cs) ≤ length counted
-  room-flat = omega (arith, length-flat cs, length-counted, fits .small, fits .room)
+  done : CutsPut counted m v 0 cs (putList w m v cs)
+  unfolding putList counted
+  done = cuts-put counted m v 0 cs (record { small = fits .small; room = omega (arith, fits .room, length-counted) }) inside (omega arith)
+
+  -- a word of w that is not v's count
+  word-counted : (i : ℕ) → (i ≡ countAddr m v → ⊥) → getD counted i 0 ≡ getD w i 0
+  unfolding counted
+  word-counted i n = word-apart w (countAddr m v) (length cs) room-count i n
 
   pub put-list-length : length (putList w m v cs) ≡ length w
-  unfolding putList counted
-  put-list-length = length-put counted (listAddr m v) (flat cs) room-flat ∙ length-counted
+  put-list-length = done .long ∙ length-counted
 
   -- kinds, operands and the order stay
   pub put-list-below : (i : ℕ) → i < countsFrom m → getD (putList w m v cs) i 0 ≡ getD w i 0
-  unfolding putList counted
-  put-list-below i h =
-      get-put-below counted (listAddr m v) (flat cs) room-flat i (omega arith)
-      ∙ get-put-below w (countAddr m v) (length cs ∷ []) (omega (arith, fits .small, fits .room)) i (omega arith)
+  put-list-below i h = done .before i (omega arith) ∙ word-counted i (omega arith)
 
   -- so do the words between the counts and the lists, and those past the lists
   pub put-list-middle : (i : ℕ) → countsTo m ≤ i → i < listsFrom m → getD (putList w m v cs) i 0 ≡ getD w i 0
-  unfolding putList counted
-  put-list-middle i h l =
-      get-put-below counted (listAddr m v) (flat cs) room-flat i (omega arith)
-      ∙ get-put-above w (countAddr m v) (length cs ∷ []) (omega (arith, fits .small, fits .room)) i (omega arith)
+  put-list-middle i h l = done .before i l ∙ word-counted i (omega arith)
 
   pub put-list-above : (i : ℕ) → listsTo m ≤ i → getD (putList w m v cs) i 0 ≡ getD w i 0
-  unfolding putList counted
-  put-list-above i h =
-      get-put-above counted (listAddr m v) (flat cs) room-flat i (omega (arith, length-flat cs))
-      ∙ get-put-above w (countAddr m v) (length cs ∷ []) (omega (arith, fits .small, fits .room)) i (omega arith)
+  put-list-above i h = done .behind i h ∙ word-counted i (omega arith)
 
   pub put-list-count : countAt (putList w m v cs) m v ≡ length cs
-  unfolding putList counted
-  put-list-count =
-      let here : countAddr m v ≡ countAddr m v + 0 = omega arith in
-      get-put-below counted (listAddr m v) (flat cs) room-flat (countAddr m v) (omega arith)
-      ∙ ap (λ (j : ℕ). getD counted j 0) here
-      ∙ get-put w (countAddr m v) (length cs ∷ []) (omega (arith, fits .small, fits .room)) 0 (omega arith)
-
-  -- cut k, as the words have it now
-  cut-now : (k : ℕ) → k < length cs → cutAt (putList w m v cs) (listAddr m v + 5 * k) ≡ cutAt (cutWords (getD cs k [])) 0
-  unfolding putList counted
-  cut-now k h =
-      same-cut (putList w m v cs) (cutWords (getD cs k [])) (listAddr m v + 5 * k) 0
-      (λ i l.
-      let e : listAddr m v + 5 * k + i ≡ listAddr m v + (5 * k + i) = omega arith in
-      let z : i ≡ 0 + i = omega arith in
-      ap (λ (j : ℕ). getD (putList w m v cs) j 0) e
-      ∙ get-put counted (listAddr m v) (flat cs) room-flat (5 * k + i) (omega (arith, length-flat cs))
-      ∙ flat-at cs k i h l
-      ∙ ap (λ (j : ℕ). getD (cutWords (getD cs k [])) j 0) z)
+  unfolding counted
+  put-list-count = done .before (countAddr m v) (omega arith) ∙ word-put w (countAddr m v) (length cs) room-count
 
   pub put-list-cuts : AllGood cs → cutsAt (putList w m v cs) m v ≡ cs
   unfolding cutsAt
   put-list-cuts good =
-      ap (listAt (putList w m v cs) (listAddr m v)) put-list-count
-      ∙ list-is (putList w m v cs) (listAddr m v) cs
-      (λ k h. ap leavesOf (cut-now k h) ∙ words-back (getD cs k []) (good-get cs k good h .0))
+      ap (leavesFrom (putList w m v cs) m v 0) put-list-count
+      ∙ list-is (putList w m v cs) m v 0 cs
+      (λ k h. ap leavesOf (done .stored k h) ∙ words-back (getD cs k []) (good-get cs k good h .0))
 
   pub put-list-sound : AllGood cs → Sound (putList w m v cs) m v
-  unfolding cutAt cutWords
+  unfolding cutIn cutWords
   put-list-sound good =
       record {
         few = omega (arith, put-list-count);
         narrow =
             λ k h.
             let l : k < length cs = omega (arith, put-list-count) in
-            let e : getD (putList w m v cs) (listAddr m v + 5 * k) 0 ≡ length (getD cs k []) = ap (λ (c : Cut). c .count) (cut-now k l) in
+            let here : k ≡ 0 + k = omega arith in
+            let e : cutOf (putList w m v cs) m v k .count ≡ length (getD cs k []) =
+            ap (λ (j : ℕ). cutOf (putList w m v cs) m v j .count) here ∙ ap (λ (c : Cut). c .count) (done .stored k l) in
             omega (arith, good-get cs k good l .0);
         good = subst AllGood (sym (put-list-cuts good)) good;
       }
 
   -- the list of another variable stays
   module _ (u : ℕ) (within : u ≤ m) (other : u ≡ v → ⊥) where
-    same-counted : (i : ℕ) → getD counted (listAddr m u + i) 0 ≡ getD w (listAddr m u + i) 0
-    unfolding counted
-    same-counted i = get-put-above w (countAddr m v) (length cs ∷ []) (omega (arith, fits .small, fits .room)) (listAddr m u + i) (omega arith)
-
-    elsewhere : (i : ℕ) → i < block → getD (putList w m v cs) (listAddr m u + i) 0 ≡ getD w (listAddr m u + i) 0
-    unfolding putList counted
-    elsewhere i h = by (ltb u v) refl
-      where
-        by : (t : Bool) → ltb u v ≡ t → getD (putList w m v cs) (listAddr m u + i) 0 ≡ getD w (listAddr m u + i) 0
-        by true e =
-            let l : u < v = ltb-true u v e in
-            get-put-below counted (listAddr m v) (flat cs) room-flat (listAddr m u + i) (omega arith) ∙ same-counted i
-        by false e =
-            let l : v ≤ u = ltb-false u v e in
-            let n : v < u = omega (arith, other) in
-            get-put-above counted (listAddr m v) (flat cs) room-flat (listAddr m u + i) (omega (arith, length-flat cs)) ∙ same-counted i
-
     count-elsewhere : countAt (putList w m v cs) m u ≡ countAt w m u
-    unfolding putList counted
-    count-elsewhere = get-put-below counted (listAddr m v) (flat cs) room-flat (countAddr m u) (omega arith) ∙ by (ltb u v) refl
-      where
-        by : (t : Bool) → ltb u v ≡ t → getD counted (countAddr m u) 0 ≡ getD w (countAddr m u) 0
-        by true e =
-            let l : u < v = ltb-true u v e in
-            get-put-below w (countAddr m v) (length cs ∷ []) (omega (arith, fits .small, fits .room)) (countAddr m u) (omega arith)
-        by false e =
-            let l : v ≤ u = ltb-false u v e in
-            let n : v < u = omega (arith, other) in
-            get-put-above w (countAddr m v) (length cs ∷ []) (omega (arith, fits .small, fits .room)) (countAddr m u) (omega arith)
+    count-elsewhere = done .before (countAddr m u) (omega arith) ∙ word-counted (countAddr m u) (omega arith)
+
+    elsewhere : (k : ℕ) → k < cutLimit → cutOf (putList w m v cs) m u k ≡ cutOf w m u k
+    elsewhere k h = done .other u k within h (λ e. absurd (other e)) ∙ cut-same counted w m (λ i a b. word-counted i (omega arith)) u within k h
 
     pub put-list-other : countAt w m u ≤ cutLimit → cutsAt (putList w m v cs) m u ≡ cutsAt w m u
-    put-list-other h = cuts-same (putList w m v cs) w m u count-elsewhere elsewhere h
+    put-list-other h = list-by-cuts (putList w m v cs) w m u count-elsewhere elsewhere h
 
     pub put-list-sound-other : Sound w m u → Sound (putList w m v cs) m u
-    put-list-sound-other s = sound-same (putList w m v cs) w m u count-elsewhere elsewhere s
+    put-list-sound-other s = sound-by-cuts (putList w m v cs) w m u count-elsewhere elsewhere s
+
+-- ---- the cuts of a graph, where the words hold them
+
+module _ (w : List ℕ) (g : Graph) (h : HoldsCuts w g) (v : ℕ) (within : v ≤ g .size) where
+  pub held-count : countAt w (g .size) v ≡ length (cutsOf g v)
+  held-count = sym (count-listed w (g .size) v) ∙ ap length (h .lists v within)
+
+  pub held-cut : (k : ℕ) → k < length (cutsOf g v) → leavesAt w (g .size) v k ≡ getD (cutsOf g v) k []
+  held-cut k l = sym (cut-listed w (g .size) v k (omega (arith, held-count))) ∙ ap (λ (cs : List (List ℕ)). getD cs k []) (h .lists v within)

@@ -1,8 +1,7 @@
 -- What the lent words hold between the passes, in terms of `model`: the graph, its placing order, its cuts, the chosen phases and the needed ones.
 -- Assumes nothing.
 use mathlib.Core.Path.{_≡_}
-use mathlib.Core.Bool.{Bool, true, false}
-use mathlib.Core.List.{List, [], _∷_, List·Memᴰ}
+use mathlib.Core.List.{List, [], List·Memᴰ}
 use Prim.Native.Nat.{ℕ, _+_, _*_, _≤_, _<_}
 use lib.ListN.{length, getD}
 use Rattle.model.specs.Base.{elem}
@@ -11,8 +10,8 @@ use Rattle.model.specs.Cuts.{cutsOf, cutTable}
 use Rattle.model.specs.Choice.{chosen}
 use Rattle.model.specs.Netlist.{needed}
 use Rattle.model.specs.declared.Cell.{Cell}
-use Rattle.words.specs.Layout.{RoomFor, slotAt, placeAt, functionAt, outputAt}
-use Rattle.words.specs.Record.{nodeAt, cutsAt}
+use Rattle.words.specs.Layout.{RoomFor, slotAt, placeAt, outputAt}
+use Rattle.words.specs.Record.{nodeAt, cutsAt, functionOf}
 use Rattle.words.specs.Phases.{phaseAt, isNeeded}
 
 -- the nodes and the outputs of a graph
@@ -31,7 +30,7 @@ pub record HoldsOrder (w : List ℕ) (g : Graph) : Type 0 where
 pub record HoldsCuts (w : List ℕ) (g : Graph) : Type 0 where
   pub lists : (v : ℕ) → v ≤ g .size → cutsAt w (g .size) v ≡ cutsOf g v
   pub functions : (v : ℕ) → List·Memᴰ v (placingOrder g) → (k : ℕ) → k < length (cutsOf g v)
-      → functionAt w (g .size) v k ≡ cutTable g (getD (cutsOf g v) k []) v
+      → functionOf w (g .size) v k ≡ cutTable g (getD (cutsOf g v) k []) v
 
 -- the chosen phases
 pub record HoldsPhases (w : List ℕ) (cells : List Cell) (g : Graph) : Type 0 where

@@ -1,5 +1,6 @@
 -- What lies where in the lent words: a column for each property of a variable, then the cut lists, the functions and the outputs.
--- With W = M + 1 variables a column of one word for each variable takes W words. No other crate writes a number for an address. Assumes nothing.
+-- With W = M + 1 variables a column of one word for each variable takes W words. No other crate writes a number for an address,
+-- and none names the address of a cut or of its function. Assumes nothing.
 use mathlib.Core.List.{List, [], _∷_}
 use Prim.Native.Nat.{ℕ, _+_, _*_, _/_, _%_, _≤_}
 use lib.ListN.{length, getD}
@@ -68,12 +69,9 @@ noteAddr m v = positiveAddr m v
 abbrev pub block : ℕ
 block = 5 * cutLimit
 
--- the cuts of v
-abbrev pub listAddr : ℕ → ℕ → ℕ
-listAddr m v = 16 * (m + 1) + block * v
-
+-- cut k of v
 abbrev pub cutAddr : ℕ → ℕ → ℕ → ℕ
-cutAddr m v k = listAddr m v + 5 * k
+cutAddr m v k = 16 * (m + 1) + block * v + 5 * k
 
 -- the functions of v's cuts, one word for each
 abbrev pub functionAddr : ℕ → ℕ → ℕ → ℕ
@@ -137,9 +135,6 @@ countAt w m v = getD w (countAddr m v) 0
 
 abbrev pub neededAt : List ℕ → ℕ → ℕ → ℕ
 neededAt w m v = getD w (neededAddr m v) 0
-
-abbrev pub functionAt : List ℕ → ℕ → ℕ → ℕ → ℕ
-functionAt w m v k = getD w (functionAddr m v k) 0
 
 abbrev pub outputAt : List ℕ → ℕ → ℕ → ℕ
 outputAt w m i = getD w (outputAddr m i) 0

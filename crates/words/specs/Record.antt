@@ -1,23 +1,45 @@
--- A node as three words, its kind and its operands; a cut as five words, its count and its four leaves; a list of cuts as those of its cuts.
--- Assumes nothing.
+-- A node as three words, its kind and its operands; a cut as five words, its count and its four leaves; a cut's function as one.
+-- Other crates name a cut and its function by M, the variable and the cut's number, and read and store them by the names here: where they lie is
+-- not theirs to know. Assumes nothing.
 use mathlib.Core.Bool.{cond}
-use mathlib.Core.List.{List, [], _∷_, _++_}
-use Prim.Native.Nat.{ℕ, zero, suc, _+_, _*_, _≤_, _<_}
+use mathlib.Core.List.{List, [], _∷_, _++_, map}
+use Prim.Native.Nat.{ℕ, zero, suc, _+_, _≤_, _<_}
 use lib.Dec.{eqb}
 use lib.ListN.{length, take, getD}
 use Rattle.model.specs.Limits.{cutLimit}
 use Rattle.model.specs.declared.Cut.{Cut}
 use Rattle.model.specs.Graph.{Node, constant, input, undefined, both}
 use Rattle.words.specs.Put.{putAt}
-use Rattle.words.specs.Layout.{constantKind, inputKind, andKind, kindAddr, leftAddr, rightAddr, kindAt, leftAt, rightAt, countAt, countAddr, listAddr}
+use Rattle.words.specs.Layout.{constantKind, inputKind, andKind, kindAddr, leftAddr, rightAddr, kindAt, leftAt, rightAt, countAt, countAddr, cutAddr, functionAddr}
 
 -- the leaves of a cut
 abbrev pub leavesOf : Cut → List ℕ
 leavesOf c = take (c .count) (c .leaves)
 
 -- the cut in the five words from `at` on
-unfoldable pub cutAt : List ℕ → ℕ → Cut
-cutAt w at = record { leaves = getD w (at + 1) 0 ∷ getD w (at + 2) 0 ∷ getD w (at + 3) 0 ∷ getD w (at + 4) 0 ∷ []; count = getD w at 0 }
+unfoldable pub cutIn : List ℕ → ℕ → Cut
+cutIn w at = record { leaves = getD w (at + 1) 0 ∷ getD w (at + 2) 0 ∷ getD w (at + 3) 0 ∷ getD w (at + 4) 0 ∷ []; count = getD w at 0 }
+
+-- cut k of variable v
+unfoldable pub cutOf : List ℕ → ℕ → ℕ → ℕ → Cut
+cutOf w m v k = cutIn w (cutAddr m v k)
+
+-- its leaves
+abbrev pub leavesAt : List ℕ → ℕ → ℕ → ℕ → List ℕ
+leavesAt w m v k = leavesOf (cutOf w m v k)
+
+-- its function
+unfoldable pub functionOf : List ℕ → ℕ → ℕ → ℕ → ℕ
+functionOf w m v k = getD w (functionAddr m v k) 0
+
+-- the leaves of n cuts of v, from number k on
+unfoldable pub leavesFrom : List ℕ → ℕ → ℕ → ℕ → ℕ → List (List ℕ)
+leavesFrom w m v k zero = []
+leavesFrom w m v k (suc n) = leavesAt w m v k ∷ leavesFrom w m v (suc k) n
+
+-- the cuts of a variable, as the words have them
+unfoldable pub cutsAt : List ℕ → ℕ → ℕ → List (List ℕ)
+cutsAt w m v = leavesFrom w m v 0 (countAt w m v)
 
 -- four leaves, with zeros past the last
 abbrev pub padded : List ℕ → List ℕ
@@ -27,23 +49,22 @@ padded ls = take 4 (ls ++ 0 ∷ 0 ∷ 0 ∷ 0 ∷ [])
 unfoldable pub cutWords : List ℕ → List ℕ
 cutWords c = length c ∷ padded c
 
--- the words of a list of cuts
-unfoldable pub flat : List (List ℕ) → List ℕ
-flat [] = []
-flat (c ∷ cs) = cutWords c ++ flat cs
+-- the words with a cut's five stored as cut k of v
+unfoldable pub putCut : List ℕ → ℕ → ℕ → ℕ → List ℕ → List ℕ
+putCut w m v k ws = putAt w (cutAddr m v k) ws
 
--- the leaves of the n cuts from `at` on
-unfoldable pub listAt : List ℕ → ℕ → ℕ → List (List ℕ)
-listAt w at zero = []
-listAt w at (suc n) = leavesOf (cutAt w at) ∷ listAt w (at + 5) n
-
--- the cuts of a variable, as the words have them
-unfoldable pub cutsAt : List ℕ → ℕ → ℕ → List (List ℕ)
-cutsAt w m v = listAt w (listAddr m v) (countAt w m v)
+-- those of several cuts, as the cuts of v from number k on
+unfoldable pub putCuts : List ℕ → ℕ → ℕ → ℕ → List (List ℕ) → List ℕ
+putCuts w m v k [] = w
+putCuts w m v k (ws ∷ rest) = putCuts (putCut w m v k ws) m v (suc k) rest
 
 -- the words with a list of cuts stored for a variable
 unfoldable pub putList : List ℕ → ℕ → ℕ → List (List ℕ) → List ℕ
-putList w m v cs = putAt (putAt w (countAddr m v) (length cs ∷ [])) (listAddr m v) (flat cs)
+putList w m v cs = putCuts (putAt w (countAddr m v) (length cs ∷ [])) m v 0 (map cutWords cs)
+
+-- the words with functions stored for the cuts of v from number k on
+unfoldable pub putFunctions : List ℕ → ℕ → ℕ → ℕ → List ℕ → List ℕ
+putFunctions w m v k fs = putAt w (functionAddr m v k) fs
 
 -- what a kind, and the words of the operands, say a variable is
 abbrev pub nodeOf : ℕ → ℕ → ℕ → Node
@@ -73,5 +94,5 @@ AllGood (c ∷ cs) = Good c × AllGood cs
 -- the words of a variable's cut list can be read: few cuts, each of at most four ascending leaves
 pub record Sound (w : List ℕ) (m v : ℕ) : Type 0 where
   pub few : countAt w m v ≤ cutLimit
-  pub narrow : (k : ℕ) → k < countAt w m v → getD w (listAddr m v + 5 * k) 0 ≤ 4
+  pub narrow : (k : ℕ) → k < countAt w m v → cutOf w m v k .count ≤ 4
   pub good : AllGood (cutsAt w m v)

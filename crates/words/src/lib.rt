@@ -9,8 +9,8 @@ ghost use mathlib.Core.List.{_∷_, []};
 ghost use lib.ListN.{length, getD, replicate};
 ghost use Rattle.model.specs.Limits.{cutLimit, need};
 ghost use Rattle.words.specs.Put.{putAt, zeros};
-ghost use Rattle.words.specs.Layout.{Room, RoomFor, kindAt, kindAddr, leftAt, leftAddr, rightAt, rightAddr, slotAt, slotAddr, placeAt, placeAddr, countAt, countAddr, neededAt, neededAddr, positiveAddr, negativeAddr, listsFrom, cutAddr, functionAt, functionAddr, outputAt, outputAddr, notesFrom, notesTo, noteAddr, notedAt, walkAt, noteWords};
-ghost use Rattle.words.specs.Record.{cutAt, putNode};
+ghost use Rattle.words.specs.Layout.{Room, RoomFor, kindAt, kindAddr, leftAt, leftAddr, rightAt, rightAddr, slotAt, slotAddr, placeAt, placeAddr, countAt, countAddr, neededAt, neededAddr, positiveAddr, negativeAddr, listsFrom, outputAt, outputAddr, notesFrom, notesTo, noteAddr, notedAt, walkAt, noteWords};
+ghost use Rattle.words.specs.Record.{cutIn, cutOf, functionOf, putCut, putFunctions, putNode};
 ghost use Rattle.words.specs.Phases.{MatchFits, matchWord, PhaseFits, kindSource, phaseWords, phaseIn, positiveAt, negativeAt, phaseAt, isNeeded, putNeeded};
 
 // "more than 24 cuts": the code's one constant for the cut limit, `cutLimit` of model.
@@ -256,7 +256,7 @@ pub fn clear_notes(work: &mut [u16], m: usize)
 // The cut in the five words from `at` on.
 fn cut_in(work: &[u16], at: usize) -> Cut
     requires { ⌜ at + 5 ≤ length (now work) ⌝ }
-    ensures { λ r. ⌜ r ≡ cutAt (now (work .entry)) at ⌝ }
+    ensures { λ r. ⌜ r ≡ cutIn (now (work .entry)) at ⌝ }
 {
     let count = work[at] as usize;
     let leaves = [work[at + 1], work[at + 2], work[at + 3], work[at + 4]];
@@ -266,7 +266,7 @@ fn cut_in(work: &[u16], at: usize) -> Cut
 // Cut k of variable v.
 pub fn load_cut(work: &[u16], m: usize, v: usize, k: usize) -> Cut
     requires { ⌜ Room (now work) m × (v ≤ m) × (k < cutLimit) ⌝ }
-    ensures { λ r. ⌜ r ≡ cutAt (now (work .entry)) (cutAddr m v k) ⌝ }
+    ensures { λ r. ⌜ r ≡ cutOf (now (work .entry)) m v k ⌝ }
 {
     cut_in(work, 16 * (m + 1) + BLOCK * v + 5 * k)
 }
@@ -274,7 +274,7 @@ pub fn load_cut(work: &[u16], m: usize, v: usize, k: usize) -> Cut
 // The five words of cut k of variable v.
 pub fn store_cut(work: &mut [u16], m: usize, v: usize, k: usize, ws: [u16; 5])
     requires { ⌜ Room (now work) m × (v ≤ m) × (k < cutLimit) ⌝ }
-    ensures { λ _. ⌜ now (work .exit) ≡ putAt (now (work .entry)) (cutAddr m v k) ws ⌝ }
+    ensures { λ _. ⌜ now (work .exit) ≡ putCut (now (work .entry)) m v k ws ⌝ }
 {
     put(work, 16 * (m + 1) + BLOCK * v + 5 * k, &ws);
 }
@@ -282,14 +282,14 @@ pub fn store_cut(work: &mut [u16], m: usize, v: usize, k: usize, ws: [u16; 5])
 // The function of cut k of v.
 pub fn function(work: &[u16], m: usize, v: usize, k: usize) -> usize
     requires { ⌜ Room (now work) m × (v ≤ m) × (k < cutLimit) ⌝ }
-    ensures { λ r. ⌜ r ≡ functionAt (now (work .entry)) m v k ⌝ }
+    ensures { λ r. ⌜ r ≡ functionOf (now (work .entry)) m v k ⌝ }
 {
     word(work, TABLES * (m + 1) + LIMIT * v + k)
 }
 
 pub fn set_function(work: &mut [u16], m: usize, v: usize, k: usize, x: u16)
     requires { ⌜ Room (now work) m × (v ≤ m) × (k < cutLimit) ⌝ }
-    ensures { λ _. ⌜ now (work .exit) ≡ putAt (now (work .entry)) (functionAddr m v k) (x ∷ []) ⌝ }
+    ensures { λ _. ⌜ now (work .exit) ≡ putFunctions (now (work .entry)) m v k (x ∷ []) ⌝ }
 {
     set_word(work, TABLES * (m + 1) + LIMIT * v + k, x);
 }

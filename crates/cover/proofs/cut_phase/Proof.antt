@@ -1,16 +1,16 @@
 -- `cover::cut_phase` meets its contract: by whether the cut is the variable alone. Assumes nothing.
-use mathlib.Core.Path.{_≡_, refl, sym, ap, subst, _∙_}
+use mathlib.Core.Path.{sym, ap, subst, _∙_}
 use mathlib.Core.List.{List, [], _∷_}
 use Prim.Native.Nat.{ℕ, _≤_, _<_}
 use native.Mathlib.Omega.{arith}
-use lib.ListN.{length}
 use Rattle.model.specs.Base.{same}
 use Rattle.model.specs.Cells.{cellsOf}
 use Rattle.model.specs.Choice.{choose}
 use Rattle.model.specs.Matching.{phaseTable}
 use Rattle.model.specs.declared.Cut.{Cut}
-use Rattle.words.specs.Layout.{countAt, cutAddr}
-use Rattle.words.specs.Record.{cutAt, leavesOf}
+use Rattle.words.specs.Layout.{countAt}
+use Rattle.words.specs.Record.{cutOf, leavesOf, leavesAt}
+use Rattle.words.proofs.Stored.{four-leaves}
 use Rattle.cover.specs.Asked.{LeavesIn, CutsIn}
 use Rattle.cover.specs.Choosing.{foundOn}
 use Rattle.cover.proofs.Found.{at-alone, at-cut}
@@ -18,13 +18,8 @@ use borrow.Author.Needs.{needs}
 use Rattle.cover.proofs.cut_phase.Statement.{statement}
 use Rattle.cover.proofs.cut_phase.Tie as tie
 
--- a cut of the words has four words for its leaves
-four : (w : List ℕ) (at : ℕ) → length (cutAt w at .leaves) ≡ 4
-unfolding cutAt
-four w at = refl
-
-loaded : (w : List ℕ) (m v k : ℕ) → CutsIn w m → v ≤ m → k < countAt w m v → LeavesIn w m (cutAt w (cutAddr m v k))
-loaded w m v k r h b = record { room = r .room; four = four w (cutAddr m v k); within = λ j i. r .within v k j h b i }
+loaded : (w : List ℕ) (m v k : ℕ) → CutsIn w m → v ≤ m → k < countAt w m v → LeavesIn w m (cutOf w m v k)
+loaded w m v k r h b = record { room = r .room; four = four-leaves w m v k; within = λ j i. r .within v k j h b i }
 
 load-cut-requires : tie.Need-load-cut-requires
 load-cut-requires c κs =
@@ -39,11 +34,13 @@ nothing-requires c κs = search needs
 
 returns : tie.Need-returns
 returns c =
-    let s = c .before .before .before .before .before in
+    let tested = c .before .before in
+    let cut = tested .before in
+    let s = cut .before .before in
     let a = s .args in
     λ lib sheet. c .nothing .ensures
     ∙ at-alone (cellsOf lib) (a .work .now) (a .m) (a .v) (a .neg) (a .k)
-    (ap (λ (x : Cut). same (leavesOf x) (a .v ∷ [])) (sym (c .before .before .before .load-cut .ensures)) ∙ sym (c .before .before .alone .ensures) ∙ c .before .if1 .taken)
+    (ap (λ (x : Cut). same (leavesOf x) (a .v ∷ [])) (sym (cut .load-cut .ensures)) ∙ sym (tested .alone .ensures) ∙ c .before .if1 .taken)
 
 table-requires : tie.Need-table-requires
 table-requires c κs =
@@ -55,23 +52,28 @@ in-phase-requires c κs = search needs
 
 match-cut-requires : tie.Need-match-cut-requires
 match-cut-requires c κs =
-    let s = c .before .before .before .before .before .before in
+    let cut = c .before .before .before .before in
+    let s = cut .before .before in
     let a = s .args in (
       s .pre .0,
-      subst (LeavesIn (a .work .now) (a .m)) (sym (c .before .before .before .before .load-cut .ensures)) (loaded (a .work .now) (a .m) (a .v) (a .k) (s .pre .1 .cuts) (s .pre .2) (s .pre .3)),
+      subst (LeavesIn (a .work .now) (a .m)) (sym (cut .load-cut .ensures)) (loaded (a .work .now) (a .m) (a .v) (a .k) (s .pre .1 .cuts) (s .pre .2) (s .pre .3)),
       s .pre .1 .early,
     )
 
 returns-2 : tie.Need-returns-2
 returns-2 c =
-    let s = c .before .before .before .before .before .before .before in
+    let phase = c .before in
+    let table = phase .before in
+    let tested = table .before .before in
+    let cut = tested .before in
+    let s = cut .before .before in
     let a = s .args in
     λ lib sheet. c .match-cut .ensures lib sheet
-    ∙ ap (λ (x : Cut). choose (foundOn (cellsOf lib) (a .work .now) (a .m) (a .k) (leavesOf x) (c .before .in-phase .result))) (c .before .before .before .before .before .load-cut .ensures)
-    ∙ ap (λ (f : ℕ). choose (foundOn (cellsOf lib) (a .work .now) (a .m) (a .k) (leavesOf (cutAt (a .work .now) (cutAddr (a .m) (a .v) (a .k)))) f))
-    (c .before .in-phase .ensures ∙ ap (phaseTable (a .neg)) (c .before .before .table .ensures))
+    ∙ ap (λ (x : Cut). choose (foundOn (cellsOf lib) (a .work .now) (a .m) (a .k) (leavesOf x) (phase .in-phase .result))) (cut .load-cut .ensures)
+    ∙ ap (λ (f : ℕ). choose (foundOn (cellsOf lib) (a .work .now) (a .m) (a .k) (leavesAt (a .work .now) (a .m) (a .v) (a .k)) f))
+    (phase .in-phase .ensures ∙ ap (phaseTable (a .neg)) (table .table .ensures))
     ∙ at-cut (cellsOf lib) (a .work .now) (a .m) (a .v) (a .neg) (a .k)
-    (ap (λ (x : Cut). same (leavesOf x) (a .v ∷ [])) (sym (c .before .before .before .before .before .load-cut .ensures)) ∙ sym (c .before .before .before .before .alone .ensures) ∙ c .before .before .before .if1 .left)
+    (ap (λ (x : Cut). same (leavesOf x) (a .v ∷ [])) (sym (cut .load-cut .ensures)) ∙ sym (tested .alone .ensures) ∙ table .before .if1 .left)
 
 pub cut-phase-spec : {M : Type 1} → statement M
 cut-phase-spec =

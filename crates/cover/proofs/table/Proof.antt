@@ -1,6 +1,6 @@
 -- `cover::table` meets its contract: a word fits. Assumes nothing.
 use native.Mathlib.Omega.{arith}
-use Rattle.words.specs.Layout.{functionAddr}
+use Rattle.words.proofs.Tabled.{function-fits}
 use borrow.Author.Needs.{needs}
 use Rattle.cover.proofs.table.Statement.{statement}
 use Rattle.cover.proofs.table.Tie as tie
@@ -9,7 +9,9 @@ function-requires : tie.Need-function-requires
 function-requires c κs = search needs
 
 cast-result : tie.Need-cast-result
-cast-result c = let a = c .before .before .args in omega (arith, c .function .ensures, c .before .shared-slice-known .given (functionAddr (a .m) (a .v) (a .k)))
+cast-result c =
+    let a = c .before .before .args in
+    omega (arith, c .function .ensures, function-fits (a .work .now) (a .m) (a .v) (a .k) 65536 (λ i. omega (arith, c .before .shared-slice-known .given i)))
 
 returns : tie.Need-returns
 returns c = search needs

@@ -4,10 +4,10 @@ use mathlib.Core.Path.{_≡_, refl, sym, ap, _∙_, subst}
 use mathlib.Core.List.{List, [], _∷_}
 use Prim.Native.Nat.{ℕ, suc, _-_, _≤_}
 use native.Mathlib.Omega.{arith}
-use lib.ListN.{length, take, drop, getD}
+use lib.ListN.{length, take, drop}
 use Rattle.model.specs.declared.Cut.{Cut}
-use Rattle.words.specs.Layout.{countAt, cutAddr}
-use Rattle.words.specs.Record.{leavesOf, cutAt, cutsAt, Good}
+use Rattle.words.specs.Layout.{countAt}
+use Rattle.words.specs.Record.{leavesOf, cutsAt, Good}
 use Rattle.cuts.specs.Keys.{rowKeys, crossKeys, keyRoom}
 use Rattle.cuts.proofs.Inserting.{cross-rising}
 use Rattle.cuts.proofs.Rows.{at-hand, cut-good, none-left}
@@ -46,18 +46,17 @@ load-cut-requires : tie.Need-load-cut-requires Inv-loop μ-loop
 load-cut-requires c κs = search needs
 
 row-requires : tie.Need-row-requires Inv-loop μ-loop
-unfolding cutAt
 row-requires c κs =
     let l = c .before .before .before in
-    let s = c .before .before .before .before .before .before .before in
+    let s = l .before .before .before .before in
     let w : List ℕ = s .args .work .now in
     let i : ℕ = l .loop .i - 1 in
-    let e : c .before .load-cut .result .count ≡ getD w (cutAddr (s .args .m) (s .args .a) i) 0 = ap (λ (z : Cut). z .count) (c .before .load-cut .ensures) in (
+    let loaded = sym (c .before .load-cut .ensures) in (
       s .pre .0,
       s .pre .2,
       s .pre .4,
-      omega (arith, s .pre .3 .narrow i (omega arith)),
-      subst (λ (z : Cut). Good (leavesOf z)) (sym (c .before .load-cut .ensures)) (cut-good w (s .args .m) (s .args .a) (s .pre .3) i (omega arith)),
+      subst (λ (z : Cut). z .count ≤ 4) loaded (s .pre .3 .narrow i (omega arith)),
+      subst (λ (z : Cut). Good (leavesOf z)) loaded (cut-good w (s .args .m) (s .args .a) (s .pre .3) i (omega arith)),
       record { room = l .loop .inv .2; fits = l .loop .inv .1; rising = rw (l .loop .inv .3) (cross-rising _ _) },
     )
 
@@ -67,8 +66,8 @@ loop-less c = omega (arith, c .before .before .before .before .before .loop-test
 loop-again : tie.Need-loop-again Inv-loop μ-loop
 loop-again c =
     let y = c .before .before .before .before in
-    let l = c .before .before .before .before .before .before in
-    let s = c .before .before .before .before .before .before .before .before .before .before in
+    let l = y .before .before in
+    let s = l .before .before .before .before in
     let w : List ℕ = s .args .work .now in
     let i : ℕ = l .loop .i - 1 in
     let e : suc i ≡ l .loop .i = omega arith in
@@ -91,7 +90,7 @@ same-length c = c .before .loop .inv .2 ∙ sym (c .before .before .before .befo
 returns : tie.Need-returns Inv-loop μ-loop
 returns c =
     let l = c .before in
-    let s = c .before .before .before .before .before in
+    let s = l .before .before .before .before in
     let w : List ℕ = s .args .work .now in
     let zero-left : l .loop .i ≡ 0 = omega (arith, c .loop-test .left) in
     (l .loop .inv .3 ∙ ap (λ (i : ℕ). crossKeys (drop i (cutsAt w (s .args .m) (s .args .a))) (cutsAt w (s .args .m) (s .args .b))) zero-left, l .loop .inv .1)

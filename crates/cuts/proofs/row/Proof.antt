@@ -7,13 +7,14 @@ use mathlib.Core.List.{List, [], _∷_, _++_, append-assoc}
 use Prim.Native.Nat.{ℕ, suc, _+_, _-_, _≤_, _<_, compare}
 use native.Mathlib.Omega.{arith}
 use borrow.Author.Needs.{needs}
-use lib.ListN.{length, take, drop, getD, set, length-append}
+use lib.ListN.{length, take, drop, set, length-append}
 use Rattle.model.specs.Base.{union}
 use Rattle.model.specs.declared.Cut.{Cut}
-use Rattle.words.specs.Layout.{countAt, cutAddr}
-use Rattle.words.specs.Record.{leavesOf, padded, cutAt, cutsAt, Good}
+use Rattle.words.specs.Layout.{countAt}
+use Rattle.words.specs.Record.{leavesOf, padded, cutsAt, Good}
+use Rattle.words.proofs.Stored.{four-leaves}
 use Rattle.cuts.specs.Keys.{added, rowKeys, bump, keyRoom, Rising}
-use Rattle.cuts.proofs.Merging.{bump-small, bump-other, step-at, rising-drop, ended, set-padded}
+use Rattle.cuts.proofs.Merging.{step-at, rising-drop, ended, set-padded}
 use Rattle.cuts.proofs.Inserting.{row-rising}
 use Rattle.cuts.proofs.Rows.{leaves-rising, key-is, left-wide, right-wide, left-of, head-past, row-narrow, row-wide, at-hand, cut-good, none-left}
 use Rattle.cuts.proofs.row.Statement.{statement}
@@ -43,17 +44,14 @@ x-four : (s : tie.Start Inv-loop μ-loop Inv-pairs μ-pairs) → length (s .args
 x-four s = search needs
 
 y-four : (y : tie.After-load-cut Inv-loop μ-loop Inv-pairs μ-pairs) → length (y .load-cut .result .leaves) ≡ 4
-unfolding cutAt
-y-four y = ap (λ (z : Cut). length (z .leaves)) (y .load-cut .ensures)
+y-four y = ap (λ (z : Cut). length (z .leaves)) (y .load-cut .ensures) ∙ four-leaves _ _ _ _
 
 -- the cut that is loaded in a turn: one of v's
 y-count : (y : tie.After-load-cut Inv-loop μ-loop Inv-pairs μ-pairs) → y .load-cut .result .count ≤ 4
-unfolding cutAt
 y-count y =
     let t = y .before .before in
     let s = t .before .before .before .before .before in
-    let e : y .load-cut .result .count ≡ getD (s .args .work .now) (cutAddr (s .args .m) (s .args .v) (t .pairs .j - 1)) 0 = ap (λ (z : Cut). z .count) (y .load-cut .ensures) in
-    omega (arith, s .pre .2 .narrow (t .pairs .j - 1) (omega arith))
+    subst (λ (z : Cut). z .count ≤ 4) (sym (y .load-cut .ensures)) (s .pre .2 .narrow (t .pairs .j - 1) (omega arith))
 
 y-good : (y : tie.After-load-cut Inv-loop μ-loop Inv-pairs μ-pairs) → Good (leavesOf (y .load-cut .result))
 y-good y =
@@ -95,11 +93,13 @@ next : (c : tie.Else1 Inv-loop μ-loop Inv-pairs μ-pairs) →
     union compare (drop (l .loop .p) (leavesOf x)) (drop (l .loop .q) (leavesOf z))
     ≡ v ∷ union compare (drop (l .loop .p + bump u v) (leavesOf x)) (drop (l .loop .q + bump w v) (leavesOf z))
 next c =
-    let l = c .before .before .before .before .before .before in
+    let h₂ = c .before .before in
+    let h₁ = h₂ .before .before in
+    let l = h₁ .before .before in
     let y = l .before .before in
     let s = y .before .before .before .before .before .before .before in
     step-at (leavesOf (s .args .x)) (leavesOf (y .load-cut .result)) (l .loop .p) (l .loop .q) _ _ _ (x-rising s) (y-rising y)
-    (c .before .before .before .before .head .ensures .is) (c .before .before .head2 .ensures .is) (c .before .lesser .ensures) (omega arith)
+    (h₁ .head .ensures .is) (h₂ .head2 .ensures .is) (c .before .lesser .ensures) (omega arith)
 
 -- the union, once that leaf is done
 whole : (c : tie.After-past2 Inv-loop μ-loop Inv-pairs μ-pairs) →
@@ -114,16 +114,27 @@ whole c =
     l .loop .inv .7 ∙ ap (λ (r : List ℕ). l .loop .inv .0 ++ r) (next (c .before .before) ∙ rw (← c .before .past .ensures, ← c .past2 .ensures))
 
 -- no place goes past its cut
-p-within : (c : tie.After-past2 Inv-loop μ-loop Inv-pairs μ-pairs) → c .before .past .result ≤ c .before .before .before .before .before .before .before .before .before .before .before .before .before .before .before .before .before .args .x .count
+p-within : (c : tie.After-past2 Inv-loop μ-loop Inv-pairs μ-pairs) →
+    let y = c .before .before .before .before .before .before .before .before .before .before in
+    c .before .past .result ≤ y .before .before .before .before .before .before .before .args .x .count
 p-within c =
-    let l = c .before .before .before .before .before .before .before .before in
     let e = c .before .before in
-    head-past (l .loop .p) (c .before .before .before .before .before .before .before .before .before .before .before .before .before .before .before .before .before .args .x .count) _ _ _ (c .before .before .before .before .before .before .head .ensures) (omega (arith, c .before .before .before .before .before .before .before .before .before .before .before .before .before .before .before .before .before .pre .3, x-four (c .before .before .before .before .before .before .before .before .before .before .before .before .before .before .before .before .before))) (l .loop .inv .4) (c .before .past .ensures) (omega (arith, c .before .before .if1 .left, c .before .before .before .before .before .before .head .ensures .small, c .before .before .before .before .head2 .ensures .small, c .before .before .before .lesser .ensures))
+    let h₂ = e .before .before in
+    let h₁ = h₂ .before .before in
+    let l = h₁ .before .before in
+    let s = l .before .before .before .before .before .before .before .before .before in
+    head-past (l .loop .p) (s .args .x .count) _ _ _ (h₁ .head .ensures) (omega (arith, s .pre .3, x-four s)) (l .loop .inv .4) (c .before .past .ensures)
+    (omega (arith, e .if1 .left, h₁ .head .ensures .small, h₂ .head2 .ensures .small, e .before .lesser .ensures))
 
 q-within : (c : tie.After-past2 Inv-loop μ-loop Inv-pairs μ-pairs) → c .past2 .result ≤ c .before .before .before .before .before .before .before .before .before .before .load-cut .result .count
 q-within c =
-    let l = c .before .before .before .before .before .before .before .before in
-    head-past (l .loop .q) (c .before .before .before .before .before .before .before .before .before .before .load-cut .result .count) _ _ _ (c .before .before .before .before .head2 .ensures) (omega (arith, y-count (c .before .before .before .before .before .before .before .before .before .before), y-four (c .before .before .before .before .before .before .before .before .before .before))) (l .loop .inv .5) (c .past2 .ensures) (omega (arith, c .before .before .if1 .left, c .before .before .before .before .before .before .head .ensures .small, c .before .before .before .before .head2 .ensures .small, c .before .before .before .lesser .ensures))
+    let e = c .before .before in
+    let h₂ = e .before .before in
+    let h₁ = h₂ .before .before in
+    let l = h₁ .before .before in
+    let y = l .before .before in
+    head-past (l .loop .q) (y .load-cut .result .count) _ _ _ (h₂ .head2 .ensures) (omega (arith, y-count y, y-four y)) (l .loop .inv .5) (c .past2 .ensures)
+    (omega (arith, e .if1 .left, h₁ .head .ensures .small, h₂ .head2 .ensures .small, e .before .lesser .ensures))
 
 count-requires : tie.Need-count-requires Inv-loop μ-loop Inv-pairs μ-pairs
 count-requires c κs = search needs
@@ -142,31 +153,46 @@ load-cut-requires : tie.Need-load-cut-requires Inv-loop μ-loop Inv-pairs μ-pai
 load-cut-requires c κs = search needs
 
 loop-holds : tie.Need-loop-holds Inv-loop μ-loop Inv-pairs μ-pairs
-loop-holds c = ([], refl, omega (arith, c .before .before .before .before .before .before .before .before .pre .3), omega (arith, y-count (c .before)), omega arith, omega arith, refl, refl)
+loop-holds c =
+    let y = c .before in
+    let s = y .before .before .before .before .before .before .before in
+    ([], refl, omega (arith, s .pre .3), omega (arith, y-count y), omega arith, omega arith, refl, refl)
 
 slice-aggregate-head : tie.Need-slice-aggregate-head Inv-loop μ-loop Inv-pairs μ-pairs
 slice-aggregate-head c = search needs
 
 head-requires : tie.Need-head-requires Inv-loop μ-loop Inv-pairs μ-pairs
-head-requires c κs = omega (arith, c .before .before .before .before .before .before .before .before .before .before .pre .3, x-four (c .before .before .before .before .before .before .before .before .before .before))
+head-requires c κs =
+    let s = c .before .before .before .before .before .before .before .before .before .before in
+    omega (arith, s .pre .3, x-four s)
 
 slice-aggregate-head-2 : tie.Need-slice-aggregate-head-2 Inv-loop μ-loop Inv-pairs μ-pairs
 slice-aggregate-head-2 c = search needs
 
 head-requires-2 : tie.Need-head-requires-2 Inv-loop μ-loop Inv-pairs μ-pairs
-head-requires-2 c κs = omega (arith, y-count (c .before .before .before .before .before), y-four (c .before .before .before .before .before))
+head-requires-2 c κs =
+    let y = c .before .before .before .before .before in
+    omega (arith, y-count y, y-four y)
 
 lesser-requires : tie.Need-lesser-requires Inv-loop μ-loop Inv-pairs μ-pairs
 lesser-requires c κs = search needs
 
 past-requires : tie.Need-past-requires Inv-loop μ-loop Inv-pairs μ-pairs
-past-requires c κs = omega (arith, c .before .before .before .before .before .before .loop .inv .4, c .before .before .before .before .before .before .before .before .before .before .before .before .before .before .before .pre .3)
+past-requires c κs =
+    let l = c .before .before .before .before .before .before in
+    let s = l .before .before .before .before .before .before .before .before .before in
+    omega (arith, l .loop .inv .4, s .pre .3)
 
 past-requires-2 : tie.Need-past-requires-2 Inv-loop μ-loop Inv-pairs μ-pairs
-past-requires-2 c κs = omega (arith, c .before .before .before .before .before .before .before .loop .inv .5, y-count (c .before .before .before .before .before .before .before .before .before))
+past-requires-2 c κs =
+    let l = c .before .before .before .before .before .before .before in
+    omega (arith, l .loop .inv .5, y-count (l .before .before))
 
 add-if2 : tie.Need-add-if2 Inv-loop μ-loop Inv-pairs μ-pairs
-add-if2 c = omega (arith, c .before .before .before .before .before .before .before .before .loop .inv .2, c .before .before .before .before .before .before .before .before .loop .inv .4, c .before .before .before .before .before .before .before .before .before .before .before .before .before .before .before .before .before .pre .3)
+add-if2 c =
+    let l = c .before .before .before .before .before .before .before .before in
+    let s = l .before .before .before .before .before .before .before .before .before in
+    omega (arith, l .loop .inv .2, l .loop .inv .4, s .pre .3)
 
 add-if2-2 : tie.Need-add-if2-2 Inv-loop μ-loop Inv-pairs μ-pairs
 add-if2-2 c = omega (arith, p-within c, c .before .before .before .before .before .before .before .before .before .before .before .before .before .before .before .before .before .pre .3)
@@ -176,20 +202,22 @@ pairs-less c = omega (arith, c .before .before .before .before .before .before .
 
 pairs-again : tie.Need-pairs-again Inv-loop μ-loop Inv-pairs μ-pairs
 pairs-again c =
-    let l = c .before .before .before .before .before .before .before .before .before .loop in
-    let y = c .before .before .before .before .before .before .before .before .before .before .before in
-    let t = c .before .before .before .before .before .before .before .before .before .before .before .before .before in
-    let s = c .before .before .before .before .before .before .before .before .before .before .before .before .before .before .before .before .before .before in
+    let l = c .before .before .before .before .before .before .before .before .before in
+    let y = l .before .before in
+    let t = y .before .before in
+    let s = t .before .before .before .before .before in
     let X : List ℕ = leavesOf (s .args .x) in
     let Y : List ℕ = leavesOf (y .load-cut .result) in
     let p : ℕ = c .before .before .past .result in
     let n : length (drop p X) ≡ s .args .x .count - p = left-of (s .args .x .leaves) (s .args .x .count) p (omega (arith, x-four s, s .pre .3)) in
-    let wide = left-wide (union compare X Y) (l .inv .0) _ (drop p X) (drop (c .before .past2 .result) Y) (whole (c .before)) (rising-drop 0 p X (x-rising s)) (rising-drop 0 (c .before .past2 .result) Y (y-rising y))
-    (omega (arith, l .inv .1, c .if2 .taken, p-within (c .before))) in
+    let wide = left-wide (union compare X Y) (l .loop .inv .0) _ (drop p X) (drop (c .before .past2 .result) Y) (whole (c .before)) (rising-drop 0 p X (x-rising s)) (rising-drop 0 (c .before .past2 .result) Y (y-rising y))
+    (omega (arith, l .loop .inv .1, c .if2 .taken, p-within (c .before))) in
     (omega (arith, t .pairs .inv .0), t .pairs .inv .1, t .pairs .inv .2, t .pairs .inv .3 ∙ sym (pair-more y ∙ row-wide X Y _ _ wide))
 
 add-if3 : tie.Need-add-if3 Inv-loop μ-loop Inv-pairs μ-pairs
-add-if3 c = omega (arith, c .before .before .before .before .before .before .before .before .before .loop .inv .3, c .before .before .before .before .before .before .before .before .before .loop .inv .5, y-count (c .before .before .before .before .before .before .before .before .before .before .before))
+add-if3 c =
+    let l = c .before .before .before .before .before .before .before .before .before in
+    omega (arith, l .loop .inv .3, l .loop .inv .5, y-count (l .before .before))
 
 add-if3-2 : tie.Need-add-if3-2 Inv-loop μ-loop Inv-pairs μ-pairs
 add-if3-2 c = omega (arith, q-within (c .before), y-count (c .before .before .before .before .before .before .before .before .before .before .before))
@@ -199,16 +227,16 @@ pairs-less-2 c = omega (arith, c .before .before .before .before .before .before
 
 pairs-again-2 : tie.Need-pairs-again-2 Inv-loop μ-loop Inv-pairs μ-pairs
 pairs-again-2 c =
-    let l = c .before .before .before .before .before .before .before .before .before .before .loop in
-    let y = c .before .before .before .before .before .before .before .before .before .before .before .before in
-    let t = c .before .before .before .before .before .before .before .before .before .before .before .before .before .before in
-    let s = c .before .before .before .before .before .before .before .before .before .before .before .before .before .before .before .before .before .before .before in
+    let l = c .before .before .before .before .before .before .before .before .before .before in
+    let y = l .before .before in
+    let t = y .before .before in
+    let s = t .before .before .before .before .before in
     let X : List ℕ = leavesOf (s .args .x) in
     let Y : List ℕ = leavesOf (y .load-cut .result) in
     let q : ℕ = c .before .before .past2 .result in
     let n : length (drop q Y) ≡ y .load-cut .result .count - q = left-of (y .load-cut .result .leaves) (y .load-cut .result .count) q (omega (arith, y-four y, y-count y)) in
-    let wide = right-wide (union compare X Y) (l .inv .0) _ (drop (c .before .before .before .past .result) X) (drop q Y) (whole (c .before .before)) (rising-drop 0 (c .before .before .before .past .result) X (x-rising s)) (rising-drop 0 q Y (y-rising y))
-    (omega (arith, l .inv .1, c .if3 .taken, q-within (c .before .before))) in
+    let wide = right-wide (union compare X Y) (l .loop .inv .0) _ (drop (c .before .before .before .past .result) X) (drop q Y) (whole (c .before .before)) (rising-drop 0 (c .before .before .before .past .result) X (x-rising s)) (rising-drop 0 q Y (y-rising y))
+    (omega (arith, l .loop .inv .1, c .if3 .taken, q-within (c .before .before))) in
     (omega (arith, t .pairs .inv .0), t .pairs .inv .1, t .pairs .inv .2, t .pairs .inv .3 ∙ sym (pair-more y ∙ row-wide X Y _ _ wide))
 
 -- a leaf has room
@@ -216,7 +244,10 @@ k-small : (c : tie.Else3 Inv-loop μ-loop Inv-pairs μ-pairs) → c .before .bef
 k-small c = omega (arith, c .before .if2 .left, p-within (c .before .before))
 
 cast-out : tie.Need-cast-out Inv-loop μ-loop Inv-pairs μ-pairs
-cast-out c = omega (arith, c .before .before .before .before .if1 .left, c .before .before .before .before .before .before .before .before .head .ensures .small, c .before .before .before .before .before .before .head2 .ensures .small, c .before .before .before .before .before .lesser .ensures)
+cast-out c =
+    let e = c .before .before .before .before in
+    let h₂ = e .before .before in
+    omega (arith, e .if1 .left, h₂ .before .before .head .ensures .small, h₂ .head2 .ensures .small, e .before .lesser .ensures)
 
 mul-out : tie.Need-mul-out Inv-loop μ-loop Inv-pairs μ-pairs
 mul-out c = omega (arith, k-small c)
@@ -249,12 +280,14 @@ loop-again c =
     )
 
 key-of-requires : tie.Need-key-of-requires Inv-loop μ-loop Inv-pairs μ-pairs
-key-of-requires c κs = omega (arith, c .before .before .before .before .before .before .before .loop .inv .2, c .before .before .before .before .before .before .before .loop .inv .4)
+key-of-requires c κs =
+    let l = c .before .before .before .before .before .before .before in
+    omega (arith, l .loop .inv .2, l .loop .inv .4)
 
 insert-requires : tie.Need-insert-requires Inv-loop μ-loop Inv-pairs μ-pairs
 insert-requires c κs =
     let t = c .before .before .before .before .before .before .before .before .before .before .before .before in
-    let s = c .before .before .before .before .before .before .before .before .before .before .before .before .before .before .before .before .before in
+    let s = t .before .before .before .before .before in
     record { room = t .pairs .inv .2; fits = t .pairs .inv .1; rising = rw (t .pairs .inv .3) (row-rising _ _ _ (s .pre .5 .rising)) }
 
 pairs-less-3 : tie.Need-pairs-less-3 Inv-loop μ-loop Inv-pairs μ-pairs
@@ -262,15 +295,19 @@ pairs-less-3 c = omega (arith, c .before .before .before .before .before .before
 
 pairs-again-3 : tie.Need-pairs-again-3 Inv-loop μ-loop Inv-pairs μ-pairs
 pairs-again-3 c =
-    let l = c .before .before .before .before .before .before .before .before .before .before .before .loop in
-    let y = c .before .before .before .before .before .before .before .before .before .before .before .before .before in
-    let t = c .before .before .before .before .before .before .before .before .before .before .before .before .before .before .before in
-    let s = c .before .before .before .before .before .before .before .before .before .before .before .before .before .before .before .before .before .before .before .before in
+    let e = c .before .before .before .before .before in
+    let h₂ = e .before .before in
+    let h₁ = h₂ .before .before in
+    let l = h₁ .before .before .loop in
+    let y = h₁ .before .before .before .before in
+    let t = y .before .before in
+    let s = t .before .before .before .before .before in
+    let ends : e .before .lesser .result ≡ 65536 = omega (arith, e .if1 .taken) in
     let x : Cut = s .args .x in
     let z : Cut = y .load-cut .result in
     let ls : List ℕ = l .inv .0 in
-    let x-ends : x .count ≤ l .p = c .before .before .before .before .before .before .before .before .before .head .ensures .ends (omega (arith, c .before .before .before .before .before .before .before .before .before .head .ensures .small, c .before .before .before .before .before .before .lesser .ensures, c .before .before .before .before .before .if1 .taken)) in
-    let y-ends : z .count ≤ l .q = c .before .before .before .before .before .before .before .head2 .ensures .ends (omega (arith, c .before .before .before .before .before .before .before .head2 .ensures .small, c .before .before .before .before .before .before .lesser .ensures, c .before .before .before .before .before .if1 .taken)) in
+    let x-ends : x .count ≤ l .p = h₁ .head .ensures .ends (omega (arith, h₁ .head .ensures .small, e .before .lesser .ensures)) in
+    let y-ends : z .count ≤ l .q = h₂ .head2 .ensures .ends (omega (arith, h₂ .head2 .ensures .small, e .before .lesser .ensures)) in
     let all : union compare (leavesOf x) (leavesOf z) ≡ ls ++ [] =
     l .inv .7 ∙ ap (λ (r : List ℕ). ls ++ r) (ended (x .leaves) (z .leaves) (x .count) (z .count) (l .p) (l .q) x-ends y-ends) in
     let made = key-is _ ls (l .out) (l .k) all (l .inv .1) (omega (arith, l .inv .2, l .inv .4)) (l .inv .6) in (

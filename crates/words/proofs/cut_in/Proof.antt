@@ -3,7 +3,7 @@
 use borrow.Author.Needs.{needs}
 use native.Mathlib.Omega.{arith}
 use mathlib.Core.Path.{refl}
-use Rattle.words.specs.Record.{cutAt}
+use Rattle.words.specs.Record.{cutIn}
 use Rattle.words.proofs.cut_in.Statement.{statement}
 use Rattle.words.proofs.cut_in.Tie as tie
 
@@ -53,7 +53,7 @@ shared-slice-read-t21 : tie.Need-shared-slice-read-t21
 shared-slice-read-t21 c = search needs
 
 returns : tie.Need-returns
-unfolding cutAt
+unfolding cutIn
 returns c = refl
 
 pub cut-in-spec : {M : Type 1} → statement M
