@@ -1,7 +1,7 @@
 -- `Nets`: the nets that feed a match. `Counting`: how many variables are placed, and how many cuts one has. `Keeping`: what stays where a pass
 -- writes only some columns. `Marks`: what marking reads and leaves. `Held`: what the passes before have left gives what is asked of the words.
 -- `Needing`: the law of `mark`. `Missed`: the law of `uncovered`. `Leaves`, `Found`: a cut of the words, and what its matches give. `Fitting`: what is
--- chosen has room. `Turning`: the turn of a variable. `Choices`: the law of `choose`.
+-- chosen has room. `Turning`: the turn of a variable. `Choices`: the law of `choose`. `Lending`: a local array lent as a list of its first elements.
 pub mod Nets
 pub mod Counting
 pub mod Keeping
@@ -14,3 +14,4 @@ pub mod Found
 pub mod Fitting
 pub mod Turning
 pub mod Choices
+pub mod Lending

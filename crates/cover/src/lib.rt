@@ -26,6 +26,7 @@ ghost use Rattle.words.specs.Phases.{phaseAt};
 ghost use Rattle.truth.specs.Variant.{placesOf};
 ghost use Rattle.cover.specs.Asked.{PinsIn, LeavesIn, OutputsIn, SlotsIn, CutsIn, MatchIn, MatchesIn};
 ghost use Rattle.matching.specs.Variants.{Usable};
+ghost use Rattle.matching.specs.Sheet.{listMatched};
 ghost use Rattle.matching.specs.Best.{timeOf};
 ghost use Rattle.matching.specs.Inverters.{inverted};
 ghost use Rattle.model.specs.declared.Library.{Library};
@@ -300,13 +301,22 @@ fn choose_variables(
     }
 }
 
+// The library's cells, lent to the matcher as a list.
+fn match_library(lib: Library, sheet: &mut [u16; matching::SHEET])
+    requires { ⌜ Usable lib ⌝ }
+    ensures { λ _. ⌜ now (sheet .exit) ≡ listMatched (cellsOf lib) 0 (now (sheet .entry)) ⌝ }
+{
+    let cells = lib.cells;
+    matching::build(&cells[..lib.n], sheet);
+}
+
 // The choice for both phases of every variable.
 pub fn choose(work: &mut [u16], lib: Library, h: Header)
     requires { ⌜ Usable lib × Unchosen (now work) (h .size) (h .inputs + h .ands + 1) ⌝ }
     ensures { λ _. ⌜ now (work .exit) ≡ chosenUp (cellsOf lib) (now (work .entry)) (h .size) (h .inputs + h .ands + 1) ⌝ }
 {
     let mut sheet = matching::no_sheet();
-    matching::build(lib, &mut sheet);
+    match_library(lib, &mut sheet);
     let inv = matching::inverter_of(lib);
     choose_variables(work, h.size, h.inputs + h.ands + 1, inv, &sheet);
 }

@@ -7,4 +7,3 @@ pub mod Arriving
 pub mod Listing
 pub mod Matching
 pub mod Inverting
-pub mod Lending

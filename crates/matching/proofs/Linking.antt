@@ -12,8 +12,8 @@ use mathlib.Core.List.{List, [], _∷_}
 use native.Mathlib.Nat.{add-zero, zero-add, add-suc, suc-add, sub-self}
 use native.Mathlib.Omega.{arith}
 use lib.Dec.{eqb}
-use lib.ListN.{replicate, length, getD, set, take, drop, length-set, drop-of-length-le}
-use lib.Seq.{take-append-seam, getD-take, getD-set-same, getD-set-other, drop-cons}
+use lib.ListN.{replicate, length, getD, set, drop, length-set, drop-of-length-le}
+use lib.Seq.{take-append-seam, getD-set-same, getD-set-other, drop-cons}
 use borrow.Author.Tests.{eqb-true, eqb-false, ltb-true, ltb-false, lt-ltb, le-ltb}
 use Rattle.model.specs.Base.{keep, from, below}
 use Rattle.model.specs.Cells.{noCell, blank, cellAt, cellsOf, libraryOf}
@@ -94,15 +94,6 @@ listed-none cells n s h = sym (ap (λ (cs : List Cell). listMatched cs n s) (dro
 
 pub listed-all : (cells : List Cell) (i : ℕ) (s : List ℕ) → i ≤ 0 → listMatched (drop i cells) i s ≡ listMatched cells 0 s
 listed-all cells i s h = let z : i ≡ 0 = omega arith in rw z
-
--- a cell of the array, at a line that the library has
-pub cell-taken : (cells : List Cell) (n i : ℕ) → i < n → getD cells i noCell ≡ cellAt (take n cells) i
-unfolding cellAt
-cell-taken cells n i h = sym (getD-take n cells i noCell h)
-
-pub usable-pins : (l : Library) → Usable l → (i : ℕ) → i < l .n → getD (l .cells) i noCell .pins ≤ 4
-unfolding cellsOf
-usable-pins l u i h = rw (cell-taken (l .cells) (l .n) i h) (u .pins i)
 
 -- ---- a variant put on the sheet
 

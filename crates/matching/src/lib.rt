@@ -9,9 +9,9 @@ use model::Phase;
 use model::Source;
 ghost use mathlib.Core.Path.{_≡_};
 ghost use mathlib.Core.List.{List};
-ghost use Prim.Native.Nat.{_+_, _*_, _<_, _≤_, max};
-ghost use lib.ListN.{length, getD};
-ghost use Rattle.model.specs.Cells.{noCell, cellAt, cellsOf};
+ghost use Prim.Native.Nat.{ℕ, _+_, _*_, _<_, _≤_, max};
+ghost use lib.ListN.{length};
+ghost use Rattle.model.specs.Cells.{cellAt, cellsOf};
 ghost use Rattle.model.specs.declared.Cell.{Cell};
 ghost use Rattle.truth.specs.Variant.{placesOf};
 ghost use Rattle.matching.specs.Variants.{Usable, matchOf};
@@ -141,7 +141,7 @@ fn match_cell(c: Cell, line: usize, sheet: &mut [u16; SHEET])
     put_variants(c.pins, c.table, line, sheet);
 }
 
-// "The cells go to the matcher as a lent list of cell records": the cell of a line, out of the list, matched by value.
+// The cell of a line, out of the list, matched by value.
 fn match_listed(cells: &[Cell], line: usize, sheet: &mut [u16; SHEET])
     requires { ⌜ (line < length (now cells)) × (line < 32) × (cellAt (now cells) line .pins ≤ 4) ⌝ }
     ensures { λ _. ⌜ now (sheet .exit) ≡ cellMatched (cellAt (now (cells .entry)) line) line (now (sheet .entry)) ⌝ }
@@ -150,24 +150,15 @@ fn match_listed(cells: &[Cell], line: usize, sheet: &mut [u16; SHEET])
     match_cell(c, line, sheet);
 }
 
-// The library's cells lent as that list.
-fn match_line(lib: Library, line: usize, sheet: &mut [u16; SHEET])
-    requires { ⌜ (line < lib .n) × (lib .n ≤ 32) × (getD (lib .cells) line noCell .pins ≤ 4) ⌝ }
-    ensures { λ _. ⌜ now (sheet .exit) ≡ cellMatched (getD (lib .cells) line noCell) line (now (sheet .entry)) ⌝ }
+// "The cells go to the matcher as a lent list of cell records": all of the list, from the last line to the first.
+pub fn build(cells: &[Cell], sheet: &mut [u16; SHEET])
+    requires { ⌜ (length (now cells) ≤ 32) × ((c : ℕ) → cellAt (now cells) c .pins ≤ 4) ⌝ }
+    ensures { λ _. ⌜ now (sheet .exit) ≡ listMatched (now (cells .entry)) 0 (now (sheet .entry)) ⌝ }
 {
-    let cells = lib.cells;
-    match_listed(&cells[..lib.n], line, sheet);
-}
-
-// All cells of a library, from the last line to the first.
-pub fn build(lib: Library, sheet: &mut [u16; SHEET])
-    requires { ⌜ Usable lib ⌝ }
-    ensures { λ _. ⌜ now (sheet .exit) ≡ listMatched (cellsOf lib) 0 (now (sheet .entry)) ⌝ }
-{
-    let mut i = lib.n;
+    let mut i = cells.len();
     while i > 0 {
         i -= 1;
-        match_line(lib, i, sheet);
+        match_listed(cells, i, sheet);
     }
 }
 

@@ -21,8 +21,8 @@ tools lib inv blank sheet u z e i = record { built = record { usable = u; sheete
 no-sheet-requires : tie.Need-no-sheet-requires
 no-sheet-requires c κs = search needs
 
-build-requires : tie.Need-build-requires
-build-requires c κs = search needs
+match-library-requires : tie.Need-match-library-requires
+match-library-requires c κs = search needs
 
 inverter-of-requires : tie.Need-inverter-of-requires
 inverter-of-requires c κs = search needs
@@ -36,7 +36,7 @@ add-choose-variables-2 c = search needs
 choose-variables-requires : tie.Need-choose-variables-requires
 choose-variables-requires c κs =
     let a = c .before .before .before .before .before .before .before .before .args in
-    ((a .lib, tools (a .lib) (c .before .before .before .inverter-of .result) (c .before .before .before .before .before .before .no-sheet .result) (c .before .before .before .before .build .last .1 .0) (c .before .before .before .before .before .before .before .before .pre .0) (c .before .before .before .before .before .before .no-sheet .ensures) (c .before .before .before .before .build .ensures) (c .before .before .before .inverter-of .ensures)), c .before .before .before .before .before .before .before .before .pre .1)
+    ((a .lib, tools (a .lib) (c .before .before .before .inverter-of .result) (c .before .before .before .before .before .before .no-sheet .result) (c .before .before .before .before .match-library .last .1 .0) (c .before .before .before .before .before .before .before .before .pre .0) (c .before .before .before .before .before .before .no-sheet .ensures) (c .before .before .before .before .match-library .ensures) (c .before .before .before .inverter-of .ensures)), c .before .before .before .before .before .before .before .before .pre .1)
 
 same-length : tie.Need-same-length
 same-length c = search needs
@@ -44,14 +44,14 @@ same-length c = search needs
 returns : tie.Need-returns
 returns c =
     let a = c .before .before .before .before .before .before .before .before .before .before .before .args in
-    c .before .before .choose-variables .ensures (a .lib) (tools (a .lib) (c .before .before .before .before .before .before .inverter-of .result) (c .before .before .before .before .before .before .before .before .before .no-sheet .result) (c .before .before .before .before .before .before .before .build .last .1 .0) (c .before .before .before .before .before .before .before .before .before .before .before .pre .0) (c .before .before .before .before .before .before .before .before .before .no-sheet .ensures) (c .before .before .before .before .before .before .before .build .ensures) (c .before .before .before .before .before .before .inverter-of .ensures))
+    c .before .before .choose-variables .ensures (a .lib) (tools (a .lib) (c .before .before .before .before .before .before .inverter-of .result) (c .before .before .before .before .before .before .before .before .before .no-sheet .result) (c .before .before .before .before .before .before .before .match-library .last .1 .0) (c .before .before .before .before .before .before .before .before .before .before .before .pre .0) (c .before .before .before .before .before .before .before .before .before .no-sheet .ensures) (c .before .before .before .before .before .before .before .match-library .ensures) (c .before .before .before .before .before .before .inverter-of .ensures))
 
 pub choose-spec : {M : Type 1} → statement M
 choose-spec =
     tie.close
     (tie.spec
     no-sheet-requires
-    build-requires
+    match-library-requires
     inverter-of-requires
     add-choose-variables
     add-choose-variables-2
