@@ -32,8 +32,8 @@ struct Driver {
     net: u32,
 }
 
-// "A walk over the mapped gates holds the lent words and the next gate": `next` is the phase, as a literal, from which the next gate is
-// sought.
+// "A walk over the mapped gates holds the lent words and the next gate": `next` is the gate's phase, as a literal, past the last phase at the
+// end.
 struct Walk<'a> {
     words: &'a [u16],
     next: usize,
@@ -342,31 +342,27 @@ fn gate_from(work: &[u16], m: usize, l: usize) -> usize
     g
 }
 
-// A walk from phase l on. The borrow checker covers no function that takes, makes or has a local of such a struct, so this one and the
-// next two are proved by hand.
-fn walk_from<'a>(work: &'a [u16], l: usize) -> Walk<'a>
-    ensures { λ r. ⌜ (r .words ≡ work .entry) × (r .next ≡ l) ⌝ }
+// A walk at the first gate. The borrow checker covers no function that takes, makes or has a local of such a struct, so this one, the next
+// and the two that go along a walk are proved by hand.
+fn walk_over<'a>(work: &'a [u16], m: usize) -> Walk<'a>
+    requires { ⌜ Room (now work) m ⌝ }
+    ensures { λ r. ⌜ (r .words ≡ work .entry) × (r .next ≡ gateFrom (now (work .entry)) m 0 (2 * (m + 1))) ⌝ }
 {
     Walk {
         words: work,
-        next: l,
+        next: gate_from(work, m, 0),
     }
 }
 
-// The gate that a walk comes to next: thin above `gate_from`, which takes the slice and the number.
-fn step<'a>(w: Walk<'a>, m: usize) -> usize
-    requires { ⌜ Room (now (w .words)) m ⌝ }
-    ensures { λ r. ⌜ r ≡ gateFrom (now (w .entry .words)) m (w .entry .next) (2 * (m + 1) - w .entry .next) ⌝ }
+// The walk at the gate after: thin above `gate_from`, which takes the slice and the number.
+fn step<'a>(w: Walk<'a>, m: usize) -> Walk<'a>
+    requires { ⌜ Room (now (w .words)) m × (w .next < 2 * (m + 1)) ⌝ }
+    ensures { λ r. ⌜ (r .words ≡ w .entry .words) × (r .next ≡ gateFrom (now (w .entry .words)) m (w .entry .next + 1) (2 * (m + 1) - (w .entry .next + 1))) ⌝ }
 {
-    gate_from(w.words, m, w.next)
-}
-
-// One step of a walk, with plain parameters: whoever calls it needs no proof by hand.
-fn next_gate(work: &[u16], m: usize, l: usize) -> usize
-    requires { ⌜ Room (now work) m ⌝ }
-    ensures { λ r. ⌜ r ≡ gateFrom (now (work .entry)) m l (2 * (m + 1) - l) ⌝ }
-{
-    step(walk_from(work, l), m)
+    Walk {
+        words: w.words,
+        next: gate_from(w.words, m, w.next + 1),
+    }
 }
 
 // ---- all gates
@@ -389,14 +385,25 @@ fn put_gates(work: &[u16], lib: Library, m: usize, out: &mut [u8], at: usize) ->
     requires { ⌜ Gated (now work) lib m × (at + length (each gateLine (gatesFrom (now work) lib m 0 (2 * (m + 1)))) ≤ length (now out)) ⌝ }
     ensures { λ r. ⌜ Wrote (now (out .entry)) (now (out .exit)) at r (each gateLine (gatesFrom (now (work .entry)) lib m 0 (2 * (m + 1)))) ⌝ }
 {
+    let end = 2 * (m + 1);
     let mut next = at;
-    let mut l = next_gate(work, m, 0);
-    while l < 2 * (m + 1) {
-        let d = driver_at(work, lib, m, l);
+    let mut w = walk_over(work, m);
+    while w.next < end {
+        let d = driver_at(w.words, lib, m, w.next);
         next = put_driver(out, next, d);
-        l = next_gate(work, m, l + 1);
+        w = step(w, m);
     }
     next
+}
+
+fn no_tally() -> Tally
+    ensures { λ r. ⌜ r ≡ noTally ⌝ }
+{
+    Tally {
+        length: 0,
+        gates: 0,
+        area: 0,
+    }
 }
 
 fn count_driver(t: Tally, d: Driver, n: usize) -> Tally
@@ -421,16 +428,13 @@ fn count_gates(work: &[u16], lib: Library, m: usize) -> Tally
     requires { ⌜ Gated (now work) lib m ⌝ }
     ensures { λ r. ⌜ (r ≡ tallied noTally (gatesFrom (now (work .entry)) lib m 0 (2 * (m + 1)))) × Bounded r 8192 ⌝ }
 {
-    let mut t = Tally {
-        length: 0,
-        gates: 0,
-        area: 0,
-    };
-    let mut l = next_gate(work, m, 0);
-    while l < 2 * (m + 1) {
-        let d = driver_at(work, lib, m, l);
-        t = count_driver(t, d, l);
-        l = next_gate(work, m, l + 1);
+    let end = 2 * (m + 1);
+    let mut t = no_tally();
+    let mut w = walk_over(work, m);
+    while w.next < end {
+        let d = driver_at(w.words, lib, m, w.next);
+        t = count_driver(t, d, w.next);
+        w = step(w, m);
     }
     t
 }
