@@ -3,10 +3,14 @@ use Prim.Native.Nat.{ℕ}
 use mathlib.Core.Path.{_≡_, refl}
 use mathlib.Core.Option.{Option, none, some}
 use mathlib.Core.List.{List}
-use Rattle.model.specs.Reading.{Read, holds, fault, verdictOf, refusedAt, rulingOf, rulingAt, verdictRuling}
+use Rattle.model.specs.Base.{lowest}
+use Rattle.model.specs.Reading.{Read, holds, fault, verdictOf, refusedAt, firstOf, rulingOf, rulingAt, verdictRuling}
 use Rattle.model.specs.Cells.{libraryAnswer}
 use Rattle.model.specs.GraphText.{headerAnswer, headerRuling, headerValues, headerNumbers}
-use Rattle.model.specs.Netlist.{Outcome, refused, mapped}
+use Rattle.model.specs.Graph.{Graph, unplaced}
+use Rattle.model.specs.Cuts.{crowded}
+use Rattle.model.specs.Choice.{chosen}
+use Rattle.model.specs.Netlist.{Outcome, refused, mapped, uncovered, placingVerdict, cutsVerdict, coverVerdict}
 use Rattle.model.specs.Mapper.{answerOf, returned, returnedBy}
 use Rattle.model.specs.declared.Cell.{Cell}
 use Rattle.model.specs.declared.Header.{Header}
@@ -17,11 +21,24 @@ unfolding verdictRuling verdictOf rulingOf
 verdict-rules (holds a) = refl
 verdict-rules (fault n k) = refl
 
--- the verdict with one number: 15, 16 and 17
+-- the verdict with one number
 pub refusal-rules : (n : ℕ) (o : Option ℕ) → verdictRuling (refusedAt n o) ≡ rulingAt n o
 unfolding verdictRuling refusedAt rulingAt
 refusal-rules n none = refl
 refusal-rules n (some k) = refl
+
+-- 15, 16 and 17, each with its place
+pub placing-rules : (g : Graph) → verdictRuling (placingVerdict g) ≡ rulingAt 15 (lowest (unplaced g))
+unfolding placingVerdict
+placing-rules g = refusal-rules 15 (lowest (unplaced g))
+
+pub cuts-rules : (g : Graph) → verdictRuling (cutsVerdict g) ≡ rulingAt 16 (firstOf (crowded g))
+unfolding cutsVerdict
+cuts-rules g = refusal-rules 16 (firstOf (crowded g))
+
+pub cover-rules : (cells : List Cell) (g : Graph) → verdictRuling (coverVerdict cells g) ≡ rulingAt 17 (firstOf (uncovered (chosen cells g) 0 (g .outputs)))
+unfolding coverVerdict
+cover-rules cells g = refusal-rules 17 (firstOf (uncovered (chosen cells g) 0 (g .outputs)))
 
 -- the library's verdict
 pub library-rules : (r : Read (List Cell)) → verdictRuling (libraryAnswer r .verdict) ≡ rulingOf r
