@@ -13,7 +13,7 @@ use lib.ListN.{length}
 use borrow.Author.Tests.{eqb-true, eqb-false}
 use Rattle.model.specs.Graph.{Graph, node, span}
 use Rattle.model.specs.Cuts.{cutTable}
-use Rattle.words.specs.Layout.{kindAt, leftAt, rightAt, placeAt}
+use Rattle.words.specs.Layout.{andKind, kindAt, leftAt, rightAt, placeAt}
 use Rattle.words.specs.Record.{nodeOf, nodeAt, cutsAt, AllGood, Sound}
 use Rattle.cones.specs.Table.{leafWord, nodeWord, orWord, walkWord, joined, Placed}
 use Rattle.cones.specs.Filling.{cutWord, functionsOf}
@@ -21,14 +21,14 @@ use Rattle.cones.proofs.Walks.{no-and, an-and}
 use Rattle.cones.proofs.Truth.{walk-table}
 
 -- a node's word hangs on the words of its operands alone
-node-word : (a b : ℕ → ℕ) (k l r : ℕ) → (k ≡ 3 → a (l / 2) ≡ b (l / 2)) → (k ≡ 3 → a (r / 2) ≡ b (r / 2)) → nodeWord a (nodeOf k l r) ≡ nodeWord b (nodeOf k l r)
-node-word a b k l r hl hr = by (eqb k 3) refl
+node-word : (a b : ℕ → ℕ) (k l r : ℕ) → (k ≡ andKind → a (l / 2) ≡ b (l / 2)) → (k ≡ andKind → a (r / 2) ≡ b (r / 2)) → nodeWord a (nodeOf k l r) ≡ nodeWord b (nodeOf k l r)
+node-word a b k l r hl hr = by (eqb k andKind) refl
   where
-    by : (t : Bool) → eqb k 3 ≡ t → nodeWord a (nodeOf k l r) ≡ nodeWord b (nodeOf k l r)
+    by : (t : Bool) → eqb k andKind ≡ t → nodeWord a (nodeOf k l r) ≡ nodeWord b (nodeOf k l r)
     by true e =
-        let three : k ≡ 3 = eqb-true k 3 e in
+        let three : k ≡ andKind = eqb-true k andKind e in
         an-and a k l r three ∙ (λ i. joined l (hl three i) r (hr three i)) ∙ sym (an-and b k l r three)
-    by false e = no-and a k l r (eqb-false k 3 e) ∙ sym (no-and b k l r (eqb-false k 3 e))
+    by false e = no-and a k l r (eqb-false k andKind e) ∙ sym (no-and b k l r (eqb-false k andKind e))
 
 module _ (w : List ℕ) (m : ℕ) (p : Placed w m) (ls : List ℕ) where
   pub fuel : (f g u : ℕ) → u ≤ m → 0 < placeAt w m u → placeAt w m u ≤ f → placeAt w m u ≤ g → walkWord f (nodeAt w m) ls u ≡ walkWord g (nodeAt w m) ls u

@@ -13,7 +13,7 @@ use lib.ListN.{length, getD}
 use borrow.Author.Tests.{lt-ltb, le-ltb, ltb-true, ltb-false, eq-eqb, ne-eqb, eqb-true, eqb-false}
 use Rattle.model.specs.Graph.{Node, constant, input, undefined, varOf}
 use Rattle.words.specs.Put.{putAt}
-use Rattle.words.specs.Layout.{Room, kindAt, leftAt, rightAt, placeAt, notedAt, walkAt, noteAddr, noteWords, leftAddr, rightAddr, placeAddr, countsFrom}
+use Rattle.words.specs.Layout.{Room, constantKind, inputKind, andKind, kindAt, leftAt, rightAt, placeAt, notedAt, walkAt, noteAddr, noteWords, leftAddr, rightAddr, placeAddr, countsFrom}
 use Rattle.words.specs.Record.{nodeOf, nodeAt}
 use Rattle.words.proofs.Putting.{length-put, get-put-below, get-put-above}
 use Rattle.words.proofs.Chosen.{note-table, note-walk}
@@ -29,13 +29,13 @@ module _ (w : List ℕ) (m : ℕ) (ls : List ℕ) (walk v : ℕ) where
     unfolding knownWord
     known-noted e = rw (le-ltb (leafWord ls 0 v) 65536 no-leaf, eq-eqb (walkAt w m v) walk e)
 
-    pub known-and : (walkAt w m v ≡ walk → ⊥) → kindAt w m v ≡ 3 → knownWord w m ls walk v ≡ 65536
+    pub known-and : (walkAt w m v ≡ walk → ⊥) → kindAt w m v ≡ andKind → knownWord w m ls walk v ≡ 65536
     unfolding knownWord
-    known-and n e = rw (le-ltb (leafWord ls 0 v) 65536 no-leaf, ne-eqb (walkAt w m v) walk n, eq-eqb (kindAt w m v) 3 e)
+    known-and n e = rw (le-ltb (leafWord ls 0 v) 65536 no-leaf, ne-eqb (walkAt w m v) walk n, eq-eqb (kindAt w m v) andKind e)
 
-    pub known-none : (walkAt w m v ≡ walk → ⊥) → (kindAt w m v ≡ 3 → ⊥) → knownWord w m ls walk v ≡ 0
+    pub known-none : (walkAt w m v ≡ walk → ⊥) → (kindAt w m v ≡ andKind → ⊥) → knownWord w m ls walk v ≡ 0
     unfolding knownWord
-    known-none n e = rw (le-ltb (leafWord ls 0 v) 65536 no-leaf, ne-eqb (walkAt w m v) walk n, ne-eqb (kindAt w m v) 3 e)
+    known-none n e = rw (le-ltb (leafWord ls 0 v) 65536 no-leaf, ne-eqb (walkAt w m v) walk n, ne-eqb (kindAt w m v) andKind e)
 
 -- the walk at one variable, with fuel
 walk-leaf : (f : ℕ) (node : ℕ → Node) (ls : List ℕ) (v : ℕ) → leafWord ls 0 v < 65536 → walkWord (suc f) node ls v ≡ leafWord ls 0 v
@@ -46,16 +46,16 @@ walk-node : (f : ℕ) (node : ℕ → Node) (ls : List ℕ) (v : ℕ) → 65536 
 unfolding walkWord
 walk-node f node ls v h = rw (le-ltb (leafWord ls 0 v) 65536 h)
 
-pub no-and : (look : ℕ → ℕ) (k l r : ℕ) → (k ≡ 3 → ⊥) → nodeWord look (nodeOf k l r) ≡ 0
+pub no-and : (look : ℕ → ℕ) (k l r : ℕ) → (k ≡ andKind → ⊥) → nodeWord look (nodeOf k l r) ≡ 0
 unfolding nodeWord
-no-and look k l r n = rw (ne-eqb k 3 n) (by (eqb k 1) (eqb k 2))
+no-and look k l r n = rw (ne-eqb k andKind n) (by (eqb k constantKind) (eqb k inputKind))
   where
     by : (a b : Bool) → nodeWord look (cond a constant (cond b input undefined)) ≡ 0
     by true b = refl
     by false true = refl
     by false false = refl
 
-pub an-and : (look : ℕ → ℕ) (k l r : ℕ) → k ≡ 3 → nodeWord look (nodeOf k l r) ≡ joined l (look (l / 2)) r (look (r / 2))
+pub an-and : (look : ℕ → ℕ) (k l r : ℕ) → k ≡ andKind → nodeWord look (nodeOf k l r) ≡ joined l (look (l / 2)) r (look (r / 2))
 unfolding nodeWord joined literalWord varOf
 an-and look k l r e = rw e
 
@@ -66,15 +66,15 @@ module _ (w : List ℕ) (m : ℕ) (ls : List ℕ) (walk v : ℕ) (noted : Noted 
   known-right alive h zero l = absurd (omega arith)
   known-right alive h (suc f) l = by-leaf (ltb (leafWord ls 0 v) 65536) refl
     where
-      by-kind : 65536 ≤ leafWord ls 0 v → (walkAt w m v ≡ walk → ⊥) → (t : Bool) → eqb (kindAt w m v) 3 ≡ t → knownWord w m ls walk v ≡ walkWord (suc f) (nodeAt w m) ls v
-      by-kind nl n true e = absurd (omega (arith, known-and w m ls walk v nl n (eqb-true (kindAt w m v) 3 e)))
+      by-kind : 65536 ≤ leafWord ls 0 v → (walkAt w m v ≡ walk → ⊥) → (t : Bool) → eqb (kindAt w m v) andKind ≡ t → knownWord w m ls walk v ≡ walkWord (suc f) (nodeAt w m) ls v
+      by-kind nl n true e = absurd (omega (arith, known-and w m ls walk v nl n (eqb-true (kindAt w m v) andKind e)))
       by-kind nl n false e =
-          known-none w m ls walk v nl n (eqb-false (kindAt w m v) 3 e)
-          ∙ sym (walk-node f (nodeAt w m) ls v nl ∙ no-and (walkWord f (nodeAt w m) ls) (kindAt w m v) (leftAt w m v) (rightAt w m v) (eqb-false (kindAt w m v) 3 e))
+          known-none w m ls walk v nl n (eqb-false (kindAt w m v) andKind e)
+          ∙ sym (walk-node f (nodeAt w m) ls v nl ∙ no-and (walkWord f (nodeAt w m) ls) (kindAt w m v) (leftAt w m v) (rightAt w m v) (eqb-false (kindAt w m v) andKind e))
 
       by-walk : 65536 ≤ leafWord ls 0 v → (t : Bool) → eqb (walkAt w m v) walk ≡ t → knownWord w m ls walk v ≡ walkWord (suc f) (nodeAt w m) ls v
       by-walk nl true e = known-noted w m ls walk v nl (eqb-true (walkAt w m v) walk e) ∙ noted .right v inside (eqb-true (walkAt w m v) walk e) (suc f) l
-      by-walk nl false e = by-kind nl (eqb-false (walkAt w m v) walk e) (eqb (kindAt w m v) 3) refl
+      by-walk nl false e = by-kind nl (eqb-false (walkAt w m v) walk e) (eqb (kindAt w m v) andKind) refl
 
       by-leaf : (t : Bool) → ltb (leafWord ls 0 v) 65536 ≡ t → knownWord w m ls walk v ≡ walkWord (suc f) (nodeAt w m) ls v
       by-leaf true e =
@@ -83,18 +83,18 @@ module _ (w : List ℕ) (m : ℕ) (ls : List ℕ) (walk v : ℕ) (noted : Noted 
       by-leaf false e = by-walk (ltb-false (leafWord ls 0 v) 65536 e) (eqb (walkAt w m v) walk) refl
 
   -- the sign to go on: an AND that is no leaf
-  pub known-on : notedAt w m v < 65536 → 65536 ≤ knownWord w m ls walk v → (kindAt w m v ≡ 3) × (65536 ≤ leafWord ls 0 v)
+  pub known-on : notedAt w m v < 65536 → 65536 ≤ knownWord w m ls walk v → (kindAt w m v ≡ andKind) × (65536 ≤ leafWord ls 0 v)
   known-on word h = by-leaf (ltb (leafWord ls 0 v) 65536) refl
     where
-      by-kind : 65536 ≤ leafWord ls 0 v → (walkAt w m v ≡ walk → ⊥) → (t : Bool) → eqb (kindAt w m v) 3 ≡ t → (kindAt w m v ≡ 3) × (65536 ≤ leafWord ls 0 v)
-      by-kind nl n true e = (eqb-true (kindAt w m v) 3 e, nl)
-      by-kind nl n false e = absurd (omega (arith, known-none w m ls walk v nl n (eqb-false (kindAt w m v) 3 e)))
+      by-kind : 65536 ≤ leafWord ls 0 v → (walkAt w m v ≡ walk → ⊥) → (t : Bool) → eqb (kindAt w m v) andKind ≡ t → (kindAt w m v ≡ andKind) × (65536 ≤ leafWord ls 0 v)
+      by-kind nl n true e = (eqb-true (kindAt w m v) andKind e, nl)
+      by-kind nl n false e = absurd (omega (arith, known-none w m ls walk v nl n (eqb-false (kindAt w m v) andKind e)))
 
-      by-walk : 65536 ≤ leafWord ls 0 v → (t : Bool) → eqb (walkAt w m v) walk ≡ t → (kindAt w m v ≡ 3) × (65536 ≤ leafWord ls 0 v)
+      by-walk : 65536 ≤ leafWord ls 0 v → (t : Bool) → eqb (walkAt w m v) walk ≡ t → (kindAt w m v ≡ andKind) × (65536 ≤ leafWord ls 0 v)
       by-walk nl true e = absurd (omega (arith, known-noted w m ls walk v nl (eqb-true (walkAt w m v) walk e)))
-      by-walk nl false e = by-kind nl (eqb-false (walkAt w m v) walk e) (eqb (kindAt w m v) 3) refl
+      by-walk nl false e = by-kind nl (eqb-false (walkAt w m v) walk e) (eqb (kindAt w m v) andKind) refl
 
-      by-leaf : (t : Bool) → ltb (leafWord ls 0 v) 65536 ≡ t → (kindAt w m v ≡ 3) × (65536 ≤ leafWord ls 0 v)
+      by-leaf : (t : Bool) → ltb (leafWord ls 0 v) 65536 ≡ t → (kindAt w m v ≡ andKind) × (65536 ≤ leafWord ls 0 v)
       by-leaf true e = let l : leafWord ls 0 v < 65536 = ltb-true (leafWord ls 0 v) 65536 e in absurd (omega (arith, known-leaf w m ls walk v l))
       by-leaf false e = by-walk (ltb-false (leafWord ls 0 v) 65536 e) (eqb (walkAt w m v) walk) refl
 
@@ -166,15 +166,15 @@ module _ (w : List ℕ) (m : ℕ) (v : List ℕ) (p : Placed w m) (long : length
     where
       by : (k l r : ℕ) → walkWord f (nodeAt v m) ls (l / 2) ≡ walkWord f (nodeAt w m) ls (l / 2) → walkWord f (nodeAt v m) ls (r / 2) ≡ walkWord f (nodeAt w m) ls (r / 2)
           → nodeWord (walkWord f (nodeAt v m) ls) (nodeOf k l r) ≡ nodeWord (walkWord f (nodeAt w m) ls) (nodeOf k l r)
-      by k l r hl hr = cases (eqb k 3) refl
+      by k l r hl hr = cases (eqb k andKind) refl
         where
-          cases : (t : Bool) → eqb k 3 ≡ t → nodeWord (walkWord f (nodeAt v m) ls) (nodeOf k l r) ≡ nodeWord (walkWord f (nodeAt w m) ls) (nodeOf k l r)
+          cases : (t : Bool) → eqb k andKind ≡ t → nodeWord (walkWord f (nodeAt v m) ls) (nodeOf k l r) ≡ nodeWord (walkWord f (nodeAt w m) ls) (nodeOf k l r)
           cases true e =
-              an-and (walkWord f (nodeAt v m) ls) k l r (eqb-true k 3 e)
+              an-and (walkWord f (nodeAt v m) ls) k l r (eqb-true k andKind e)
               ∙ (λ i. joined l (hl i) r (hr i))
-              ∙ sym (an-and (walkWord f (nodeAt w m) ls) k l r (eqb-true k 3 e))
+              ∙ sym (an-and (walkWord f (nodeAt w m) ls) k l r (eqb-true k andKind e))
           cases false e =
-              no-and (walkWord f (nodeAt v m) ls) k l r (eqb-false k 3 e) ∙ sym (no-and (walkWord f (nodeAt w m) ls) k l r (eqb-false k 3 e))
+              no-and (walkWord f (nodeAt v m) ls) k l r (eqb-false k andKind e) ∙ sym (no-and (walkWord f (nodeAt w m) ls) k l r (eqb-false k andKind e))
 
 -- a note of v: three words
 module _ (w : List ℕ) (m v x walk : ℕ) (room : Room w m) (inside : v ≤ m) where
@@ -209,7 +209,7 @@ module _ (w : List ℕ) (m v x walk : ℕ) (room : Room w m) (inside : v ≤ m) 
     note-walk-other = omega (arith, elsewhere 1 (omega arith), elsewhere 2 (omega arith))
 
 -- a walk that goes on to both operands, and notes what it found
-module _ (w : List ℕ) (m : ℕ) (ls : List ℕ) (walk v : ℕ) (p : Placed w m) (inside : v ≤ m) (kind : kindAt w m v ≡ 3) (no-leaf : 65536 ≤ leafWord ls 0 v)
+module _ (w : List ℕ) (m : ℕ) (ls : List ℕ) (walk v : ℕ) (p : Placed w m) (inside : v ≤ m) (kind : kindAt w m v ≡ andKind) (no-leaf : 65536 ≤ leafWord ls 0 v)
     (one two out : List ℕ) (x y z : ℕ) (a : Walked w m ls walk (leftAt w m v / 2) one x) (b : Walked one m ls walk (rightAt w m v / 2) two y)
     (ez : z ≡ joined (leftAt w m v) x (rightAt w m v) y) (eo : out ≡ putAt two (noteAddr m v) (noteWords z walk)) where
   both-kept : Kept w m two

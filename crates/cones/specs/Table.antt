@@ -9,7 +9,7 @@ use lib.ListN.{length, getD}
 use Rattle.model.specs.Graph.{Node, constant, input, undefined, both, varOf, negated}
 use Rattle.model.specs.Matching.{phaseTable}
 use Rattle.truth.specs.Variant.{leafTable}
-use Rattle.words.specs.Layout.{Room, kindAt, leftAt, rightAt, placeAt, notedAt, walkAt, notesFrom, notesTo}
+use Rattle.words.specs.Layout.{Room, andKind, kindAt, leftAt, rightAt, placeAt, notedAt, walkAt, notesFrom, notesTo}
 use Rattle.words.specs.Record.{nodeAt}
 
 -- "leaf number i (ascending, from 0) is bit i of the row"; 65536 where v is none
@@ -44,7 +44,7 @@ walkWord (suc f) node ls v = orWord (leafWord ls 0 v) (nodeWord (walkWord f node
 unfoldable pub knownWord : List ℕ → ℕ → List ℕ → ℕ → ℕ → ℕ
 unfolding leafWord
 knownWord w m ls walk v =
-    orWord (leafWord ls 0 v) (cond (eqb (walkAt w m v) walk) (notedAt w m v) (cond (eqb (kindAt w m v) 3) 65536 0))
+    orWord (leafWord ls 0 v) (cond (eqb (walkAt w m v) walk) (notedAt w m v) (cond (eqb (kindAt w m v) andKind) 65536 0))
 
 -- what a walk has noted is right, at any fuel that is enough
 pub record Noted (w : List ℕ) (m : ℕ) (ls : List ℕ) (walk : ℕ) : Type 0 where
@@ -56,10 +56,10 @@ pub record Placed (w : List ℕ) (m : ℕ) : Type 0 where
   pub room : Room w m
   pub lefts : (v : ℕ) → v ≤ m → leftAt w m v ≤ 2 * m + 1
   pub rights : (v : ℕ) → v ≤ m → rightAt w m v ≤ 2 * m + 1
-  pub left-placed : (v : ℕ) → v ≤ m → kindAt w m v ≡ 3 → 0 < placeAt w m (leftAt w m v / 2)
-  pub right-placed : (v : ℕ) → v ≤ m → kindAt w m v ≡ 3 → 0 < placeAt w m (rightAt w m v / 2)
-  pub left-first : (v : ℕ) → v ≤ m → kindAt w m v ≡ 3 → placeAt w m (leftAt w m v / 2) < placeAt w m v
-  pub right-first : (v : ℕ) → v ≤ m → kindAt w m v ≡ 3 → placeAt w m (rightAt w m v / 2) < placeAt w m v
+  pub left-placed : (v : ℕ) → v ≤ m → kindAt w m v ≡ andKind → 0 < placeAt w m (leftAt w m v / 2)
+  pub right-placed : (v : ℕ) → v ≤ m → kindAt w m v ≡ andKind → 0 < placeAt w m (rightAt w m v / 2)
+  pub left-first : (v : ℕ) → v ≤ m → kindAt w m v ≡ andKind → placeAt w m (leftAt w m v / 2) < placeAt w m v
+  pub right-first : (v : ℕ) → v ≤ m → kindAt w m v ≡ andKind → placeAt w m (rightAt w m v / 2) < placeAt w m v
 
 -- the words v are those of w but for what walks note
 pub record Kept (w : List ℕ) (m : ℕ) (v : List ℕ) : Type 0 where

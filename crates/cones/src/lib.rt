@@ -35,7 +35,7 @@ fn known(work: &[u16], m: usize, leaves: [u16; 4], n: usize, walk: usize, v: usi
     if words::walk(work, m, v) == walk {
         return words::noted(work, m, v) as u32;
     }
-    if words::kind(work, m, v) == 3 {
+    if words::kind(work, m, v) == words::AND {
         return 65536;
     }
     0

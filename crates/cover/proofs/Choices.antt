@@ -30,7 +30,7 @@ use Rattle.theory_graph.proofs.Lists.{map-same, getD-in}
 use Rattle.theory_graph.proofs.Placing.{order-small}
 use Rattle.theory_graph.proofs.Runs.{run-split}
 use Rattle.theory_cover.proofs.Turns.{phaseStep}
-use Rattle.words.specs.Layout.{positiveAddr, negativeAddr, listsFrom}
+use Rattle.words.specs.Layout.{placedOf, positiveAddr, negativeAddr, listsFrom}
 use Rattle.words.specs.Record.{leavesAt, functionOf}
 use Rattle.words.specs.Phases.{phaseIn, phasesAt}
 use Rattle.words.specs.Holding.{HoldsPhases}
@@ -40,7 +40,8 @@ use Rattle.matching.specs.Variants.{Usable}
 use Rattle.cover.specs.Choosing.{foundOn, foundAt, foundFrom, bestAt, ownPhase, directOf, directAt, chosenTurn, chosenUp, Early, Unchosen}
 use Rattle.cover.proofs.Keeping.{PhasesKept, graph-kept, order-kept, cuts-kept}
 use Rattle.cover.proofs.Marks.{nets-in}
-use Rattle.cover.proofs.Held.{HeaderOf, Held, placed-is, leaf-small, slots-in, cuts-in}
+use Rattle.cover.specs.Held.{HeaderOf, Held}
+use Rattle.cover.proofs.Held.{placed-is, leaf-small, slots-in, cuts-in}
 use Rattle.cover.proofs.Needing.{Covered}
 use Rattle.cover.proofs.Turning.{turn-here, turn-other, up-after}
 
@@ -242,7 +243,7 @@ pub record ChosenFrom (v w : List ℕ) (lib : Library) (g : Graph) : Type 0 wher
   pub kept : PhasesKept (g .size) v w
 
 pub choose-law : (w : List ℕ) (lib : Library) (h : Header) (g : Graph) → HeaderOf h g → Held w g → Usable lib → NonePicked w (g .size)
-    → ChosenFrom w (chosenUp (cellsOf lib) w (h .size) (h .inputs + h .ands + 1)) lib g
+    → ChosenFrom w (chosenUp (cellsOf lib) w (h .size) (placedOf h)) lib g
 choose-law w lib h g e k u z =
     subst (λ (x : List ℕ). ChosenFrom w x lib g)
     (sym (λ i. chosenUp (cellsOf lib) w (e .size i) (placed-is h g e (k .accepted) i)))
@@ -253,5 +254,5 @@ choose-law w lib h g e k u z =
 
 -- what is asked of the words before the choice
 pub choose-asked : (w : List ℕ) (lib : Library) (h : Header) (g : Graph) → HeaderOf h g → Held w g → Usable lib → NonePicked w (g .size)
-    → Usable lib × Unchosen w (h .size) (h .inputs + h .ands + 1)
+    → Usable lib × Unchosen w (h .size) (placedOf h)
 choose-asked w lib h g e k u z = (u, rw (e .size, placed-is h g e (k .accepted)) (unchosen lib u g w k z))

@@ -18,7 +18,7 @@ use Rattle.words.specs.Layout.{countAt}
 use Rattle.words.specs.Holding.{HoldsCuts}
 use Rattle.words.proofs.Stored.{held-count}
 use Rattle.theory_graph.proofs.Lists.{below-in, keep-in}
-use Rattle.theory_graph.proofs.Accepted.{Accepted, andVars}
+use Rattle.theory_graph.specs.Accepted.{Accepted, andVars}
 use Rattle.theory_graph.proofs.Placing.{order-once, order-small, defined-placed}
 use Rattle.theory_graph.proofs.CutFacts.{length-order, cuts-none}
 use Rattle.theory_order.proofs.Splits.{no-more, by-elem, distinct-yes}

@@ -2,7 +2,7 @@
 --     slots-in, outputs-in, cuts-in       from the graph, its placing order and its cuts
 --     matches-in                          from the chosen phases
 -- Assumes nothing.
-use Prim.Native.Nat.{ℕ, _+_, _/_, _≤_, _<_}
+use Prim.Native.Nat.{ℕ, _/_, _≤_, _<_}
 use native.Mathlib.Omega.{arith}
 use mathlib.Core.Path.{_≡_, sym, ap, subst, _∙_}
 use mathlib.Core.List.{List, [], _∷_, List·Memᴰ, List·Memᴰ·tail, Memᴰ·append-left}
@@ -11,7 +11,7 @@ use lib.ListN.{length, getD}
 use Rattle.model.specs.Base.{each}
 use Rattle.model.specs.Cells.{cellAt, cellsOf}
 use Rattle.model.specs.Graph.{And, Graph, varOf, negated, placingOrder}
-use Rattle.model.specs.Cuts.{cutsOf, crowded, cutTable, cutAt as listedAt}
+use Rattle.model.specs.Cuts.{cutsOf, cutTable, cutAt as listedAt}
 use Rattle.model.specs.Matching.{phaseTable}
 use Rattle.model.specs.Table.{orders}
 use Rattle.model.specs.Cover.{IsMatch}
@@ -20,40 +20,26 @@ use Rattle.model.specs.declared.Header.{Header}
 use Rattle.model.specs.declared.Library.{Library}
 use Rattle.model.specs.declared.Match.{Match}
 use Rattle.model.specs.declared.Phase.{Phase}
-use Rattle.words.specs.Layout.{Room, countAt}
+use Rattle.words.specs.Layout.{placedOf, Room, countAt}
 use Rattle.words.specs.Record.{leavesAt}
-use Rattle.words.specs.Holding.{HoldsGraph, HoldsOrder, HoldsCuts, HoldsPhases}
+use Rattle.words.specs.Holding.{HoldsPhases}
 use Rattle.words.proofs.Columns.{room-need}
 use Rattle.words.proofs.Stored.{held-count, held-cut}
 use Rattle.truth.specs.Variant.{placesOf, placesBelow}
 use Rattle.truth.proofs.Variants.{places-fit}
 use Rattle.theory_graph.proofs.Lists.{getD-in}
-use Rattle.theory_graph.proofs.Accepted.{Accepted}
+use Rattle.theory_graph.specs.Accepted.{Accepted}
 use Rattle.theory_graph.proofs.Placing.{order-once, order-small, defined-placed}
 use Rattle.theory_order.proofs.Recursion.{cuts-exactly, cut-leaf}
 use Rattle.theory_cover.proofs.Matches.{fits-places}
 use Rattle.theory_cover.proofs.Sound.{is-match}
 use Rattle.matching.specs.Variants.{Usable}
+use Rattle.cover.specs.Held.{HeaderOf, Held}
 use Rattle.cover.specs.Asked.{OutputsIn, SlotsIn, CutsIn, MatchIn, MatchesIn}
 use Rattle.cover.proofs.Counting.{few-placed, all-placed, few-cuts}
 
--- the numbers of the header are those of the graph
-pub record HeaderOf (h : Header) (g : Graph) : Type 0 where
-  pub size : h .size ≡ g .size
-  pub inputs : h .inputs ≡ length (g .inputs)
-  pub outputs : h .outputs ≡ length (g .outputs)
-  pub ands : h .ands ≡ length (g .ands)
-
--- the words hold a graph that no refusal turned back, its placing order and its cuts
-pub record Held (w : List ℕ) (g : Graph) : Type 0 where
-  pub accepted : Accepted g
-  pub free : crowded g ≡ []
-  pub graph : HoldsGraph w g
-  pub order : HoldsOrder w g
-  pub cuts : HoldsCuts w g
-
 module _ (h : Header) (g : Graph) (e : HeaderOf h g) (ok : Accepted g) where
-  pub placed-is : h .inputs + h .ands + 1 ≡ length (placingOrder g)
+  pub placed-is : placedOf h ≡ length (placingOrder g)
   placed-is = omega (arith, e .inputs, e .ands, all-placed g ok)
 
 -- a literal of the outputs is one of the graph

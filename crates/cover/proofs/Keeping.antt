@@ -24,7 +24,7 @@ use Rattle.words.specs.Holding.{HoldsGraph, HoldsOrder, HoldsCuts, HoldsPhases}
 use Rattle.words.proofs.Putting.{length-put, get-put-below, get-put-above}
 use Rattle.words.proofs.Stored.{cut-same, cuts-same}
 use Rattle.words.proofs.Tabled.{function-same}
-use Rattle.theory_graph.proofs.Accepted.{Accepted}
+use Rattle.theory_graph.specs.Accepted.{Accepted}
 use Rattle.theory_graph.proofs.Lists.{getD-in}
 use Rattle.theory_graph.proofs.Placing.{order-small}
 use Rattle.cover.proofs.Counting.{few-placed, few-cuts, count-few}

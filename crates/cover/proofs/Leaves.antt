@@ -12,7 +12,7 @@ use lib.Dec.{eqb, ltb}
 use lib.ListN.{length, take, getD, length-take}
 use lib.Seq.{getD-take}
 use borrow.Author.Tests.{eqb-true, eqb-false, ltb-true, lt-ltb, le-ltb}
-use Rattle.model.specs.Base.{same, one}
+use Rattle.model.specs.Base.{same}
 use Rattle.model.specs.Graph.{literal}
 use Rattle.model.specs.Choice.{absent}
 use Rattle.model.specs.declared.Cut.{Cut}
@@ -102,8 +102,8 @@ module _ (w : List ℕ) (m : ℕ) (cut : List ℕ) where
   unfolding leafTime
   there i neg h = ap (λ (t : Bool). cond t (timeOf (phaseAt w m (literal neg (getD cut i 0)))) never) (lt-ltb i (length cut) h)
 
-  times-get : (i : ℕ) (neg : Bool) → i < 4 → getD (timesAt w m cut) (2 * i + one neg) 0 ≡ leafTime w m cut i neg
-  unfolding timesAt one
+  times-get : (i : ℕ) (neg : Bool) → i < 4 → getD (timesAt w m cut) (literal neg i) 0 ≡ leafTime w m cut i neg
+  unfolding timesAt literal
   times-get zero false h = refl
   times-get zero true h = refl
   times-get (suc zero) false h = refl

@@ -1,8 +1,7 @@
--- `Nets`: the nets that feed a match. `Counting`: how many variables are placed, and how many cuts one has. `Keeping`: what stays where a pass
+-- `Counting`: how many variables are placed, and how many cuts one has. `Keeping`: what stays where a pass
 -- writes only some columns. `Marks`: what marking reads and leaves. `Held`: what the passes before have left gives what is asked of the words.
 -- `Needing`: the law of `mark`. `Missed`: the law of `uncovered`. `Leaves`, `Found`: a cut of the words, and what its matches give. `Fitting`: what is
 -- chosen has room. `Turning`: the turn of a variable. `Choices`: the law of `choose`. `Lending`: a local array lent as a list of its first elements.
-pub mod Nets
 pub mod Counting
 pub mod Keeping
 pub mod Marks

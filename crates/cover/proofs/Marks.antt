@@ -35,7 +35,7 @@ use Rattle.words.proofs.Stored.{cut-listed}
 use Rattle.matching.specs.Variants.{Usable}
 use Rattle.cover.specs.Asked.{PinsIn, OutputsIn, SlotsIn, CutsIn, MatchIn, MatchesIn}
 use Rattle.cover.specs.Marking.{putAll, putOutputs, feedsAt, fedOnce, fedAll, fedTurn, fedDown}
-use Rattle.cover.proofs.Nets.{place-below, nets-taken}
+use Rattle.truth.proofs.Nets.{place-below, nets-taken}
 use Rattle.cover.proofs.Keeping.{NeedsKept, kept-same, kept-on, need-kept, room-kept, outputs-in-kept, slots-in-kept, matches-in-kept}
 
 -- ---- one mark

@@ -17,10 +17,11 @@ use Rattle.model.specs.declared.Phase.{Phase}
 use Rattle.words.specs.Layout.{outputAt}
 use Rattle.words.specs.Phases.{phaseAt}
 use Rattle.words.specs.Holding.{HoldsGraph, HoldsPhases}
-use Rattle.theory_graph.proofs.Accepted.{Accepted}
+use Rattle.theory_graph.specs.Accepted.{Accepted}
 use Rattle.cover.specs.Asked.{OutputsIn}
 use Rattle.cover.specs.Missing.{outputsFrom, missingFrom, missing}
-use Rattle.cover.proofs.Held.{HeaderOf, Held, output-small, outputs-in}
+use Rattle.cover.specs.Held.{HeaderOf, Held}
+use Rattle.cover.proofs.Held.{output-small, outputs-in}
 
 uncovered-same : (p q : ℕ → Phase) (k : ℕ) (ls : List ℕ) → ((l : ℕ) → List·Memᴰ l ls → p l ≡ q l) → uncovered p k ls ≡ uncovered q k ls
 unfolding uncovered

@@ -24,7 +24,7 @@ use Rattle.model.specs.declared.Library.{Library}
 use Rattle.model.specs.declared.Phase.{Phase}
 use Rattle.model.specs.declared.Source.{Source}
 use Rattle.model.specs.declared.Source.the-variants.{Input, Cell as Matched, Inverter as Inverted, Nothing}
-use Rattle.words.specs.Layout.{Room, neededAddr, neededAt}
+use Rattle.words.specs.Layout.{placedOf, Room, neededAddr, neededAt}
 use Rattle.words.specs.Record.{cutsAt}
 use Rattle.words.specs.Phases.{phaseAt, flagOf, isNeeded, putNeeded}
 use Rattle.words.specs.Holding.{HoldsPhases, HoldsNeeded}
@@ -36,7 +36,8 @@ use Rattle.cover.specs.Asked.{OutputsIn, SlotsIn, MatchesIn}
 use Rattle.cover.specs.Marking.{putAll, putOutputs, feedsAt, fedOnce, fedAll, fedTurn, fedDown, marked}
 use Rattle.cover.proofs.Keeping.{NeedsKept, kept-on, need-kept, graph-kept, order-kept, cuts-kept, phases-kept}
 use Rattle.cover.proofs.Marks.{mark-room, outputs-kept, down-kept, once-kept, turn-kept, feeds-in, backwards-in}
-use Rattle.cover.proofs.Held.{HeaderOf, Held, placed-is, output-small, slots-in, outputs-in, matches-in}
+use Rattle.cover.specs.Held.{HeaderOf, Held}
+use Rattle.cover.proofs.Held.{placed-is, output-small, slots-in, outputs-in, matches-in}
 
 -- ---- lists of literals
 
@@ -242,7 +243,7 @@ pub record MarkedFrom (v w : List ℕ) (lib : Library) (g : Graph) : Type 0 wher
   pub kept : NeedsKept (g .size) v w
 
 pub mark-law : (w : List ℕ) (lib : Library) (h : Header) (g : Graph) → HeaderOf h g → Covered w lib g → ((v : ℕ) → v ≤ g .size → neededAt w (g .size) v ≡ 0)
-    → MarkedFrom w (marked (cellsOf lib) w (h .size) (h .outputs) (h .inputs + h .ands + 1)) lib g
+    → MarkedFrom w (marked (cellsOf lib) w (h .size) (h .outputs) (placedOf h)) lib g
 mark-law w lib h g e c z =
     subst (λ (x : List ℕ). MarkedFrom w x lib g)
     (sym (λ i. marked (cellsOf lib) w (e .size i) (e .outputs i) (placed-is h g e (c .held .accepted) i)))
@@ -253,7 +254,7 @@ mark-law w lib h g e c z =
 
 -- what is asked of the words before marking
 pub mark-asked : (w : List ℕ) (lib : Library) (h : Header) (g : Graph) → HeaderOf h g → Covered w lib g
-    → MatchesIn lib w (h .size) × OutputsIn w (h .size) (h .outputs) × SlotsIn w (h .size) (h .inputs + h .ands + 1)
+    → MatchesIn lib w (h .size) × OutputsIn w (h .size) (h .outputs) × SlotsIn w (h .size) (placedOf h)
 mark-asked w lib h g e c = (
   rw (e .size) (ready lib g w c),
   rw (e .size, e .outputs) (outputs-in w g (c .held)),

@@ -3,20 +3,12 @@
 use Prim.Native.Nat.{ℕ, zero, suc}
 use mathlib.Core.Bool.{cond}
 use mathlib.Core.List.{List, [], _∷_}
-use lib.ListN.{getD}
-use Rattle.model.specs.Base.{bit}
-use Rattle.model.specs.Graph.{literal}
 use Rattle.model.specs.Choice.{feeds}
 use Rattle.model.specs.Netlist.{backwards}
 use Rattle.model.specs.declared.Cell.{Cell}
-use Rattle.truth.specs.Variant.{placesOf}
 use Rattle.words.specs.Layout.{slotAt, outputAt}
 use Rattle.words.specs.Record.{cutsAt}
 use Rattle.words.specs.Phases.{phaseAt, isNeeded, putNeeded}
-
--- the net that feeds pin j under an order and a mask: "each pin needing its leaf in the mask's phase"
-abbrev pub netOf : List ℕ → ℕ → ℕ → ℕ → ℕ
-netOf leaves order mask j = literal (bit mask j) (getD leaves (getD (placesOf order) j 0) 0)
 
 -- the words once the phases of some literals are needed
 unfoldable pub putAll : List ℕ → ℕ → List ℕ → List ℕ

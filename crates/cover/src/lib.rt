@@ -16,11 +16,9 @@ ghost use mathlib.Core.List.{_∷_, []};
 ghost use Rattle.model.specs.Base.{same};
 ghost use Rattle.model.specs.Cells.{cellsOf};
 ghost use Rattle.model.specs.Choice.{absent, noPhase, earlier, choose};
-ghost use Rattle.model.specs.Graph.{opposite};
 ghost use Rattle.model.specs.Matching.{matchNets, fedNets};
-ghost use Rattle.model.specs.Netlist.{isInverted};
 ghost use Rattle.model.specs.Limits.{cutLimit};
-ghost use Rattle.words.specs.Layout.{Room, outputAt, countAt};
+ghost use Rattle.words.specs.Layout.{placedOf, Room, outputAt, countAt};
 ghost use Rattle.words.specs.Record.{leavesOf, leavesAt, functionOf};
 ghost use Rattle.words.specs.Phases.{phaseAt};
 ghost use Rattle.truth.specs.Variant.{placesOf};
@@ -33,7 +31,7 @@ ghost use Rattle.model.specs.declared.Library.{Library};
 ghost use Rattle.matching.specs.declared.Inverter.the-variants.{Is};
 ghost use Rattle.cover.specs.Choosing.{leafTime, timesAt, foundOn, foundAt, bestAt, ownPhase, directAt, chosenTurn, chosenUp, Early, SheetIn, ToolsIn, Choosable, Unchosen};
 ghost use Rattle.cover.specs.Missing.{missing};
-ghost use Rattle.cover.specs.Marking.{netOf, putAll, putOutputs, feedsAt, fedOnce, fedTurn, fedDown, marked};
+ghost use Rattle.cover.specs.Marking.{putAll, putOutputs, feedsAt, fedOnce, fedTurn, fedDown, marked};
 
 // ---- used throughout
 
@@ -42,19 +40,6 @@ fn wide(x: u16) -> usize
     ensures { λ r. ⌜ (r ≡ x) × (r < 65536) ⌝ }
 {
     x as usize
-}
-
-// Whether a phase has no source.
-fn sourceless(p: Phase) -> bool
-    ensures { λ r. ⌜ r ≡ absent (p .source) ⌝ }
-{
-    let s = p.source;
-    match s {
-        Source::Input => false,
-        Source::Cell(_) => false,
-        Source::Inverter(_) => false,
-        Source::Nothing => true,
-    }
 }
 
 // ---- the choice
@@ -72,10 +57,10 @@ fn nothing() -> Phase
 fn sooner(a: Phase, b: Phase) -> Phase
     ensures { λ r. ⌜ r ≡ earlier a b ⌝ }
 {
-    if sourceless(a) {
+    if words::is_absent(a) {
         return b;
     }
-    if sourceless(b) {
+    if words::is_absent(b) {
         return a;
     }
     if b.arrival < a.arrival { b } else { a }
@@ -85,7 +70,7 @@ fn sooner(a: Phase, b: Phase) -> Phase
 fn time(p: Phase) -> u32
     ensures { λ r. ⌜ r ≡ timeOf p ⌝ }
 {
-    if sourceless(p) {
+    if words::is_absent(p) {
         matching::NEVER
     } else {
         p.arrival
@@ -232,8 +217,8 @@ fn direct(work: &[u16], m: usize, v: usize, neg: bool, sheet: &[u16; matching::S
     ensures { λ r. ⌜ ((lib : Library) → SheetIn lib (now (sheet .entry)) → r ≡ directAt (cellsOf lib) (now (work .entry)) m v neg) ⌝ }
 {
     match words::kind(work, m, v) {
-        1 | 3 => best_phase(work, m, v, neg, sheet),
-        2 => own(neg),
+        words::CONSTANT | words::AND => best_phase(work, m, v, neg, sheet),
+        words::INPUT => own(neg),
         _ => nothing(),
     }
 }
@@ -243,7 +228,7 @@ fn inverter_phase(line: usize, d: u16, from: Phase) -> Phase
     requires { ⌜ from .arrival ≤ 4294901759 ⌝ }
     ensures { λ r. ⌜ r ≡ inverted (Is line d) from ⌝ }
 {
-    if sourceless(from) {
+    if words::is_absent(from) {
         return nothing();
     }
     Phase {
@@ -312,13 +297,13 @@ fn match_library(lib: Library, sheet: &mut [u16; matching::SHEET])
 
 // The choice for both phases of every variable.
 pub fn choose(work: &mut [u16], lib: Library, h: Header)
-    requires { ⌜ Usable lib × Unchosen (now work) (h .size) (h .inputs + h .ands + 1) ⌝ }
-    ensures { λ _. ⌜ now (work .exit) ≡ chosenUp (cellsOf lib) (now (work .entry)) (h .size) (h .inputs + h .ands + 1) ⌝ }
+    requires { ⌜ Usable lib × Unchosen (now work) (h .size) (placedOf h) ⌝ }
+    ensures { λ _. ⌜ now (work .exit) ≡ chosenUp (cellsOf lib) (now (work .entry)) (h .size) (placedOf h) ⌝ }
 {
     let mut sheet = matching::no_sheet();
     match_library(lib, &mut sheet);
     let inv = matching::inverter_of(lib);
-    choose_variables(work, h.size, h.inputs + h.ands + 1, inv, &sheet);
+    choose_variables(work, h.size, words::placed(h), inv, &sheet);
 }
 
 // ---- refusal 17
@@ -329,7 +314,7 @@ fn lacks_source(work: &[u16], m: usize, outputs: usize, k: usize) -> bool
     ensures { λ r. ⌜ r ≡ absent (phaseAt (now (work .entry)) m (outputAt (now (work .entry)) m k) .source) ⌝ }
 {
     let l = words::output(work, m, outputs, k);
-    sourceless(words::phase(work, m, l))
+    words::is_absent(words::phase(work, m, l))
 }
 
 // "An output has no cover; place, the lowest such index, from 0."
@@ -351,15 +336,6 @@ pub fn uncovered(work: &[u16], h: Header) -> Verdict
 
 // ---- the needed phases
 
-// The net that feeds pin j: "each pin needing its leaf in the mask's phase".
-fn net(leaves: [u16; 4], order: usize, mask: usize, j: usize) -> usize
-    requires { ⌜ (order < 24) × (j < 4) ⌝ }
-    ensures { λ r. ⌜ r ≡ netOf leaves order mask j ⌝ }
-{
-    let place = truth::place(order, j);
-    2 * wide(leaves[place]) + (mask >> j) % 2
-}
-
 // The nets that feed the pins of a cell under an order and a mask are needed.
 fn mark_pins(work: &mut [u16], m: usize, leaves: [u16; 4], order: usize, mask: usize, pins: usize)
     requires { ⌜ Room (now work) m × PinsIn leaves m order pins ⌝ }
@@ -367,7 +343,7 @@ fn mark_pins(work: &mut [u16], m: usize, leaves: [u16; 4], order: usize, mask: u
 {
     let mut j: usize = 0;
     while j < pins {
-        words::mark_needed(work, m, net(leaves, order, mask, j));
+        words::mark_needed(work, m, truth::pin_net(leaves, order, mask, j));
         j += 1;
     }
 }
@@ -385,14 +361,6 @@ fn mark_match(work: &mut [u16], lib: Library, m: usize, v: usize, x: Match)
     mark_pins(work, m, leaves, x.order, x.mask, wide(c.pins));
 }
 
-// The other phase of a literal's variable.
-fn other(l: usize) -> usize
-    requires { ⌜ l < 65536 ⌝ }
-    ensures { λ r. ⌜ r ≡ opposite l ⌝ }
-{
-    if l % 2 == 1 { l - 1 } else { l + 1 }
-}
-
 // What feeds a phase is needed.
 fn mark_feeds(work: &mut [u16], lib: Library, m: usize, l: usize)
     requires { ⌜ MatchesIn lib (now work) m × (l / 2 ≤ m) ⌝ }
@@ -402,7 +370,7 @@ fn mark_feeds(work: &mut [u16], lib: Library, m: usize, l: usize)
     let s = p.source;
     match s {
         Source::Cell(x) => mark_match(work, lib, m, l / 2, x),
-        Source::Inverter(_) => words::mark_needed(work, m, other(l)),
+        Source::Inverter(_) => words::mark_needed(work, m, truth::opposite(l)),
         Source::Input => {}
         Source::Nothing => {}
     }
@@ -418,24 +386,12 @@ fn mark_phase(work: &mut [u16], lib: Library, m: usize, l: usize)
     }
 }
 
-fn by_inverter(p: Phase) -> bool
-    ensures { λ r. ⌜ r ≡ isInverted (p .source) ⌝ }
-{
-    let s = p.source;
-    match s {
-        Source::Input => false,
-        Source::Cell(_) => false,
-        Source::Inverter(_) => true,
-        Source::Nothing => false,
-    }
-}
-
 // Both phases of a variable: one that an inverter drives before the one that feeds it.
 fn mark_variable(work: &mut [u16], lib: Library, m: usize, v: usize)
     requires { ⌜ MatchesIn lib (now work) m × (v ≤ m) ⌝ }
     ensures { λ _. ⌜ now (work .exit) ≡ fedTurn (cellsOf lib) (now (work .entry)) m v ⌝ }
 {
-    if by_inverter(words::positive(work, m, v)) {
+    if words::is_inverted(words::positive(work, m, v)) {
         mark_phase(work, lib, m, 2 * v);
         mark_phase(work, lib, m, 2 * v + 1);
     } else {
@@ -472,10 +428,10 @@ fn mark_variables(work: &mut [u16], lib: Library, m: usize, n: usize)
 
 // The needed phases.
 pub fn mark(work: &mut [u16], lib: Library, h: Header)
-    requires { ⌜ MatchesIn lib (now work) (h .size) × OutputsIn (now work) (h .size) (h .outputs) × SlotsIn (now work) (h .size) (h .inputs + h .ands + 1) ⌝ }
-    ensures { λ _. ⌜ now (work .exit) ≡ marked (cellsOf lib) (now (work .entry)) (h .size) (h .outputs) (h .inputs + h .ands + 1) ⌝ }
+    requires { ⌜ MatchesIn lib (now work) (h .size) × OutputsIn (now work) (h .size) (h .outputs) × SlotsIn (now work) (h .size) (placedOf h) ⌝ }
+    ensures { λ _. ⌜ now (work .exit) ≡ marked (cellsOf lib) (now (work .entry)) (h .size) (h .outputs) (placedOf h) ⌝ }
 {
     let m = h.size;
     mark_outputs(work, m, h.outputs);
-    mark_variables(work, lib, m, h.inputs + h.ands + 1);
+    mark_variables(work, lib, m, words::placed(h));
 }

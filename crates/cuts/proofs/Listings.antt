@@ -19,7 +19,7 @@ use Rattle.model.specs.Graph.{constant, input, undefined, both, varOf}
 use Rattle.model.specs.Cuts.{nodeCuts}
 use Rattle.model.specs.declared.Verdict.{Verdict}
 use Rattle.model.specs.declared.Verdict.the-variants.{Accepted, Refused}
-use Rattle.words.specs.Layout.{Room, kindAt, leftAt, rightAt, slotAt, countAt, leftAddr, rightAddr, slotAddr, countsFrom, countsTo, listsFrom, listsTo}
+use Rattle.words.specs.Layout.{Room, constantKind, inputKind, andKind, kindAt, leftAt, rightAt, slotAt, countAt, leftAddr, rightAddr, slotAddr, countsFrom, countsTo, listsFrom, listsTo}
 use Rattle.words.specs.Record.{nodeOf, nodeAt, cutsAt, putList, AllGood, Sound}
 use Rattle.words.proofs.Stored.{none-listed, put-list-length, put-list-below, put-list-middle, put-list-above, put-list-cuts, put-list-other, put-list-sound, put-list-sound-other}
 use Rattle.cuts.specs.Listing.{Known, Ready, Operands, State, cutsNow, few, listed, stepCuts, join, onward, listing, stored}
@@ -65,7 +65,7 @@ module _ (w : List ℕ) (m n : ℕ) (r : Ready w m n) (known : Known) (v : List 
     -- the cuts of a node hang on the lists of its operands alone
     node-same : (k l q : ℕ) → l / 2 ≤ m → q / 2 ≤ m → nodeCuts (cutsAt v m) x (nodeOf k l q) ≡ nodeCuts (λ u. find [] u known) x (nodeOf k l q)
     unfolding nodeCuts varOf
-    node-same k l q hl hq = by (eqb k 1) (eqb k 2) (eqb k 3)
+    node-same k l q hl hq = by (eqb k constantKind) (eqb k inputKind) (eqb k andKind)
       where
         by : (a b c : Bool) → nodeCuts (cutsAt v m) x (cond a constant (cond b input (cond c (both l q) undefined)))
             ≡ nodeCuts (λ u. find [] u known) x (cond a constant (cond b input (cond c (both l q) undefined)))

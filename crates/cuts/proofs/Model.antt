@@ -23,7 +23,7 @@ use Rattle.model.specs.Cuts.{nodeCuts, cutLists, cutsOf, crowded}
 use Rattle.model.specs.Netlist.{cutsVerdict}
 use Rattle.model.specs.declared.Verdict.{Verdict}
 use Rattle.model.specs.declared.Verdict.the-variants.{Accepted, Refused}
-use Rattle.theory_graph.proofs.Accepted as accepted
+use Rattle.theory_graph.specs.Accepted as accepted
 use Rattle.theory_graph.proofs.Lists.{getD-in, keep-append}
 use Rattle.theory_graph.proofs.Runs.{run-split}
 use Rattle.theory_graph.proofs.Placing.{order-once, order-small}

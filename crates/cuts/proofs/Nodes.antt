@@ -14,7 +14,7 @@ use lib.ListN.{length, getD, length-map, List·getD-map}
 use borrow.Author.Tests.{le-leb, lt-leb}
 use Rattle.model.specs.Limits.{cutLimit}
 use Rattle.model.specs.Graph.{constant, input, undefined, both, varOf}
-use Rattle.words.specs.Layout.{kindAt, leftAt, rightAt}
+use Rattle.words.specs.Layout.{constantKind, inputKind, andKind, kindAt, leftAt, rightAt}
 use Rattle.words.specs.Record.{nodeOf, nodeAt, cutsAt, putList, Good, AllGood}
 use Rattle.words.proofs.Stored.{good-get}
 use Rattle.cuts.specs.Keys.{key, keyFrom, nodeKeys, putKeys, keyRoom}
@@ -25,7 +25,7 @@ use Rattle.cuts.proofs.Tracking.{Tracks, Reads, node-tracks}
 -- a node that is an AND has operands within the graph
 pub node-reads : (look : ℕ → List (List ℕ)) (k l r : ℕ) → AllGood (look (l / 2)) → AllGood (look (r / 2)) → Reads look (nodeOf k l r)
 unfolding varOf
-node-reads look k l r gl gr = by (eqb k 1) (eqb k 2) (eqb k 3)
+node-reads look k l r gl gr = by (eqb k constantKind) (eqb k inputKind) (eqb k andKind)
   where
     by : (a b c : Bool) → Reads look (cond a constant (cond b input (cond c (both l r) undefined)))
     by true b c = tt

@@ -193,9 +193,9 @@ fn node_keys(work: &[u16], m: usize, v: usize, keys: &mut [u64]) -> usize
 {
     let kind = words::kind(work, m, v);
     match kind {
-        1 => single(keys, 0),
-        2 => single(keys, key_of(1, [v as u16, 0, 0, 0])),
-        3 => and_keys(work, m, v, keys),
+        words::CONSTANT => single(keys, 0),
+        words::INPUT => single(keys, key_of(1, [v as u16, 0, 0, 0])),
+        words::AND => and_keys(work, m, v, keys),
         _ => 0,
     }
 }

@@ -12,12 +12,12 @@ use lib.ListN.{length, getD, length-append}
 use lib.Seq.{getD-append-add}
 use Rattle.model.specs.Graph.{Graph, And, node, both, varOf, placingOrder}
 use Rattle.model.specs.Demands.{Distinct}
-use Rattle.theory_graph.proofs.Accepted.{Accepted, andVars}
+use Rattle.theory_graph.specs.Accepted.{Accepted, andVars}
 use Rattle.theory_graph.proofs.Lists.{map-in, each-in}
 use Rattle.theory_graph.proofs.Placing.{order-once, order-small, defined-placed}
 use Rattle.theory_graph.proofs.Values.{Found, node-and, Closed, order-closed, operands-before}
 use Rattle.theory_order.proofs.Splits.{split-at}
-use Rattle.words.specs.Layout.{kindAt, leftAt, rightAt, placeAt}
+use Rattle.words.specs.Layout.{andKind, kindAt, leftAt, rightAt, placeAt}
 use Rattle.words.specs.Record.{nodeOf, nodeAt}
 use Rattle.cuts.specs.Represents.{Represents}
 use Rattle.cones.specs.Table.{Placed}
@@ -89,7 +89,7 @@ module _ (w : List ℕ) (m n : ℕ) (g : Graph) (rep : Represents w m n g) (ok :
       )
 
   -- what the words call an AND is one
-  and-here : (v : ℕ) → v ≤ m → kindAt w m v ≡ 3 → node g v ≡ both (leftAt w m v) (rightAt w m v)
+  and-here : (v : ℕ) → v ≤ m → kindAt w m v ≡ andKind → node g v ≡ both (leftAt w m v) (rightAt w m v)
   unfolding nodeAt
   and-here v h k = sym (rep .nodes v h) ∙ ap (λ (x : ℕ). nodeOf x (leftAt w m v) (rightAt w m v)) k
 

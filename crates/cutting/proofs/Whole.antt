@@ -14,7 +14,7 @@ use Rattle.model.specs.Graph.{Graph, placingOrder}
 use Rattle.model.specs.Cuts.{cutsOf, cutAt, cutTable}
 use Rattle.model.specs.Netlist.{cutsVerdict}
 use Rattle.model.specs.declared.Verdict.the-variants.{Accepted}
-use Rattle.theory_graph.proofs.Accepted as accepted
+use Rattle.theory_graph.specs.Accepted as accepted
 use Rattle.theory_graph.proofs.CutFacts.{cuts-none, length-order}
 use Rattle.theory_order.proofs.Splits.{by-elem, split-at}
 use Rattle.words.specs.Layout.{slotAt, placeAt, countAt, listsTo}

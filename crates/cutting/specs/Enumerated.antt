@@ -2,19 +2,14 @@
 -- Assumes nothing.
 use mathlib.Core.Path.{_≡_}
 use mathlib.Core.List.{List}
-use Prim.Native.Nat.{ℕ, _+_, _≤_, _<_}
+use Prim.Native.Nat.{ℕ, _≤_, _<_}
 use lib.ListN.{getD}
-use Rattle.model.specs.declared.Header.{Header}
 use Rattle.model.specs.declared.Verdict.{Verdict}
 use Rattle.model.specs.declared.Verdict.the-variants.{Accepted, Refused}
 use Rattle.words.specs.Layout.{placeAt, slotAt, notesFrom, notesTo}
 use Rattle.cuts.specs.Listing as lists
 use Rattle.cones.specs.Table.{Placed}
 use Rattle.cones.specs.Filling.{filled}
-
--- variable 0, the inputs and the ANDs: all are placed
-abbrev pub placedOf : Header → ℕ
-placedOf h = h .inputs + h .ands + 1
 
 -- the words hold a placed graph of which n variables are placed, no cuts, and no notes
 pub record Ready (w : List ℕ) (m n : ℕ) : Type 0 where

@@ -2,8 +2,9 @@
 use model::Header;
 use model::Verdict;
 ghost use mathlib.Core.Path.{_≡_};
+ghost use Rattle.words.specs.Layout.{placedOf};
 ghost use Rattle.cuts.specs.Listing.{listing};
-ghost use Rattle.cutting.specs.Enumerated.{placedOf, Ready, enumerated};
+ghost use Rattle.cutting.specs.Enumerated.{Ready, enumerated};
 
 // "16. An AND, used or not, has more than 24 cuts; place, the first such variable in placing order."
 pub fn enumerate(work: &mut [u16], h: Header) -> Verdict
@@ -12,7 +13,7 @@ pub fn enumerate(work: &mut [u16], h: Header) -> Verdict
     ensures { λ _. ⌜ now (work .exit) ≡ enumerated (now (work .entry)) (h .size) (placedOf h) ⌝ }
 {
     let m = h.size;
-    let placed = h.inputs + h.ands + 1;
+    let placed = words::placed(h);
     let verdict = cuts::lists(work, m, placed);
     match verdict {
         Verdict::Accepted => {

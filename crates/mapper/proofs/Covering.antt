@@ -1,5 +1,5 @@
 -- From the cuts to the marked phases: what the choice and the marking leave is what the writer asks. Assumes nothing.
-use Prim.Native.Nat.{ℕ, _+_, _≤_, _<_}
+use Prim.Native.Nat.{ℕ, _≤_, _<_}
 use native.Mathlib.Omega.{arith}
 use mathlib.Core.Path.{_≡_, refl, sym, _∙_, ap, subst}
 use mathlib.Core.Bool.{Bool, true, false, cond}
@@ -15,13 +15,12 @@ use Rattle.model.specs.Mapper.{within}
 use Rattle.model.specs.declared.Library.{Library}
 use Rattle.model.specs.declared.Header.{Header}
 use Rattle.model.specs.declared.Verdict.the-variants.{Accepted, Refused}
-use Rattle.words.specs.Layout.{neededAt, neededAddr}
+use Rattle.words.specs.Layout.{placedOf, neededAt, neededAddr}
 use Rattle.words.specs.Holding.{HoldsGraph, HoldsOrder, HoldsCuts, HoldsPhases}
 use Rattle.netlist.specs.Mapped.{Mapped}
 use Rattle.cover.specs.Missing.{missing}
 use Rattle.cover.specs.Marking.{marked}
 use Rattle.cover.specs.Choosing.{chosenUp}
-use Rattle.cover.proofs.Held.{HeaderOf, Held}
 use Rattle.cover.proofs.Keeping.{Kept, NeedsKept, PhasesKept, graph-kept, order-kept, cuts-kept, phases-kept}
 use Rattle.cover.proofs.Needing.{Covered, MarkedFrom, mark-law}
 use Rattle.cover.proofs.Choices.{ChosenFrom, choose-law}
@@ -50,17 +49,17 @@ cut-refused lib g bytes n k e = go (uncovered (chosen (cellsOf lib) g) 0 (g .out
 
 module _ (w : List ℕ) (lib : Library) (h : Header) (g : Graph) (c : Cut w lib h g) where
   mid : List ℕ
-  mid = chosenUp (cellsOf lib) w (h .size) (h .inputs + h .ands + 1)
+  mid = chosenUp (cellsOf lib) w (h .size) (placedOf h)
 
   from : ChosenFrom w mid lib g
   unfolding mid
   from = choose-law w lib h g (c .given .header) (c .held) (c .given .library .usable) (λ i a b. c .zero i (omega arith) b)
 
-  pub chosen-covered : Covered (chosenUp (cellsOf lib) w (h .size) (h .inputs + h .ands + 1)) lib g
+  pub chosen-covered : Covered (chosenUp (cellsOf lib) w (h .size) (placedOf h)) lib g
   unfolding mid
   chosen-covered = from .covered
 
-  pub chosen-verdict : missing (chosenUp (cellsOf lib) w (h .size) (h .inputs + h .ands + 1)) (h .size) (h .outputs) ≡ coverVerdict (cellsOf lib) g
+  pub chosen-verdict : missing (chosenUp (cellsOf lib) w (h .size) (placedOf h)) (h .size) (h .outputs) ≡ coverVerdict (cellsOf lib) g
   unfolding mid
   chosen-verdict = uncovered-law mid (cellsOf lib) h g (c .given .header) (c .held .accepted) (from .covered .held .graph) (from .covered .phases)
 
@@ -68,14 +67,14 @@ module _ (w : List ℕ) (lib : Library) (h : Header) (g : Graph) (c : Cut w lib 
   none-needed v l = from .kept .before (neededAddr (g .size) v) (omega arith) ∙ c .zero (neededAddr (g .size) v) (omega arith) (omega arith)
 
   end : List ℕ
-  end = marked (cellsOf lib) mid (h .size) (h .outputs) (h .inputs + h .ands + 1)
+  end = marked (cellsOf lib) mid (h .size) (h .outputs) (placedOf h)
 
   left : MarkedFrom mid end lib g
   unfolding end
   left = mark-law mid lib h g (c .given .header) (from .covered) none-needed
 
   pub marked-mapped : coverVerdict (cellsOf lib) g ≡ Accepted
-      → Mapped (marked (cellsOf lib) (chosenUp (cellsOf lib) w (h .size) (h .inputs + h .ands + 1)) (h .size) (h .outputs) (h .inputs + h .ands + 1)) lib h g
+      → Mapped (marked (cellsOf lib) (chosenUp (cellsOf lib) w (h .size) (placedOf h)) (h .size) (h .outputs) (placedOf h)) lib h g
   unfolding mid end
   marked-mapped e = record {
     size = c .given .header .size;

@@ -14,11 +14,11 @@ use Rattle.model.specs.Netlist.{placingVerdict, cutsVerdict}
 use Rattle.model.specs.declared.Library.{Library}
 use Rattle.model.specs.declared.Header.{Header}
 use Rattle.model.specs.declared.Verdict.the-variants.{Accepted, Refused}
-use Rattle.words.specs.Layout.{Room, RoomFor, leftAt, rightAt, slotAt, placeAt, placeAddr, outputAt, outputAddr, countAddr, neededAddr, listsFrom}
+use Rattle.words.specs.Layout.{placedOf, Room, RoomFor, leftAt, rightAt, slotAt, placeAt, placeAddr, outputAt, outputAddr, countAddr, neededAddr, listsFrom}
 use Rattle.words.specs.Record.{nodeAt, cutsAt, functionOf}
 use Rattle.words.specs.Holding.{HoldsGraph, HoldsOrder, HoldsCuts}
 use Rattle.words.proofs.Columns.{room-need}
-use Rattle.theory_graph.proofs.Accepted as accepted
+use Rattle.theory_graph.specs.Accepted as accepted
 use Rattle.theory_text.proofs.ReadGraph.{graph-accepted, graph-counted, graph-fits}
 use Rattle.placing.specs.Loaded.{Fit, kindOf, leftOf, rightOf, Holding}
 use Rattle.placing.specs.Placing.{Operands, placedWords}
@@ -27,7 +27,7 @@ use Rattle.placing.proofs.Orders.{holding-operands, place-law, holds-graph}
 use Rattle.aiger.specs.Passes.{loadedWords}
 use Rattle.aiger.proofs.Loads.{load-law}
 use Rattle.cuts.specs.Represents.{Represents, Uncut}
-use Rattle.cutting.specs.Enumerated.{placedOf, enumerated}
+use Rattle.cutting.specs.Enumerated.{enumerated}
 use Rattle.cutting.specs.Listed.{Listed}
 use Rattle.cutting.proofs.Whole.{enumerate-listed, enumerate-represents}
 use Rattle.cover.proofs.Held.{placed-is}

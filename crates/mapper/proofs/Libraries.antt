@@ -10,7 +10,7 @@ use Rattle.model.specs.Reading.{holds}
 use Rattle.model.specs.Cells.{noCell, cellAt, blank, cellsOf, libraryOf}
 use Rattle.model.specs.LibraryText.{readLibrary}
 use Rattle.model.specs.declared.Cell.{Cell}
-use Rattle.theory_graph.proofs.Accepted.{libraryFits}
+use Rattle.theory_graph.specs.Accepted.{libraryFits}
 use Rattle.theory_text.proofs.ReadLibrary.{library-fits, library-few, library-written}
 use Rattle.matching.proofs.Linking.{usable-library}
 use Rattle.mapper.specs.Stages.{LibraryOk}

@@ -1,5 +1,5 @@
 -- What each function of the call has once the layer below has answered: the next layer's premise, or the outcome. Assumes nothing.
-use Prim.Native.Nat.{ℕ, _+_, _≤_, _<_}
+use Prim.Native.Nat.{ℕ, _≤_, _<_}
 use native.Mathlib.Omega.{arith}
 use mathlib.Core.Path.{_≡_, refl, sym, _∙_, ap, subst}
 use mathlib.Core.Option.{Option, none, some}
@@ -20,13 +20,14 @@ use Rattle.model.specs.declared.Answer.{Answer}
 use Rattle.model.specs.declared.Answer.the-variants.{Refused as Turned}
 use Rattle.model.specs.declared.Verdict.{Verdict}
 use Rattle.model.specs.declared.Verdict.the-variants.{Accepted, Refused}
+use Rattle.words.specs.Layout.{placedOf}
 use Rattle.netlist.specs.Mapped.{Mapped}
 use Rattle.placing.specs.Loaded.{Fit}
 use Rattle.placing.specs.Placing.{placedVerdict, placedWords}
 use Rattle.placing.proofs.Orders.{place-verdict}
 use Rattle.aiger.specs.Passes.{loadedWords}
 use Rattle.cuts.specs.Listing as lists
-use Rattle.cutting.specs.Enumerated.{placedOf, Ready, enumerated}
+use Rattle.cutting.specs.Enumerated.{Ready, enumerated}
 use Rattle.cutting.proofs.Whole.{enumerate-ready, enumerate-verdict}
 use Rattle.cover.specs.Asked.{OutputsIn, SlotsIn, MatchesIn}
 use Rattle.cover.specs.Missing.{missing}
@@ -45,24 +46,24 @@ told-as {t = t} {u = u} {a = a} e d = subst (λ (x : Outcome). Told x t a u) (sy
 
 -- ---- after the choice, whose words are y
 
-module _ (w : List ℕ) (lib : Library) (h : Header) (g : Graph) (c : Cut w lib h g) (y : List ℕ) (e : y ≡ chosenUp (cellsOf lib) w (h .size) (h .inputs + h .ands + 1)) where
+module _ (w : List ℕ) (lib : Library) (h : Header) (g : Graph) (c : Cut w lib h g) (y : List ℕ) (e : y ≡ chosenUp (cellsOf lib) w (h .size) (placedOf h)) where
   pub chosen-outputs : OutputsIn y (h .size) (h .outputs)
   chosen-outputs =
       subst (λ (x : List ℕ). OutputsIn x (h .size) (h .outputs)) (sym e)
-      (uncovered-asked (chosenUp (cellsOf lib) w (h .size) (h .inputs + h .ands + 1)) h g (c .given .header) (chosen-covered w lib h g c .held))
+      (uncovered-asked (chosenUp (cellsOf lib) w (h .size) (placedOf h)) h g (c .given .header) (chosen-covered w lib h g c .held))
 
-  pub chosen-asks : MatchesIn lib y (h .size) × OutputsIn y (h .size) (h .outputs) × SlotsIn y (h .size) (h .inputs + h .ands + 1)
+  pub chosen-asks : MatchesIn lib y (h .size) × OutputsIn y (h .size) (h .outputs) × SlotsIn y (h .size) (placedOf h)
   chosen-asks =
-      subst (λ (x : List ℕ). MatchesIn lib x (h .size) × OutputsIn x (h .size) (h .outputs) × SlotsIn x (h .size) (h .inputs + h .ands + 1)) (sym e)
-      (mark-asked (chosenUp (cellsOf lib) w (h .size) (h .inputs + h .ands + 1)) lib h g (c .given .header) (chosen-covered w lib h g c))
+      subst (λ (x : List ℕ). MatchesIn lib x (h .size) × OutputsIn x (h .size) (h .outputs) × SlotsIn x (h .size) (placedOf h)) (sym e)
+      (mark-asked (chosenUp (cellsOf lib) w (h .size) (placedOf h)) lib h g (c .given .header) (chosen-covered w lib h g c))
 
   module _ (r : Verdict) (told : r ≡ missing y (h .size) (h .outputs)) where
     cover-is : r ≡ coverVerdict (cellsOf lib) g
     cover-is = told ∙ ap (λ (x : List ℕ). missing x (h .size) (h .outputs)) e ∙ chosen-verdict w lib h g c
 
-    pub cover-mapped : r ≡ Accepted → (z : List ℕ) → z ≡ marked (cellsOf lib) y (h .size) (h .outputs) (h .inputs + h .ands + 1) → Mapped z lib h g
+    pub cover-mapped : r ≡ Accepted → (z : List ℕ) → z ≡ marked (cellsOf lib) y (h .size) (h .outputs) (placedOf h) → Mapped z lib h g
     cover-mapped a z f =
-        subst (λ (x : List ℕ). Mapped x lib h g) (sym (f ∙ ap (λ (x : List ℕ). marked (cellsOf lib) x (h .size) (h .outputs) (h .inputs + h .ands + 1)) e))
+        subst (λ (x : List ℕ). Mapped x lib h g) (sym (f ∙ ap (λ (x : List ℕ). marked (cellsOf lib) x (h .size) (h .outputs) (placedOf h)) e))
         (marked-mapped w lib h g c (sym cover-is ∙ a))
 
     pub cover-goes : r ≡ Accepted → (bytes : ℕ) → cutFor lib g bytes ≡ printedFor lib g bytes

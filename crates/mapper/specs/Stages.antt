@@ -19,11 +19,11 @@ use Rattle.model.specs.declared.Header.{Header}
 use Rattle.model.specs.declared.Answer.{Answer}
 use Rattle.model.specs.declared.Answer.the-variants.{Mapped as IsMapped, Refused as Turned}
 use Rattle.words.specs.Layout.{neededAddr, listsFrom}
-use Rattle.theory_graph.proofs.Accepted.{Accepted, libraryFits}
-use Rattle.theory_text.proofs.ReadGraph.{GraphFits}
+use Rattle.theory_graph.specs.Accepted.{Accepted, libraryFits}
+use Rattle.theory_text.specs.Fits.{GraphFits}
 use Rattle.matching.specs.Variants.{Usable}
 use Rattle.placing.specs.Loaded.{Fit, Holding}
-use Rattle.cover.proofs.Held.{HeaderOf, Held}
+use Rattle.cover.specs.Held.{HeaderOf, Held}
 
 -- ---- what is told of an outcome
 

@@ -1,19 +1,17 @@
 -- The arrival of a variant is that of its match.
---     one-bit             a bit of a mask by a shift
 --     variant-phase       a variant whose places the cut has gives what its match does
 --     variant-past        another gives nothing
 -- Assumes nothing.
-use Prim.Native.Nat.{ℕ, zero, suc, _+_, _-_, _*_, _/_, _%_, _^_, _<_, _≤_, max}
+use Prim.Native.Nat.{ℕ, zero, suc, _+_, _-_, _/_, _<_, _≤_, max}
 use mathlib.Core.Path.{_≡_, refl, sym, ap, ap₂, _∙_}
 use mathlib.Core.Bool.{Bool, true, false, cond, _&&_, _||_, false≢true}
 use mathlib.Core.List.{List, [], _∷_, map}
-use native.Mathlib.Nat.{sub-self, add-zero}
+use native.Mathlib.Nat.{add-zero}
 use native.Mathlib.Omega.{arith}
 use lib.Dec.{ltb}
 use lib.ListN.{length, getD}
 use borrow.Author.Tests.{lt-ltb, le-ltb, ltb-true, ltb-false}
-use Rattle.model.specs.Base.{bit, one, all, any}
-use Rattle.model.specs.Table.{value}
+use Rattle.model.specs.Base.{bit, all, any}
 use Rattle.model.specs.Cells.{cellAt}
 use Rattle.model.specs.Graph.{literal}
 use Rattle.model.specs.Matching.{fedNets}
@@ -22,17 +20,11 @@ use Rattle.model.specs.declared.Cell.{Cell}
 use Rattle.model.specs.declared.Phase.{Phase}
 use Rattle.model.specs.declared.Source.the-variants.{Cell as Matched}
 use Rattle.truth.specs.Variant.{placesOf, placesBelow}
-use Rattle.truth.proofs.Tables.{one-low, value-shift}
 use Rattle.truth.proofs.Variants.{places-four, place-small, places-fit}
 use Rattle.matching.specs.declared.Best.{Best}
 use Rattle.matching.specs.Variants.{lineOf, orderOf, maskOf, matchOf, placesAt}
 use Rattle.matching.specs.Best.{never, lastTime, timeOf, TimesOf, Quick, largest, pinAt, arrivalOf, arrivalAt, phaseAs}
 use Rattle.matching.proofs.Choosing.{by-bool}
-
--- a bit of a mask by a shift
-pub one-bit : (mask j : ℕ) → one (bit mask j) ≡ mask / 2 ^ j % 2
-unfolding value bit
-one-bit mask j = ap one (value-shift j mask) ∙ one-low (mask / 2 ^ j)
 
 -- ---- the pins of a match
 
@@ -91,7 +83,7 @@ latest-bare p ps = ap (λ (t : ℕ). max t (latest (arrivals ps) [])) (sym (add-
 
 -- what a pin that is fed from a place adds
 unfoldable pinTime : List ℕ → ℕ → Bool → ℕ → ℕ
-pinTime times place neg d = getD times (2 * place + one neg) 0 + d
+pinTime times place neg d = getD times (literal neg place) 0 + d
 
 arrival-cons : (m place : ℕ) (places : List ℕ) (mask d : ℕ) (ds times : List ℕ)
     → arrivalOf (suc m) (d ∷ ds) (place ∷ places) mask times ≡ max (pinTime times place (bit mask 0) d) (arrivalOf m ds places (mask / 2) times)
@@ -175,7 +167,7 @@ module _ (known : ℕ → Phases) (cut times : List ℕ) (timed : TimesOf known 
   unfolding pinTime
   late-more place neg d a rest four e more = by-bool (ltb place (length cut))
       (λ q. let h : never ≤ a = more (sym (ap (λ (b : Bool). b && rest) q) ∙ e) in omega arith)
-      (λ q. let h : getD times (2 * place + one neg) 0 ≡ never = timed .past place neg (ltb-false place (length cut) q) four in omega arith)
+      (λ q. let h : getD times (literal neg place) 0 ≡ never = timed .past place neg (ltb-false place (length cut) q) four in omega arith)
 
   late : (m : ℕ) (places : List ℕ) (mask : ℕ) (ds : List ℕ) → m ≤ length places → ((j : ℕ) → j < length places → getD places j 0 < 4)
       → placesBelow m places (length cut) ≡ false → never ≤ arrivalOf m ds places mask times

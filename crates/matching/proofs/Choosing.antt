@@ -1,14 +1,12 @@
 -- The first of the earliest.
 --     earlier-assoc       `earlier` is associative
 --     choose-append       the choice of two lists is the earlier of their choices
---     choose-end          a choice against nothing is itself
---     soonest-choose      keeping the best so far, in the list's order, chooses
 --     choose-kept         what is not listed counts as a phase with no source
 -- Assumes nothing.
 use Prim.Native.Nat.{ℕ, _<_, _≤_}
 use mathlib.Core.Path.{_≡_, refl, sym, ap, _∙_}
 use mathlib.Core.Bool.{Bool, true, false, cond}
-use mathlib.Core.List.{List, [], _∷_, _++_, map, append-nil, List·Memᴰ, List·Memᴰ·head, List·Memᴰ·tail}
+use mathlib.Core.List.{List, [], _∷_, _++_, map}
 use native.Mathlib.Omega.{arith}
 use lib.Dec.{ltb}
 use borrow.Author.Tests.{ltb-true, ltb-false, lt-ltb, le-ltb}
@@ -84,29 +82,6 @@ pub choose-append : (xs ys : List Phase) → choose (xs ++ ys) ≡ earlier (choo
 unfolding choose
 choose-append [] ys = sym (earlier-none (choose ys))
 choose-append (x ∷ xs) ys = ap (earlier x) (choose-append xs ys) ∙ sym (earlier-assoc x (choose xs) (choose ys))
-
-pub choose-end : (xs : List Phase) → earlier (choose xs) noPhase ≡ choose xs
-unfolding choose
-choose-end xs = sym (choose-append xs []) ∙ ap choose (append-nil xs)
-
--- the best so far kept, in the list's order
-unfoldable pub soonest : Phase → List Phase → Phase
-soonest p [] = p
-soonest p (q ∷ qs) = soonest (earlier p q) qs
-
--- a phase with no source is the one with none
-abbrev pub Settled : Phase → Type 0
-Settled p = earlier p noPhase ≡ p
-
-pub settled-earlier : (p q : Phase) → Settled q → Settled (earlier p q)
-settled-earlier p q h = earlier-assoc p q noPhase ∙ ap (earlier p) h
-
-pub soonest-choose : (qs : List Phase) (p : Phase) → Settled p → ((q : Phase) → List·Memᴰ q qs → Settled q) → soonest p qs ≡ earlier p (choose qs)
-unfolding soonest choose
-soonest-choose [] p h all = sym h
-soonest-choose (q ∷ qs) p h all =
-    soonest-choose qs (earlier p q) (settled-earlier p q (all q (List·Memᴰ·head refl))) (λ r m. all r (List·Memᴰ·tail m))
-    ∙ earlier-assoc p q (choose qs)
 
 module _ {A : Type 0} where
   -- what is not kept counts as none

@@ -44,7 +44,7 @@ unfolding matched
 timely k b h = phase-timely k b h
 
 module _ (k : ℕ) (b : Best) where
-  -- the best stays where nothing comes after it; so `Settled`
+  -- the best stays where nothing comes after it
   pub phase-end : phaseAs k b ≡ earlier (phaseAs k b) noPhase
   phase-end = by-less (b .arrival) never
       (λ h. timely k b h ∙ sym (ap (λ (z : Phase). earlier z noPhase) (timely k b h) ∙ earlier-first (matched k b) noPhase (matched-present k b) none-absent))

@@ -6,7 +6,7 @@
 --     walking-end         at the end the best is the answer; `walking-none`: of an empty chain there is none
 -- Assumes nothing.
 use Prim.Native.Nat.{ℕ, zero, suc, _+_, _-_, _*_, _/_, _%_, _<_, _≤_, max}
-use mathlib.Core.Path.{_≡_, refl, sym, ap, ap₂, subst, _∙_}
+use mathlib.Core.Path.{_≡_, refl, sym, ap, ap₂, _∙_}
 use mathlib.Core.Bool.{Bool, true, false, cond, not, false≢true}
 use mathlib.Core.List.{List, [], _∷_}
 use native.Mathlib.Nat.{add-zero}
@@ -14,11 +14,13 @@ use native.Mathlib.Omega.{arith}
 use lib.Dec.{eqb, ltb}
 use lib.ListN.{length, getD}
 use borrow.Author.Tests.{eqb-true, lt-ltb, le-ltb}
-use Rattle.model.specs.Base.{bit, one}
+use Rattle.model.specs.Base.{bit}
 use Rattle.model.specs.Cells.{cellAt}
+use Rattle.model.specs.Graph.{literal}
 use Rattle.model.specs.declared.Cell.{Cell}
 use Rattle.truth.specs.Variant.{placesOf}
 use Rattle.truth.proofs.Tables.{one-small}
+use Rattle.truth.proofs.Nets.{literal-one}
 use Rattle.truth.proofs.Variants.{place-small}
 use Rattle.matching.specs.declared.Best.{Best}
 use Rattle.matching.specs.Variants.{lineOf, orderOf, maskOf, variants}
@@ -28,13 +30,13 @@ use Rattle.matching.proofs.Linking.{linked-lower}
 
 -- ---- one pin
 
-pub pick-there : (pins : ℕ) (places : List ℕ) (mask j r : ℕ) → j < pins → r ≡ 2 * getD places j 0 + one (bit mask j) → r ≡ pickPin pins places mask j
+pub pick-there : (pins : ℕ) (places : List ℕ) (mask j r : ℕ) → j < pins → r ≡ literal (bit mask j) (getD places j 0) → r ≡ pickPin pins places mask j
 unfolding pickPin
-pick-there pins places mask j r h e = e ∙ sym (ap (λ (b : Bool). cond b (2 * getD places j 0 + one (bit mask j)) 8) (lt-ltb j pins h))
+pick-there pins places mask j r h e = e ∙ sym (ap (λ (b : Bool). cond b (literal (bit mask j) (getD places j 0)) 8) (lt-ltb j pins h))
 
 pub pick-absent : (pins : ℕ) (places : List ℕ) (mask j : ℕ) → pins ≤ j → 8 ≡ pickPin pins places mask j
 unfolding pickPin
-pick-absent pins places mask j h = sym (ap (λ (b : Bool). cond b (2 * getD places j 0 + one (bit mask j)) 8) (le-ltb j pins h))
+pick-absent pins places mask j h = sym (ap (λ (b : Bool). cond b (literal (bit mask j) (getD places j 0)) 8) (le-ltb j pins h))
 
 pub delay-there : (pins : ℕ) (delays : List ℕ) (j : ℕ) → j < pins → getD delays j 0 ≡ delayOf pins delays j
 unfolding delayOf
@@ -48,8 +50,8 @@ pub pick-small : (pins order mask j : ℕ) → order < 24 → j < 4 → pickPin 
 unfolding pickPin
 pick-small pins order mask j h f = go (ltb j pins)
   where
-    go : (b : Bool) → cond b (2 * getD (placesOf order) j 0 + one (bit mask j)) 8 ≤ 8
-    go true = omega (arith, place-small order j h f, one-small (bit mask j))
+    go : (b : Bool) → cond b (literal (bit mask j) (getD (placesOf order) j 0)) 8 ≤ 8
+    go true = omega (arith, place-small order j h f, literal-one (bit mask j) (getD (placesOf order) j 0), one-small (bit mask j))
     go false = omega arith
 
 four-largest : (a b c d : ℕ) → max (max a b) (max c d) ≡ max a (max b (max c (max d 0)))
@@ -68,7 +70,7 @@ module _ (pins : ℕ) (delays : List ℕ) (order mask : ℕ) (times : List ℕ) 
 
   wait-there : (j : ℕ) → j < pins → wait j ≡ pinAt delays (placesOf order) mask times j
   unfolding wait pinAt
-  wait-there j h = ap₂ (λ (i d : ℕ). getD times i 0 + d) (sym (pick-there pins (placesOf order) mask j (2 * getD (placesOf order) j 0 + one (bit mask j)) h refl)) (sym (delay-there pins delays j h))
+  wait-there j h = ap₂ (λ (i d : ℕ). getD times i 0 + d) (sym (pick-there pins (placesOf order) mask j (literal (bit mask j) (getD (placesOf order) j 0)) h refl)) (sym (delay-there pins delays j h))
 
   wait-absent : (j : ℕ) → pins ≤ j → wait j ≡ 0
   unfolding wait

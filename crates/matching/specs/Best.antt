@@ -1,11 +1,11 @@
 -- The best match of a cut, over the arrivals of its leaves. Assumes nothing.
-use Prim.Native.Nat.{ℕ, zero, suc, _+_, _*_, _/_, _%_, _≤_, _<_, max}
+use Prim.Native.Nat.{ℕ, zero, suc, _+_, _/_, _%_, _≤_, _<_, max}
 use mathlib.Core.Path.{_≡_}
 use mathlib.Core.Bool.{Bool, cond}
 use mathlib.Core.List.{List, [], _∷_}
 use lib.Dec.{ltb}
 use lib.ListN.{length, getD}
-use Rattle.model.specs.Base.{bit, one}
+use Rattle.model.specs.Base.{bit}
 use Rattle.model.specs.Cells.{cellAt}
 use Rattle.model.specs.Graph.{literal}
 use Rattle.model.specs.Choice.{Phases, phaseOf, absent, noPhase}
@@ -37,8 +37,8 @@ pub record Timely (times : List ℕ) : Type 0 where
 
 -- the arrivals of a cut's leaves: leaf i positive at 2 i, negative at 2 i + 1, never for a leaf that the cut has not
 pub record TimesOf (known : ℕ → Phases) (cut times : List ℕ) : Type 0 where
-  pub there : (i : ℕ) (neg : Bool) → i < length cut → getD times (2 * i + one neg) 0 ≡ timeOf (phaseOf known (literal neg (getD cut i 0)))
-  pub past : (i : ℕ) (neg : Bool) → length cut ≤ i → i < 4 → getD times (2 * i + one neg) 0 ≡ never
+  pub there : (i : ℕ) (neg : Bool) → i < length cut → getD times (literal neg i) 0 ≡ timeOf (phaseOf known (literal neg (getD cut i 0)))
+  pub past : (i : ℕ) (neg : Bool) → length cut ≤ i → i < 4 → getD times (literal neg i) 0 ≡ never
 
 -- the arrivals of the leaves leave room for a pin's delay
 unfoldable pub Quick : (ℕ → Phases) → List ℕ → Type 0
@@ -49,8 +49,8 @@ Quick known cut = (i : ℕ) (neg : Bool) → i < length cut → phaseOf known (l
 
 -- "feeding arrival plus pin delay" at pin j, under an order and a mask
 unfoldable pub pinAt : List ℕ → List ℕ → ℕ → List ℕ → ℕ → ℕ
-unfolding bit one
-pinAt delays places mask times j = getD times (2 * getD places j 0 + one (bit mask j)) 0 + getD delays j 0
+unfolding bit literal
+pinAt delays places mask times j = getD times (literal (bit mask j) (getD places j 0)) 0 + getD delays j 0
 
 -- "the largest" of m from the j-th on
 unfoldable pub largest : (ℕ → ℕ) → ℕ → ℕ → ℕ

@@ -1,22 +1,19 @@
 -- The sheet: all that a match asks of the cells, once for each library. It has, by table, the head of the chain of the variants that have the
 -- table; by variant, the next one of its chain and what feeds its pins; by cell, its delays. Assumes nothing.
-use Prim.Native.Nat.{ℕ, zero, suc, _+_, _*_, _^_, _≤_, _<_, max}
+use Prim.Native.Nat.{ℕ, zero, suc, _+_, _*_, _^_, _≤_, _<_}
 use mathlib.Core.Path.{_≡_}
 use mathlib.Core.Bool.{Bool, cond, not}
 use mathlib.Core.List.{List, [], _∷_}
 use lib.Dec.{eqb, ltb}
 use lib.ListN.{length, getD, set}
-use Rattle.model.specs.Base.{bit, one}
+use Rattle.model.specs.Base.{bit}
 use Rattle.model.specs.Cells.{cellAt}
+use Rattle.model.specs.Graph.{literal}
 use Rattle.model.specs.declared.Cell.{Cell}
 use Rattle.truth.specs.Variant.{placesOf, variantTable}
 use Rattle.matching.specs.Variants.{lineOf, orderOf, maskOf, variants}
 
--- ---- what lies where
-
--- 65,536 heads, then 32 times 384 links, as many picks, and 32 times 4 delays
-abbrev pub sheetSize : ℕ
-sheetSize = 90240
+-- ---- what lies where: 65,536 heads, then 32 times 384 links, as many picks, and 32 times 4 delays
 
 -- the next variant of the chain; a head and a link are one more than a variant's number, 0 at the end
 abbrev pub linkAddr : ℕ → ℕ
@@ -32,8 +29,8 @@ delayAddr line j = 90112 + 4 * line + j
 
 -- where the arrival that pin j waits for stands: that of its leaf in the mask's phase, and for an absent pin the one that is always 0
 unfoldable pub pickPin : ℕ → List ℕ → ℕ → ℕ → ℕ
-unfolding one bit
-pickPin pins places mask j = cond (ltb j pins) (2 * getD places j 0 + one (bit mask j)) 8
+unfolding literal bit
+pickPin pins places mask j = cond (ltb j pins) (literal (bit mask j) (getD places j 0)) 8
 
 -- those of the four pins, pin 0 lowest
 unfoldable pub pickOf : ℕ → List ℕ → ℕ → ℕ

@@ -69,7 +69,7 @@ fn pick_pin(pins: u16, order: usize, mask: usize, j: usize) -> usize
     ensures { λ r. ⌜ (r ≡ pickPin pins (placesOf order) mask j) × (r ≤ 8) ⌝ }
 {
     if j < pins as usize {
-        2 * truth::place(order, j) + (mask >> j) % 2
+        truth::masked(truth::place(order, j), mask, j)
     } else {
         8
     }

@@ -1,9 +1,9 @@
 -- Lengths of names, pins and lines, and figures of gates.
 -- Assumes nothing.
-use mathlib.Core.Path.{_≡_, refl, sym, ap, ap₂, _∙_}
+use mathlib.Core.Path.{_≡_, refl, sym, ap, _∙_}
 use mathlib.Core.Bool.{Bool, true, false, cond}
 use mathlib.Core.List.{List, [], _∷_, _++_, map, append-assoc, append-nil}
-use Prim.Native.Nat.{ℕ, suc, _+_, _-_, _*_, _/_, _^_, _≤_, _<_, max}
+use Prim.Native.Nat.{ℕ, suc, _+_, _-_, _*_, _/_, _≤_, _<_, max}
 use native.Mathlib.Nat.{add-zero}
 use native.Mathlib.Numerals.{add-one}
 use native.Mathlib.Omega.{arith}
@@ -99,9 +99,6 @@ from-next i n h =
 pub from-none : (i n : ℕ) → n ≤ i → from i (n - i) ≡ []
 unfolding from
 from-none i n h = let e : n - i ≡ 0 = omega arith in ap (from i) e
-
-pub from-all : (i n : ℕ) → i ≡ 0 → from i (n - i) ≡ from 0 n
-from-all i n h = let e : n - i ≡ n = omega arith in ap₂ from h e
 
 -- ---- gates
 

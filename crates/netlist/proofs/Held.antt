@@ -4,17 +4,16 @@
 --     measured-held       its length and its figures
 -- Assumes nothing.
 use mathlib.Core.Path.{_≡_, refl, sym, ap, ap₂, subst, _∙_}
-use mathlib.Core.Bool.{Bool, true, false, not, cond, _&&_, true≢false}
+use mathlib.Core.Bool.{Bool, true, false, not, cond, true≢false}
 use mathlib.Core.List.{List, [], _∷_, _++_, map, append-assoc, List·Memᴰ, List·Memᴰ·head, List·Memᴰ·tail, List·Memᴰ·not-nil, Memᴰ·append-left}
-use Prim.Native.Nat.{ℕ, zero, suc, _+_, _*_, _/_, _^_, _≤_, _<_}
+use Prim.Native.Nat.{ℕ, suc, _+_, _*_, _/_, _≤_, _<_}
 use native.Mathlib.Nat.{add-zero}
 use native.Mathlib.Omega.{arith}
-use lib.Dec.{T, ltb, ltb→lt}
-use lib.ListN.{length, take, getD, length-take, List·getD-append}
+use lib.Dec.{T, ltb}
+use lib.ListN.{length, getD, length-take, List·getD-append}
 use lib.Seq.{getD-take}
 use borrow.Author.Tests.{ltb-false}
-use mir.Facts.{and-yes}
-use Rattle.model.specs.Base.{bit, all, each, elem, keep, from, below}
+use Rattle.model.specs.Base.{each, elem, keep, from, below}
 use Rattle.model.specs.Limits.{cutLimit}
 use Rattle.model.specs.Text.{text}
 use Rattle.model.specs.Cells.{noCell, cellAt, cellsOf}
@@ -22,7 +21,7 @@ use Rattle.model.specs.Table.{orders}
 use Rattle.model.specs.Graph.{And, Graph, placingOrder, placeF, varOf, negated, literal, opposite}
 use Rattle.model.specs.Cuts.{cutsOf, cutTable, crowded}
 use Rattle.model.specs.Cuts as cuts
-use Rattle.model.specs.Matching.{phaseTable, fedNets, matchNets, fits, placesFit, rowsAgree}
+use Rattle.model.specs.Matching.{phaseTable, fedNets, matchNets}
 use Rattle.model.specs.Choice.{feeds, cellOf, absent, chosen}
 use Rattle.model.specs.Cover.{IsMatch, Allowed}
 use Rattle.model.specs.Netlist.{Gate, gates, gateLine, namesLine, needed, isOwn, sum, largest, figuresOf, netlistText}
@@ -35,6 +34,9 @@ use Rattle.model.specs.declared.Source.{Source}
 use Rattle.model.specs.declared.Source.the-variants.{Input, Cell as Matched, Inverter as Inverted, Nothing}
 use Rattle.model.specs.declared.Phase.{Phase}
 use Rattle.model.specs.declared.Figures.{Figures}
+use Rattle.truth.specs.Variant.{placesBelow}
+use Rattle.truth.proofs.Variants.{places-fit}
+use Rattle.truth.proofs.Nets.{nets-taken}
 use Rattle.words.specs.Layout.{slotAt, outputAt}
 use Rattle.words.specs.Record.{cutOf, leavesOf}
 use Rattle.words.specs.Phases.{phaseAt, isNeeded}
@@ -43,6 +45,7 @@ use Rattle.words.proofs.Stored.{held-cut}
 use Rattle.theory_graph.proofs.Lists.{keep-in, below-out, getD-in, elem-in, elem-out, map-map, map-same}
 use Rattle.theory_graph.proofs.Placing.{order-once, order-small, defined-placed}
 use Rattle.theory_graph.proofs.CutFacts.{cuts-none}
+use Rattle.theory_cover.proofs.Matches.{fits-places}
 use Rattle.theory_cover.proofs.Sound.{chosen-fine, needed-present}
 use Rattle.theory_text.proofs.Names.{library-cell, cell-form}
 use Rattle.theory.proofs.Needs.{listed-needed}
@@ -71,25 +74,6 @@ module _ {A B : Type 0} (f : A → List B) (p : A → Bool) (h : A → B) where
       go : (b : Bool) → f x ≡ cond b (h x ∷ []) [] → each f xs ≡ map h (keep p xs) → f x ++ each f xs ≡ map h (cond b (x ∷ keep p xs) (keep p xs))
       go true q r = ap₂ (λ (a c : List B). a ++ c) q r
       go false q r = ap₂ (λ (a c : List B). a ++ c) q r
-
--- ---- a match's nets
-
--- leaves past the last are never asked for
-fed-taken : (n : ℕ) (places : List ℕ) (mask : ℕ) (leaves : List ℕ) (k : ℕ) → T (all (λ (p : ℕ). ltb p (length (take k leaves))) (take n places))
-    → fedNets n places mask leaves ≡ fedNets n places mask (take k leaves)
-unfolding fedNets all
-fed-taken zero places mask leaves k t = refl
-fed-taken (suc n) [] mask leaves k t = refl
-fed-taken (suc n) (p ∷ ps) mask leaves k t =
-    let both = and-yes (ltb p (length (take k leaves))) (all (λ (p : ℕ). ltb p (length (take k leaves))) (take n ps)) t in
-    let within : p < k = omega (arith, ltb→lt p (length (take k leaves)) (both .0), length-take k leaves) in
-    ap₂ (λ (x : ℕ) (xs : List ℕ). literal (bit mask 0) x ∷ xs) (sym (getD-take k leaves p 0 within)) (fed-taken n ps (mask / 2) leaves k (both .1))
-
--- "pin j's place is below the number of leaves for each j < m"
-fits-places : (c : Cell) (places : List ℕ) (mask leaves f : ℕ) → T (fits c places mask leaves f) → T (all (λ (p : ℕ). ltb p leaves) (take (c .pins) places))
-unfolding fits placesFit
-fits-places c places mask leaves f t =
-    and-yes (placesFit c places leaves) (rowsAgree c places mask f) (and-yes (ltb mask (2 ^ c .pins)) (placesFit c places leaves && rowsAgree c places mask f) t .1) .0
 
 -- ---- cuts
 
@@ -192,10 +176,11 @@ module _ (w : List ℕ) (lib : Library) (h : Header) (g : Graph) (k : Mapped w l
       let cut = cutOf w (g .size) (l / 2) (x .cut) in
       let same = cell-same (x .cell) (a .hasCell) in
       let leaves : leavesOf cut ≡ cuts.cutAt (cutsOf g) (l / 2) (x .cut) = held-cut w g (k .cuts) (l / 2) b (x .cut) (a .hasCut) in
-      let fit = fits-places c places (x .mask) (length (cuts.cutAt (cutsOf g) (l / 2) (x .cut))) (phaseTable (negated l) (cutTable g (cuts.cutAt (cutsOf g) (l / 2) (x .cut)) (l / 2))) (a .agrees) in
+      let found = cuts.cutAt (cutsOf g) (l / 2) (x .cut) in
+      let fit = subst T (places-fit c places (length found)) (fits-places c places (x .mask) (length found) (phaseTable (negated l) (cutTable g found (l / 2))) (a .agrees)) in
       let pins =
       ap (λ (d : Cell). fedNets (d .pins) places (x .mask) (cut .leaves)) same
-      ∙ fed-taken (c .pins) places (x .mask) (cut .leaves) (cut .count) (subst (λ (ls : List ℕ). T (all (λ (p : ℕ). ltb p (length ls)) (take (c .pins) places))) (sym leaves) fit)
+      ∙ sym (nets-taken (c .pins) places (x .mask) (cut .count) (cut .leaves) (subst (λ (ls : List ℕ). T (placesBelow (c .pins) places (length ls))) (sym leaves) fit))
       ∙ ap (fedNets (c .pins) places (x .mask)) leaves in
       λ i. record { cell = same i; pins = pins i; net = l }
 

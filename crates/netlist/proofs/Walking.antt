@@ -14,8 +14,8 @@ use Rattle.model.specs.Netlist.{Gate}
 use Rattle.model.specs.declared.Library.{Library}
 use Rattle.model.specs.declared.Source.{Source}
 use Rattle.model.specs.declared.Source.the-variants.{Input, Cell as Matched, Inverter as Inverted, Nothing}
-use Rattle.words.specs.Phases.{phaseAt, isNeeded}
-use Rattle.netlist.specs.Lines.{gateBy, gateAt, makesGate, isGateAt, gateFrom, gatesFrom}
+use Rattle.words.specs.Phases.{phaseAt, isNeeded, makesGate}
+use Rattle.netlist.specs.Lines.{gateBy, gateAt, isGateAt, gateFrom, gatesFrom}
 use Rattle.netlist.proofs.Counting.{gate-needed, gate-idle}
 
 -- ---- one phase

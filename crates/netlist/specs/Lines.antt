@@ -4,7 +4,7 @@ use mathlib.Core.Bool.{Bool, true, false, cond}
 use mathlib.Core.List.{List, [], _∷_, _++_, map}
 use Prim.Native.Nat.{ℕ, zero, suc, _+_, _*_, _/_, _≤_, _<_}
 use lib.ListN.{length, getD, take}
-use Rattle.model.specs.Base.{bit, from, each}
+use Rattle.model.specs.Base.{from, each}
 use Rattle.model.specs.Limits.{cutLimit}
 use Rattle.model.specs.Cells.{noCell}
 use Rattle.model.specs.Table.{orders}
@@ -19,9 +19,10 @@ use Rattle.model.specs.declared.Match.{Match}
 use Rattle.model.specs.declared.Figures.{Figures}
 use Rattle.model.specs.declared.Source.{Source}
 use Rattle.model.specs.declared.Source.the-variants.{Input, Cell as Matched, Inverter as Inverted, Nothing}
+use Rattle.truth.specs.Variant.{pinNet}
 use Rattle.words.specs.Layout.{Room, RoomFor, slotAt, outputAt}
 use Rattle.words.specs.Record.{cutOf}
-use Rattle.words.specs.Phases.{phaseAt, isNeeded}
+use Rattle.words.specs.Phases.{phaseAt, makesGate, isNeeded}
 use Rattle.netlist.specs.declared.Driver.{Driver}
 use Rattle.netlist.specs.declared.Tally.{Tally}
 use Rattle.netlist.specs.declared.Measured.{Measured}
@@ -50,11 +51,7 @@ pub record Gated (w : List ℕ) (lib : Library) (m : ℕ) : Type 0 where
   pub room : Room w m
   pub sources : (l : ℕ) → l / 2 ≤ m → SourceReady lib (phaseAt w m l .source)
 
--- the net that feeds pin j of a match on a cut: "each pin needing its leaf in the mask's phase"
-abbrev pub pinNet : List ℕ → ℕ → List ℕ → ℕ → ℕ
-pinNet places mask leaves j = literal (bit mask j) (getD leaves (getD places j 0) 0)
-
--- those of four pins
+-- the nets that feed four pins
 abbrev pub fourNets : List ℕ → ℕ → List ℕ → List ℕ
 fourNets places mask leaves = pinNet places mask leaves 0 ∷ pinNet places mask leaves 1 ∷ pinNet places mask leaves 2 ∷ pinNet places mask leaves 3 ∷ []
 
@@ -86,13 +83,6 @@ gateBy w lib m l (Inverted c) = invertedGate lib l c ∷ []
 unfoldable pub gateAt : List ℕ → Library → ℕ → ℕ → List Gate
 unfolding gateBy
 gateAt w lib m l = cond (isNeeded w m l) (gateBy w lib m l (phaseAt w m l .source)) []
-
--- whether a source makes a gate: "inputs' own positive nets apart"
-unfoldable pub makesGate : Source → Bool
-makesGate Input = false
-makesGate Nothing = false
-makesGate (Matched x) = true
-makesGate (Inverted c) = true
 
 -- whether phase l becomes a gate
 unfoldable pub isGateAt : List ℕ → ℕ → ℕ → Bool

@@ -15,7 +15,7 @@ use Rattle.model.specs.declared.Library.{Library}
 use Rattle.model.specs.declared.Header.{Header}
 use Rattle.model.specs.declared.Figures.{Figures}
 use Rattle.words.specs.Holding.{HoldsGraph, HoldsOrder, HoldsCuts, HoldsPhases, HoldsNeeded}
-use Rattle.theory_graph.proofs.Accepted.{Accepted, libraryFits}
+use Rattle.theory_graph.specs.Accepted.{Accepted, libraryFits}
 use Rattle.netlist.specs.declared.Measured.{Measured}
 
 -- After refusals 1 to 17 none is left: the header's numbers are the graph's, the library and the graph are free of faults, no AND has too many

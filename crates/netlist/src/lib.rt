@@ -12,15 +12,15 @@ ghost use mathlib.Core.Bool.{true, false};
 ghost use mathlib.Core.List.{List, _∷_, [], _++_};
 ghost use Prim.Native.Nat.{ℕ, _+_, _-_, _*_, _/_, _≤_, _<_, max};
 ghost use lib.ListN.{length, take, drop};
-ghost use Rattle.model.specs.Base.{bit, each};
+ghost use Rattle.model.specs.Base.{each};
 ghost use Rattle.model.specs.Text.{decimal};
-ghost use Rattle.model.specs.Graph.{Graph, literal, opposite};
+ghost use Rattle.model.specs.Graph.{Graph};
 ghost use Rattle.model.specs.Netlist.{netName, pinWords, gateLine};
 ghost use Rattle.words.specs.Layout.{Room, RoomFor, outputAt};
 ghost use Rattle.words.specs.Phases.{phaseAt};
 ghost use Rattle.truth.specs.Variant.{placesOf};
 ghost use Rattle.netlist.specs.Writing.{Wrote};
-ghost use Rattle.netlist.specs.Lines.{lineOf, pinNet, fourNets, MatchReady, SourceReady, Gated, matchedGate, invertedGate, gateBy, gateAt, makesGate, isGateAt, gateFrom, gatesFrom, gatesOf, Drives, tallied, noTally, Bounded, limit, Named, netAt, netsFrom, spaced, latestFrom, frameText, figuresText, textIn, measuredIn, Small};
+ghost use Rattle.netlist.specs.Lines.{lineOf, fourNets, MatchReady, SourceReady, Gated, matchedGate, invertedGate, gateBy, gateAt, isGateAt, gateFrom, gatesFrom, gatesOf, Drives, tallied, noTally, Bounded, limit, Named, netAt, netsFrom, spaced, latestFrom, frameText, figuresText, textIn, measuredIn, Small};
 ghost use Rattle.netlist.specs.Mapped.{Mapped, textFor, measuredFor};
 
 // What drives a net: a cell and, for its first `count` pins, the nets that feed it, as literals. Nothing where the net is not there.
@@ -173,39 +173,15 @@ fn gate_len(c: Cell, nets: [u32; 4], count: usize, net: u32) -> usize
 
 // ---- what drives a net
 
-// Bit j of a mask.
-fn mask_bit(mask: usize, j: usize) -> bool
-    requires { ⌜ j < 4 ⌝ }
-    ensures { λ r. ⌜ r ≡ bit mask j ⌝ }
-{
-    (mask >> j) % 2 == 1
-}
-
-// A leaf in a phase.
-fn leaf_net(v: u16, neg: bool) -> u32
-    ensures { λ r. ⌜ r ≡ literal neg v ⌝ }
-{
-    if neg { 2 * v as u32 + 1 } else { 2 * v as u32 }
-}
-
-// "each pin needing its leaf in the mask's phase"
-fn pin_net(leaves: [u16; 4], order: usize, mask: usize, j: usize) -> u32
-    requires { ⌜ (order < 24) × (j < 4) ⌝ }
-    ensures { λ r. ⌜ r ≡ pinNet (placesOf order) mask leaves j ⌝ }
-{
-    let place = truth::place(order, j);
-    leaf_net(leaves[place], mask_bit(mask, j))
-}
-
 fn four_nets(leaves: [u16; 4], order: usize, mask: usize) -> [u32; 4]
     requires { ⌜ order < 24 ⌝ }
     ensures { λ r. ⌜ r ≡ fourNets (placesOf order) mask leaves ⌝ }
 {
-    let a = pin_net(leaves, order, mask, 0);
-    let b = pin_net(leaves, order, mask, 1);
-    let c = pin_net(leaves, order, mask, 2);
-    let d = pin_net(leaves, order, mask, 3);
-    [a, b, c, d]
+    let a = truth::pin_net(leaves, order, mask, 0);
+    let b = truth::pin_net(leaves, order, mask, 1);
+    let c = truth::pin_net(leaves, order, mask, 2);
+    let d = truth::pin_net(leaves, order, mask, 3);
+    [a as u32, b as u32, c as u32, d as u32]
 }
 
 // No gate.
@@ -248,28 +224,19 @@ fn matched(work: &[u16], lib: Library, m: usize, l: usize, x: Match) -> Driver
     }
 }
 
-// The other phase of a literal's variable.
-fn other_phase(l: u32) -> u32
-    requires { ⌜ l < 65536 ⌝ }
-    ensures { λ r. ⌜ r ≡ opposite l ⌝ }
-{
-    if l % 2 == 1 { l - 1 } else { l + 1 }
-}
-
 // "a one-pin cell with table 0001 fed by the opposite phase of that variable"
 fn inverted(lib: Library, l: usize, i: usize) -> Driver
     requires { ⌜ (l < 65536) × (i < 32) ⌝ }
     ensures { λ r. ⌜ Drives r (invertedGate lib l i ∷ []) ⌝ }
 {
     let cell = lib.cells[i];
-    let net = l as u32;
-    let fed = other_phase(net);
+    let fed = truth::opposite(l);
     Driver {
         there: true,
         cell,
-        nets: [fed, 0, 0, 0],
+        nets: [fed as u32, 0, 0, 0],
         count: 1,
-        net,
+        net: l as u32,
     }
 }
 
@@ -301,27 +268,13 @@ fn driver_at(work: &[u16], lib: Library, m: usize, l: usize) -> Driver
 
 // ---- the walk over the gates
 
-// Whether a source makes a gate.
-fn makes_gate(s: Source) -> bool
-    ensures { λ r. ⌜ r ≡ makesGate s ⌝ }
-{
-    match s {
-        Source::Input => false,
-        Source::Cell(_) => true,
-        Source::Inverter(_) => true,
-        Source::Nothing => false,
-    }
-}
-
 // Whether phase l becomes a gate: "Needed phases, inputs' own positive nets apart, become gates".
 fn is_gate(work: &[u16], m: usize, l: usize) -> bool
     requires { ⌜ Room (now work) m × (l / 2 ≤ m) ⌝ }
     ensures { λ r. ⌜ r ≡ isGateAt (now (work .entry)) m l ⌝ }
 {
     if words::is_needed(work, m, l) {
-        let p = words::phase(work, m, l);
-        let s = p.source;
-        makes_gate(s)
+        words::makes_gate(words::phase(work, m, l))
     } else {
         false
     }

@@ -21,7 +21,7 @@ use lib.ListN.{length, getD}
 use borrow.Author.Tests.{eqb-true, ne-eqb, leb-true, le-leb, lt-leb, lt-ltb, le-ltb}
 use Rattle.model.specs.declared.Header.{Header}
 use Rattle.model.specs.declared.Verdict.the-variants.{Accepted, Refused}
-use Rattle.words.specs.Layout.{Room, andKind, kindAddr, leftAddr, rightAddr, placeAddr, kindAt, leftAt, rightAt, placeAt}
+use Rattle.words.specs.Layout.{placedOf, Room, andKind, kindAddr, leftAddr, rightAddr, placeAddr, kindAt, leftAt, rightAt, placeAt}
 use Rattle.theory_graph.proofs.Lists.{by-eqb, is-true}
 use Rattle.placing.specs.Loaded.{Fit}
 use Rattle.placing.specs.Placing.{pickN, pickWords, putPlaced, Operands, isWaiting, isPlaced, isReady, seek, waitingFrom, readyFrom, nextAnd, orderWords, orderLow, placedWords, placedVerdict}
@@ -189,19 +189,19 @@ module _ (m : ℕ) (x us : List ℕ) (fits : Room x m) (r : Users x m 0 us) (sca
 -- what the slots from here on give is what all slots give; the definitions are at the mark `low`
 pub record Filled (h : Header) (w us : List ℕ) (slot scan : ℕ) (x : List ℕ) : Type 0 where
   pub from : h .inputs + 1 ≤ slot
-  pub upto : slot ≤ h .inputs + 1 + h .ands
+  pub upto : slot ≤ placedOf h
   pub long : length x ≡ length w
   pub operands : Operands x (h .size)
   pub users : Users x (h .size) 0 us
   pub sought : Below (isReady x (h .size)) (h .size) scan
   pub low : ℕ
   pub mark : Below (isWaiting x (h .size)) (h .size) low
-  pub words : placedWords w h ≡ orderWords (h .size) (h .inputs + 1 + h .ands - slot) slot low x
+  pub words : placedWords w h ≡ orderWords (h .size) (placedOf h - slot) slot low x
 
 pub filled-first : (h : Header) (w us : List ℕ) → Operands w (h .size) → Users w (h .size) 0 us → Filled h w us (h .inputs + 1) 1 w
 unfolding placedWords
 filled-first h w us o r =
-    let e : h .ands ≡ h .inputs + 1 + h .ands - (h .inputs + 1) = omega arith in
+    let e : h .ands ≡ placedOf h - (h .inputs + 1) = omega arith in
     record {
       from = omega arith;
       upto = omega arith;
@@ -221,10 +221,10 @@ module _ (h : Header) (w us : List ℕ) (fit : Fit h w) (slot scan : ℕ) (x : L
   next-is : b ≡ nextAnd x (h .size) (f .low)
   next-is = scan-next (h .size) x us room (f .users) scan b isB (f .sought) (f .low) (f .mark)
 
-  pub filled-on : slot < h .inputs + 1 + h .ands → b ≤ h .size → (y : List ℕ) → y ≡ putPlaced x (h .size) slot b → (n : ℕ) → n ≡ seekOn us b → Filled h w us (slot + 1) n y
+  pub filled-on : slot < placedOf h → b ≤ h .size → (y : List ℕ) → y ≡ putPlaced x (h .size) slot b → (n : ℕ) → n ≡ seekOn us b → Filled h w us (slot + 1) n y
   filled-on l c y e n isN =
-      let k : h .inputs + 1 + h .ands - slot ≡ suc (h .inputs + 1 + h .ands - (slot + 1)) = omega arith in
-      let t = order-on (h .size) (h .inputs + 1 + h .ands - (slot + 1)) slot (f .low) x (h .inputs + 1 + h .ands - slot) k (omega (arith, next-is)) in
+      let k : placedOf h - slot ≡ suc (placedOf h - (slot + 1)) = omega arith in
+      let t = order-on (h .size) (placedOf h - (slot + 1)) slot (f .low) x (placedOf h - slot) k (omega (arith, next-is)) in
       let s : slot ≤ h .size = omega (arith, fit .lines) in
       let i : putPlaced x (h .size) slot (nextAnd x (h .size) (f .low)) ≡ y = ap (putPlaced x (h .size) slot) (sym next-is) ∙ sym e in
       record {
@@ -239,13 +239,13 @@ module _ (h : Header) (w us : List ℕ) (fit : Fit h w) (slot scan : ℕ) (x : L
         words = f .words ∙ t .0 ∙ rw i;
       }
 
-  pub filled-off : slot < h .inputs + 1 + h .ands → h .size < b → x ≡ placedWords w h
+  pub filled-off : slot < placedOf h → h .size < b → x ≡ placedWords w h
   filled-off l c =
-      let k : h .inputs + 1 + h .ands - slot ≡ suc (h .inputs + 1 + h .ands - (slot + 1)) = omega arith in
-      sym (f .words ∙ order-off (h .size) (h .inputs + 1 + h .ands - (slot + 1)) slot (f .low) x (h .inputs + 1 + h .ands - slot) k (omega (arith, next-is)) .0)
+      let k : placedOf h - slot ≡ suc (placedOf h - (slot + 1)) = omega arith in
+      sym (f .words ∙ order-off (h .size) (placedOf h - (slot + 1)) slot (f .low) x (placedOf h - slot) k (omega (arith, next-is)) .0)
 
-pub filled-end : (h : Header) (w us : List ℕ) (slot scan : ℕ) (x : List ℕ) → Filled h w us slot scan x → h .inputs + 1 + h .ands ≤ slot → x ≡ placedWords w h
-filled-end h w us slot scan x f l = sym (f .words ∙ order-end (h .size) slot (f .low) x (h .inputs + 1 + h .ands - slot) (omega arith) .0)
+pub filled-end : (h : Header) (w us : List ℕ) (slot scan : ℕ) (x : List ℕ) → Filled h w us slot scan x → placedOf h ≤ slot → x ≡ placedWords w h
+filled-end h w us slot scan x f l = sym (f .words ∙ order-end (h .size) slot (f .low) x (placedOf h - slot) (omega arith) .0)
 
 -- ---- the answer
 

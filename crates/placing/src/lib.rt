@@ -137,7 +137,7 @@ fn place_ands(work: &mut [u16], h: Header, users: &[u16; VARIABLES])
     requires { ⌜ Fit h (now work) × Operands (now work) (h .size) × Users (now work) (h .size) 0 (now users) ⌝ }
     ensures { λ _. ⌜ now (work .exit) ≡ placedWords (now (work .entry)) h ⌝ }
 {
-    let end = h.inputs + 1 + h.ands;
+    let end = words::placed(h);
     let mut slot = h.inputs + 1;
     let mut scan = 1;
     while slot < end {

@@ -86,10 +86,6 @@ dec-below (suc k) n h = go (ltb n 10) refl (dec-below k (n / 10))
         let whole : n < 10 ^ suc k * 10 = subst (λ (m : ℕ). n < m) (pow-suc 10 (suc k)) h in
         omega (arith, dec-big-length n big, more (omega arith))
 
--- "the digits of a number below 2^32": at most ten
-pub dec-ten : (n : ℕ) → n < 4294967296 → length (decimal n) ≤ 10
-dec-ten n h = dec-below 9 n (omega arith)
-
 -- one digit more
 dec-more : (n b : ℕ) → 0 < n → 48 ≤ b → b ≤ 57 → decimal (n * 10 + (b - 48)) ≡ decimal n ++ (b ∷ [])
 dec-more n b pos lo hi =

@@ -16,7 +16,7 @@ use Rattle.model.specs.declared.Cell.{Cell}
 use Rattle.model.specs.declared.Source.{Source}
 use Rattle.model.specs.declared.Source.the-variants.{Input, Cell as Matched, Inverter as Inverted, Nothing}
 use Rattle.theory_graph.proofs.Lists.{map-in, map-out, below-in, elem-in, map-map, map-same}
-use Rattle.theory_graph.proofs.Accepted.{Accepted, libraryFits}
+use Rattle.theory_graph.specs.Accepted.{Accepted, libraryFits}
 use Rattle.theory_graph.proofs.Placing.{order-once}
 use Rattle.theory_cover.proofs.Earliest.{earliest}
 use Rattle.theory_cover.proofs.Sound.{chosen-fine}

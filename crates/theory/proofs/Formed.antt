@@ -25,7 +25,7 @@ use Rattle.model.specs.declared.Figures.{Figures}
 use Rattle.theory_graph.proofs.Lists.{map-in, map-out, keep-out, map-map, map-same}
 use Rattle.theory_graph.proofs.Literals.{lit-var}
 use Rattle.theory_graph.proofs.Runs.{along}
-use Rattle.theory_graph.proofs.Accepted.{Accepted, libraryFits}
+use Rattle.theory_graph.specs.Accepted.{Accepted, libraryFits}
 use Rattle.theory_graph.proofs.Placing.{order-once}
 use Rattle.theory_graph.proofs.Nodes.{node-input}
 use Rattle.theory_text.proofs.ReadBack.{lineOf, blifOf}

@@ -18,7 +18,7 @@ use Rattle.model.specs.Demands.{Before, InOrder, Gated}
 use Rattle.model.specs.declared.Cell.{Cell}
 use Rattle.model.specs.declared.Figures.{Figures}
 use Rattle.theory_graph.proofs.Lists.{map-in, map-out, keep-out, by-eqb}
-use Rattle.theory_graph.proofs.Accepted.{Accepted, libraryFits}
+use Rattle.theory_graph.specs.Accepted.{Accepted, libraryFits}
 use Rattle.theory_graph.proofs.Placing.{order-once}
 use Rattle.theory_text.proofs.ReadBack.{lineOf, blifOf, from-low}
 use Rattle.theory_text.proofs.Names.{net-once}

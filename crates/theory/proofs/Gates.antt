@@ -27,7 +27,7 @@ use Rattle.model.specs.declared.Source.the-variants.{Input, Cell as Matched, In
 use Rattle.model.specs.declared.Figures.{Figures}
 use Rattle.theory_graph.proofs.Lists.{map-in, map-out, keep-in, keep-out, below-in, getD-in, elem-in, elem-out, same-eq, same-refl, all-of, is-true}
 use Rattle.theory_graph.proofs.Literals.{lit-var, lit-neg, lit-whole}
-use Rattle.theory_graph.proofs.Accepted.{Accepted, libraryFits}
+use Rattle.theory_graph.specs.Accepted.{Accepted, libraryFits}
 use Rattle.theory_graph.proofs.Placing.{order-once, order-small}
 use Rattle.theory_graph.proofs.Nodes.{node-input}
 use Rattle.theory_graph.proofs.Values.{valueOf-valuation}

@@ -19,7 +19,7 @@ use Rattle.model.specs.Netlist.{refused, mapped, mapGraph, uncovered, printed, 
 use Rattle.model.specs.Demands.{Timed, LowestUncovered, ChosenCover, choiceText, choiceFigures}
 use Rattle.model.specs.declared.Cell.{Cell}
 use Rattle.model.specs.declared.Phase.{Phase}
-use Rattle.theory_graph.proofs.Accepted.{Accepted}
+use Rattle.theory_graph.specs.Accepted.{Accepted}
 use Rattle.theory_graph.proofs.Lists.{getD-in}
 use Rattle.theory_graph.proofs.Placing.{order-once}
 use Rattle.theory_cover.proofs.Covers.{covers-timed}

@@ -22,7 +22,7 @@ use Rattle.model.specs.declared.Match.{Match}
 use Rattle.model.specs.declared.Phase.{Phase}
 use Rattle.model.specs.declared.Source.{Source}
 use Rattle.model.specs.declared.Source.the-variants.{Input, Cell as Matched, Inverter as Inverted, Nothing}
-use Rattle.theory_graph.proofs.Accepted.{Accepted}
+use Rattle.theory_graph.specs.Accepted.{Accepted}
 use Rattle.theory_graph.proofs.Lists.{map-out}
 use Rattle.theory_graph.proofs.Nodes.{node-input}
 use Rattle.theory_graph.proofs.Placing.{order-once}

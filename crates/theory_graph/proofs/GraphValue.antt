@@ -11,7 +11,7 @@ use Rattle.model.specs.Graph.{And, Graph, constant, input, both, findAnd, node,
 use Rattle.model.specs.Demands.{Distinct}
 use Rattle.theory_graph.proofs.Lists.{map-in, map-out, each-in, elem-out}
 use Rattle.theory_graph.proofs.Runs.{along, twice-apart}
-use Rattle.theory_graph.proofs.Accepted.{Accepted, andVars}
+use Rattle.theory_graph.specs.Accepted.{Accepted, andVars}
 use Rattle.theory_graph.proofs.Placing.{distinct-once, order-once, placed-and, defined-placed}
 use Rattle.theory_graph.proofs.Nodes.{node-input}
 use Rattle.theory_graph.proofs.Values.{ands-once, order-closed, operands-before, Closed, valueOf-valuation}
@@ -31,7 +31,7 @@ find-listed (b ∷ bs) once a m = go (eqb (a .var) (b .var)) (eqb→eq (a .var) 
 
 module _ (g : Graph) (ok : Accepted g) where
   defined-once : Distinct (0 ∷ g .inputs ++ andVars g)
-  defined-once = distinct-once (0 ∷ g .inputs ++ andVars g) [] (subst (λ (xs : List ℕ). T (Rattle.theory_graph.proofs.Accepted.distinct xs)) (sym (append-nil (0 ∷ g .inputs ++ andVars g))) (ok .defined))
+  defined-once = distinct-once (0 ∷ g .inputs ++ andVars g) [] (subst (λ (xs : List ℕ). T (Rattle.theory_graph.specs.Accepted.distinct xs)) (sym (append-nil (0 ∷ g .inputs ++ andVars g))) (ok .defined))
 
   -- an AND's variable has its literals
   pub and-node : (a : And) → List·Memᴰ a (g .ands) → node g (a .var) ≡ both (a .left) (a .right)

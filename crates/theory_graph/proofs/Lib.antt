@@ -3,7 +3,6 @@ pub mod Distinct
 pub mod Sets
 pub mod Literals
 pub mod Runs
-pub mod Accepted
 pub mod Nodes
 pub mod Walk
 pub mod CutFacts

@@ -10,7 +10,7 @@ use lib.ListN.{length}
 use mir.Facts.{and-yes}
 use Rattle.model.specs.Base.{elem, keep, lowest, find, run, flip}
 use Rattle.model.specs.Graph.{And, Graph, Node, constant, input, undefined, both, findAnd, node, ready, andOn, placeF, placingOrder, unplaced, varOf, negated, literalValue, nodeValue, values, valueOf}
-use Rattle.theory_graph.proofs.Accepted.{Accepted, distinct}
+use Rattle.theory_graph.specs.Accepted.{Accepted, distinct}
 use Rattle.model.specs.Demands.{Distinct}
 use Rattle.theory_graph.proofs.Lists.{map-in, map-out, keep-in, keep-out, elem-out, lowest-in, is-true}
 use Rattle.theory_graph.proofs.Runs.{no-twice-behind, along, run-stays, run-entry, run-split}

@@ -18,7 +18,7 @@ use Rattle.model.specs.Reading.{firstOf}
 use Rattle.model.specs.Graph.{Graph, placingOrder}
 use Rattle.model.specs.Cuts.{cutsOf, crowded}
 use Rattle.model.specs.Demands.{Distinct}
-use Rattle.theory_graph.proofs.Accepted.{Accepted}
+use Rattle.theory_graph.specs.Accepted.{Accepted}
 use Rattle.theory_graph.proofs.Lists.{keep-in, keep-out, is-true, is-false}
 use Rattle.theory_order.proofs.Splits.{none-in, no-more}
 use Rattle.theory_order.proofs.Recursion.{IsCut, cuts-exactly, cuts-once}

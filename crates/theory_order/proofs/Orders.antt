@@ -19,7 +19,7 @@ use mir.Facts.{and-yes, yes-and}
 use Rattle.model.specs.Base.{elem, keep, lowest}
 use Rattle.model.specs.Graph.{And, Graph, varOf, ready, andOn, placeF, placingOrder, unplaced}
 use Rattle.model.specs.Demands.{Distinct}
-use Rattle.theory_graph.proofs.Accepted.{distinct, andVars}
+use Rattle.theory_graph.specs.Accepted.{distinct, andVars}
 use Rattle.theory_graph.proofs.Lists.{map-in, map-out, keep-in, keep-out, elem-out, elem-T, is-true, lowest-in}
 use Rattle.theory_graph.proofs.Runs.{twice-apart}
 use Rattle.theory_graph.proofs.Placing.{next-new}

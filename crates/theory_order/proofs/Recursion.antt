@@ -20,7 +20,7 @@ use Rattle.model.specs.Base.{elem, each, union, find, run}
 use Rattle.model.specs.Graph.{And, Graph, constant, input, both, findAnd, node, placingOrder, varOf}
 use Rattle.model.specs.Cuts.{compareCuts, unions, nodeCuts, cutLists, cutsOf}
 use Rattle.model.specs.Demands.{Distinct}
-use Rattle.theory_graph.proofs.Accepted.{Accepted, andVars}
+use Rattle.theory_graph.specs.Accepted.{Accepted, andVars}
 use Rattle.theory_graph.proofs.Lists.{map-in, map-out, each-in, each-out, keep-in, keep-out}
 use Rattle.theory_graph.proofs.Sets.{union-left, union-right, union-only}
 use Rattle.theory_graph.proofs.Runs.{along, twice-apart, run-stays, run-split}

@@ -12,7 +12,7 @@ use lib.ListN.{length, length-append}
 use mir.Facts.{leb-yes, leb-no}
 use Rattle.model.specs.Base.{elem, keep, lowest, smaller}
 use Rattle.model.specs.Demands.{Distinct}
-use Rattle.theory_graph.proofs.Accepted.{distinct}
+use Rattle.theory_graph.specs.Accepted.{distinct}
 use Rattle.theory_graph.proofs.Lists.{elem-in, elem-out}
 use Rattle.theory_graph.proofs.Placing.{distinct-once}
 

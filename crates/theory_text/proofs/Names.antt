@@ -7,18 +7,18 @@ use mathlib.Core.Path.{_≡_, refl, sym, _∙_, ap, ap₂, subst}
 use mathlib.Core.Bool.{Bool, true, false, not, cond, _&&_}
 use mathlib.Core.List.{List, [], _∷_, _++_, map, List·Memᴰ, List·Memᴰ·head, List·Memᴰ·tail, head-eq-of-cons-eq, tail-eq-of-cons-eq}
 use lib.Dec.{T, eqb, leb, ltb, nltb→le}
-use lib.ListN.{length, getD}
+use lib.ListN.{length}
 use mir.Facts.{and-yes, ltb-yes, leb-yes, eqb-yes}
 use Rattle.model.specs.Base.{all, same}
 use Rattle.model.specs.Text.{digits, decimal, asDigits, isName}
-use Rattle.model.specs.Cells.{nameOf, noCell}
+use Rattle.model.specs.Cells.{nameOf}
 use Rattle.model.specs.Graph.{varOf, negated, literal}
 use Rattle.model.specs.Netlist.{Gate, netName}
 use Rattle.model.specs.Blif.{Binding, named, drives, fedBy, pinNames, outputName}
 use Rattle.model.specs.declared.Cell.{Cell}
-use Rattle.theory_graph.proofs.Lists.{same-refl, getD-in, all-of}
+use Rattle.theory_graph.proofs.Lists.{same-refl, all-of}
 use Rattle.theory_graph.proofs.Literals.{lit-whole}
-use Rattle.theory_graph.proofs.Accepted.{cellFits, libraryFits}
+use Rattle.theory_graph.specs.Accepted.{cellFits, libraryFits}
 use Rattle.theory_text.proofs.ReadBack.{lineOf, line-drives, line-fed, line-pins}
 
 -- ---- the library finds a cell by its name
@@ -68,10 +68,6 @@ named-cell (d ∷ cs) t c (List·Memᴰ·tail m) =
     go : (b : Bool) → T (not b) → named cs (nameOf c) ≡ c → cond b d (named cs (nameOf c)) ≡ c
     go true u e = absurd u
     go false u e = e
-
--- and the cell at a line
-pub named-at : (cells : List Cell) (i : ℕ) → T (libraryFits cells) → i < length cells → named cells (nameOf (getD cells i noCell)) ≡ getD cells i noCell
-named-at cells i t h = named-cell cells t (getD cells i noCell) (getD-in cells i noCell h)
 
 -- ---- the line of a gate whose cell is listed, with as many nets as the cell has pins
 

@@ -17,7 +17,8 @@ use Rattle.model.specs.GraphText.{headerOf, inLimits, readHeader, Kind, anInput
 use Rattle.model.specs.Demands.{Distinct}
 use Rattle.model.specs.declared.Header.{Header}
 use Rattle.theory_graph.proofs.Lists.{map-out, keep-out, each-out, elem-T, elem-out, map-map, getD-in, all-of, all-in, is-true, keep-append}
-use Rattle.theory_graph.proofs.Accepted.{Accepted, distinct, andVars}
+use Rattle.theory_graph.specs.Accepted.{Accepted, distinct, andVars}
+use Rattle.theory_text.specs.Fits.{LowLiterals, GraphFits}
 use Rattle.theory_text.proofs.Steps.{holds-once, fault-never, unless-out, from-out, next-out, then-out, only-out, numbers-length}
 
 -- the first literal's variable
@@ -430,12 +431,6 @@ graph-counted bytes h g e = subst (Counted h) (s .isGraph) (record {
     s : Lines bytes h g
     s = graph-lines bytes h g e
 
--- "A literal exceeds 2M+1": none does
-pub record LowLiterals (g : Graph) : Type 0 where
-  pub outputs : (l : ℕ) → List·Memᴰ l (g .outputs) → l ≤ 2 * g .size + 1
-  pub lefts : (a : And) → List·Memᴰ a (g .ands) → a .left ≤ 2 * g .size + 1
-  pub rights : (a : And) → List·Memᴰ a (g .ands) → a .right ≤ 2 * g .size + 1
-
 pub graph-low : (bytes : List ℕ) (h : Header) (g : Graph) → readGraph bytes h ≡ holds g → LowLiterals g
 unfolding graphOf howMany
 graph-low bytes h g e = subst LowLiterals (s .isGraph) (record {
@@ -474,13 +469,6 @@ header-fits bytes h e =
     let p = and-yes (leb (a .0 .size) 4095) (leb (a .0 .outputs) 4096 && leb (a .0 .inputs + a .0 .ands) (a .0 .size)) (c .0) in
     let q = and-yes (leb (a .0 .outputs) 4096) (leb (a .0 .inputs + a .0 .ands) (a .0 .size)) (p .1) in
     subst HeaderFits (holds-once (c .1)) (record { latches = eqb-yes (b .0); size = leb-yes (p .0); outputs = leb-yes (q .0); variables = leb-yes (q .1) })
-
--- "M exceeds 4,095, O exceeds 4,096, or I + A exceeds M": none of them
-pub record GraphFits (g : Graph) : Type 0 where
-  pub size : g .size ≤ 4095
-  pub outputs : length (g .outputs) ≤ 4096
-  pub variables : length (g .inputs) + length (g .ands) ≤ g .size
-  pub low : LowLiterals g
 
 pub graph-fits : (bytes : List ℕ) (h : Header) (g : Graph) → readHeader bytes ≡ holds h → readGraph bytes h ≡ holds g → GraphFits g
 graph-fits bytes h g d e =

@@ -16,7 +16,7 @@ use Rattle.model.specs.Cells.{nameOf}
 use Rattle.model.specs.LibraryText.{nameBytes, cellOfFields, cellOfLine, isClean, readCells, readLibraryLines, readLibrary}
 use Rattle.model.specs.declared.Cell.{Cell}
 use Rattle.theory_graph.proofs.Lists.{same-eq, same-refl, any-each, getD-in, all-in, is-false}
-use Rattle.theory_graph.proofs.Accepted.{cellFits, libraryFits}
+use Rattle.theory_graph.specs.Accepted.{cellFits, libraryFits}
 use Rattle.theory_text.proofs.Steps.{holds-once, fault-never, unless-out, from-out, next-out, then-out, only-out, numbers-length, numbers-small}
 use Rattle.theory_text.proofs.Plain.{name-short}
 

@@ -14,10 +14,11 @@ use Rattle.model.specs.Graph.{unplaced}
 use Rattle.model.specs.Mapper.{Call, Design, readTexts}
 use Rattle.model.specs.declared.Cell.{Cell}
 use Rattle.model.specs.declared.Header.{Header}
-use Rattle.theory_graph.proofs.Accepted.{Accepted, libraryFits}
+use Rattle.theory_graph.specs.Accepted.{Accepted, libraryFits}
 use Rattle.theory_text.proofs.Steps.{holds-once, unless-out, next-out}
 use Rattle.theory_text.proofs.ReadLibrary.{Written, library-fits, library-few, library-written}
-use Rattle.theory_text.proofs.ReadGraph.{graph-accepted, GraphFits, graph-fits}
+use Rattle.theory_text.specs.Fits.{GraphFits}
+use Rattle.theory_text.proofs.ReadGraph.{graph-accepted, graph-fits}
 
 -- the two texts were read: the library's, the header's and the graph's, with words enough
 pub record Texts (c : Call) (d : Design) : Type 0 where

@@ -1,5 +1,4 @@
 -- A cell under an order and a mask.
---     pin-row-small       a row of m pins is below 2 ^ m; `row-small`: so a row of the 384 is below 16
 --     pin-row             the row of the pins is that of the order, exclusive-or with the mask, modulo 2 ^ pins
 --     rows-agree          "in all 16 rows, the cut's function equals the cell's value": it is the cell's table
 --     places-four         an order has four places; `place-small`: each below 4
@@ -10,7 +9,7 @@ use mathlib.Core.Bool.{Bool, true, false, Bool·beq}
 use mathlib.Core.Logic.{_↔_}
 use mathlib.Core.List.{List, [], _∷_}
 use Prim.Native.Nat.{ℕ, zero, suc, _+_, _*_, _/_, _%_, _^_, _≤_, _<_}
-use native.Mathlib.Nat.{pow-suc, le-of-suc-le-suc}
+use native.Mathlib.Nat.{le-of-suc-le-suc}
 use native.Mathlib.Numerals.{add-one}
 use native.Mathlib.Omega.{arith}
 use lib.Bits.{bitXor, differ, xor-step}
@@ -18,7 +17,7 @@ use lib.Dec.{T, eqb, ltb, eqb→eq, ltb→lt}
 use lib.ListN.{length, getD}
 use lib.Pow.{mod-pow-add}
 use Rattle.model.specs.Base.{bit, one, flip, all, below}
-use Rattle.model.specs.Table.{value, orders, pinRow, rowMap}
+use Rattle.model.specs.Table.{value, orders, pinRow}
 use Rattle.model.specs.Cuts.{tabulate}
 use Rattle.model.specs.Matching.{placesFit, rowsAgree}
 use Rattle.model.specs.declared.Cell.{Cell}
@@ -27,16 +26,6 @@ use Rattle.truth.proofs.Tested.{at, from-at, pairs, at-pair, beq-same, 
 use Rattle.truth.proofs.Tables.{one-small, one-low, half-one, value-tabulate, table-small, tables-same}
 
 -- ---- the row of the pins
-
-pub pin-row-small : (m : ℕ) (places : List ℕ) (mask r : ℕ) → pinRow m places mask r < 2 ^ m
-unfolding pinRow
-pin-row-small zero places mask r = omega arith
-pin-row-small (suc m) [] mask r = omega (arith, pow-suc 2 m, pin-row-small m [] mask r)
-pin-row-small (suc m) (p ∷ ps) mask r = omega (arith, pow-suc 2 m, one-small (flip (bit mask 0) (bit r p)), pin-row-small m ps (mask / 2) r)
-
-pub row-small : (places : List ℕ) (r : ℕ) → rowMap places r < 16
-unfolding rowMap
-row-small places r = pin-row-small 4 places 0 r
 
 differ-flip : (a b : Bool) → differ (one b) (one a) ≡ one (flip a b)
 unfolding one flip

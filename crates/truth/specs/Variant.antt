@@ -1,10 +1,11 @@
--- The table of a cell under an order and a mask, the table of a leaf, and whether the pins' places are there. Assumes nothing.
+-- The table of a cell under an order and a mask, the table of a leaf, whether the pins' places are there, and the net of a pin. Assumes nothing.
 use Prim.Native.Nat.{ℕ}
 use mathlib.Core.Bool.{Bool}
 use mathlib.Core.List.{List, []}
 use lib.Dec.{ltb}
 use lib.ListN.{take, getD}
 use Rattle.model.specs.Base.{all, bit}
+use Rattle.model.specs.Graph.{literal}
 use Rattle.model.specs.Table.{value, orders, pinRow}
 use Rattle.model.specs.Cuts.{tabulate}
 
@@ -24,3 +25,7 @@ leafTable i = tabulate (λ r. bit r i) 16
 unfoldable pub placesBelow : ℕ → List ℕ → ℕ → Bool
 unfolding all
 placesBelow pins places leaves = all (λ (p : ℕ). ltb p leaves) (take pins places)
+
+-- the net that feeds pin j of a match on a cut: "each pin needing its leaf in the mask's phase"
+abbrev pub pinNet : List ℕ → ℕ → List ℕ → ℕ → ℕ
+pinNet places mask leaves j = literal (bit mask j) (getD leaves (getD places j 0) 0)

@@ -3,13 +3,13 @@ ghost use mathlib.Core.Path.{_≡_};
 ghost use Prim.Native.Nat.{_+_, _*_, _%_, _^_, _<_, _≤_};
 ghost use mathlib.Core.List.{map};
 ghost use lib.Bits.{bitXor};
-ghost use mathlib.Core.Bool.{true, _&&_};
-ghost use lib.Dec.{ltb};
+ghost use mathlib.Core.Bool.{true};
 ghost use lib.ListN.{getD};
-ghost use Rattle.model.specs.Base.{one, below};
+ghost use Rattle.model.specs.Base.{bit, one, below};
+ghost use Rattle.model.specs.Graph.{literal, opposite};
 ghost use Rattle.model.specs.Table.{value, rowMap};
 ghost use Rattle.model.specs.Matching.{phaseTable};
-ghost use Rattle.truth.specs.Variant.{placesOf, variantTable, leafTable, placesBelow};
+ghost use Rattle.truth.specs.Variant.{placesOf, variantTable, leafTable, pinNet};
 
 // "A fixed table of 384 rows gives, for each order and row r, the row whose bit j is the bit of r at the order's place j".
 const ROWS: [[u8; 16]; 24] = [
@@ -162,25 +162,36 @@ pub fn pattern(i: usize) -> u16
     PATTERNS[i]
 }
 
-// Whether places before j fit, and place j too.
-fn fits_too(ok: bool, order: usize, j: usize, leaves: usize) -> bool
-    requires { ⌜ (order < 24) × (j < 4) ⌝ }
-    ensures { λ x. ⌜ x ≡ (ok && ltb (getD (placesOf order) j 0) leaves) ⌝ }
+// ---- literals
+
+// The other phase of a literal's variable.
+pub fn opposite(l: usize) -> usize
+    requires { ⌜ l < 65536 ⌝ }
+    ensures { λ x. ⌜ (x ≡ opposite l) × (x ≤ 65536) ⌝ }
 {
-    if ok { place(order, j) < leaves } else { false }
+    if l % 2 == 1 { l - 1 } else { l + 1 }
 }
 
-// "pin j's place is below the number of leaves for each j < m".
-pub fn places_fit(pins: u16, order: usize, leaves: usize) -> bool
-    requires { ⌜ (pins ≤ 4) × (order < 24) ⌝ }
-    ensures { λ x. ⌜ x ≡ placesBelow pins (placesOf order) leaves ⌝ }
+// A variable's literal in the phase that bit j of a mask says.
+pub fn masked(v: usize, mask: usize, j: usize) -> usize
+    requires { ⌜ (v < 65536) × (j < 4) ⌝ }
+    ensures { λ x. ⌜ (x ≡ literal (bit mask j) v) × (x < 131072) ⌝ }
 {
-    let m = pins as usize;
-    let mut ok = true;
-    let mut j: usize = 0;
-    while j < m {
-        ok = fits_too(ok, order, j, leaves);
-        j += 1;
-    }
-    ok
+    2 * v + (mask >> j) % 2
+}
+
+// A leaf as an index.
+fn leaf(v: u16) -> usize
+    ensures { λ r. ⌜ (r ≡ v) × (r < 65536) ⌝ }
+{
+    v as usize
+}
+
+// The net that feeds pin j: "each pin needing its leaf in the mask's phase".
+pub fn pin_net(leaves: [u16; 4], order: usize, mask: usize, j: usize) -> usize
+    requires { ⌜ (order < 24) × (j < 4) ⌝ }
+    ensures { λ x. ⌜ (x ≡ pinNet (placesOf order) mask leaves j) × (x < 131072) ⌝ }
+{
+    let i = place(order, j);
+    masked(leaf(leaves[i]), mask, j)
 }

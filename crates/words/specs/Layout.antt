@@ -5,6 +5,7 @@ use mathlib.Core.List.{List, [], _∷_}
 use Prim.Native.Nat.{ℕ, _+_, _*_, _/_, _%_, _≤_}
 use lib.ListN.{length, getD}
 use Rattle.model.specs.Limits.{cutLimit}
+use Rattle.model.specs.declared.Header.{Header}
 
 -- ---- the kinds of a node
 
@@ -20,6 +21,12 @@ inputKind = 2
 
 abbrev pub andKind : ℕ
 andKind = 3
+
+-- ---- how many
+
+-- the placed variables: variable 0, the inputs and the ANDs
+abbrev pub placedOf : Header → ℕ
+placedOf h = h .inputs + h .ands + 1
 
 -- ---- the addresses
 

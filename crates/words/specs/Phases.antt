@@ -1,12 +1,13 @@
 -- A phase as four words, and the needed phases of a variable as one. Assumes nothing.
-use mathlib.Core.Bool.{Bool, cond}
+use mathlib.Core.Bool.{Bool, cond, not, _&&_}
 use mathlib.Core.List.{List, [], _∷_, _++_}
 use Prim.Native.Nat.{ℕ, _+_, _*_, _/_, _%_, _<_}
 use lib.Dec.{eqb}
 use lib.ListN.{getD}
 use Rattle.model.specs.Limits.{cutLimit}
 use Rattle.model.specs.Graph.{varOf, negated}
-use Rattle.model.specs.Choice.{Phases, phaseOf}
+use Rattle.model.specs.Choice.{Phases, phaseOf, absent}
+use Rattle.model.specs.Netlist.{isOwn}
 use Rattle.model.specs.declared.Match.{Match}
 use Rattle.model.specs.declared.Source.{Source}
 use Rattle.model.specs.declared.Source.the-variants.{Input, Cell as Matched, Inverter as Inverted, Nothing}
@@ -84,6 +85,11 @@ phasesAt w m v = record { positive = positiveAt w m v; negative = negativeAt w m
 -- the phase of a literal
 abbrev pub phaseAt : List ℕ → ℕ → ℕ → Phase
 phaseAt w m l = phaseOf (phasesAt w m) l
+
+-- whether a source makes a gate: there is one, "inputs' own positive nets apart"
+unfoldable pub makesGate : Source → Bool
+unfolding absent isOwn
+makesGate s = not (absent s) && not (isOwn s)
 
 -- ---- the needed phases: bit 0 the positive one, bit 1 the negative one
 

@@ -1,5 +1,6 @@
 // The lent words: what lies where is said by specs/Layout.antt, and each function here reads or writes one record, or clears.
 use model::Cut;
+use model::Header;
 use model::Match;
 use model::Phase;
 use model::Source;
@@ -8,10 +9,12 @@ ghost use Prim.Native.Nat.{_+_, _-_, _/_, _≤_, _<_};
 ghost use mathlib.Core.List.{_∷_, []};
 ghost use lib.ListN.{length, getD, replicate};
 ghost use Rattle.model.specs.Limits.{cutLimit, need};
+ghost use Rattle.model.specs.Choice.{absent};
+ghost use Rattle.model.specs.Netlist.{isOwn, isInverted};
 ghost use Rattle.words.specs.Put.{putAt, zeros};
-ghost use Rattle.words.specs.Layout.{Room, RoomFor, kindAt, kindAddr, leftAt, leftAddr, rightAt, rightAddr, slotAt, slotAddr, placeAt, placeAddr, countAt, countAddr, neededAt, neededAddr, positiveAddr, negativeAddr, listsFrom, outputAt, outputAddr, notesFrom, notesTo, noteAddr, notedAt, walkAt, noteWords};
+ghost use Rattle.words.specs.Layout.{placedOf, Room, RoomFor, kindAt, kindAddr, leftAt, leftAddr, rightAt, rightAddr, slotAt, slotAddr, placeAt, placeAddr, countAt, countAddr, neededAt, neededAddr, positiveAddr, negativeAddr, listsFrom, outputAt, outputAddr, notesFrom, notesTo, noteAddr, notedAt, walkAt, noteWords};
 ghost use Rattle.words.specs.Record.{cutIn, cutOf, functionOf, putCut, putFunctions, putNode};
-ghost use Rattle.words.specs.Phases.{MatchFits, matchWord, PhaseFits, kindSource, phaseWords, phaseIn, positiveAt, negativeAt, phaseAt, isNeeded, putNeeded};
+ghost use Rattle.words.specs.Phases.{MatchFits, matchWord, PhaseFits, kindSource, phaseWords, phaseIn, positiveAt, negativeAt, phaseAt, makesGate, isNeeded, putNeeded};
 
 // "more than 24 cuts": the code's one constant for the cut limit, `cutLimit` of model.
 pub const LIMIT: usize = 24;
@@ -57,6 +60,14 @@ fn set_word(work: &mut [u16], at: usize, x: u16)
     ensures { λ _. ⌜ now (work .exit) ≡ putAt (now (work .entry)) at (x ∷ []) ⌝ }
 {
     work[at] = x;
+}
+
+// How many variables are placed.
+pub fn placed(h: Header) -> usize
+    requires { ⌜ placedOf h ≤ 4096 ⌝ }
+    ensures { λ r. ⌜ r ≡ placedOf h ⌝ }
+{
+    h.inputs + h.ands + 1
 }
 
 // ---- the columns of one word for each variable
@@ -436,6 +447,52 @@ pub fn set_negative(work: &mut [u16], m: usize, v: usize, p: Phase)
     ensures { λ _. ⌜ now (work .exit) ≡ putAt (now (work .entry)) (negativeAddr m v) (phaseWords p) ⌝ }
 {
     store_phase(work, 12 * (m + 1) + 4 * v, p);
+}
+
+// Whether a phase has no source.
+pub fn is_absent(p: Phase) -> bool
+    ensures { λ r. ⌜ r ≡ absent (p .source) ⌝ }
+{
+    let s = p.source;
+    match s {
+        Source::Input => false,
+        Source::Cell(_) => false,
+        Source::Inverter(_) => false,
+        Source::Nothing => true,
+    }
+}
+
+// Whether it is an input's own net.
+pub fn is_own(p: Phase) -> bool
+    ensures { λ r. ⌜ r ≡ isOwn (p .source) ⌝ }
+{
+    let s = p.source;
+    match s {
+        Source::Input => true,
+        Source::Cell(_) => false,
+        Source::Inverter(_) => false,
+        Source::Nothing => false,
+    }
+}
+
+// Whether an inverter drives it.
+pub fn is_inverted(p: Phase) -> bool
+    ensures { λ r. ⌜ r ≡ isInverted (p .source) ⌝ }
+{
+    let s = p.source;
+    match s {
+        Source::Input => false,
+        Source::Cell(_) => false,
+        Source::Inverter(_) => true,
+        Source::Nothing => false,
+    }
+}
+
+// Whether a gate drives it.
+pub fn makes_gate(p: Phase) -> bool
+    ensures { λ r. ⌜ r ≡ makesGate (p .source) ⌝ }
+{
+    if is_absent(p) { false } else { !is_own(p) }
 }
 
 // ---- outputs

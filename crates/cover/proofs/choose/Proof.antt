@@ -1,7 +1,8 @@
 -- `cover::choose` meets its contract: the sheet and the inverter are the library's. Assumes nothing.
-use mathlib.Core.Path.{_≡_}
+use mathlib.Core.Path.{_≡_, sym, ap, subst, _∙_}
 use mathlib.Core.List.{List}
 use Prim.Native.Nat.{ℕ}
+use native.Mathlib.Omega.{arith}
 use Rattle.model.specs.Cells.{cellsOf}
 use Rattle.model.specs.declared.Library.{Library}
 use Rattle.matching.specs.Variants.{Usable}
@@ -9,7 +10,7 @@ use Rattle.matching.specs.Sheet.{Blank, listMatched}
 use Rattle.matching.specs.Inverters.{inverterOf}
 use Rattle.matching.specs.declared.Inverter.{Inverter}
 use Rattle.matching.proofs.Linking.{build-sheet}
-use Rattle.cover.specs.Choosing.{ToolsIn}
+use Rattle.cover.specs.Choosing.{chosenUp, ToolsIn, Unchosen}
 use borrow.Author.Needs.{needs}
 use Rattle.cover.proofs.choose.Statement.{statement}
 use Rattle.cover.proofs.choose.Tie as tie
@@ -27,16 +28,13 @@ match-library-requires c κs = search needs
 inverter-of-requires : tie.Need-inverter-of-requires
 inverter-of-requires c κs = search needs
 
-add-choose-variables : tie.Need-add-choose-variables
-add-choose-variables c = search needs
-
-add-choose-variables-2 : tie.Need-add-choose-variables-2
-add-choose-variables-2 c = search needs
+placed-requires : tie.Need-placed-requires
+placed-requires c κs = let s = c .before .before .before .before .before .before in omega (arith, s .pre .1 .slots .few, s .pre .1 .slots .room .small)
 
 choose-variables-requires : tie.Need-choose-variables-requires
 choose-variables-requires c κs =
     let a = c .before .before .before .before .before .before .before .before .args in
-    ((a .lib, tools (a .lib) (c .before .before .before .inverter-of .result) (c .before .before .before .before .before .before .no-sheet .result) (c .before .before .before .before .match-library .last .1 .0) (c .before .before .before .before .before .before .before .before .pre .0) (c .before .before .before .before .before .before .no-sheet .ensures) (c .before .before .before .before .match-library .ensures) (c .before .before .before .inverter-of .ensures)), c .before .before .before .before .before .before .before .before .pre .1)
+    ((a .lib, tools (a .lib) (c .before .before .before .inverter-of .result) (c .before .before .before .before .before .before .no-sheet .result) (c .before .before .before .before .match-library .last .1 .0) (c .before .before .before .before .before .before .before .before .pre .0) (c .before .before .before .before .before .before .no-sheet .ensures) (c .before .before .before .before .match-library .ensures) (c .before .before .before .inverter-of .ensures)), subst (Unchosen (a .work .now) (a .h .size)) (sym (c .before .placed .ensures)) (c .before .before .before .before .before .before .before .before .pre .1))
 
 same-length : tie.Need-same-length
 same-length c = search needs
@@ -45,6 +43,7 @@ returns : tie.Need-returns
 returns c =
     let a = c .before .before .before .before .before .before .before .before .before .before .before .args in
     c .before .before .choose-variables .ensures (a .lib) (tools (a .lib) (c .before .before .before .before .before .before .inverter-of .result) (c .before .before .before .before .before .before .before .before .before .no-sheet .result) (c .before .before .before .before .before .before .before .match-library .last .1 .0) (c .before .before .before .before .before .before .before .before .before .before .before .pre .0) (c .before .before .before .before .before .before .before .before .before .no-sheet .ensures) (c .before .before .before .before .before .before .before .match-library .ensures) (c .before .before .before .before .before .before .inverter-of .ensures))
+    ∙ ap (chosenUp (cellsOf (a .lib)) (a .work .now) (a .h .size)) (c .before .before .before .before .placed .ensures)
 
 pub choose-spec : {M : Type 1} → statement M
 choose-spec =
@@ -53,8 +52,7 @@ choose-spec =
     no-sheet-requires
     match-library-requires
     inverter-of-requires
-    add-choose-variables
-    add-choose-variables-2
+    placed-requires
     choose-variables-requires
     same-length
     returns)

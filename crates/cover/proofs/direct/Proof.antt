@@ -8,7 +8,7 @@ use borrow.Author.Tests.{ne-eqb}
 use Rattle.model.specs.Cells.{cellsOf}
 use Rattle.model.specs.Choice.{noPhase}
 use Rattle.model.specs.declared.Cell.{Cell}
-use Rattle.words.specs.Layout.{kindAt, leftAt, rightAt}
+use Rattle.words.specs.Layout.{constantKind, inputKind, andKind, kindAt, leftAt, rightAt}
 use Rattle.words.specs.Record.{nodeOf, nodeAt}
 use Rattle.cover.specs.Choosing.{bestAt, ownPhase, directOf, directAt}
 use borrow.Author.Needs.{needs}
@@ -16,21 +16,21 @@ use Rattle.cover.proofs.direct.Statement.{statement}
 use Rattle.cover.proofs.direct.Tie as tie
 
 module _ (cells : List Cell) (w : List ℕ) (m v : ℕ) (neg : Bool) where
-  of-constant : kindAt w m v ≡ 1 → bestAt cells w m v neg ≡ directAt cells w m v neg
+  of-constant : kindAt w m v ≡ constantKind → bestAt cells w m v neg ≡ directAt cells w m v neg
   unfolding directAt nodeAt directOf
   of-constant e = sym (ap (λ (k : ℕ). directOf cells w m v neg (nodeOf k (leftAt w m v) (rightAt w m v))) e)
 
-  of-and : kindAt w m v ≡ 3 → bestAt cells w m v neg ≡ directAt cells w m v neg
+  of-and : kindAt w m v ≡ andKind → bestAt cells w m v neg ≡ directAt cells w m v neg
   unfolding directAt nodeAt directOf
   of-and e = sym (ap (λ (k : ℕ). directOf cells w m v neg (nodeOf k (leftAt w m v) (rightAt w m v))) e)
 
-  of-input : kindAt w m v ≡ 2 → ownPhase neg ≡ directAt cells w m v neg
+  of-input : kindAt w m v ≡ inputKind → ownPhase neg ≡ directAt cells w m v neg
   unfolding directAt nodeAt directOf
   of-input e = sym (ap (λ (k : ℕ). directOf cells w m v neg (nodeOf k (leftAt w m v) (rightAt w m v))) e)
 
-  of-undefined : (kindAt w m v ≡ 1 → ⊥) → (kindAt w m v ≡ 2 → ⊥) → (kindAt w m v ≡ 3 → ⊥) → noPhase ≡ directAt cells w m v neg
+  of-undefined : (kindAt w m v ≡ constantKind → ⊥) → (kindAt w m v ≡ inputKind → ⊥) → (kindAt w m v ≡ andKind → ⊥) → noPhase ≡ directAt cells w m v neg
   unfolding directAt nodeAt directOf
-  of-undefined a b c = rw (ne-eqb (kindAt w m v) 1 a, ne-eqb (kindAt w m v) 2 b, ne-eqb (kindAt w m v) 3 c)
+  of-undefined a b c = rw (ne-eqb (kindAt w m v) constantKind a, ne-eqb (kindAt w m v) inputKind b, ne-eqb (kindAt w m v) andKind c)
 
 kind-requires : tie.Need-kind-requires
 kind-requires c κs = search needs

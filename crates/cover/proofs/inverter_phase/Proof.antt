@@ -9,8 +9,8 @@ use borrow.Author.Needs.{needs}
 use Rattle.cover.proofs.inverter_phase.Statement.{statement}
 use Rattle.cover.proofs.inverter_phase.Tie as tie
 
-sourceless-requires : tie.Need-sourceless-requires
-sourceless-requires c κs = search needs
+is-absent-requires : tie.Need-is-absent-requires
+is-absent-requires c κs = search needs
 
 nothing-requires : tie.Need-nothing-requires
 nothing-requires c κs = search needs
@@ -20,7 +20,7 @@ unfolding inverted
 returns c =
     let a = c .before .before .before .args in
     c .nothing .ensures
-    ∙ sym (ap (λ (b : Bool). cond b noPhase (record { source = Inverted (a .line); arrival = a .from .arrival + a .d })) (sym (c .before .before .sourceless .ensures) ∙ c .before .if1 .taken))
+    ∙ sym (ap (λ (b : Bool). cond b noPhase (record { source = Inverted (a .line); arrival = a .from .arrival + a .d })) (sym (c .before .before .is-absent .ensures) ∙ c .before .if1 .taken))
 
 add-t7 : tie.Need-add-t7
 add-t7 c = search needs
@@ -29,8 +29,8 @@ returns-2 : tie.Need-returns-2
 unfolding inverted
 returns-2 c =
     let a = c .before .before .before .args in
-    sym (ap (λ (b : Bool). cond b noPhase (record { source = Inverted (a .line); arrival = a .from .arrival + a .d })) (sym (c .before .before .sourceless .ensures) ∙ c .before .if1 .left))
+    sym (ap (λ (b : Bool). cond b noPhase (record { source = Inverted (a .line); arrival = a .from .arrival + a .d })) (sym (c .before .before .is-absent .ensures) ∙ c .before .if1 .left))
 
 pub inverter-phase-spec : {M : Type 1} → statement M
 inverter-phase-spec =
-    tie.close (tie.spec sourceless-requires nothing-requires returns add-t7 returns-2)
+    tie.close (tie.spec is-absent-requires nothing-requires returns add-t7 returns-2)

@@ -20,14 +20,14 @@ phase-requires c κs =
       subst (λ (l : ℕ). l / 2 ≤ a .m) (sym (c .output .ensures)) (p .0 .within (a .k) (p .1)),
     )
 
-sourceless-requires : tie.Need-sourceless-requires
-sourceless-requires c κs = search needs
+is-absent-requires : tie.Need-is-absent-requires
+is-absent-requires c κs = search needs
 
 returns : tie.Need-returns
 returns c =
     let a = c .before .before .before .before .args in
-    c .sourceless .ensures
+    c .is-absent .ensures
     ∙ ap (λ (x : Phase). absent (x .source)) (c .before .phase .ensures ∙ ap (phaseAt (a .work .now) (a .m)) (c .before .before .output .ensures))
 
 pub lacks-source-spec : {M : Type 1} → statement M
-lacks-source-spec = tie.close (tie.spec output-requires phase-requires sourceless-requires returns)
+lacks-source-spec = tie.close (tie.spec output-requires phase-requires is-absent-requires returns)

@@ -30,14 +30,14 @@ mark-match-requires c κs =
 enum-told : tie.Need-enum-told
 enum-told c = search needs
 
-other-requires : tie.Need-other-requires
-other-requires c κs = search needs
+opposite-requires : tie.Need-opposite-requires
+opposite-requires c κs = search needs
 
 mark-needed-requires : tie.Need-mark-needed-requires
 unfolding varOf
 mark-needed-requires c κs =
     let s = c .before .before .before .before .before .before .before in
-    (s .pre .0 .cuts .room, omega (arith, ap (λ (y : ℕ). y / 2) (c .other .ensures), opposite-var (s .args .l), s .pre .1))
+    (s .pre .0 .cuts .room, omega (arith, ap (λ (y : ℕ). y / 2) (c .opposite .ensures .0), opposite-var (s .args .l), s .pre .1))
 
 enum-told-2 : tie.Need-enum-told-2
 enum-told-2 c = search needs
@@ -67,7 +67,7 @@ returns-2 c =
     let x = c .before .before .before .before .before .enum-told .given .0 .0 in
     let e = ap (λ (p : Phase). p .source) (sym (c .before .before .before .before .before .before .before .phase .ensures)) ∙ c .before .before .before .before .before .enum-told .given .1 in
     c .before .before .mark-needed .ensures
-    ∙ ap (putNeeded (a .work .now) (a .m)) (c .before .before .before .other .ensures)
+    ∙ ap (putNeeded (a .work .now) (a .m)) (c .before .before .before .opposite .ensures .0)
     ∙ ap (putAll (a .work .now) (a .m)) (sym (feeds-inverted (cellsOf (a .lib)) (a .work .now) (a .m) (a .l) x e))
 
 same-length-3 : tie.Need-same-length-3
@@ -98,7 +98,7 @@ mark-feeds-spec =
     enum-known-s
     mark-match-requires
     enum-told
-    other-requires
+    opposite-requires
     mark-needed-requires
     enum-told-2
     enum-told-3

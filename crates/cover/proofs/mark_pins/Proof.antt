@@ -10,24 +10,24 @@ use Rattle.model.specs.Base.{bit}
 use Rattle.model.specs.Graph.{varOf}
 use Rattle.model.specs.Matching.{fedNets}
 use Rattle.theory_graph.proofs.Literals.{lit-var}
-use Rattle.truth.specs.Variant.{placesOf}
+use Rattle.truth.specs.Variant.{placesOf, pinNet}
 use Rattle.truth.proofs.Variants.{places-four}
+use Rattle.truth.proofs.Nets.{nets-length, nets-get}
 use Rattle.words.specs.Layout.{Room}
 use Rattle.words.specs.Phases.{putNeeded}
-use Rattle.cover.specs.Marking.{netOf, putAll}
-use Rattle.cover.proofs.Nets.{nets-length, nets-get}
+use Rattle.cover.specs.Marking.{putAll}
 use Rattle.cover.proofs.Marks.{mark-size}
 use Rattle.cover.proofs.mark_pins.Statement.{statement}
 use Rattle.cover.proofs.mark_pins.Tie as tie
 
 -- the variable of a net
-net-var : (leaves : List ℕ) (order mask j m : ℕ) → getD leaves (getD (placesOf order) j 0) 0 ≤ m → netOf leaves order mask j / 2 ≤ m
+net-var : (leaves : List ℕ) (order mask j m : ℕ) → getD leaves (getD (placesOf order) j 0) 0 ≤ m → pinNet (placesOf order) mask leaves j / 2 ≤ m
 unfolding varOf
 net-var leaves order mask j m h = omega (arith, lit-var (bit mask j) (getD leaves (getD (placesOf order) j 0) 0))
 
 -- one pin more
 turn : (w : List ℕ) (m : ℕ) (leaves : List ℕ) (order mask pins j : ℕ) → order < 24 → pins ≤ 4 → j < pins
-    → putAll w m (drop j (fedNets pins (placesOf order) mask leaves)) ≡ putAll (putNeeded w m (netOf leaves order mask j)) m (drop (j + 1) (fedNets pins (placesOf order) mask leaves))
+    → putAll w m (drop j (fedNets pins (placesOf order) mask leaves)) ≡ putAll (putNeeded w m (pinNet (placesOf order) mask leaves j)) m (drop (j + 1) (fedNets pins (placesOf order) mask leaves))
 unfolding putAll
 turn w m leaves order mask pins j o p h =
     let nets : List ℕ = fedNets pins (placesOf order) mask leaves in
@@ -36,7 +36,7 @@ turn w m leaves order mask pins j o p h =
     let e : suc j ≡ j + 1 = omega arith in
     ap (putAll w m) (drop-cons nets j 0 (omega arith))
     ∙ ap (λ (x : ℕ). putAll (putNeeded w m x) m (drop (suc j) nets)) (nets-get pins (placesOf order) mask leaves j four h)
-    ∙ ap (λ (i : ℕ). putAll (putNeeded w m (netOf leaves order mask j)) m (drop i nets)) e
+    ∙ ap (λ (i : ℕ). putAll (putNeeded w m (pinNet (placesOf order) mask leaves j)) m (drop i nets)) e
 
 -- no pin is left
 done : (w : List ℕ) (m : ℕ) (leaves : List ℕ) (order mask pins j : ℕ) → order < 24 → pins ≤ 4 → j ≡ pins → putAll w m (drop j (fedNets pins (placesOf order) mask leaves)) ≡ w
@@ -55,8 +55,8 @@ abbrev μ-loop : tie.MeasureT-loop
 loop-holds : tie.Need-loop-holds Inv-loop μ-loop
 loop-holds c = (omega arith, refl, refl)
 
-net-requires : tie.Need-net-requires Inv-loop μ-loop
-net-requires c κs = (c .before .before .before .before .pre .1 .known, omega (arith, c .before .before .before .before .pre .1 .four))
+pin-net-requires : tie.Need-pin-net-requires Inv-loop μ-loop
+pin-net-requires c κs = (c .before .before .before .before .pre .1 .known, omega (arith, c .before .before .before .before .pre .1 .four))
 
 mark-needed-requires : tie.Need-mark-needed-requires Inv-loop μ-loop
 mark-needed-requires c κs =
@@ -65,7 +65,7 @@ mark-needed-requires c κs =
     let a = s .args in
     let r : Room (l .loop .work) (a .m) = record { small = s .pre .0 .small; room = omega (arith, s .pre .0 .room, l .loop .inv .1) } in (
       r,
-      subst (λ (x : ℕ). x / 2 ≤ a .m) (sym (c .net .ensures))
+      subst (λ (x : ℕ). x / 2 ≤ a .m) (sym (c .pin-net .ensures .0))
           (net-var (a .leaves) (a .order) (a .mask) (l .loop .j) (a .m) (s .pre .1 .within (l .loop .j) (c .before .before .loop-test .taken))),
     )
 
@@ -83,11 +83,11 @@ loop-again c =
     let a = s .args in
     let w : List ℕ = l .loop .work in
     let j : ℕ = l .loop .j in
-    let x : ℕ = netOf (a .leaves) (a .order) (a .mask) j in
+    let x : ℕ = pinNet (placesOf (a .order)) (a .mask) (a .leaves) j in
     let h : j < a .pins = c .before .before .before .before .before .loop-test .taken in
     let r : Room w (a .m) = record { small = s .pre .0 .small; room = omega (arith, s .pre .0 .room, l .loop .inv .1) } in
     let v : x / 2 ≤ a .m = net-var (a .leaves) (a .order) (a .mask) j (a .m) (s .pre .1 .within j h) in
-    let e : t .mark-needed .last .0 ≡ putNeeded w (a .m) x = t .mark-needed .ensures ∙ ap (putNeeded w (a .m)) (t .before .net .ensures) in (
+    let e : t .mark-needed .last .0 ≡ putNeeded w (a .m) x = t .mark-needed .ensures ∙ ap (putNeeded w (a .m)) (t .before .pin-net .ensures .0) in (
       omega arith,
       ap length e ∙ mark-size w (a .m) x r v ∙ l .loop .inv .1,
       ap (λ (y : List ℕ). putAll y (a .m) (drop (j + 1) (fedNets (a .pins) (placesOf (a .order)) (a .mask) (a .leaves)))) e
@@ -113,7 +113,7 @@ mark-pins-spec =
     Inv-loop
     μ-loop
     loop-holds
-    net-requires
+    pin-net-requires
     mark-needed-requires
     add-j
     loop-less

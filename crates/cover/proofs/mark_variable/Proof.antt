@@ -16,8 +16,8 @@ use Rattle.cover.proofs.mark_variable.Tie as tie
 positive-requires : tie.Need-positive-requires
 positive-requires c κs = search needs
 
-by-inverter-requires : tie.Need-by-inverter-requires
-by-inverter-requires c κs = search needs
+is-inverted-requires : tie.Need-is-inverted-requires
+is-inverted-requires c κs = search needs
 
 mul-mark-phase : tie.Need-mul-mark-phase
 mul-mark-phase c = search needs
@@ -69,7 +69,7 @@ returns c =
     let a = c .before .before .before .before .before .before .before .before .before .before .before .before .before .args in
     c .before .before .mark-phase2 .ensures
     ∙ ap (λ (x : List ℕ). fedOnce (cellsOf (a .lib)) x (a .m) (2 * a .v + 1)) (c .before .before .before .before .before .before .mark-phase .ensures)
-    ∙ sym (turn-inverted (cellsOf (a .lib)) (a .work .now) (a .m) (a .v) (ap (λ (p : Phase). isInverted (p .source)) (sym (c .before .before .before .before .before .before .before .before .before .before .positive .ensures)) ∙ sym (c .before .before .before .before .before .before .before .before .before .by-inverter .ensures) ∙ c .before .before .before .before .before .before .before .before .if1 .taken))
+    ∙ sym (turn-inverted (cellsOf (a .lib)) (a .work .now) (a .m) (a .v) (ap (λ (p : Phase). isInverted (p .source)) (sym (c .before .before .before .before .before .before .before .before .before .before .positive .ensures)) ∙ sym (c .before .before .before .before .before .before .before .before .before .is-inverted .ensures) ∙ c .before .before .before .before .before .before .before .before .if1 .taken))
 
 same-length-2 : tie.Need-same-length-2
 same-length-2 c = search needs
@@ -79,14 +79,14 @@ returns-2 c =
     let a = c .before .before .before .before .before .before .before .before .before .before .before .before .before .args in
     c .before .before .mark-phase4 .ensures
     ∙ ap (λ (x : List ℕ). fedOnce (cellsOf (a .lib)) x (a .m) (2 * a .v)) (c .before .before .before .before .before .before .mark-phase3 .ensures)
-    ∙ sym (turn-direct (cellsOf (a .lib)) (a .work .now) (a .m) (a .v) (ap (λ (p : Phase). isInverted (p .source)) (sym (c .before .before .before .before .before .before .before .before .before .before .positive .ensures)) ∙ sym (c .before .before .before .before .before .before .before .before .before .by-inverter .ensures) ∙ c .before .before .before .before .before .before .before .before .if1 .left))
+    ∙ sym (turn-direct (cellsOf (a .lib)) (a .work .now) (a .m) (a .v) (ap (λ (p : Phase). isInverted (p .source)) (sym (c .before .before .before .before .before .before .before .before .before .before .positive .ensures)) ∙ sym (c .before .before .before .before .before .before .before .before .before .is-inverted .ensures) ∙ c .before .before .before .before .before .before .before .before .if1 .left))
 
 pub mark-variable-spec : {M : Type 1} → statement M
 mark-variable-spec =
     tie.close
     (tie.spec
     positive-requires
-    by-inverter-requires
+    is-inverted-requires
     mul-mark-phase
     mark-phase-requires
     mul-mark-phase-2

@@ -5,31 +5,31 @@ use borrow.Author.Needs.{needs}
 use Rattle.cover.proofs.sooner.Statement.{statement}
 use Rattle.cover.proofs.sooner.Tie as tie
 
-sourceless-requires : tie.Need-sourceless-requires
-sourceless-requires c κs = search needs
+is-absent-requires : tie.Need-is-absent-requires
+is-absent-requires c κs = search needs
 
 returns : tie.Need-returns
-returns c = let a = c .before .before .args in sym (earlier-second (a .a) (a .b) (sym (c .before .sourceless .ensures) ∙ c .if1 .taken))
+returns c = let a = c .before .before .args in sym (earlier-second (a .a) (a .b) (sym (c .before .is-absent .ensures) ∙ c .if1 .taken))
 
-sourceless-requires-2 : tie.Need-sourceless-requires-2
-sourceless-requires-2 c κs = search needs
+is-absent-requires-2 : tie.Need-is-absent-requires-2
+is-absent-requires-2 c κs = search needs
 
 returns-2 : tie.Need-returns-2
 returns-2 c =
     let a = c .before .before .before .before .args in
-    sym (earlier-first (a .a) (a .b) (sym (c .before .before .before .sourceless .ensures) ∙ c .before .before .if1 .left) (sym (c .before .sourceless2 .ensures) ∙ c .if2 .taken))
+    sym (earlier-first (a .a) (a .b) (sym (c .before .before .before .is-absent .ensures) ∙ c .before .before .if1 .left) (sym (c .before .is-absent2 .ensures) ∙ c .if2 .taken))
 
 returns-3 : tie.Need-returns-3
 returns-3 c =
     let a = c .before .before .before .before .before .before .before .args in
-    sym (earlier-strict (a .a) (a .b) (sym (c .before .before .before .before .before .before .sourceless .ensures) ∙ c .before .before .before .before .before .if1 .left) (sym (c .before .before .before .before .sourceless2 .ensures) ∙ c .before .before .before .if2 .left) (c .if3 .taken))
+    sym (earlier-strict (a .a) (a .b) (sym (c .before .before .before .before .before .before .is-absent .ensures) ∙ c .before .before .before .before .before .if1 .left) (sym (c .before .before .before .before .is-absent2 .ensures) ∙ c .before .before .before .if2 .left) (c .if3 .taken))
 
 returns-4 : tie.Need-returns-4
 returns-4 c =
     let a = c .before .before .before .before .before .before .before .args in
-    sym (earlier-tie (a .a) (a .b) (sym (c .before .before .before .before .before .before .sourceless .ensures) ∙ c .before .before .before .before .before .if1 .left) (sym (c .before .before .before .before .sourceless2 .ensures) ∙ c .before .before .before .if2 .left) (c .if3 .left))
+    sym (earlier-tie (a .a) (a .b) (sym (c .before .before .before .before .before .before .is-absent .ensures) ∙ c .before .before .before .before .before .if1 .left) (sym (c .before .before .before .before .is-absent2 .ensures) ∙ c .before .before .before .if2 .left) (c .if3 .left))
 
 pub sooner-spec : {M : Type 1} → statement M
 sooner-spec =
     tie.close
-    (tie.spec sourceless-requires returns sourceless-requires-2 returns-2 returns-3 returns-4)
+    (tie.spec is-absent-requires returns is-absent-requires-2 returns-2 returns-3 returns-4)

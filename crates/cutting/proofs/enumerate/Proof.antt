@@ -2,21 +2,23 @@
 -- Assumes nothing.
 use mathlib.Core.Path.{sym, ap, _∙_, subst}
 use mathlib.Core.List.{List}
-use Prim.Native.Nat.{ℕ, _+_}
+use Prim.Native.Nat.{ℕ}
+use native.Mathlib.Omega.{arith}
 use borrow.Author.Needs.{needs}
+use Rattle.cuts.specs.Listing as lists
 use Rattle.cones.specs.Filling as filling
+use Rattle.cutting.specs.Enumerated.{Ready, enumerated}
 use Rattle.cutting.proofs.Passes.{ready-filling, after-accepted, after-refused}
 use Rattle.cutting.proofs.enumerate.Statement.{statement}
 use Rattle.cutting.proofs.enumerate.Tie as tie
 
-add-placed : tie.Need-add-placed
-add-placed c = search needs
-
-add-placed-2 : tie.Need-add-placed-2
-add-placed-2 c = search needs
+placed-requires : tie.Need-placed-requires
+placed-requires c κs = omega (arith, c .before .pre .lists .room .small, c .before .pre .lists .placed)
 
 lists-requires : tie.Need-lists-requires
-lists-requires c κs = search needs
+lists-requires c κs =
+    let s = c .before .before .before in
+    subst (λ (n : ℕ). lists.Ready (s .args .work .now) (s .args .h .size) n) (sym (c .before .placed .ensures)) (s .pre .lists)
 
 enum-told : tie.Need-enum-told
 enum-told c = search needs
@@ -26,8 +28,10 @@ functions-requires c κs =
     let done = c .before .before .before .before .before in
     let s = done .before .before .before .before in
     let a = s .args in
-    let n : ℕ = a .h .inputs + a .h .ands + 1 in
-    subst (λ (q : List ℕ). filling.Ready q (a .h .size) n) (sym (done .lists .ensures .1)) (ready-filling (a .work .now) (a .h .size) n (s .pre))
+    let p = done .before .before .placed in
+    let n : ℕ = p .result in
+    subst (λ (q : List ℕ). filling.Ready q (a .h .size) n) (sym (done .lists .ensures .1))
+    (ready-filling (a .work .now) (a .h .size) n (subst (λ (i : ℕ). Ready (a .work .now) (a .h .size) i) (sym (p .ensures)) (s .pre)))
 
 enum-known-verdict : tie.Need-enum-known-verdict
 enum-known-verdict c = search needs
@@ -42,12 +46,14 @@ returns c =
     let done = told .before .before .before .before in
     let s = done .before .before .before .before in
     let a = s .args in
-    let n : ℕ = a .h .inputs + a .h .ands + 1 in
+    let p = done .before .before .placed in
+    let n : ℕ = p .result in
     let e = sym (told .enum-told .given .1) ∙ done .lists .ensures .0 in (
-      e,
+      e ∙ ap (λ (i : ℕ). lists.listing (a .work .now) (a .h .size) i .answer) (p .ensures),
       filled .functions .ensures
           ∙ ap (λ (q : List ℕ). filling.filled q (a .h .size) n) (done .lists .ensures .1)
-          ∙ sym (after-accepted (a .work .now) (a .h .size) n (sym e)),
+          ∙ sym (after-accepted (a .work .now) (a .h .size) n (sym e))
+          ∙ ap (enumerated (a .work .now) (a .h .size)) (p .ensures),
     )
 
 same-length-2 : tie.Need-same-length-2
@@ -59,16 +65,20 @@ returns-2 c =
     let done = told .before .before .before .before in
     let s = done .before .before .before .before in
     let a = s .args in
-    let n : ℕ = a .h .inputs + a .h .ands + 1 in
-    let e = sym (told .verdict .given .1) ∙ done .lists .ensures .0 in
-    (e, done .lists .ensures .1 ∙ sym (after-refused (a .work .now) (a .h .size) n _ _ (sym e)))
+    let p = done .before .before .placed in
+    let n : ℕ = p .result in
+    let e = sym (told .verdict .given .1) ∙ done .lists .ensures .0 in (
+      e ∙ ap (λ (i : ℕ). lists.listing (a .work .now) (a .h .size) i .answer) (p .ensures),
+      done .lists .ensures .1
+          ∙ sym (after-refused (a .work .now) (a .h .size) n _ _ (sym e))
+          ∙ ap (enumerated (a .work .now) (a .h .size)) (p .ensures),
+    )
 
 pub enumerate-spec : {M : Type 1} → statement M
 enumerate-spec =
     tie.close
     (tie.spec
-    add-placed
-    add-placed-2
+    placed-requires
     lists-requires
     enum-told
     functions-requires

@@ -2,7 +2,7 @@
 -- Assumes nothing.
 use mathlib.Core.Path.{sym, ap, _∙_}
 use Rattle.model.specs.declared.Phase.{Phase}
-use Rattle.netlist.specs.Lines.{makesGate}
+use Rattle.words.specs.Phases.{makesGate}
 use Rattle.netlist.proofs.Walking.{is-gate-needed, is-gate-idle}
 use borrow.Author.Needs.{needs}
 use Rattle.netlist.proofs.is_gate.Statement.{statement}

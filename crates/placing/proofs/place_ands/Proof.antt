@@ -14,24 +14,21 @@ Inv-loop work₀ h users end slot₀ scan₀ work slot scan = Filled h work₀ u
 abbrev μ-loop : tie.MeasureT-loop
 μ-loop work₀ h users end slot₀ scan₀ work slot scan = end - slot
 
-add-end : tie.Need-add-end Inv-loop μ-loop
-add-end c = search needs
-
-add-end-2 : tie.Need-add-end-2 Inv-loop μ-loop
-add-end-2 c = search needs
+placed-requires : tie.Need-placed-requires Inv-loop μ-loop
+placed-requires c κs = omega (arith, c .before .pre .0 .lines, c .before .pre .0 .room .small)
 
 add-slot : tie.Need-add-slot Inv-loop μ-loop
 add-slot c = search needs
 
 loop-holds : tie.Need-loop-holds Inv-loop μ-loop
 loop-holds c =
-    let start = c .before .before .before .before in
+    let start = c .before .before .before in
     filled-first _ _ _ (start .pre .1) (start .pre .2)
 
 first-ready-requires : tie.Need-first-ready-requires Inv-loop μ-loop
 first-ready-requires c κs =
     let at-loop = c .before .before in
-    let start = at-loop .before .before .before .before .before in
+    let start = at-loop .before .before .before .before in
     let i = at-loop .loop .inv in (fit-room _ _ (fit-length (start .args .h) (start .args .work .now) _ (start .pre .0) (i .long)), i .operands, i .sought .under)
 
 same-length : tie.Need-same-length Inv-loop μ-loop
@@ -42,19 +39,19 @@ returns c =
     let at-first-ready = c .before .before in
     let at-loop-test = at-first-ready .before .before in
     let at-loop = at-loop-test .before in
-    let start = at-loop .before .before .before .before .before in
-    filled-off (start .args .h) (start .args .work .now) _ (start .pre .0) _ _ _ (at-loop .loop .inv) _ (at-first-ready .first-ready .ensures) (at-loop-test .loop-test .taken) (c .if1 .taken)
+    let start = at-loop .before .before .before .before in
+    filled-off (start .args .h) (start .args .work .now) _ (start .pre .0) _ _ _ (at-loop .loop .inv) _ (at-first-ready .first-ready .ensures) (omega (arith, at-loop-test .loop-test .taken, at-loop .before .before .placed .ensures)) (c .if1 .taken)
 
 place-at-requires : tie.Need-place-at-requires Inv-loop μ-loop
 place-at-requires c κs =
     let at-loop = c .before .before .before .before .before .before in
-    let start = at-loop .before .before .before .before .before in
-    (fit-room _ _ (fit-length (start .args .h) (start .args .work .now) _ (start .pre .0) (at-loop .loop .inv .long)), omega (arith, start .pre .0 .lines), c .before .if1 .left)
+    let start = at-loop .before .before .before .before in
+    (fit-room _ _ (fit-length (start .args .h) (start .args .work .now) _ (start .pre .0) (at-loop .loop .inv .long)), omega (arith, start .pre .0 .lines, at-loop .before .before .placed .ensures), c .before .if1 .left)
 
 seek-on-requires : tie.Need-seek-on-requires Inv-loop μ-loop
 seek-on-requires c κs =
     let at-if1 = c .before .before .before .before in
-    let start = at-if1 .before .before .before .before .before .before .before .before .before .before in
+    let start = at-if1 .before .before .before .before .before .before .before .before .before in
     omega (arith, start .pre .0 .room .small, at-if1 .if1 .left)
 
 add-slot-2 : tie.Need-add-slot-2 Inv-loop μ-loop
@@ -70,14 +67,14 @@ loop-again c =
     let at-first-ready = at-if1 .before .before in
     let at-loop-test = at-first-ready .before .before in
     let at-loop = at-loop-test .before in
-    let start = at-loop .before .before .before .before .before in
-    filled-on (start .args .h) (start .args .work .now) _ (start .pre .0) _ _ _ (at-loop .loop .inv) _ (at-first-ready .first-ready .ensures) (at-loop-test .loop-test .taken) (at-if1 .if1 .left) _ (at-place-at .place-at .ensures) _ (c .seek-on .ensures)
+    let start = at-loop .before .before .before .before in
+    filled-on (start .args .h) (start .args .work .now) _ (start .pre .0) _ _ _ (at-loop .loop .inv) _ (at-first-ready .first-ready .ensures) (omega (arith, at-loop-test .loop-test .taken, at-loop .before .before .placed .ensures)) (at-if1 .if1 .left) _ (at-place-at .place-at .ensures) _ (c .seek-on .ensures)
 
 same-length-2 : tie.Need-same-length-2 Inv-loop μ-loop
 same-length-2 c = search needs
 
 returns-2 : tie.Need-returns-2 Inv-loop μ-loop
-returns-2 c = filled-end _ _ _ _ _ _ (c .before .loop .inv) (c .loop-test .left)
+returns-2 c = filled-end _ _ _ _ _ _ (c .before .loop .inv) (omega (arith, c .loop-test .left, c .before .before .before .placed .ensures))
 
 pub place-ands-spec : {M : Type 1} → statement M
 place-ands-spec =
@@ -85,8 +82,7 @@ place-ands-spec =
     (tie.spec
     Inv-loop
     μ-loop
-    add-end
-    add-end-2
+    placed-requires
     add-slot
     loop-holds
     first-ready-requires

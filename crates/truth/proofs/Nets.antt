@@ -1,8 +1,10 @@
--- The nets that feed the pins of a match:
+-- Literals in the phase of a mask, and the nets that feed the pins of a match.
+--     literal-one         a literal by its phase as a digit
 --     nets-length, nets-get       as many as pins, pin j's its leaf in the mask's phase
---     nets-taken                  leaves past the last place do not matter
+--     place-below         a place that fits
+--     nets-taken          leaves past the last place do not matter
 -- Assumes nothing.
-use Prim.Native.Nat.{ℕ, zero, suc, _≤_, _<_, _/_}
+use Prim.Native.Nat.{ℕ, zero, suc, _+_, _*_, _≤_, _<_, _/_}
 use native.Mathlib.Nat.{not-suc-le-zero, le-of-suc-le-suc}
 use native.Mathlib.Omega.{arith}
 use mathlib.Core.Path.{_≡_, refl, ap}
@@ -11,10 +13,15 @@ use mathlib.Core.List.{List, [], _∷_}
 use lib.Dec.{T, ltb, ltb→lt}
 use lib.ListN.{length, take, getD, length-take}
 use lib.Seq.{getD-take}
-use Rattle.model.specs.Base.{bit, all}
+use Rattle.model.specs.Base.{bit, one, all}
 use Rattle.model.specs.Graph.{literal}
 use Rattle.model.specs.Matching.{fedNets}
-use Rattle.truth.specs.Variant.{placesBelow}
+use Rattle.truth.specs.Variant.{placesBelow, pinNet}
+
+pub literal-one : (b : Bool) (v : ℕ) → literal b v ≡ 2 * v + one b
+unfolding literal one
+literal-one true v = refl
+literal-one false v = omega arith
 
 pub nets-length : (m : ℕ) (places : List ℕ) (mask : ℕ) (leaves : List ℕ) → m ≤ length places → length (fedNets m places mask leaves) ≡ m
 unfolding fedNets
@@ -23,7 +30,7 @@ nets-length (suc m) [] mask leaves h = absurd (not-suc-le-zero h)
 nets-length (suc m) (p ∷ places) mask leaves h = ap suc (nets-length m places (mask / 2) leaves (le-of-suc-le-suc h))
 
 pub nets-get : (m : ℕ) (places : List ℕ) (mask : ℕ) (leaves : List ℕ) (j : ℕ) → m ≤ length places → j < m
-    → getD (fedNets m places mask leaves) j 0 ≡ literal (bit mask j) (getD leaves (getD places j 0) 0)
+    → getD (fedNets m places mask leaves) j 0 ≡ pinNet places mask leaves j
 unfolding fedNets bit
 nets-get zero places mask leaves j h l = absurd (not-suc-le-zero l)
 nets-get (suc m) [] mask leaves j h l = absurd (not-suc-le-zero h)

@@ -1,9 +1,9 @@
--- `cover::by_inverter` meets its contract: in each arm the source is known to be that arm's. Assumes nothing.
+-- `words::is_inverted` meets its contract: in each arm the source is known to be that arm's. Assumes nothing.
 use mathlib.Core.Path.{sym, ap}
 use Rattle.model.specs.Netlist.{isInverted}
 use borrow.Author.Needs.{needs}
-use Rattle.cover.proofs.by_inverter.Statement.{statement}
-use Rattle.cover.proofs.by_inverter.Tie as tie
+use Rattle.words.proofs.is_inverted.Statement.{statement}
+use Rattle.words.proofs.is_inverted.Tie as tie
 
 enum-told : tie.Need-enum-told
 enum-told c = search needs
@@ -33,7 +33,7 @@ returns-4 : tie.Need-returns-4
 unfolding isInverted
 returns-4 c = sym (ap isInverted (c .enum-told4 .given .1))
 
-pub by-inverter-spec : {M : Type 1} → statement M
-by-inverter-spec =
+pub is-inverted-spec : {M : Type 1} → statement M
+is-inverted-spec =
     tie.close
     (tie.spec enum-told enum-told-2 enum-told-3 enum-told-4 returns returns-2 returns-3 returns-4)

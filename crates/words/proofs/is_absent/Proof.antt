@@ -1,9 +1,9 @@
--- `cover::sourceless` meets its contract: in each arm the source is known to be that arm's. Assumes nothing.
+-- `words::is_absent` meets its contract: in each arm the source is known to be that arm's. Assumes nothing.
 use mathlib.Core.Path.{sym, ap}
 use Rattle.model.specs.Choice.{absent}
 use borrow.Author.Needs.{needs}
-use Rattle.cover.proofs.sourceless.Statement.{statement}
-use Rattle.cover.proofs.sourceless.Tie as tie
+use Rattle.words.proofs.is_absent.Statement.{statement}
+use Rattle.words.proofs.is_absent.Tie as tie
 
 enum-told : tie.Need-enum-told
 enum-told c = search needs
@@ -33,7 +33,7 @@ returns-4 : tie.Need-returns-4
 unfolding absent
 returns-4 c = sym (ap absent (c .enum-told4 .given .1))
 
-pub sourceless-spec : {M : Type 1} → statement M
-sourceless-spec =
+pub is-absent-spec : {M : Type 1} → statement M
+is-absent-spec =
     tie.close
     (tie.spec enum-told enum-told-2 enum-told-3 enum-told-4 returns returns-2 returns-3 returns-4)

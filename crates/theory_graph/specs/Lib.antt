@@ -1,0 +1,2 @@
+-- `Accepted`: a graph and a library free of the refusals that their texts can bring.
+pub mod Accepted

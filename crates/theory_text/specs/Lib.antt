@@ -1,0 +1,2 @@
+-- `Fits`: a graph in the limits.
+pub mod Fits
