@@ -3,17 +3,17 @@
 --     tabulate-small      a table of n rows is below 2 ^ n; `table-small`: one of 16 rows is below 65536
 --     tables-same         tables of 16 rows with equal rows are equal
 --     value-complement    a row of the complement
---     value-and           a row of `&` of two tables
+--     value-and           a row of `&` of two tables; `value-or`: of `|`
 --     value-pattern       row r of a leaf's table is the leaf's bit of r
 --     one-bit             a bit of a number by a shift
 --     power               how many rows so many pins have, by a shift
 -- Assumes nothing.
 use mathlib.Core.Path.{_≡_, refl, sym, ap, ap₂, _∙_}
-use mathlib.Core.Bool.{Bool, true, false, not, _&&_}
-use Prim.Native.Nat.{ℕ, zero, suc, _+_, _-_, _*_, _/_, _%_, _^_, _<_, _≤_, min}
+use mathlib.Core.Bool.{Bool, true, false, not, _&&_, _||_}
+use Prim.Native.Nat.{ℕ, zero, suc, _+_, _-_, _*_, _/_, _%_, _^_, _<_, _≤_, min, max}
 use native.Mathlib.Nat.{pow-suc}
 use native.Mathlib.Omega.{arith}
-use lib.Bits.{bitAnd, and-step}
+use lib.Bits.{bitAnd, and-step, bitOr, or-step}
 use lib.Dec.{eqb}
 use lib.Pow.{shr-shr, shl-exact}
 use borrow.Author.Tests.{eqb-true, eqb-false}
@@ -141,6 +141,17 @@ and-joins false false = refl
 pub value-and : (t u r : ℕ) → value (bitAnd t u) r ≡ (value t r && value u r)
 unfolding value
 value-and t u r = bit-joined bitAnd min _&&_ and-step and-joins r t u
+
+or-joins : (a b : Bool) → max (one a) (one b) ≡ one (a || b)
+unfolding one
+or-joins true true = refl
+or-joins true false = refl
+or-joins false true = refl
+or-joins false false = refl
+
+pub value-or : (t u r : ℕ) → value (bitOr t u) r ≡ (value t r || value u r)
+unfolding value
+value-or t u r = bit-joined bitOr max _||_ or-step or-joins r t u
 
 -- ---- a leaf
 
