@@ -1,4 +1,4 @@
-/* A mapper by document 01 in plain C, to compare with: nothing in it is proved.
+/* A mapper by document 01 and request N1 in plain C, to compare with: nothing in it is proved.
  * cuts: plain merge up to the fifth leaf, a sorted list of cut records by value
  * functions: walk with a memo stamped by the cut's own number
  * matching: chains of all variants (cell, each of 24 orders, mask) by table, built by the plain rule of 16 rows
@@ -147,11 +147,11 @@ static void __attribute__((constructor)) fill(void)
         row_of[o][r] |= (r >> place_of[o][j] & 1) << j;
 }
 
-/* ---- graph, 7 to 14 */
-typedef struct { u32 m, i, l, o, a, at; } Header;
+/* ---- graph, 7 to 14 and 19 to 21 */
+typedef struct { u32 m, i, l, o, a, at, binary; } Header;
 static Answer read_header(const u8 *t, u32 len, u64 words, Header *h)
 {
-    if (len < 4 || t[0] != 'a' || t[1] != 'a' || t[2] != 'g' || t[3] != ' ') return refused(7, 0);
+    if (len < 4 || t[0] != 'a' || (t[1] != 'a' && t[1] != 'i') || t[2] != 'g' || t[3] != ' ') return refused(7, 0);
     u32 v[5];
     Num r = {1, 0, 4};
     for (u32 k = 0; k < 5; k++) {
@@ -159,9 +159,10 @@ static Answer read_header(const u8 *t, u32 len, u64 words, Header *h)
         if (!r.ok) return refused(7, 0);
         v[k] = r.v;
     }
-    h->m = v[0]; h->i = v[1]; h->l = v[2]; h->o = v[3]; h->a = v[4]; h->at = r.at;
+    h->m = v[0]; h->i = v[1]; h->l = v[2]; h->o = v[3]; h->a = v[4]; h->at = r.at; h->binary = t[1] == 'i';
     if (h->l) return refused(8, 0);
     if (h->m > 4095 || h->o > 4096 || h->i + h->a > h->m) return refused(9, 0);
+    if (h->binary && h->m != h->i + h->a) return refused(19, 0);
     if (words < EACH * (h->m + 1) + h->o) return refused(10, 0);
     return refused(0, 0);
 }
@@ -171,12 +172,33 @@ static u32 line_offset(const u8 *t, u32 k)       /* where line k begins; it does
     for (; k; at++) if (t[at] == 10) k--;
     return at;
 }
+static Num difference(const u8 *t, u32 len, u32 at)            /* one or two groups of seven bits, lowest first */
+{
+    Num r = {0, 0, at};
+    if (at < len && t[at] < 128) { r.ok = 1; r.v = t[at]; r.at = at + 1; }
+    else if (at + 1 < len && t[at + 1] < 128) { r.ok = 1; r.v = t[at] % 128 + 128u * t[at + 1]; r.at = at + 2; }
+    return r;
+}
+static Answer load_differences(u16 *w, const u8 *t, u32 len, u32 at, Header h)
+{
+    for (u32 v = h.i + 1; v <= h.m; v++) {
+        u32 left = 2 * v;
+        Num x = difference(t, len, at); if (!x.ok) return refused(20, at);
+        if (x.v == 0 || x.v > left) return refused(21, at);
+        Num y = difference(t, len, x.at); if (!y.ok) return refused(20, x.at);
+        if (y.v > left - x.v) return refused(21, x.at);
+        KIND(v) = AND; LEFT(v) = left - x.v; RIGHT(v) = left - x.v - y.v;
+        at = y.at;
+    }
+    return refused(0, 0);
+}
 /* During loading SCRATCH(k) is the variable of the k-th AND line. */
 static NI Answer load_graph(u16 *w, const u8 *t, u32 len, Header h)
 {
     u32 at = h.at, top = 2 * h.m + 1;
     KIND(0) = CONST; ORDER(0) = 0; PLACED(0) = 1;
-    for (u32 k = 0; k < h.i; k++) {
+    for (u32 k = 1; h.binary && k <= h.i; k++) { KIND(k) = INPUT; ORDER(k) = k; PLACED(k) = 1; }
+    for (u32 k = 0; !h.binary && k < h.i; k++) {
         Num r = field(t, len, at, 10);
         if (!r.ok) return refused(11, at);
         if (r.v > top || r.v % 2 || r.v == 0) return refused(12, at);
@@ -192,6 +214,7 @@ static NI Answer load_graph(u16 *w, const u8 *t, u32 len, Header h)
         OUTS(k) = r.v;
         at = r.at;
     }
+    if (h.binary) return load_differences(w, t, len, at, h);
     for (u32 k = 0; k < h.a; k++) {
         Num x = field(t, len, at, ' '); if (!x.ok) return refused(11, at);
         Num y = field(t, len, x.at, ' '); if (!y.ok) return refused(11, at);
@@ -564,7 +587,7 @@ int main(int argc, char **argv)
     if (argc > 5) { memset(work, 0xa5, sizeof work); memset(out, 0x5a, sizeof out); }
     Answer a = map_texts(cells_text, clen, graph_text, glen, work, words, out, bytes);
     if (argc > 5) {
-        u16 want = a.number && a.number <= 10 ? 0xa5a5 : 0;
+        u16 want = (a.number && a.number <= 10) || a.number == 19 ? 0xa5a5 : 0;
         for (u32 k = 0; k < 1100000; k++) if (work[k] != (k < words ? want : 0xa5a5)) return printf("WORK %u\n", k), 1;
         for (u32 k = a.number ? 0 : a.place; k < sizeof out; k++) if (out[k] != 0x5a) return printf("TEXT %u\n", k), 1;
         printf("%u %u %u %u %u\n", a.number, a.place, a.gates, a.area, a.arrival);

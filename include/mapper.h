@@ -1,11 +1,11 @@
 /* The array mapper's one call. What it answers and leaves is proved (crates/capi); this page says it in words.
  *
- * mapper_map maps a cell library text and an AIGER graph text. It never reads or writes outside the four arrays, always returns, and asks
+ * mapper_map maps a cell library text and an AIGER graph text, in the ASCII or the binary form. It never reads or writes outside the four arrays, always returns, and asks
  * nothing of what they hold; they may not overlap.
  *   success   number 0, value the netlist's length; text begins with the netlist and keeps its other bytes; gates, area and arrival are the
  *             figures of its last line; every word of work is 0
  *   refusal   number and value are the refusal's number and place (docs/GUIDE.md), the figures are 0; text is unchanged; work is unchanged
- *             for numbers up to 10, and every word of it is 0 for a later one
+ *             for numbers up to 10 and for 19, and every word of it is 0 for any other
  * A graph of M variables and O outputs wants 160(M+1) + O words. The stack needs about 1.5 MB. */
 #ifndef MAPPER_H
 #define MAPPER_H

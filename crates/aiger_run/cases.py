@@ -1,5 +1,5 @@
 #!/usr/bin/env python3
-"""Write the standard input of this program, some hundred graph texts, and by a reader of its own the output that it must give.
+"""Write the standard input of this program, some hundred graph texts in both forms, and by a reader of its own the output that it must give.
 usage: cases.py"""
 import pathlib, random, re
 HERE = pathlib.Path(__file__).resolve().parent
@@ -19,9 +19,15 @@ def line_at(t, at, count):
     ns = [number(f) for f in t[at:end].split(b" ")]
     return (None if len(ns) != count or None in ns else ns), end + 1
 
+def difference(t, at):
+    """the difference at a place and the next place, or None where it takes more than two bytes or the text ends before its end"""
+    found = re.compile(rb"[\x80-\xff]?[\x00-\x7f]", re.S).match(t, at)
+    return None if found is None else (sum((byte & 127) << 7 * k for k, byte in enumerate(found[0])), found.end())
+
 def read(t):
-    if not t.startswith(b"aag "):
+    if not t.startswith((b"aag ", b"aig ")):
         return "refused 7 0"
+    binary = t.startswith(b"aig ")
     head, at = line_at(t, 4, 5)
     if head is None:
         return "refused 7 0"
@@ -30,10 +36,16 @@ def read(t):
         return "refused 8 0"
     if m > 4095 or o > 4096 or i + a > m:
         return "refused 9 0"
+    if binary and m != i + a:
+        return "refused 19 0"
     if WORDS_EACH * (m + 1) + o > WORDS:
         return "refused 10 0"
     lines, defined = [], {0}
-    for kind in "i" * i + "o" * o + "a" * a:
+    if binary:
+        # the inputs and ANDs have their numbers without lines
+        lines = [("i", 0, [2 * v]) for v in range(1, i + 1)]
+        defined = set(range(m + 1))
+    for kind in "o" * o if binary else "i" * i + "o" * o + "a" * a:
         if at >= len(t):
             return f"refused 11 {len(t)}"
         ns, end = line_at(t, at, 3 if kind == "a" else 1)
@@ -47,6 +59,17 @@ def read(t):
             defined.add(ns[0] // 2)
         lines.append((kind, at, ns))
         at = end
+    for v in range(i + 1, m + 1) if binary else []:
+        ns = [2 * v]
+        for _ in range(2):
+            got = difference(t, at)
+            if got is None:
+                return f"refused 20 {at}"
+            if got[0] > ns[-1] or (got[0] == 0 and len(ns) == 1):
+                return f"refused 21 {at}"
+            ns.append(ns[-1] - got[0])
+            place, at = at, got[1]
+        lines.append(("a", place, ns))
     for kind, place, ns in lines:
         if any(n // 2 not in defined for n in ([] if kind == "i" else ns if kind == "o" else ns[1:])):
             return f"refused 14 {place}"
@@ -78,6 +101,49 @@ def graph(r):
     r.shuffle(ands)
     outs = [b"%d\n" % (2 * r.choice(ops if r.random() < 0.97 else range(m + 1)) + r.randrange(2)) for _ in range(o)]
     return b"aag %d %d 0 %d %d\n" % (m, i, o, a) + b"".join(b"%d\n" % (2 * v) for v in names[:i]) + b"".join(outs) + b"".join(ands)
+
+def groups(d):
+    """a difference in groups of seven bits, lowest first"""
+    return bytes([d]) if d < 128 else bytes([128 + d % 128, d // 128])
+
+def binary_graph(r):
+    """a graph of random form in binary; no difference has a byte 0, which would end the text here"""
+    i, a, o = r.choice([1, 2, 4, 64, 130]), r.randrange(9), r.randrange(4)
+    ands = b""
+    for left in range(2 * (i + 1), 2 * (i + a + 1), 2):
+        first = left - r.choice([n for n in (1, 2, 3, 126, 127, 128, 129, 131, r.randrange(1, left)) if n < left and n % 128])
+        second = r.choice([n for n in range(first) if (first - n) % 128] or [None])
+        if second is None:
+            return binary_graph(r)
+        ands += groups(left - first) + groups(first - second)
+    outs = b"".join(b"%d\n" % r.randrange(2 * (i + a) + 2) for _ in range(o))
+    return b"aig %d %d 0 %d %d\n" % (i + a, i, o, a) + outs + ands
+
+def binary_texts():
+    r = random.Random(2)
+    b_ = b"aig 3 2 0 1 1\n6\n\x02\x02"
+    f_ = b"aig 6 3 0 1 3\n12\n\x04\x02\x02\x02\x02\x02"
+    out = [b_, f_, b_ + b"\xff\xff", b_ + b"i0 x\nc\n"] + [b_[:n] for n in range(len(b_))] + [f_[:n] for n in range(17, len(f_))]
+    # the header: 19 after 9 and before 10
+    out += [h + b"\n" for h in (b"aig 0 0 0 0 0", b"aig 1 0 0 0 0", b"aig 3 2 0 0 0", b"aig 3 2 0 0 2", b"aig 3 2 1 0 0", b"aig 499 0 0 0 0", b"aig 499 499 0 0 0", b"aig 498 498 0 0 0", b"aig 4095 4095 0 0 0",
+                                 b"aig 4095 4094 0 0 0", b"aig 4096 4096 0 0 0", b"aig 4096 0 0 0 0", b"aig 0 0 0 4097 0", b"aig 1 0 0 4097 0", b"aigs 0 0 0 0 0", b"aig 0 0 0 0", b"aig 0 0 0 0 0 0", b"aig 00 0 0 0 0",
+                                 b"aig 0 0 0 0 0\r", b"aig  0 0 0 0 0", b"aig")]
+    # output lines keep 11 and 12, before any difference
+    out += [b"aig 3 2 0 1 1\n" + l for l in (b"7\n\x02\x02", b"8\n\x07", b"06\n\x07", b"6\r\n\x02\x02", b"6 2 4\n\x02\x02", b"\n\x02\x02", b"65536\n\x02\x02", b"0\n\x02\x02", b"6")]
+    # 20 and 21 at each of their places, one before the other
+    out += [b"aig 3 2 0 1 1\n6\n" + d for d in (b"\x82\x80", b"\x82\x80\x01\x02", b"\xff\xff", b"\x80\x80", b"\x02\x82", b"\x02\x82\x80", b"\x02\xff\xff\x01", b"\x07", b"\x07\x02", b"\x07\xff\xff",
+                                                b"\x86\x01\x02", b"\xff\x7f\x02", b"\x02\x05", b"\x02\x04", b"\x02\xff\x7f", b"\x06\x01", b"\x01\x05", b"\x01\x06", b"\x05\x01")]
+    # what a difference is taken from, in one byte and in two
+    for left in (126, 128, 130, 256, 258):
+        for d in (1, 126, 127, 129, 255, left - 1, left, left + 1, 16383):
+            if d % 128:
+                head = b"aig %d %d 0 0 1\n" % (left // 2, left // 2 - 1)
+                out += [head + groups(d) + b"\x01", head + b"\x01" + groups(d)]
+    for _ in range(60):
+        t = binary_graph(r)
+        n = r.randrange(len(t))
+        out += [t, t[:n] + bytes([r.randrange(1, 256)]) + t[n + 1:], t[:n] + bytes([r.randrange(1, 256)]) + t[n:], t[:n]]
+    return out
 
 def texts():
     r = random.Random(1)
@@ -117,7 +183,7 @@ def texts():
         out.append(t)
         n = r.randrange(len(t))
         out.append(t[:n] + bytes([r.choice(b"0123456789 \n")]) + t[n + 1:])
-    return out
+    return out + binary_texts()
 
 def main():
     ts = texts()

@@ -2,58 +2,38 @@
 --     due-at           what due line k is
 --     view             the line at a place has its form, and then these are its literals, or it has not
 -- Assumes nothing.
-use Prim.Native.Nat.{ℕ, zero, suc, _+_, _-_, _*_, _≤_, _<_}
+use Prim.Native.Nat.{ℕ, zero, suc, _+_, _-_, _≤_, _<_}
 use native.Mathlib.Numerals.{add-one}
 use native.Mathlib.Omega.{arith}
 use mathlib.Core.Path.{_≡_, refl, sym, ap, _∙_}
-use mathlib.Core.Bool.{Bool, true, false, _&&_}
+use mathlib.Core.Bool.{Bool, true, false}
 use mathlib.Core.Option.{Option, none, some}
 use mathlib.Core.List.{List, [], _∷_, _++_}
-use lib.Dec.{eqb, ltb, leb}
+use lib.Dec.{eqb, ltb}
 use lib.ListN.{length, drop, getD, replicate, length-append, length-replicate, getD-replicate, List·getD-append, drop-of-length-le}
 use lib.Seq.{drop-cons, getD-append-add}
-use borrow.Author.Tests.{ltb-true, ltb-false, le-leb}
-use Rattle.model.specs.Base.{andThen, only, all}
-use Rattle.model.specs.Text.{ended, fields, number, numbers}
-use Rattle.model.specs.GraphText.{Kind, anInput, anOutput, anAnd, howMany, due, itemLiterals}
+use borrow.Author.Tests.{ltb-true, ltb-false}
+use Rattle.model.specs.Base.{andThen}
+use Rattle.model.specs.Text.{ended, number}
+use Rattle.model.specs.GraphText.{Kind, anInput, anOutput, anAnd, closed, howMany, due, itemLiterals}
 use Rattle.model.specs.declared.Header.{Header}
 use Rattle.text.specs.declared.Cursor.{Cursor}
 use Rattle.text.specs.declared.Number.{Number}
 use Rattle.text.specs.declared.Number.the-variants.{Value as Found, Broken as NoNumber}
-use Rattle.text.proofs.Bytes.{and-true}
 use Rattle.text.specs.Fields.{onNumber, numberOf, numberThen}
 use Rattle.text.specs.Lines.{lineAt, pastLine, afterAt, numbersAt}
 use Rattle.text.proofs.Found.{past, found, number-is}
-use Rattle.text.proofs.Numbers.{line-words, numbers-at, numbers-ended}
+use Rattle.text.proofs.Numbers.{numbers-ended}
 use Rattle.words.specs.Layout.{undefinedKind, inputKind, andKind}
-use Rattle.placing.specs.Placing.{pickN}
-use Rattle.aiger.specs.declared.Literals.{Literals}
+use Rattle.loading.specs.declared.Literals.{Literals}
 use Rattle.aiger.specs.declared.LineRead.the-variants.{Read as ALine, Broken as NoLine}
-use Rattle.aiger.specs.Lines.{dueCode, dueCount, literals, oneLine, andLine, lineRead, literalsFit}
+use Rattle.aiger.specs.Lines.{oneLine, andLine, lineRead}
+use Rattle.loading.specs.Tests.{dueCount, literals}
+use Rattle.loading.proofs.Lines.{item-numbers}
+use Rattle.loading.proofs.Tests.{code, pickKind, dueKind, itemList, Short}
 use Rattle.aiger.proofs.Head.{three-is}
 
 -- ---- what is due
-
--- the kind of node that a line of this kind defines
-abbrev pub code : Kind → ℕ
-code anInput = inputKind
-code anOutput = undefinedKind
-code anAnd = andKind
-
-abbrev pickKind : Bool → Kind → Kind → Kind
-pickKind true a b = a
-pickKind false a b = b
-
-abbrev pub dueKind : Header → ℕ → Kind
-dueKind h k = pickKind (ltb k (h .inputs)) anInput (pickKind (ltb k (h .inputs + h .outputs)) anOutput anAnd)
-
-pub due-code : (h : Header) (k : ℕ) → code (dueKind h k) ≡ dueCode h k
-due-code h k = go (ltb k (h .inputs)) (ltb k (h .inputs + h .outputs))
-  where
-    go : (a b : Bool) → code (pickKind a anInput (pickKind b anOutput anAnd)) ≡ pickN a inputKind (pickN b undefinedKind andKind)
-    go true b = refl
-    go false true = refl
-    go false false = refl
 
 module _ (h : Header) where
   due-length : length (due h) ≡ dueCount h
@@ -104,29 +84,10 @@ module _ (h : Header) where
 
 -- ---- the line at a place
 
--- the literals of a line, as the model has them
-abbrev pub itemList : Kind → Literals → List ℕ
-itemList anInput l = l .first ∷ []
-itemList anOutput l = l .first ∷ []
-itemList anAnd l = l .first ∷ l .left ∷ l .right ∷ []
-
--- what a line does not say is 0
-abbrev pub Short : Kind → Literals → Type 0
-Short anInput l = (l .left ≡ 0) × (l .right ≡ 0)
-Short anOutput l = (l .left ≡ 0) × (l .right ≡ 0)
-Short anAnd l = Unit {0}
-
 pub data LineView (s : List ℕ) (at : ℕ) (k : Kind) : Type 0 where
-  broken : lineRead s at (code k) ≡ NoLine → itemLiterals k (lineAt s at) ≡ none → LineView s at k
-  whole : (l : Literals) → lineRead s at (code k) ≡ ALine l → itemLiterals k (lineAt s at) ≡ some (itemList k l) → Short k l
+  broken : lineRead s at (code k) ≡ NoLine → itemLiterals (closed false) k (lineAt s at) ≡ none → LineView s at k
+  whole : (l : Literals) → lineRead s at (code k) ≡ ALine l → itemLiterals (closed false) k (lineAt s at) ≡ some (itemList k l) → Short k l
       → ended (lineAt s at) ≡ true → l .next ≡ pastLine s at → LineView s at k
-
-item-numbers : (k : Kind) (s : List ℕ) (at n : ℕ) → howMany k ≡ suc n → itemLiterals k (lineAt s at) ≡ numbersAt n s at
-unfolding itemLiterals
-item-numbers k s at n e =
-    ap (λ (x : ℕ). andThen (only (ended (lineAt s at) && eqb (length (fields (lineAt s at .bytes))) x) (fields (lineAt s at .bytes))) numbers) e
-    ∙ ap (λ (o : Option (List (List ℕ))). andThen o numbers) (line-words n s at)
-    ∙ numbers-at n s at
 
 one-is : (s : List ℕ) (at : ℕ) (o : Option ℕ) → found number s at 10 ≡ o
     → (oneLine s at ≡ onNumber (numberOf o (past s at)) (λ a c. ALine (literals a 0 0 (c .at))) NoLine) × (numbersAt 0 s at ≡ onNumber (numberOf o (past s at)) (λ n c. some (n ∷ [])) none)
@@ -141,12 +102,12 @@ view-one : (k : Kind) (s : List ℕ) (at : ℕ) → howMany k ≡ 1 → lineRead
 view-one k s at e r short = go (found number s at 10) refl
   where
     go : (o : Option ℕ) → found number s at 10 ≡ o → LineView s at k
-    go none f = let t = one-is s at none f in broken (r ∙ t .0) (item-numbers k s at 0 e ∙ t .1)
+    go none f = let t = one-is s at none f in broken (r ∙ t .0) (item-numbers false k s at 0 e ∙ t .1)
     go (some n) f =
         let t = one-is s at (some n) f in
         let l : Literals = literals n 0 0 (past s at) in
         let ends = numbers-ended 0 s at (n ∷ []) (t .1) in
-        whole l (r ∙ t .0) (item-numbers k s at 0 e ∙ t .1 ∙ ap some (sym (short l refl refl .0))) (short l refl refl .1) (ends .0) (sym (after-one s at) ∙ ends .1)
+        whole l (r ∙ t .0) (item-numbers false k s at 0 e ∙ t .1 ∙ ap some (sym (short l refl refl .0))) (short l refl refl .1) (ends .0) (sym (after-one s at) ∙ ends .1)
 
 numbers-long : (k : ℕ) (s : List ℕ) (at : ℕ) (ns : List ℕ) → numbersAt k s at ≡ some ns → length ns ≡ suc k
 unfolding numbersAt andThen
@@ -181,11 +142,11 @@ unfolding andLine lineRead howMany
 view-three s at = go (numbersAt 2 s at) refl
   where
     go : (o : Option (List ℕ)) → numbersAt 2 s at ≡ o → LineView s at anAnd
-    go none e = broken (rw (three-is s at, e)) (item-numbers anAnd s at 2 refl ∙ e)
+    go none e = broken (rw (three-is s at, e)) (item-numbers false anAnd s at 2 refl ∙ e)
     go (some ns) e =
         let l : Literals = literals (getD ns 0 0) (getD ns 1 0) (getD ns 2 0) (afterAt 2 s at) in
         let ends = numbers-ended 2 s at ns e in
-        whole l (rw (three-is s at, e)) (item-numbers anAnd s at 2 refl ∙ e ∙ ap some (three-long s at ns e)) tt (ends .0) (ends .1)
+        whole l (rw (three-is s at, e)) (item-numbers false anAnd s at 2 refl ∙ e ∙ ap some (three-long s at ns e)) tt (ends .0) (ends .1)
 
 read-one : (s : List ℕ) (at kind : ℕ) → eqb kind andKind ≡ false → lineRead s at kind ≡ oneLine s at
 unfolding lineRead
@@ -196,10 +157,3 @@ unfolding howMany
 view anInput s at = view-one anInput s at refl (read-one s at inputKind refl) (λ l a b. (refl, (a, b)))
 view anOutput s at = view-one anOutput s at refl (read-one s at undefinedKind refl) (λ l a b. (refl, (a, b)))
 view anAnd s at = view-three s at
-
--- the test of 12 on a line's literals
-pub all-fit : (m : ℕ) (k : Kind) (l : Literals) → Short k l → all (λ (n : ℕ). leb n (2 * m + 1)) (itemList k l) ≡ literalsFit m l
-unfolding all literalsFit
-all-fit m anInput l e = rw (e .0, e .1, le-leb 0 (2 * m + 1) (omega arith))
-all-fit m anOutput l e = rw (e .0, e .1, le-leb 0 (2 * m + 1) (omega arith))
-all-fit m anAnd l e = rw and-true

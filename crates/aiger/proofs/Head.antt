@@ -1,13 +1,13 @@
 -- The header line, as the crate model says it:
 --     three-is         three numbers behind each other are the line's last three fields
 --     header-means     the header of the text's first line is what `formAt` finds
---     header-..        and so 7, 8 and 9 apply just where `header` refuses
+--     header-..        and so 7, 8, 9 and 19 apply just where `header` refuses
 --     limits-..        the tests of 9, one by one
 -- Assumes nothing.
 use Prim.Native.Nat.{ℕ, _+_, _-_, _≤_, _<_}
 use native.Mathlib.Omega.{arith}
 use mathlib.Core.Path.{_≡_, refl, sym, ap, _∙_}
-use mathlib.Core.Bool.{Bool, true, false, cond, _&&_}
+use mathlib.Core.Bool.{Bool, true, false, cond, _&&_, _||_}
 use mathlib.Core.Option.{Option, none, some}
 use mathlib.Core.List.{List, [], _∷_}
 use lib.Dec.{eqb, leb}
@@ -15,25 +15,26 @@ use lib.ListN.{length, drop, getD}
 use borrow.Author.Tests.{le-leb, lt-leb, leb-true, leb-false}
 use Rattle.model.specs.Base.{andThen, only, same}
 use Rattle.model.specs.Text.{Line, ended, nextOf, text, linesFrom, fields, number, numbers}
-use Rattle.model.specs.Reading.{Read, holds, fault, next, unless, from?}
-use Rattle.model.specs.GraphText.{headerOfNumbers, headerOf, inLimits, readHeader, headerAnswer}
+use Rattle.model.specs.Reading.{Read, holds, fault, next, unless, from?, rulingOf}
+use Rattle.model.specs.GraphText.{headerOfNumbers, headerOf, inLimits, inSequence, readHeader, headerAnswer, headerRuling, headerValues, headerNumbers}
 use Rattle.model.specs.declared.Header.{Header}
+use Rattle.model.specs.declared.HeaderAnswer.{HeaderAnswer}
 use Rattle.model.specs.declared.HeaderAnswer.the-variants.{Read as WasRead}
-use Rattle.model.specs.Limits.{need}
-use Rattle.words.proofs.Columns.{room-for}
+use Rattle.model.proofs.Answers.{header-ruled}
 use Rattle.text.proofs.Bytes.{and-left, and-right}
 use Rattle.text.specs.declared.Cursor.{Cursor}
 use Rattle.text.specs.Fields.{wordAt, endAt, isByte, onNumber, onStep, numberOf, stepOf, byteAt, numberThen}
 use Rattle.text.specs.Lines.{lineAt, pastLine, wordsAt, sepsAt, afterAt, numbersAt}
 use Rattle.text.proofs.Found.{past, found, number-is}
 use Rattle.text.proofs.Bridge.{lines-at, past-at}
-use Rattle.text.proofs.Numbers.{line-words, numbers-at}
-use Rattle.placing.specs.Loaded.{Fit}
+use Rattle.text.proofs.Numbers.{closed-is, line-words, numbers-at}
+use Rattle.aiger.specs.declared.Tagged.{Tagged}
+use Rattle.aiger.specs.declared.Tagged.the-variants.{Word, Broken as NoTag}
 use Rattle.aiger.specs.declared.Three.{Three}
 use Rattle.aiger.specs.declared.Three.the-variants.{Numbers, Broken as NoThree}
 use Rattle.aiger.specs.declared.HeaderForm.{HeaderForm}
 use Rattle.aiger.specs.declared.HeaderForm.the-variants.{Is, Broken as NoForm}
-use Rattle.aiger.specs.Lines.{threeAt, onThree, pickStep, aag, tagAt, headerRecord, numbersForm, formAt}
+use Rattle.aiger.specs.Lines.{threeAt, onThree, onTag, pickTag, aag, aig, tagBehind, tagAt, headerRecord, numbersForm, formAt}
 
 -- ---- the limits
 
@@ -90,28 +91,28 @@ three-is s at = rw (number-is s at 32) (go (found number s at 32))
     go none = refl
     go (some a) = rw (number-is s (past s at) 32) (second a (past s (past s at)) (found number s (past s at) 32))
 
--- what is made of five
-abbrev formOf : Option (List ℕ) → ℕ → HeaderForm
-formOf none q = NoForm
-formOf (some ns) q = Is (headerOfNumbers q ns)
+-- what is made of five, in a form
+abbrev formOf : Bool → Option (List ℕ) → ℕ → HeaderForm
+formOf b none q = NoForm
+formOf b (some ns) q = Is (headerOfNumbers b q ns)
 
-five-is : (s : List ℕ) (at : ℕ) → numbersForm s at ≡ formOf (numbersAt 4 s at) (afterAt 4 s at)
+five-is : (s : List ℕ) (at : ℕ) (b : Bool) → numbersForm s at b ≡ formOf b (numbersAt 4 s at) (afterAt 4 s at)
 unfolding numbersForm numbersAt afterAt andThen headerOfNumbers
-five-is s at = rw (number-is s at 32) (go (found number s at 32))
+five-is s at b = rw (number-is s at 32) (go (found number s at 32))
   where
-    last : (m i r : ℕ) (o : Option (List ℕ)) → onThree (threeOf o r) (λ l k a c2. Is (headerRecord m i l k a (c2 .at))) NoForm ≡ formOf (andThen (andThen o (λ ns. some (i ∷ ns))) (λ ns. some (m ∷ ns))) r
+    last : (m i r : ℕ) (o : Option (List ℕ)) → onThree (threeOf o r) (λ l k a c2. Is (headerRecord m i l k a (c2 .at) b)) NoForm ≡ formOf b (andThen (andThen o (λ ns. some (i ∷ ns))) (λ ns. some (m ∷ ns))) r
     last m i r none = refl
     last m i r (some ns) = refl
 
     second : (m r : ℕ) (o : Option ℕ)
-        → onNumber (numberOf o r) (λ i c1. onThree (threeAt s (c1 .at)) (λ l k a c2. Is (headerRecord m i l k a (c2 .at))) NoForm) NoForm
-        ≡ formOf (andThen (onNumber (numberOf o r) (λ n c. andThen (numbersAt 2 s (c .at)) (λ ns. some (n ∷ ns))) none) (λ ns. some (m ∷ ns))) (afterAt 2 s r)
+        → onNumber (numberOf o r) (λ i c1. onThree (threeAt s (c1 .at)) (λ l k a c2. Is (headerRecord m i l k a (c2 .at) b)) NoForm) NoForm
+        ≡ formOf b (andThen (onNumber (numberOf o r) (λ n c. andThen (numbersAt 2 s (c .at)) (λ ns. some (n ∷ ns))) none) (λ ns. some (m ∷ ns))) (afterAt 2 s r)
     second m r none = refl
     second m r (some i) = rw (three-is s r) (last m i (afterAt 2 s r) (numbersAt 2 s r))
 
     go : (o : Option ℕ)
-        → onNumber (numberOf o (past s at)) (λ m c0. onNumber (numberThen s (c0 .at) 32) (λ i c1. onThree (threeAt s (c1 .at)) (λ l k a c2. Is (headerRecord m i l k a (c2 .at))) NoForm) NoForm) NoForm
-        ≡ formOf (onNumber (numberOf o (past s at)) (λ n c. andThen (onNumber (numberThen s (c .at) 32) (λ n₁ c₁. andThen (numbersAt 2 s (c₁ .at)) (λ ns. some (n₁ ∷ ns))) none) (λ ns. some (n ∷ ns))) none) (afterAt 2 s (past s (past s at)))
+        → onNumber (numberOf o (past s at)) (λ m c0. onNumber (numberThen s (c0 .at) 32) (λ i c1. onThree (threeAt s (c1 .at)) (λ l k a c2. Is (headerRecord m i l k a (c2 .at) b)) NoForm) NoForm) NoForm
+        ≡ formOf b (onNumber (numberOf o (past s at)) (λ n c. andThen (onNumber (numberThen s (c .at) 32) (λ n₁ c₁. andThen (numbersAt 2 s (c₁ .at)) (λ ns. some (n₁ ∷ ns))) none) (λ ns. some (n ∷ ns))) none) (afterAt 2 s (past s (past s at)))
     go none = refl
     go (some m) = rw (number-is s (past s at) 32) (second m (past s (past s at)) (found number s (past s at) 32))
 
@@ -121,29 +122,46 @@ unfoldable pub formMeans : HeaderForm → Option Header
 formMeans NoForm = none
 formMeans (Is h) = some h
 
--- the test of the tag among the others
-tests : (e n : Bool) (t : List (List ℕ) → Bool) (ws : List (List ℕ)) → only (e && (n && t ws)) (drop 1 ws) ≡ andThen (only (e && n) ws) (λ vs. only (t vs) (drop 1 vs))
-unfolding only andThen
-tests true true t ws = refl
-tests true false t ws = refl
-tests false n t ws = refl
+-- what the model makes of the fields of a line that ends before a place
+abbrev ofFields : ℕ → List (List ℕ) → Option Header
+ofFields end vs =
+    andThen (only (same (getD vs 0 []) aig || same (getD vs 0 []) aag) (drop 1 vs)) (λ us. andThen (numbers us) (λ ns. some (headerOfNumbers (same (getD vs 0 []) aig) end ns)))
 
--- the tag, its space, and five numbers
-module _ (w : List ℕ) (ws : List (List ℕ)) (end behind q : ℕ) (on : Cursor → HeaderForm) where
-  first-line : (t b x : Bool) → same w aag ≡ t → ((b && x) ≡ true → end ≡ behind) → on (record { at = q }) ≡ formOf (andThen (only x ws) numbers) behind
-      → andThen (andThen (only (b && x) (w ∷ ws)) (λ vs. only (same (getD vs 0 []) aag) (drop 1 vs))) (λ vs. andThen (numbers vs) (λ ns. some (headerOfNumbers end ns)))
-      ≡ formMeans (onStep (pickStep t (stepOf b q) (stepOf false q)) on NoForm)
+-- the test of the first word among the others
+tests : (e n t : Bool) (ws : List (List ℕ)) (f : List (List ℕ) → Option Header) → andThen (only (e && (n && t)) (drop 1 ws)) f ≡ andThen (only (e && n) ws) (λ vs. andThen (only t (drop 1 ws)) f)
+unfolding only andThen
+tests true true t ws f = refl
+tests true false t ws f = refl
+tests false n t ws f = refl
+
+-- the test does not ask which fields it is of
+same-fields : (t : Bool) (ws : List (List ℕ)) (end : ℕ) → andThen (only t ws) (λ vs. ofFields end ws) ≡ andThen (only t ws) (ofFields end)
+unfolding only andThen
+same-fields true ws end = refl
+same-fields false ws end = refl
+
+-- the first word, its space, and five numbers
+module _ (w : List ℕ) (ws : List (List ℕ)) (end behind q : ℕ) (on : Bool → Cursor → HeaderForm) where
+  abbrev tagOf : Bool → Bool → Tagged
+  tagOf x binary = onStep (stepOf x q) (λ c. Word binary c) NoTag
+
+  made : (f : Bool) (o : Option (List ℕ)) → andThen o (λ ns. some (headerOfNumbers f behind ns)) ≡ formMeans (formOf f o behind)
+  unfolding andThen formMeans
+  made f none = refl
+  made f (some ns) = refl
+
+  first-line : (u v b x : Bool) → same w aig ≡ u → same w aag ≡ v → ((b && x) ≡ true → end ≡ behind) → ((f : Bool) → on f (record { at = q }) ≡ formOf f (andThen (only x ws) numbers) behind)
+      → andThen (only (b && x) (w ∷ ws)) (ofFields end) ≡ formMeans (onTag (pickTag u (tagOf b true) (pickTag v (tagOf b false) NoTag)) on NoForm)
   unfolding andThen only formMeans
-  first-line false false x e h k = refl
-  first-line true false x e h k = refl
-  first-line false true false e h k = refl
-  first-line true true false e h k = sym (ap formMeans k)
-  first-line false true true e h k = rw e
-  first-line true true true e h k = rw (e, k, h refl) (go (numbers ws))
-    where
-      go : (o : Option (List ℕ)) → andThen o (λ ns. some (headerOfNumbers behind ns)) ≡ formMeans (formOf o behind)
-      go none = refl
-      go (some ns) = refl
+  first-line true v false x d e h k = refl
+  first-line false true false x d e h k = refl
+  first-line false false false x d e h k = refl
+  first-line true v true false d e h k = sym (ap formMeans (k true))
+  first-line false true true false d e h k = sym (ap formMeans (k false))
+  first-line false false true false d e h k = refl
+  first-line true v true true d e h k = rw (d, k true, h refl) (made true (numbers ws))
+  first-line false true true true d e h k = rw (d, e, k false, h refl) (made false (numbers ws))
+  first-line false false true true d e h k = rw (d, e)
 
 -- the line at 0, of a text that is not empty
 module _ (s : List ℕ) where
@@ -151,28 +169,36 @@ module _ (s : List ℕ) where
   unfolding sepsAt afterAt pastLine
   line-end e = sym (past-at 5 s 0 e .1)
 
+  fields-is : (ls : List Line) → headerOf (lineAt s 0 ∷ ls) ≡ andThen (only (ended (lineAt s 0) && eqb (length (fields (lineAt s 0 .bytes))) 6) (fields (lineAt s 0 .bytes))) (ofFields (nextOf (lineAt s 0)))
+  unfolding headerOf aag aig
+  fields-is ls =
+      let ws = fields (lineAt s 0 .bytes) in
+      let first : List ℕ = getD ws 0 [] in
+      ap (λ (e : Bool). andThen (only (e && (eqb (length ws) 6 && (same first aig || same first aag))) (drop 1 ws)) (λ vs. andThen (numbers vs) (λ ns. some (headerOfNumbers (same first aig) (nextOf (lineAt s 0)) ns)))) (closed-is (same first aig) s 0)
+      ∙ tests (ended (lineAt s 0)) (eqb (length ws) 6) (same first aig || same first aag) ws (λ vs. andThen (numbers vs) (λ ns. some (headerOfNumbers (same first aig) (nextOf (lineAt s 0)) ns)))
+      ∙ same-fields (ended (lineAt s 0) && eqb (length ws) 6) ws (nextOf (lineAt s 0))
+
   first-is : (ls : List Line) → headerOf (lineAt s 0 ∷ ls) ≡ formMeans (formAt s)
-  unfolding headerOf formAt tagAt byteAt aag wordsAt sepsAt
+  unfolding formAt tagAt tagBehind byteAt wordsAt sepsAt
   first-is ls =
-      ap (λ (o : Option (List (List ℕ))). andThen o (λ vs. andThen (numbers vs) (λ ns. some (headerOfNumbers (nextOf (lineAt s 0)) ns))))
-      (tests (ended (lineAt s 0)) (eqb (length (fields (lineAt s 0 .bytes))) 6) (λ (vs : List (List ℕ)). same (getD vs 0 []) aag) (fields (lineAt s 0 .bytes))
-      ∙ ap (λ (o : Option (List (List ℕ))). andThen o (λ vs. only (same (getD vs 0 []) aag) (drop 1 vs))) (line-words 5 s 0))
-      ∙ first-line (wordAt s 0) (wordsAt 4 s (past s 0)) (nextOf (lineAt s 0)) (afterAt 4 s (past s 0)) (past s 0) (λ c. numbersForm s (c .at))
-      (same (wordAt s 0) aag) (isByte s (endAt s 0) 32) (sepsAt 4 s (past s 0)) refl line-end
-      (five-is s (past s 0) ∙ ap (λ (o : Option (List ℕ)). formOf o (afterAt 4 s (past s 0))) (sym (numbers-at 4 s (past s 0))))
+      fields-is ls
+      ∙ ap (λ (o : Option (List (List ℕ))). andThen o (ofFields (nextOf (lineAt s 0)))) (line-words 5 s 0)
+      ∙ first-line (wordAt s 0) (wordsAt 4 s (past s 0)) (nextOf (lineAt s 0)) (afterAt 4 s (past s 0)) (past s 0) (λ b c. numbersForm s (c .at) b)
+      (same (wordAt s 0) aig) (same (wordAt s 0) aag) (isByte s (endAt s 0) 32) (sepsAt 4 s (past s 0)) refl refl line-end
+      (λ b. five-is s (past s 0) b ∙ ap (λ (o : Option (List ℕ)). formOf b o (afterAt 4 s (past s 0))) (sym (numbers-at 4 s (past s 0))))
 
 none-is : headerOf (linesFrom 0 [] []) ≡ formMeans (formAt [])
-unfolding headerOf linesFrom formAt tagAt wordAt aag text same formMeans
+unfolding headerOf linesFrom formAt tagAt wordAt aag aig text same formMeans
 none-is = refl
 
 pub header-means : (s : List ℕ) → headerOf (linesFrom 0 [] s) ≡ formMeans (formAt s)
 header-means [] = none-is
 header-means (b ∷ s) = ap headerOf (lines-at (b ∷ s) 0 (omega arith)) ∙ first-is (b ∷ s) (cond (ended (lineAt (b ∷ s) 0)) (linesFrom (pastLine (b ∷ s) 0) [] (drop (pastLine (b ∷ s) 0) (b ∷ s))) [])
 
--- ---- 7, 8 and 9
+-- ---- 7, 8, 9 and 19
 
 module _ (s : List ℕ) where
-  read-is : readHeader s ≡ next (from? (formMeans (formAt s)) 7 0) (λ h. unless (eqb (h .latches) 0) 8 0 (unless (inLimits h) 9 0 (holds h)))
+  read-is : readHeader s ≡ next (from? (formMeans (formAt s)) 7 0) (λ h. unless (eqb (h .latches) 0) 8 0 (unless (inLimits h) 9 0 (unless (inSequence h) 19 0 (holds h))))
   unfolding readHeader
   read-is = rw (header-means s)
 
@@ -180,46 +206,36 @@ module _ (s : List ℕ) where
   unfolding next from? formMeans
   header-broken e = read-is ∙ rw e
 
-  pub header-latches : (h : Header) → formAt s ≡ Is h → eqb (h .latches) 0 ≡ false → readHeader s ≡ fault 8 0
-  unfolding next from? formMeans unless
-  header-latches h e f = read-is ∙ rw (e, f)
+  module _ (h : Header) (e : formAt s ≡ Is h) where
+    pub header-latches : eqb (h .latches) 0 ≡ false → readHeader s ≡ fault 8 0
+    unfolding next from? formMeans unless
+    header-latches f = read-is ∙ rw (e, f)
 
-  pub header-limits : (h : Header) → formAt s ≡ Is h → eqb (h .latches) 0 ≡ true → inLimits h ≡ false → readHeader s ≡ fault 9 0
-  unfolding next from? formMeans unless
-  header-limits h e f l = read-is ∙ rw (e, f, l)
+    pub header-limits : eqb (h .latches) 0 ≡ true → inLimits h ≡ false → readHeader s ≡ fault 9 0
+    unfolding next from? formMeans unless
+    header-limits f l = read-is ∙ rw (e, f, l)
 
-  pub header-good : (h : Header) → formAt s ≡ Is h → eqb (h .latches) 0 ≡ true → inLimits h ≡ true → readHeader s ≡ holds h
-  unfolding next from? formMeans unless
-  header-good h e f l = read-is ∙ rw (e, f, l)
+    pub header-sequence : eqb (h .latches) 0 ≡ true → inLimits h ≡ true → inSequence h ≡ false → readHeader s ≡ fault 19 0
+    unfolding next from? formMeans unless
+    header-sequence f l q = read-is ∙ rw (e, f, l, q)
 
-  -- and what a header that is accepted says of its text
-  pub header-form : (h : Header) → readHeader s ≡ holds h → (formAt s ≡ Is h) × (inLimits h ≡ true)
-  unfolding next from? formMeans unless
-  header-form h e = go (formAt s) refl (sym read-is ∙ e)
-    where
-      tested : (a b : Bool) (k : Header) → inLimits k ≡ b → unless a 8 0 (unless b 9 0 (holds k)) ≡ holds h → (k ≡ h) × (inLimits h ≡ true)
-      tested false b k l q = let z : _≡_ {A = ℕ} 0 1 = cc in absurd (omega arith)
-      tested true false k l q = let z : _≡_ {A = ℕ} 0 1 = cc in absurd (omega arith)
-      tested true true k l q = let i : k ≡ h = cc in (i, ap inLimits (sym i) ∙ l)
+    pub header-good : eqb (h .latches) 0 ≡ true → inLimits h ≡ true → inSequence h ≡ true → readHeader s ≡ holds h
+    unfolding next from? formMeans unless
+    header-good f l q = read-is ∙ rw (e, f, l, q)
 
-      go : (f : HeaderForm) → formAt s ≡ f → next (from? (formMeans f) 7 0) (λ k. unless (eqb (k .latches) 0) 8 0 (unless (inLimits k) 9 0 (holds k))) ≡ holds h → (formAt s ≡ Is h) × (inLimits h ≡ true)
-      go NoForm e q = let z : _≡_ {A = ℕ} 0 1 = cc in absurd (omega arith)
-      go (Is k) e q = let t = tested (eqb (k .latches) 0) (inLimits k) k refl q in (e ∙ ap Is (t .0), t .1)
-
--- what 9 leaves, and enough words for it
-pub limits-known : (h : Header) → inLimits h ≡ true → (h .size ≤ 4095) × (h .outputs ≤ 4096) × (h .inputs + h .ands ≤ h .size)
+-- what 9 leaves: I + A is in range
+pub limits-sum : (h : Header) → inLimits h ≡ true → h .inputs + h .ands ≤ 4095
 unfolding inLimits
-limits-known h e =
-    let r = and-right (leb (h .size) 4095) (leb (h .outputs) 4096 && leb (h .inputs + h .ands) (h .size)) e in (
-      leb-true (h .size) 4095 (and-left (leb (h .size) 4095) (leb (h .outputs) 4096 && leb (h .inputs + h .ands) (h .size)) e),
-      leb-true (h .outputs) 4096 (and-left (leb (h .outputs) 4096) (leb (h .inputs + h .ands) (h .size)) r),
-      leb-true (h .inputs + h .ands) (h .size) (and-right (leb (h .outputs) 4096) (leb (h .inputs + h .ands) (h .size)) r),
-    )
+limits-sum h e =
+    let r = and-right (leb (h .size) 4095) (leb (h .outputs) 4096 && leb (h .inputs + h .ands) (h .size)) e in
+    let a : h .size ≤ 4095 = leb-true (h .size) 4095 (and-left (leb (h .size) 4095) (leb (h .outputs) 4096 && leb (h .inputs + h .ands) (h .size)) e) in
+    let b : h .inputs + h .ands ≤ h .size = leb-true (h .inputs + h .ands) (h .size) (and-right (leb (h .outputs) 4096) (leb (h .inputs + h .ands) (h .size)) r) in
+    omega arith
 
-pub header-fit : (s : List ℕ) (h : Header) (w : List ℕ) → readHeader s ≡ holds h → need (h .size) (h .outputs) ≤ length w → Fit h w
-header-fit s h w e l =
-    let k = limits-known h (header-form s h e .1) in
-    record { room = room-for w (h .size) (h .outputs) (k .0) l; outs = k .1; lines = k .2 }
+-- what `header` ensures is its answer, by case, number and values
+pub header-told : (s : List ℕ) (r : HeaderAnswer) → r ≡ headerAnswer (readHeader s)
+    → (r ≡ headerAnswer (readHeader s)) × ((headerRuling r ≡ rulingOf (readHeader s)) × (headerValues r ≡ headerNumbers (readHeader s)))
+header-told s r e = let t = header-ruled r (readHeader s) e in (t .0, (t .1, t .2))
 
 -- a header that is answered is the text's
 pub header-read : (r : Read Header) (h : Header) → headerAnswer r ≡ WasRead h → r ≡ holds h

@@ -1,51 +1,26 @@
 -- The tests of a due line, by what they say:
---     fit-..           the literals are at most 2M + 1
 --     judged-good      what is known of a line that is free of 11 to 13
 --     turn-..          a turn by what the line is found to be
 --     lines-.., check-..   the passes, a turn at a time
 -- Assumes nothing.
-use Prim.Native.Nat.{ℕ, suc, _+_, _-_, _*_, _≤_, _<_}
+use Prim.Native.Nat.{ℕ, suc, _+_, _-_, _≤_, _<_}
 use native.Mathlib.Omega.{arith}
 use mathlib.Core.Path.{_≡_, refl, sym, ap, _∙_}
 use mathlib.Core.Bool.{Bool, true, false, _&&_}
 use mathlib.Core.List.{List}
-use lib.Dec.{leb}
 use lib.ListN.{length}
-use borrow.Author.Tests.{le-leb, lt-leb, leb-true, lt-ltb, le-ltb}
+use borrow.Author.Tests.{lt-ltb, le-ltb}
 use Rattle.model.specs.declared.Header.{Header}
 use Rattle.model.specs.declared.Verdict.the-variants.{Accepted, Refused}
-use Rattle.text.proofs.Bytes.{and-left, and-right}
-use Rattle.aiger.specs.declared.Literals.{Literals}
+use Rattle.loading.specs.declared.Literals.{Literals}
 use Rattle.aiger.specs.declared.LineRead.{LineRead}
 use Rattle.aiger.specs.declared.LineRead.the-variants.{Read as ALine, Broken as NoLine}
 use Rattle.aiger.specs.declared.Judged.the-variants.{Good, Bad}
-use Rattle.aiger.specs.declared.Turn.the-variants.{To, Refused as Stop}
-use Rattle.aiger.specs.Lines.{dueCode, dueCount, lineRead, onLine, literalsFit, mayDefine, isTaken, pickJudged, judgedAt}
-use Rattle.aiger.specs.Passes.{LiteralsFit, storedLine, turnAt, turnWords, linesVerdict, linesWords, checkAt, checkVerdict}
-
-module _ (m : ℕ) (l : Literals) where
-  pub fit-known : literalsFit m l ≡ true → LiteralsFit m l
-  unfolding literalsFit
-  fit-known e =
-      let a : leb (l .first) (2 * m + 1) ≡ true = and-left (leb (l .first) (2 * m + 1)) (leb (l .left) (2 * m + 1) && leb (l .right) (2 * m + 1)) e in
-      let b = and-right (leb (l .first) (2 * m + 1)) (leb (l .left) (2 * m + 1) && leb (l .right) (2 * m + 1)) e in
-      record {
-        first = leb-true (l .first) (2 * m + 1) a;
-        left = leb-true (l .left) (2 * m + 1) (and-left (leb (l .left) (2 * m + 1)) (leb (l .right) (2 * m + 1)) b);
-        right = leb-true (l .right) (2 * m + 1) (and-right (leb (l .left) (2 * m + 1)) (leb (l .right) (2 * m + 1)) b);
-      }
-
-  pub fit-first : 2 * m + 1 < l .first → literalsFit m l ≡ false
-  unfolding literalsFit
-  fit-first h = rw (lt-leb (l .first) (2 * m + 1) h)
-
-  pub fit-left : l .first ≤ 2 * m + 1 → 2 * m + 1 < l .left → literalsFit m l ≡ false
-  unfolding literalsFit
-  fit-left a h = rw (le-leb (l .first) (2 * m + 1) a, lt-leb (l .left) (2 * m + 1) h)
-
-  pub fit-right : l .first ≤ 2 * m + 1 → l .left ≤ 2 * m + 1 → literalsFit m l ≡ leb (l .right) (2 * m + 1)
-  unfolding literalsFit
-  fit-right a b = rw (le-leb (l .first) (2 * m + 1) a, le-leb (l .left) (2 * m + 1) b)
+use Rattle.loading.specs.declared.Turn.the-variants.{To, Refused as Stop}
+use Rattle.aiger.specs.Lines.{lineRead, onLine, pickJudged, judgedAt}
+use Rattle.loading.specs.Tests.{dueCode, dueCount, literalsFit, mayDefine, isTaken}
+use Rattle.loading.specs.Stores.{storedLine}
+use Rattle.aiger.specs.Passes.{turnAt, turnWords, linesVerdict, linesWords, checkAt, checkVerdict}
 
 bad-good : {n : ℕ} {l : Literals} → Bad n ≡ Good l → ⊥
 bad-good {n} {l} h = let z : _≡_ {A = ℕ} 0 1 = cc in omega arith

@@ -1,23 +1,23 @@
 -- What each reader of a line finds at a place of the text, composed of what the readers of the crate text find. Assumes nothing.
-use Prim.Native.Nat.{ℕ, _+_, _*_, _/_, _%_}
-use mathlib.Core.Bool.{Bool, true, false, not, _&&_, _||_}
+use Prim.Native.Nat.{ℕ, _/_}
+use mathlib.Core.Bool.{Bool, true, false, not, _&&_}
 use mathlib.Core.List.{List}
-use lib.Dec.{eqb, ltb, leb}
+use lib.Dec.{eqb}
 use Rattle.model.specs.Base.{same}
 use Rattle.model.specs.Text.{text}
 use Rattle.model.specs.declared.Header.{Header}
 use Rattle.text.specs.declared.Cursor.{Cursor}
-use Rattle.text.specs.declared.Step.{Step}
-use Rattle.text.specs.declared.Step.the-variants.{Broken as NoStep}
 use Rattle.text.specs.Fields.{wordAt, endAt, onNumber, onStep, numberThen, byteAt}
 use Rattle.text.specs.Lines.{pickBool}
-use Rattle.words.specs.Layout.{undefinedKind, inputKind, andKind, kindAt}
-use Rattle.placing.specs.Placing.{pickN}
-use Rattle.aiger.specs.declared.Literals.{Literals}
+use Rattle.words.specs.Layout.{undefinedKind, andKind, kindAt}
+use Rattle.loading.specs.declared.Literals.{Literals}
+use Rattle.loading.specs.Tests.{literals, literalsFit, mayDefine, isTaken}
 use Rattle.aiger.specs.declared.LineRead.{LineRead}
 use Rattle.aiger.specs.declared.LineRead.the-variants.{Read as ALine, Broken as NoLine}
 use Rattle.aiger.specs.declared.Judged.{Judged}
 use Rattle.aiger.specs.declared.Judged.the-variants.{Good, Bad}
+use Rattle.aiger.specs.declared.Tagged.{Tagged}
+use Rattle.aiger.specs.declared.Tagged.the-variants.{Word, Broken as NoTag}
 use Rattle.aiger.specs.declared.Three.{Three}
 use Rattle.aiger.specs.declared.Three.the-variants.{Numbers, Broken as NoThree}
 use Rattle.aiger.specs.declared.HeaderForm.{HeaderForm}
@@ -36,41 +36,43 @@ abbrev pub onThree : {A : Type 0} → Three → (ℕ → ℕ → ℕ → Cursor 
 onThree (Numbers a b d c) f e = f a b d c
 onThree NoThree f e = e
 
-abbrev pub pickStep : Bool → Step → Step → Step
-pickStep true a b = a
-pickStep false a b = b
+abbrev pub pickTag : Bool → Tagged → Tagged → Tagged
+pickTag true a b = a
+pickTag false a b = b
+
+abbrev pub onTag : {A : Type 0} → Tagged → (Bool → Cursor → A) → A → A
+onTag (Word binary c) f e = f binary c
+onTag NoTag f e = e
 
 unfoldable pub aag : List ℕ
 unfolding text
 aag = text "aag"
 
-unfoldable pub tagAt : List ℕ → Step
-tagAt s = pickStep (same (wordAt s 0) aag) (byteAt s (endAt s 0) 32) NoStep
+unfoldable pub aig : List ℕ
+unfolding text
+aig = text "aig"
 
-abbrev pub headerRecord : ℕ → ℕ → ℕ → ℕ → ℕ → ℕ → Header
-headerRecord size inputs latches outputs ands end =
-    record { size = size; inputs = inputs; latches = latches; outputs = outputs; ands = ands; next = end }
+-- the space behind the first word, which ends at a place
+unfoldable pub tagBehind : List ℕ → ℕ → Bool → Tagged
+tagBehind s end binary = onStep (byteAt s end 32) (λ c. Word binary c) NoTag
 
-unfoldable pub numbersForm : List ℕ → ℕ → HeaderForm
-numbersForm s at =
+unfoldable pub tagAt : List ℕ → Tagged
+tagAt s = pickTag (same (wordAt s 0) aig) (tagBehind s (endAt s 0) true) (pickTag (same (wordAt s 0) aag) (tagBehind s (endAt s 0) false) NoTag)
+
+abbrev pub headerRecord : ℕ → ℕ → ℕ → ℕ → ℕ → ℕ → Bool → Header
+headerRecord size inputs latches outputs ands end binary =
+    record { size = size; inputs = inputs; latches = latches; outputs = outputs; ands = ands; next = end; binary = binary }
+
+unfoldable pub numbersForm : List ℕ → ℕ → Bool → HeaderForm
+numbersForm s at binary =
     onNumber (numberThen s at 32) (λ m c0.
     onNumber (numberThen s (c0 .at) 32) (λ i c1.
-    onThree (threeAt s (c1 .at)) (λ l o a c2. Is (headerRecord m i l o a (c2 .at))) NoForm) NoForm) NoForm
+    onThree (threeAt s (c1 .at)) (λ l o a c2. Is (headerRecord m i l o a (c2 .at) binary)) NoForm) NoForm) NoForm
 
 unfoldable pub formAt : List ℕ → HeaderForm
-formAt s = onStep (tagAt s) (λ c. numbersForm s (c .at)) NoForm
+formAt s = onTag (tagAt s) (λ binary c. numbersForm s (c .at) binary) NoForm
 
 -- ---- the due lines
-
--- the kind of node that due line k defines: an output line defines none
-abbrev pub dueCode : Header → ℕ → ℕ
-dueCode h k = pickN (ltb k (h .inputs)) inputKind (pickN (ltb k (h .inputs + h .outputs)) undefinedKind andKind)
-
-abbrev pub dueCount : Header → ℕ
-dueCount h = h .inputs + h .outputs + h .ands
-
-abbrev pub literals : ℕ → ℕ → ℕ → ℕ → Literals
-literals a l r end = record { first = a; left = l; right = r; next = end }
 
 unfoldable pub oneLine : List ℕ → ℕ → LineRead
 oneLine s at = onNumber (numberThen s at 10) (λ a c. ALine (literals a 0 0 (c .at))) NoLine
@@ -88,18 +90,6 @@ lineRead s at kind = pickLine (eqb kind andKind) (andLine s at) (oneLine s at)
 abbrev pub onLine : {A : Type 0} → LineRead → (Literals → A) → A → A
 onLine (ALine l) f e = f l
 onLine NoLine f e = e
-
--- no "literal exceeds 2M+1"
-unfoldable pub literalsFit : ℕ → Literals → Bool
-literalsFit m l = leb (l .first) (2 * m + 1) && (leb (l .left) (2 * m + 1) && leb (l .right) (2 * m + 1))
-
--- no "input or left literal is odd or 0"
-unfoldable pub mayDefine : ℕ → ℕ → Bool
-mayDefine kind first = eqb kind undefinedKind || (eqb (first % 2) 0 && not (eqb first 0))
-
--- "An input or left variable is already defined."
-unfoldable pub isTaken : List ℕ → ℕ → ℕ → ℕ → Bool
-isTaken w m kind first = not (eqb kind undefinedKind) && not (eqb (kindAt w m (first / 2)) undefinedKind)
 
 abbrev pub pickJudged : Bool → Judged → Judged → Judged
 pickJudged true a b = a

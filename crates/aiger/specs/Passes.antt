@@ -1,53 +1,26 @@
 -- What the passes over the due lines answer and leave in the words: a turn for each line, one after the other. Assumes nothing.
-use Prim.Native.Nat.{ℕ, zero, suc, _+_, _-_, _*_, _/_, _≤_}
-use mathlib.Core.Bool.{Bool, true, false, _&&_}
-use mathlib.Core.List.{List, [], _∷_}
+use Prim.Native.Nat.{ℕ, zero, suc, _+_}
+use mathlib.Core.Bool.{_&&_}
+use mathlib.Core.List.{List}
 use lib.Dec.{ltb}
 use lib.ListN.{length}
 use Rattle.model.specs.declared.Header.{Header}
 use Rattle.model.specs.declared.Verdict.{Verdict}
 use Rattle.model.specs.declared.Verdict.the-variants.{Accepted, Refused}
-use Rattle.words.specs.Put.{putAt, zeros}
-use Rattle.words.specs.Layout.{constantKind, inputKind, andKind, outputAddr, listsFrom}
-use Rattle.words.specs.Record.{putNode}
-use Rattle.placing.specs.Placing.{pickWords, putPlaced}
-use Rattle.aiger.specs.declared.Literals.{Literals}
+use Rattle.placing.specs.Placing.{pickWords}
+use Rattle.loading.specs.declared.Literals.{Literals}
+use Rattle.loading.specs.declared.Turn.{Turn}
+use Rattle.loading.specs.declared.Turn.the-variants.{To, Refused as Stop}
+use Rattle.loading.specs.Tests.{dueCode, dueCount, literalsFit, pickTurn, onTurn}
+use Rattle.loading.specs.Stores.{storedLine, opened}
+use Rattle.binary.specs.Passes.{binaryWords}
 use Rattle.aiger.specs.declared.Judged.{Judged}
 use Rattle.aiger.specs.declared.Judged.the-variants.{Good, Bad}
-use Rattle.aiger.specs.declared.Turn.{Turn}
-use Rattle.aiger.specs.declared.Turn.the-variants.{To, Refused as Stop}
-use Rattle.aiger.specs.Lines.{dueCode, dueCount, lineRead, onLine, literalsFit, judgedAt, usesKnown}
-
--- no "literal exceeds 2M+1"
-pub record LiteralsFit (m : ℕ) (l : Literals) : Type 0 where
-  pub first : l .first ≤ 2 * m + 1
-  pub left : l .left ≤ 2 * m + 1
-  pub right : l .right ≤ 2 * m + 1
-
-abbrev pub pickTurn : Bool → Turn → Turn → Turn
-pickTurn true a b = a
-pickTurn false a b = b
+use Rattle.aiger.specs.Lines.{lineRead, onLine, judgedAt, usesKnown}
 
 abbrev pub onJudged : {A : Type 0} → Judged → (Literals → A) → (ℕ → A) → A
 onJudged (Good l) f e = f l
 onJudged (Bad n) f e = e n
-
-abbrev pub onTurn : {A : Type 0} → Turn → (ℕ → A) → (ℕ → ℕ → A) → A
-onTurn (To at) f e = f at
-onTurn (Stop n k) f e = e n k
-
--- ---- what a line leaves
-
-unfoldable pub storedInput : List ℕ → ℕ → ℕ → ℕ → List ℕ
-unfolding putPlaced
-storedInput w m k v = putPlaced (putNode w m v inputKind 0 0) m (k + 1) v
-
-unfoldable pub storedLine : List ℕ → Header → ℕ → Literals → List ℕ
-unfolding storedInput
-storedLine w h k l =
-    pickWords (ltb k (h .inputs)) (storedInput w (h .size) k (l .first / 2))
-    (pickWords (ltb k (h .inputs + h .outputs)) (putAt w (outputAddr (h .size) (k - h .inputs)) (l .first ∷ []))
-    (putNode w (h .size) (l .first / 2) andKind (l .left) (l .right)))
 
 -- ---- 11 to 13
 
@@ -81,12 +54,11 @@ checkVerdict s h (suc n) k at w = onTurn (checkAt s at w h k) (λ end. checkVerd
 
 -- ---- the whole
 
--- all columns zero but for variable 0, which stands first in the placing order
-unfoldable pub opened : List ℕ → ℕ → List ℕ
-unfolding putPlaced
-opened w m = putPlaced (putNode (putAt w 0 (zeros (listsFrom m))) m 0 constantKind 0 0) m 0 0
-
--- the words after the due lines of a text are read, up to the first refusal
-unfoldable pub loadedWords : List ℕ → List ℕ → Header → List ℕ
+-- the words after the due lines of an ASCII text are read, up to the first refusal
+unfoldable pub asciiWords : List ℕ → List ℕ → Header → List ℕ
 unfolding opened linesWords
-loadedWords w s h = linesWords s h (dueCount h) 0 (h .next) (opened w (h .size))
+asciiWords w s h = linesWords s h (dueCount h) 0 (h .next) (opened w (h .size))
+
+-- and after a text of either form
+unfoldable pub loadedWords : List ℕ → List ℕ → Header → List ℕ
+loadedWords w s h = pickWords (h .binary) (binaryWords w s h) (asciiWords w s h)

@@ -1,15 +1,19 @@
-// AIGER's ASCII form, read: the header, and the due lines into the lent words.
-// "`aag M I L O A`, then I input lines, O output lines and A lines `left right right`."
+// AIGER, read: the header of either form, the due lines of the ASCII form into the lent words, and the reader that a header's form asks for.
+// "`aag M I L O A`, then I input lines, O output lines and A lines `left right right`." "Read the `aig` form too, known by the header's first word."
 ghost use mathlib.Core.Path.{_≡_};
+ghost use mathlib.Core.Bool.{false};
 ghost use Prim.Native.Nat.{_+_, _*_, _≤_, _<_};
 ghost use lib.ListN.{length};
 ghost use Rattle.model.specs.Limits.{need};
-ghost use Rattle.model.specs.Reading.{holds, verdictOf};
-ghost use Rattle.model.specs.GraphText.{readHeader, headerAnswer, inLimits, readGraph};
+ghost use Rattle.model.specs.Reading.{holds, verdictOf, rulingOf, verdictRuling};
+ghost use Rattle.model.specs.GraphText.{readHeader, headerAnswer, headerRuling, headerValues, headerNumbers, inLimits, inSequence, readGraph};
 ghost use Rattle.words.specs.Layout.{Room};
 ghost use Rattle.placing.specs.Loaded.{Fit};
-ghost use Rattle.aiger.specs.Lines.{threeAt, tagAt, headerRecord, numbersForm, formAt, dueCode, dueCount, oneLine, andLine, lineRead, literalsFit, mayDefine, isTaken, judgedAt, isKnown, usesKnown};
-ghost use Rattle.aiger.specs.Passes.{LiteralsFit, storedInput, storedLine, turnAt, turnWords, linesVerdict, linesWords, checkAt, checkVerdict, opened, loadedWords};
+ghost use Rattle.loading.specs.Tests.{dueCount, LiteralsFit};
+ghost use Rattle.aiger.specs.Lines.{threeAt, tagBehind, tagAt, headerRecord, numbersForm, formAt, oneLine, andLine, lineRead, judgedAt, isKnown, usesKnown};
+ghost use Rattle.aiger.specs.Passes.{turnAt, turnWords, linesVerdict, linesWords, checkAt, checkVerdict, asciiWords, loadedWords};
+use loading::Literals;
+use loading::Turn;
 use model::Header;
 use model::HeaderAnswer;
 use model::Verdict;
@@ -20,6 +24,12 @@ use text::Step;
 // Three numbers that end a line, with the cursor behind it.
 pub enum Three {
     Numbers(u16, u16, u16, Cursor),
+    Broken,
+}
+
+// The header's first word with the space behind it: whether it is `aig`, and the cursor behind the space.
+pub enum Tagged {
+    Word(bool, Cursor),
     Broken,
 }
 
@@ -47,17 +57,30 @@ fn read_three(c: Cursor, s: &[u8]) -> Three
     }
 }
 
-// `aag` and the space behind it.
-fn tag(s: &[u8]) -> Step
+// The space behind the first word.
+fn tag_behind(c: Cursor, s: &[u8], binary: bool) -> Tagged
+    ensures { λ r. ⌜ r ≡ tagBehind (now (s .entry)) (c .at) binary ⌝ }
+{
+    match c.byte(s, 32) {
+        Step::To(d) => Tagged::Word(binary, d),
+        Step::Broken => Tagged::Broken,
+    }
+}
+
+// "Read the `aig` form too, known by the header's first word": `aig` or `aag`, and the space behind it.
+fn tag(s: &[u8]) -> Tagged
     ensures { λ r. ⌜ r ≡ tagAt (now (s .entry)) ⌝ }
 {
     let from = 0;
     let end = text::field_end(s, from);
+    let c = Cursor { at: end };
+    if text::same_bytes(&s[from..end], b"aig") {
+        return tag_behind(c, s, true);
+    }
     if text::same_bytes(&s[from..end], b"aag") {
-        let c = Cursor { at: end };
-        c.byte(s, 32)
+        tag_behind(c, s, false)
     } else {
-        Step::Broken
+        Tagged::Broken
     }
 }
 
@@ -68,8 +91,9 @@ fn header_record(
     outputs: u16,
     ands: u16,
     next: usize,
+    binary: bool,
 ) -> Header
-    ensures { λ r. ⌜ r ≡ headerRecord size inputs latches outputs ands next ⌝ }
+    ensures { λ r. ⌜ r ≡ headerRecord size inputs latches outputs ands next binary ⌝ }
 {
     Header {
         size: size as usize,
@@ -78,18 +102,27 @@ fn header_record(
         outputs: outputs as usize,
         ands: ands as usize,
         next,
+        binary,
     }
 }
 
 // `M I L O A` and the end of the line.
-fn header_numbers(c: Cursor, s: &[u8]) -> HeaderForm
-    ensures { λ r. ⌜ r ≡ numbersForm (now (s .entry)) (c .at) ⌝ }
+fn header_numbers(c: Cursor, s: &[u8], binary: bool) -> HeaderForm
+    ensures { λ r. ⌜ r ≡ numbersForm (now (s .entry)) (c .at) binary ⌝ }
 {
     match c.number_then(s, 32) {
         Number::Value(size, c0) => match c0.number_then(s, 32) {
             Number::Value(inputs, c1) => match read_three(c1, s) {
                 Three::Numbers(latches, outputs, ands, c2) => {
-                    HeaderForm::Is(header_record(size, inputs, latches, outputs, ands, c2.at))
+                    HeaderForm::Is(header_record(
+                        size,
+                        inputs,
+                        latches,
+                        outputs,
+                        ands,
+                        c2.at,
+                        binary,
+                    ))
                 }
                 Three::Broken => HeaderForm::Broken,
             },
@@ -103,8 +136,8 @@ fn header_form(s: &[u8]) -> HeaderForm
     ensures { λ r. ⌜ r ≡ formAt (now (s .entry)) ⌝ }
 {
     match tag(s) {
-        Step::To(c) => header_numbers(c, s),
-        Step::Broken => HeaderForm::Broken,
+        Tagged::Word(binary, c) => header_numbers(c, s, binary),
+        Tagged::Broken => HeaderForm::Broken,
     }
 }
 
@@ -124,19 +157,36 @@ fn in_limits(h: Header) -> bool
     h.ands <= h.size - h.inputs
 }
 
-// The header of a graph's text, or the first refusal of 7 to 9.
+// No "binary header's M isn't I + A".
+fn in_sequence(h: Header) -> bool
+    requires { ⌜ h .inputs + h .ands ≤ 4095 ⌝ }
+    ensures { λ r. ⌜ r ≡ inSequence h ⌝ }
+{
+    if h.binary {
+        h.size == h.inputs + h.ands
+    } else {
+        true
+    }
+}
+
+// The header of a graph's text in either form, or the first refusal of 7 to 9 and 19, which is "tried after 9, place 0".
 pub fn header(s: &[u8]) -> HeaderAnswer
-    ensures { λ r. ⌜ r ≡ headerAnswer (readHeader (now (s .entry))) ⌝ }
+    ensures answer { λ r. ⌜ r ≡ headerAnswer (readHeader (now (s .entry))) ⌝ }
+    ensures ruling { λ r. ⌜ headerRuling r ≡ rulingOf (readHeader (now (s .entry))) ⌝ }
+    ensures values { λ r. ⌜ headerValues r ≡ headerNumbers (readHeader (now (s .entry))) ⌝ }
 {
     match header_form(s) {
         HeaderForm::Is(h) => {
             if h.latches != 0 {
                 return HeaderAnswer::Refused(8, 0);
             }
-            if in_limits(h) {
+            if !in_limits(h) {
+                return HeaderAnswer::Refused(9, 0);
+            }
+            if in_sequence(h) {
                 HeaderAnswer::Read(h)
             } else {
-                HeaderAnswer::Refused(9, 0)
+                HeaderAnswer::Refused(19, 0)
             }
         }
         HeaderForm::Broken => HeaderAnswer::Refused(7, 0),
@@ -144,14 +194,6 @@ pub fn header(s: &[u8]) -> HeaderAnswer
 }
 
 // ---- a due line
-
-// The literals of a due line, 0 where it has fewer than three, and the place behind it.
-pub struct Literals {
-    pub first: usize,
-    pub left: usize,
-    pub right: usize,
-    pub next: usize,
-}
 
 pub enum LineRead {
     Read(Literals),
@@ -162,27 +204,6 @@ pub enum LineRead {
 pub enum Judged {
     Good(Literals),
     Bad(usize),
-}
-
-// The place of the next line, or a refusal's number and place.
-pub enum Turn {
-    To(usize),
-    Refused(usize, usize),
-}
-
-// The kind of node that due line k defines: an output line defines none.
-fn due_kind(h: Header, k: usize) -> usize
-    requires { ⌜ (h .inputs ≤ 4095) × (h .outputs ≤ 4096) ⌝ }
-    ensures { λ r. ⌜ r ≡ dueCode h k ⌝ }
-{
-    if k < h.inputs {
-        return words::INPUT;
-    }
-    if k < h.inputs + h.outputs {
-        words::UNDEFINED
-    } else {
-        words::AND
-    }
 }
 
 fn read_one(s: &[u8], at: usize) -> LineRead
@@ -231,41 +252,6 @@ fn read_line(s: &[u8], at: usize, kind: usize) -> LineRead
     }
 }
 
-// No "literal exceeds 2M+1".
-fn fits(m: usize, l: Literals) -> bool
-    requires { ⌜ m ≤ 4095 ⌝ }
-    ensures { λ r. ⌜ r ≡ literalsFit m l ⌝ }
-{
-    if l.first > 2 * m + 1 {
-        return false;
-    }
-    if l.left > 2 * m + 1 {
-        return false;
-    }
-    l.right <= 2 * m + 1
-}
-
-// An output, or no "input or left literal is odd or 0".
-fn may_define(kind: usize, first: usize) -> bool
-    ensures { λ r. ⌜ r ≡ mayDefine kind first ⌝ }
-{
-    if kind == words::UNDEFINED {
-        return true;
-    }
-    if first % 2 == 0 { first != 0 } else { false }
-}
-
-// "An input or left variable is already defined."
-fn taken(work: &[u16], m: usize, kind: usize, first: usize) -> bool
-    requires { ⌜ Room (now work) m × (first ≤ 2 * m + 1) ⌝ }
-    ensures { λ r. ⌜ r ≡ isTaken (now (work .entry)) m kind first ⌝ }
-{
-    if kind == words::UNDEFINED {
-        return false;
-    }
-    words::kind(work, m, first / 2) != words::UNDEFINED
-}
-
 // 11, 12 and 13 in this order.
 fn judge(s: &[u8], at: usize, work: &[u16], m: usize, kind: usize) -> Judged
     requires { ⌜ Room (now work) m ⌝ }
@@ -273,42 +259,18 @@ fn judge(s: &[u8], at: usize, work: &[u16], m: usize, kind: usize) -> Judged
 {
     match read_line(s, at, kind) {
         LineRead::Read(l) => {
-            if !fits(m, l) {
+            if !loading::fits(m, l) {
                 return Judged::Bad(12);
             }
-            if !may_define(kind, l.first) {
+            if !loading::may_define(kind, l.first) {
                 return Judged::Bad(12);
             }
-            if taken(work, m, kind, l.first) {
+            if loading::taken(work, m, kind, l.first) {
                 return Judged::Bad(13);
             }
             Judged::Good(l)
         }
         LineRead::Broken => Judged::Bad(11),
-    }
-}
-
-// ---- what a line leaves in the words
-
-// "Placing order: variable 0 and the inputs first".
-fn store_input(work: &mut [u16], m: usize, k: usize, v: usize)
-    requires { ⌜ Room (now work) m × (k < m) × (v ≤ m) ⌝ }
-    ensures { λ _. ⌜ now (work .exit) ≡ storedInput (now (work .entry)) m k v ⌝ }
-{
-    words::store_node(work, m, v, words::INPUT, 0, 0);
-    placing::place_at(work, m, k + 1, v);
-}
-
-fn store_line(work: &mut [u16], h: Header, k: usize, l: Literals)
-    requires { ⌜ Fit h (now work) × (k < dueCount h) × LiteralsFit (h .size) l ⌝ }
-    ensures { λ _. ⌜ now (work .exit) ≡ storedLine (now (work .entry)) h k l ⌝ }
-{
-    if k < h.inputs {
-        store_input(work, h.size, k, l.first / 2);
-    } else if k < h.inputs + h.outputs {
-        words::set_output(work, h.size, h.outputs, k - h.inputs, l.first);
-    } else {
-        words::store_node(work, h.size, l.first / 2, words::AND, l.left, l.right);
     }
 }
 
@@ -321,9 +283,9 @@ fn turn_at(s: &[u8], at: usize, work: &mut [u16], h: Header, k: usize) -> Turn
     if at >= s.len() {
         return Turn::Refused(11, s.len());
     }
-    match judge(s, at, work, h.size, due_kind(h, k)) {
+    match judge(s, at, work, h.size, loading::due_kind(h, k)) {
         Judged::Good(l) => {
-            store_line(work, h, k, l);
+            loading::store_line(work, h, k, l);
             Turn::To(l.next)
         }
         Judged::Bad(n) => Turn::Refused(n, at),
@@ -382,10 +344,10 @@ fn check_at(s: &[u8], at: usize, work: &[u16], h: Header, k: usize) -> Turn
     requires { ⌜ Fit h (now work) ⌝ }
     ensures { λ r. ⌜ r ≡ checkAt (now (s .entry)) at (now (work .entry)) h k ⌝ }
 {
-    let kind = due_kind(h, k);
+    let kind = loading::due_kind(h, k);
     match read_line(s, at, kind) {
         LineRead::Read(l) => {
-            if !fits(h.size, l) {
+            if !loading::fits(h.size, l) {
                 return Turn::Refused(14, at);
             }
             if uses_known(work, h.size, kind, l) {
@@ -422,25 +384,29 @@ fn check_lines(s: &[u8], work: &[u16], h: Header) -> Verdict
 
 // ---- the graph
 
-// Nothing is defined but variable 0, which stands first in the placing order.
-fn open_words(work: &mut [u16], m: usize)
-    requires { ⌜ Room (now work) m ⌝ }
-    ensures { λ _. ⌜ now (work .exit) ≡ opened (now (work .entry)) m ⌝ }
+// The graph of an ASCII text behind an accepted header, into the lent words; or the first refusal of 11 to 14.
+fn load_ascii(s: &[u8], h: Header, work: &mut [u16]) -> Verdict
+    requires { ⌜ Fit h (now work) × (h .binary ≡ false) ⌝ }
+    ensures answer { λ r. ⌜ r ≡ verdictOf (readGraph (now (s .entry)) h) ⌝ }
+    ensures left { λ _. ⌜ now (work .exit) ≡ asciiWords (now (work .entry)) (now (s .entry)) h ⌝ }
 {
-    words::clear_columns(work, m);
-    words::store_node(work, m, 0, words::CONSTANT, 0, 0);
-    placing::place_at(work, m, 0, 0);
+    loading::open_words(work, h.size);
+    match read_lines(s, work, h) {
+        Verdict::Accepted => check_lines(s, work, h),
+        Verdict::Refused(n, place) => Verdict::Refused(n, place),
+    }
 }
 
-// The graph behind an accepted header, into the lent words; or the first refusal of 11 to 14.
+// The graph behind an accepted header, in either form, into the lent words; or the first refusal of 11 to 14, 20 and 21.
 pub fn load(s: &[u8], h: Header, work: &mut [u16]) -> Verdict
     requires { ⌜ (readHeader (now s) ≡ holds h) × (need (h .size) (h .outputs) ≤ length (now work)) ⌝ }
     ensures answer { λ r. ⌜ r ≡ verdictOf (readGraph (now (s .entry)) h) ⌝ }
     ensures left { λ _. ⌜ now (work .exit) ≡ loadedWords (now (work .entry)) (now (s .entry)) h ⌝ }
+    ensures ruling { λ r. ⌜ verdictRuling r ≡ rulingOf (readGraph (now (s .entry)) h) ⌝ }
 {
-    open_words(work, h.size);
-    match read_lines(s, work, h) {
-        Verdict::Accepted => check_lines(s, work, h),
-        Verdict::Refused(n, place) => Verdict::Refused(n, place),
+    if h.binary {
+        binary::load_binary(s, h, work)
+    } else {
+        load_ascii(s, h, work)
     }
 }

@@ -7,7 +7,7 @@ ghost use Prim.Native.Nat.{_+_, _^_, _≤_, _<_};
 ghost use lib.ListN.{length, take, drop, getD};
 ghost use Rattle.model.specs.Base.{same, any};
 ghost use Rattle.model.specs.Text.{linesFrom};
-ghost use Rattle.model.specs.Reading.{fault};
+ghost use Rattle.model.specs.Reading.{fault, rulingOf, verdictRuling};
 ghost use Rattle.model.specs.Cells.{noCell, libraryOf, libraryAnswer};
 ghost use Rattle.model.specs.LibraryText.{isClean, readCells, readLibrary};
 ghost use Rattle.library.specs.Reading.{delaysAt, headAt, figuresAt, formAt, judgedAt, lineCell, added, isRepeated, delayOk, delaysOk, clamped, namesLine};
@@ -332,7 +332,8 @@ fn names_line(s: &[u8]) -> bool
 
 // The cells of a library's text, or the first refusal of 2 to 6.
 pub fn read(s: &[u8]) -> LibraryAnswer
-    ensures { λ r. ⌜ r ≡ libraryAnswer (readLibrary (now (s .entry))) ⌝ }
+    ensures answer { λ r. ⌜ r ≡ libraryAnswer (readLibrary (now (s .entry))) ⌝ }
+    ensures ruling { λ r. ⌜ verdictRuling (r .verdict) ≡ rulingOf (readLibrary (now (s .entry))) ⌝ }
 {
     if names_line(s) {
         cells(s, 33)

@@ -10,17 +10,15 @@ use Rattle.model.specs.Limits.{need}
 use Rattle.model.specs.Reading.{Read, holds, fault, next, unless}
 use Rattle.model.specs.GraphText.{readHeader, headerAnswer}
 use Rattle.model.specs.Netlist.{Outcome, refused}
-use Rattle.model.specs.Mapper.{Design, mapDesign}
+use Rattle.model.specs.Mapper.{mapDesign}
 use Rattle.model.specs.declared.Library.{Library}
 use Rattle.model.specs.declared.Header.{Header}
 use Rattle.model.specs.declared.HeaderAnswer.{HeaderAnswer}
-use Rattle.model.specs.declared.HeaderAnswer.the-variants.{Read as WasRead, Refused}
+use Rattle.model.specs.declared.HeaderAnswer.the-variants.{Refused}
 use Rattle.model.specs.declared.Answer.{Answer}
 use Rattle.model.specs.declared.Answer.the-variants.{Refused as Turned}
-use Rattle.aiger.proofs.Head.{header-read}
 use Rattle.mapper.specs.Stages.{Told, Left, designOf, graphFor, headerFor}
 use Rattle.mapper.proofs.Printing.{told-refused}
-use Rattle.mapper.proofs.Turns.{told-as}
 use Rattle.mapper.proofs.Numbers.{Early, work-early, work-late, header-early, graph-for-late}
 
 header-fault : (r : Read Header) (n k : ℕ) → headerAnswer r ≡ Refused n k → r ≡ fault n k
@@ -29,7 +27,7 @@ header-fault (holds h) n k e = let z : _≡_ {A = ℕ} 0 1 = cc in absurd (omega
 header-fault (fault m j) n k e = let x : m ≡ n = cc in let y : j ≡ k = cc in (λ i. fault (x i) (y i))
 
 -- a refusal up to 10 leaves both memories as they were
-pub left-early : (n k : ℕ) (work text : List ℕ) → Early n → Left (refused n k) work text (Turned n k) work text
+pub left-early : (n k : ℕ) (work text : List ℕ) → Early n k → Left (refused n k) work text (Turned n k) work text
 left-early n k work text e = record { told = told-refused n k text; words = work-early n k work e }
 
 pub left-as : {o p : Outcome} {work text : List ℕ} {a : Answer} {y u : List ℕ} → p ≡ o → Left o work text a y u → Left p work text a y u
@@ -41,7 +39,7 @@ module _ (lib : Library) (s : List ℕ) (work text : List ℕ) where
   header-stops r told n k e =
       let f = header-fault (readHeader s) n k (sym told ∙ e) in
       left-as (ap (λ (x : Read Header). mapDesign (length text) (next x (λ h. unless (leb (need (h .size) (h .outputs)) (length work)) 10 0 (designOf lib s h)))) f)
-      (left-early n k work text (header-early s .number n k f))
+      (left-early n k work text (header-early s .has n k f))
 
   module _ (h : Header) (d : readHeader s ≡ holds h) where
     through : headerFor lib s (length work) (length text) ≡ mapDesign (length text) (unless (leb (need (h .size) (h .outputs)) (length work)) 10 0 (designOf lib s h))

@@ -64,17 +64,17 @@ none-crowded g e = none-first 16 (crowded g) e
 pub loaded-after : (lib : Library) → LibraryOk lib → (s : List ℕ) (h : Header) (w : List ℕ) → Fit h w → readHeader s ≡ holds h → (g : Graph) → readGraph s h ≡ holds g
     → Loaded (loadedWords w s h) lib h g
 loaded-after lib ok s h w fit d g e =
-    let c = graph-counted s h g e in
+    let c = graph-counted s h g d e in
     record {
       given = record {
         library = ok;
         header = record { size = sym (c .size); inputs = sym (c .inputs); outputs = sym (c .outputs); ands = sym (c .ands) };
         fits = graph-fits s h g d e;
-        accepted = graph-accepted s h g e;
+        accepted = graph-accepted s h g d e;
       };
       before = w;
       fit = fit;
-      holding = load-law s h w fit g e;
+      holding = load-law w s h fit g e;
     }
 
 -- ---- `place`

@@ -1,13 +1,13 @@
 -- A library that was read, by value: its cells are the text's, and it may be asked for matches. Assumes nothing.
 use Prim.Native.Nat.{ℕ, zero, suc, _≤_, _<_}
 use native.Mathlib.Omega.{arith}
-use mathlib.Core.Path.{_≡_, refl, sym, _∙_, ap, subst}
+use mathlib.Core.Path.{_≡_, refl, sym, subst}
 use mathlib.Core.List.{List, [], _∷_, List·Memᴰ, List·Memᴰ·head, List·Memᴰ·tail}
 use lib.Dec.{T}
-use lib.ListN.{length, getD, replicate}
+use lib.ListN.{getD}
 use lib.Seq.{take-append-seam}
 use Rattle.model.specs.Reading.{holds}
-use Rattle.model.specs.Cells.{noCell, cellAt, blank, cellsOf, libraryOf}
+use Rattle.model.specs.Cells.{noCell, cellAt, cellsOf, libraryOf}
 use Rattle.model.specs.LibraryText.{readLibrary}
 use Rattle.model.specs.declared.Cell.{Cell}
 use Rattle.theory_graph.specs.Accepted.{libraryFits}

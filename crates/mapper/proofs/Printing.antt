@@ -1,7 +1,7 @@
 -- The last step: the netlist is measured, and then written or refused by 18. Assumes nothing.
 use Prim.Native.Nat.{ℕ, _≤_, _<_}
 use native.Mathlib.Omega.{arith}
-use mathlib.Core.Path.{_≡_, refl, sym, _∙_, ap, ap₂, subst}
+use mathlib.Core.Path.{_≡_, refl, sym, _∙_, ap, subst}
 use mathlib.Core.Bool.{Bool, true, false, cond}
 use mathlib.Core.List.{List, _++_}
 use lib.Dec.{T, leb, leb→le, le→leb}
@@ -13,7 +13,6 @@ use Rattle.model.specs.Mapper.{within, answerOf, textAfter}
 use Rattle.model.specs.Demands.{choiceText, choiceFigures}
 use Rattle.model.specs.declared.Library.{Library}
 use Rattle.model.specs.declared.Figures.{Figures}
-use Rattle.model.specs.declared.Answer.{Answer}
 use Rattle.model.specs.declared.Answer.the-variants.{Mapped, Refused}
 use Rattle.netlist.specs.Mapped.{textFor, measuredFor}
 use Rattle.netlist.specs.declared.Measured.{Measured}

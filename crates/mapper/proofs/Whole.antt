@@ -1,9 +1,9 @@
 -- The whole call: refusal 1, the library's, and what comes behind; the demands. Assumes nothing.
 use Prim.Native.Nat.{ℕ, _≤_, _<_}
 use native.Mathlib.Omega.{arith}
-use mathlib.Core.Path.{_≡_, refl, sym, _∙_, ap, ap₂, subst}
+use mathlib.Core.Path.{_≡_, refl, sym, _∙_, ap, subst}
 use mathlib.Core.Bool.{Bool, true, false, cond, _&&_}
-use mathlib.Core.List.{List, List·Memᴰ}
+use mathlib.Core.List.{List}
 use lib.Dec.{T, leb, leb→le, le→leb}
 use lib.ListN.{length}
 use Rattle.model.specs.Limits.{need}
@@ -15,19 +15,12 @@ use Rattle.model.specs.Netlist.{Outcome, refused, mapped, mapGraph}
 use Rattle.model.specs.Mapper.{Call, callOf, Design, within, mapDesign, readTexts, mapTexts, answerOf, returned}
 use Rattle.model.specs.Demands.{Memory}
 use Rattle.model.specs.declared.Cell.{Cell}
-use Rattle.model.specs.declared.Library.{Library}
 use Rattle.model.specs.declared.LibraryAnswer.{LibraryAnswer}
-use Rattle.model.specs.declared.Header.{Header}
-use Rattle.model.specs.declared.Figures.{Figures}
-use Rattle.model.specs.declared.Verdict.{Verdict}
 use Rattle.model.specs.declared.Verdict.the-variants.{Accepted, Refused}
 use Rattle.model.specs.declared.Answer.{Answer}
-use Rattle.model.specs.declared.Answer.the-variants.{Mapped as IsMapped, Refused as Turned}
+use Rattle.model.specs.declared.Answer.the-variants.{Refused as Turned}
 use Rattle.model.proofs.Answers.{answer-returns}
-use Rattle.theory_text.proofs.ReadLibrary.{Written, library-fits, library-few, library-written}
-use Rattle.matching.proofs.Linking.{usable-library}
-use Rattle.theory_graph.proofs.Lists.{getD-in}
-use Rattle.mapper.specs.Stages.{Fits, Told, Left, LibraryOk, designOf, headerFor}
+use Rattle.mapper.specs.Stages.{Fits, Left, LibraryOk, headerFor}
 use Rattle.mapper.proofs.Libraries.{cells-back, library-ok}
 use Rattle.mapper.proofs.Numbers.{library-early}
 use Rattle.mapper.proofs.Ends.{left-early, left-as}
@@ -128,7 +121,7 @@ module _ (library graph work text : List ℕ) where
               let f : readLibrary library ≡ fault n k = q ∙ (λ i. fault (x i) (y i)) in
               memory-of call work text (Turned n k) work text
               (left-as (entered ∙ ap (λ (r : Read (List Cell)). mapDesign (length text) (next r behindCells)) f)
-              (left-early n k work text (library-early library .number n k f)))
+              (left-early n k work text (library-early library .has n k f)))
 
       pub record IsRead : Type 0 where
         pub ok : LibraryOk (l .library)

@@ -49,7 +49,7 @@ pub record LibraryOk (lib : Library) : Type 0 where
   pub fits : T (libraryFits (cellsOf lib))
   pub usable : Usable lib
 
--- library, header and graph that were read: none of the refusals 1 to 14 applies
+-- library, header and graph that were read: none of the refusals 1 to 14 and 19 to 21 applies
 pub record Given (lib : Library) (h : Header) (g : Graph) : Type 0 where
   pub library : LibraryOk lib
   pub header : HeaderOf h g
@@ -99,10 +99,10 @@ loadedFor lib g bytes = within bytes (mapGraph (cellsOf lib) g)
 abbrev pub designOf : Library → List ℕ → Header → Read Design
 designOf lib s h = next (readGraph s h) (λ g. holds (record { cells = cellsOf lib; graph = g }))
 
--- 11 to 14 before it
+-- 11 to 14, 20 and 21 before it
 unfoldable pub graphFor : Library → List ℕ → Header → ℕ → Outcome
 graphFor lib s h bytes = mapDesign bytes (designOf lib s h)
 
--- 7 to 10 before it
+-- 7 to 10 and 19 before it
 unfoldable pub headerFor : Library → List ℕ → ℕ → ℕ → Outcome
 headerFor lib s words bytes = mapDesign bytes (next (readHeader s) (λ h. unless (leb (need (h .size) (h .outputs)) words) 10 0 (designOf lib s h)))

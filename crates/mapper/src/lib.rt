@@ -12,7 +12,7 @@ ghost use Rattle.model.specs.Reading.{holds};
 ghost use Rattle.model.specs.Graph.{Graph};
 ghost use Rattle.model.specs.GraphText.{readHeader};
 ghost use Rattle.model.specs.Mapper.{callOf};
-ghost use Rattle.model.specs.Demands.{Memory, Values, Earliest};
+ghost use Rattle.model.specs.Demands.{Memory, Values, Earliest, Twins, Sequenced};
 ghost use Rattle.netlist.specs.Mapped.{Mapped};
 ghost use Rattle.mapper.specs.Stages.{Fits, Told, Left, LibraryOk, Loaded, Placed, Cut, printedFor, cutFor, placedFor, loadedFor, graphFor, headerFor};
 
@@ -68,7 +68,7 @@ fn place_graph(work: &mut [u16], lib: Library, h: Header, text: &mut [u8]) -> An
     }
 }
 
-// The graph behind its header, and 11 to 14.
+// The graph behind its header, and 11 to 14, or 11, 12, 20 and 21.
 fn load_graph(graph: &[u8], h: Header, lib: Library, work: &mut [u16], text: &mut [u8]) -> Answer
     requires { ⌜ LibraryOk lib × (readHeader (now graph) ≡ holds h) × (need (h .size) (h .outputs) ≤ length (now work)) ⌝ }
     ensures { λ r. ⌜ Told (graphFor lib (now (graph .entry)) h (length (now (text .entry)))) (now (text .entry)) r (now (text .exit)) ⌝ }
@@ -79,7 +79,7 @@ fn load_graph(graph: &[u8], h: Header, lib: Library, work: &mut [u16], text: &mu
     }
 }
 
-// The header, 7 to 10, and the clearing: "Work memory is unchanged by every refusal tried up to 10, and all zero after a later one and after success."
+// The header, 7 to 9 and 19, then 10, and the clearing: "Work memory is unchanged by every refusal tried up to 10, and all zero after a later one and after success."
 fn map_header(graph: &[u8], lib: Library, work: &mut [u16], text: &mut [u8]) -> Answer
     requires { ⌜ LibraryOk lib ⌝ }
     ensures { λ r. ⌜ Left (headerFor lib (now (graph .entry)) (length (now (work .entry))) (length (now (text .entry)))) (now (work .entry)) (now (text .entry)) r (now (work .exit)) (now (text .exit)) ⌝ }
@@ -97,13 +97,16 @@ fn map_header(graph: &[u8], lib: Library, work: &mut [u16], text: &mut [u8]) -> 
     }
 }
 
-// A library text and a graph text mapped: the netlist at the start of text memory, or the first refusal that applies. The clauses carry the
-// names of the demands; `fits` says that the netlist's length is within text memory.
+// A library text and a graph text in either form mapped: the netlist at the start of text memory, or the first refusal that applies. The clauses
+// carry the names of the demands; `fits` says that the netlist's length is within text memory, `twins` that texts which mean the same graph have
+// the same outcome, `sequenced` that 13 to 15 refuse no binary text.
 pub fn map_texts(cells: &[u8], graph: &[u8], work: &mut [u16], text: &mut [u8]) -> Answer
     ensures memory { λ r. ⌜ Memory (callOf (now (cells .entry)) (now (graph .entry)) (now (work .entry)) (now (text .entry))) (now (work .entry)) (now (text .entry)) r (now (work .exit)) (now (text .exit)) ⌝ }
     ensures values { λ _. ⌜ Values (callOf (now (cells .entry)) (now (graph .entry)) (now (work .entry)) (now (text .entry))) ⌝ }
     ensures earliest { λ _. ⌜ Earliest (callOf (now (cells .entry)) (now (graph .entry)) (now (work .entry)) (now (text .entry))) ⌝ }
     ensures fits { λ r. ⌜ Fits r (length (now (text .entry))) ⌝ }
+    ensures twins { λ _. ⌜ Twins (callOf (now (cells .entry)) (now (graph .entry)) (now (work .entry)) (now (text .entry))) ⌝ }
+    ensures sequenced { λ _. ⌜ Sequenced (callOf (now (cells .entry)) (now (graph .entry)) (now (work .entry)) (now (text .entry))) ⌝ }
 {
     if cells.len() > 65536 {
         return Answer::Refused(1, 0);

@@ -1,6 +1,6 @@
 -- Each case of an answer has document 01's number and values. Assumes nothing.
 use Prim.Native.Nat.{ℕ}
-use mathlib.Core.Path.{_≡_, refl}
+use mathlib.Core.Path.{_≡_, refl, ap, _∙_}
 use mathlib.Core.Option.{Option, none, some}
 use mathlib.Core.List.{List}
 use Rattle.model.specs.Base.{lowest}
@@ -14,6 +14,9 @@ use Rattle.model.specs.Netlist.{Outcome, refused, mapped, uncovered, pla
 use Rattle.model.specs.Mapper.{answerOf, returned, returnedBy}
 use Rattle.model.specs.declared.Cell.{Cell}
 use Rattle.model.specs.declared.Header.{Header}
+use Rattle.model.specs.declared.HeaderAnswer.{HeaderAnswer}
+use Rattle.model.specs.declared.LibraryAnswer.{LibraryAnswer}
+use Rattle.model.specs.declared.Verdict.{Verdict}
 
 -- the verdict on what is read
 pub verdict-rules : {A : Type 0} (r : Read A) → verdictRuling (verdictOf r) ≡ rulingOf r
@@ -62,3 +65,14 @@ pub answer-returns : (o : Outcome) → returned (answerOf o) ≡ returnedBy o
 unfolding returned answerOf returnedBy
 answer-returns (refused n k) = refl
 answer-returns (mapped t f) = refl
+
+-- ---- both said of an answer of the code: the answer itself, and its number and values
+
+pub library-ruled : (r : LibraryAnswer) (q : Read (List Cell)) → r ≡ libraryAnswer q → (r ≡ libraryAnswer q) × (verdictRuling (r .verdict) ≡ rulingOf q)
+library-ruled r q e = (e, ap (λ (x : LibraryAnswer). verdictRuling (x .verdict)) e ∙ library-rules q)
+
+pub header-ruled : (r : HeaderAnswer) (q : Read Header) → r ≡ headerAnswer q → (r ≡ headerAnswer q) × (headerRuling r ≡ rulingOf q) × (headerValues r ≡ headerNumbers q)
+header-ruled r q e = (e, ap headerRuling e ∙ header-rules q, ap headerValues e ∙ header-tells q)
+
+pub verdict-ruled : {A : Type 0} (v : Verdict) (q : Read A) → v ≡ verdictOf q → verdictRuling v ≡ rulingOf q
+verdict-ruled v q e = ap verdictRuling e ∙ verdict-rules q

@@ -1,5 +1,5 @@
--- The marked cases A to K of the document, from the texts on, a case for each refusal, matches and ties, and what a call leaves and returns, checked
--- against the definitions by computing.
+-- The marked cases A to K of the document, from the texts on, a case for each refusal, the binary form, matches and ties, and what a call leaves and
+-- returns, checked against the definitions by computing.
 -- Assumes nothing.
 use Prim.Native.Nat.{ℕ, _+_}
 use Prim.Native.String.{String}
@@ -12,12 +12,12 @@ use Rattle.model.specs.Base.{all, same, each, below}
 use Rattle.model.specs.Limits.{need}
 use Rattle.model.specs.Text.{text, decimal}
 use Rattle.model.specs.Table.{orders, rowMap}
-use Rattle.model.specs.Graph.{Graph}
+use Rattle.model.specs.Graph.{And, Graph}
 use Rattle.model.specs.Cuts.{cutsOf, cutTable}
 use Rattle.model.specs.Netlist.{Outcome, refused, mapped}
 use Rattle.model.specs.Reading.{Read, fault, next, Ruling, verdictRuling}
 use Rattle.model.specs.Reading.{holds as reads}
-use Rattle.model.specs.GraphText.{readHeader, readGraph, headerAnswer, headerRuling, headerValues}
+use Rattle.model.specs.GraphText.{readHeader, readGraph, asciiText, headerAnswer, headerRuling, headerValues}
 use Rattle.model.specs.Mapper.{Call, mapTexts, answerOf, Returned, returned, returnedBy, textAfter, workAfter}
 use Rattle.model.specs.Blif.{readFigures}
 use Rattle.model.specs.declared.Figures.{Figures}
@@ -62,6 +62,16 @@ pub data Case : Type 0 where
   lists : String → ℕ → List (List ℕ) → Case
   -- this function of a cut of a variable
   computes : String → List ℕ → ℕ → ℕ → Case
+  -- a graph's text, given as bytes: the whole text printed, with its gates, area and arrival
+  printsBytes : List ℕ → List ℕ → List ℕ → ℕ → ℕ → ℕ → Case
+  -- this refusal of a graph's text, given as bytes, with so many words lent
+  refusesBytes : List ℕ → ℕ → ℕ → ℕ → Case
+  -- this ASCII twin of a graph's text, given as bytes
+  means : List ℕ → String → Case
+  -- this first AND of a graph's text, given as bytes: its variable and its literals
+  hasAnd : List ℕ → ℕ → ℕ → ℕ → Case
+  -- these cuts of a variable, and this function of one of them, of a graph's text that is given as bytes
+  listsBytes : List ℕ → ℕ → List (List ℕ) → List ℕ → ℕ → Case
   -- this order takes this row to that row
   takes : ℕ → ℕ → ℕ → Case
   -- the `# gates` line of a text says these figures
@@ -97,6 +107,11 @@ unfoldable pub nothingSaid : Option Figures → Bool
 nothingSaid none = true
 nothingSaid (some f) = false
 
+-- the first of some ANDs
+unfoldable pub isAnd : ℕ → ℕ → ℕ → List And → Bool
+isAnd v l r [] = false
+isAnd v l r (a ∷ as′) = eqb v (a .var) && (eqb l (a .left) && eqb r (a .right))
+
 -- a test of the graph that a text holds
 unfoldable pub ofGraph : (Graph → Bool) → Read Graph → Bool
 ofGraph p (reads g) = p g
@@ -106,17 +121,25 @@ ofGraph p (fault n k) = false
 abbrev pub given : List ℕ → String → ℕ → ℕ → Call
 given l g words bytes = record { library = l; graph = text g; words = words; bytes = bytes }
 
+-- the same with the graph's text as bytes
+abbrev pub givenBytes : List ℕ → List ℕ → ℕ → Call
+givenBytes l g words = record { library = l; graph = g; words = words; bytes = 65536 }
+
 -- "It lends 32,768 words and 65,536 bytes."
 unfoldable pub mapText : List ℕ → String → Outcome
 unfolding mapTexts text
 mapText l g = mapTexts (given l g 32768 65536)
 
+unfoldable pub graphBytes : List ℕ → Read Graph
+unfolding readHeader readGraph next
+graphBytes g = next (readHeader g) (readGraph g)
+
 unfoldable pub graphText : String → Read Graph
-unfolding readHeader readGraph next text
-graphText g = next (readHeader (text g)) (readGraph (text g))
+unfolding graphBytes text
+graphText g = graphBytes (text g)
 
 unfoldable pub holds : Case → Bool
-unfolding isPrint isGiven isRefusal sameCuts ofGraph mapText mapTexts text graphText cutsOf cutTable rowMap orders areSaid nothingSaid readFigures
+unfolding isPrint isGiven isRefusal sameCuts isAnd ofGraph mapText mapTexts text graphBytes graphText asciiText same library cutsOf cutTable rowMap orders areSaid nothingSaid readFigures
 holds (prints l g t count area arrival) = isPrint t count area arrival (mapText l g)
 holds (gives l g count arrival) = isGiven count arrival (mapText l g)
 holds (refuses l g n k) = isRefusal n k (mapText l g)
@@ -124,6 +147,11 @@ holds (lacks l g words bytes n k) = isRefusal n k (mapTexts (given l g words byt
 holds (suffices l g words bytes count arrival) = isGiven count arrival (mapTexts (given l g words bytes))
 holds (lists g v cuts) = ofGraph (λ h. sameCuts cuts (cutsOf h v)) (graphText g)
 holds (computes g cut v f) = ofGraph (λ h. eqb f (cutTable h cut v)) (graphText g)
+holds (printsBytes l g t count area arrival) = isPrint t count area arrival (mapTexts (givenBytes l g 32768))
+holds (refusesBytes g words n k) = isRefusal n k (mapTexts (givenBytes library g words))
+holds (means g t) = ofGraph (λ h. same (text t) (asciiText h)) (graphBytes g)
+holds (hasAnd g v l r) = ofGraph (λ h. isAnd v l r (h .ands)) (graphBytes g)
+holds (listsBytes g v cuts cut f) = ofGraph (λ h. sameCuts cuts (cutsOf h v) && eqb f (cutTable h cut v)) (graphBytes g)
 holds (takes order r q) = eqb q (rowMap (getD orders order []) r)
 holds (says t count area arrival) = areSaid count area arrival (readFigures t)
 holds (saysNothing t) = nothingSaid (readFigures t)
@@ -221,7 +249,10 @@ refusals =
     ∷ refuses library "" 7 0
     ∷ refuses library "aag 0 0 0 0 0" 7 0
     ∷ refuses library "aag 0 0 0 0\n" 7 0
-    ∷ refuses library "aig 0 0 0 0 0\n" 7 0
+    ∷ refuses library "aigx 0 0 0 0 0\n" 7 0
+    ∷ refuses library "AIG 0 0 0 0 0\n" 7 0
+    ∷ refuses library "aig\n" 7 0
+    ∷ refuses library "aig 0 0 0 0 0" 7 0
     ∷ refuses library "aag 65536 0 0 0 0\n" 7 0
     ∷ refuses library "aag 1 0 1 0 0\n2 2\n" 8 0
     ∷ refuses library "aag 4096 0 1 0 0\n" 8 0
@@ -268,6 +299,102 @@ refusals =
 pub refusals-hold : T (all holds refusals)
 unfolding all holds refusals
 refusals-hold = tt
+
+-- ---- the binary form
+
+-- the header and the output line of B in the binary form: 16 bytes
+unfoldable pub headB : List ℕ
+unfolding text
+headB = text "aig 3 2 0 1 1\n6\n"
+
+-- the header of a binary text whose one AND is variable 64, of literal 128: 16 bytes
+unfoldable pub head64 : List ℕ
+unfolding text
+head64 = text "aig 64 63 0 0 1\n"
+
+-- F in the binary form
+unfoldable pub binaryF : List ℕ
+unfolding text
+binaryF = text "aig 6 3 0 0 3\n" ++ (4 ∷ 2 ∷ 2 ∷ 2 ∷ 2 ∷ 2 ∷ [])
+
+-- "Each AND is two differences, left minus first operand and first minus second. A difference is in groups of seven bits, lowest first, the top bit
+-- set on all but the last byte."
+unfoldable pub binaries : List Case
+unfolding library listing text headB head64 binaryF
+binaries =
+    -- the binary forms of B and of F
+    printsBytes library (headB ++ (2 ∷ 2 ∷ [])) listing 2 3 30
+    ∷ means (headB ++ (2 ∷ 2 ∷ [])) "aag 3 2 0 1 1\n2\n4\n6\n6 4 2\n"
+    ∷ listsBytes binaryF 6 ((6 ∷ []) ∷ (3 ∷ 4 ∷ []) ∷ (4 ∷ 5 ∷ []) ∷ (1 ∷ 2 ∷ 3 ∷ []) ∷ (1 ∷ 2 ∷ 5 ∷ []) ∷ (1 ∷ 2 ∷ 3 ∷ 4 ∷ []) ∷ []) (1 ∷ 2 ∷ 3 ∷ 4 ∷ []) 0xf000
+    -- an ASCII text is its own twin
+    ∷ means (text "aag 7 2 0 2 1\n4\n2\n7\n0\n6 3 5\n") "aag 7 2 0 2 1\n4\n2\n7\n0\n6 3 5\n"
+    -- a zero group in the first and in the second difference; what follows the last difference isn't read
+    ∷ printsBytes library (headB ++ (130 ∷ 0 ∷ 2 ∷ [])) listing 2 3 30
+    ∷ printsBytes library (headB ++ (2 ∷ 130 ∷ 0 ∷ 255 ∷ 255 ∷ 255 ∷ [])) listing 2 3 30
+    ∷ means (headB ++ (129 ∷ 0 ∷ 1 ∷ [])) "aag 3 2 0 1 1\n2\n4\n6\n6 5 4\n"
+    -- a second difference of 0; differences that leave 0
+    ∷ means (headB ++ (4 ∷ 0 ∷ [])) "aag 3 2 0 1 1\n2\n4\n6\n6 2 2\n"
+    ∷ means (headB ++ (6 ∷ 0 ∷ [])) "aag 3 2 0 1 1\n2\n4\n6\n6 0 0\n"
+    ∷ means (headB ++ (1 ∷ 5 ∷ [])) "aag 3 2 0 1 1\n2\n4\n6\n6 5 0\n"
+    -- ANDs follow in sequence; a difference may be byte 10; an output may be a complement
+    ∷ means (text "aig 4 2 0 1 2\n9\n" ++ (2 ∷ 2 ∷ 1 ∷ 3 ∷ [])) "aag 4 2 0 1 2\n2\n4\n9\n6 4 2\n8 7 4\n"
+    ∷ means (text "aig 6 5 0 0 1\n" ++ (10 ∷ 1 ∷ [])) "aag 6 5 0 0 1\n2\n4\n6\n8\n10\n12 2 1\n"
+    -- one group and two: differences of 127 and 128 from literal 128
+    ∷ hasAnd (head64 ++ (127 ∷ 0 ∷ [])) 64 1 1
+    ∷ hasAnd (head64 ++ (128 ∷ 1 ∷ 0 ∷ [])) 64 0 0
+    ∷ hasAnd (head64 ++ (1 ∷ 255 ∷ 0 ∷ [])) 64 127 0
+    ∷ []
+
+pub binaries-hold : T (all holds binaries)
+unfolding all holds binaries
+binaries-hold = tt
+
+-- 19 to 21 in their places, and 11 and 12 of output lines
+unfoldable pub binaryRefusals : List Case
+unfolding text headB head64
+binaryRefusals =
+    -- 19: after 8 and 9, before 10
+    refusesBytes (text "aig 4 2 0 1 1\n6\n" ++ (2 ∷ 2 ∷ [])) 32768 19 0
+    ∷ refusesBytes (text "aig 4 2 0 1 1\n6\n" ++ (2 ∷ 2 ∷ [])) 0 19 0
+    ∷ refusesBytes (text "aig 4 2 1 1 1\n") 0 8 0
+    ∷ refusesBytes (text "aig 3 2 0 1 2\n") 0 9 0
+    ∷ refusesBytes (text "aig 4 2 0 4097 1\n") 0 9 0
+    ∷ refusesBytes (headB ++ (2 ∷ 2 ∷ [])) 640 10 0
+    -- 11 and 12 of an output line, before 20
+    ∷ refusesBytes (text "aig 3 2 0 1 1\n") 32768 11 14
+    ∷ refusesBytes (text "aig 3 2 0 1 1\n6") 32768 11 14
+    ∷ refusesBytes (text "aig 3 2 0 2 1\n6\n06\n") 32768 11 16
+    ∷ refusesBytes (text "aig 3 2 0 1 1\n6 6\n" ++ (2 ∷ 2 ∷ [])) 32768 11 14
+    ∷ refusesBytes (text "aig 3 2 0 1 1\n6" ++ (13 ∷ 10 ∷ 2 ∷ 2 ∷ [])) 32768 11 14
+    ∷ refusesBytes (text "aig 3 2 0 1 1\n8\n") 32768 12 14
+    -- 20 where the text ends: before a difference, whose place is then the text's length, and in one
+    ∷ refusesBytes headB 32768 20 16
+    ∷ refusesBytes (headB ++ (2 ∷ [])) 32768 20 17
+    ∷ refusesBytes (headB ++ (130 ∷ 0 ∷ [])) 32768 20 18
+    ∷ refusesBytes (headB ++ (130 ∷ [])) 32768 20 16
+    ∷ refusesBytes (headB ++ (2 ∷ 130 ∷ [])) 32768 20 17
+    ∷ refusesBytes (headB ++ (130 ∷ 128 ∷ [])) 32768 20 16
+    -- 20 where a difference takes three bytes, whatever it would be
+    ∷ refusesBytes (headB ++ (130 ∷ 128 ∷ 0 ∷ 2 ∷ [])) 32768 20 16
+    ∷ refusesBytes (headB ++ (2 ∷ 128 ∷ 128 ∷ 0 ∷ [])) 32768 20 17
+    ∷ refusesBytes (headB ++ (128 ∷ 128 ∷ 0 ∷ 2 ∷ [])) 32768 20 16
+    ∷ refusesBytes (headB ++ (255 ∷ 255 ∷ 127 ∷ 2 ∷ [])) 32768 20 16
+    -- 21: a first difference of 0, padded too; one that exceeds what it is taken from, first or second
+    ∷ refusesBytes (headB ++ (0 ∷ 2 ∷ [])) 32768 21 16
+    ∷ refusesBytes (headB ++ (128 ∷ 0 ∷ 2 ∷ [])) 32768 21 16
+    ∷ refusesBytes (headB ++ (7 ∷ 0 ∷ [])) 32768 21 16
+    ∷ refusesBytes (headB ++ (2 ∷ 5 ∷ [])) 32768 21 17
+    ∷ refusesBytes (headB ++ (130 ∷ 0 ∷ 5 ∷ [])) 32768 21 18
+    ∷ refusesBytes (head64 ++ (129 ∷ 1 ∷ 0 ∷ [])) 32768 21 16
+    ∷ refusesBytes (text "aig 4 2 0 1 2\n6\n" ++ (2 ∷ 2 ∷ 9 ∷ 0 ∷ [])) 32768 21 18
+    -- difference by difference: a first one's 21 before a second one's 20
+    ∷ refusesBytes (headB ++ (0 ∷ 128 ∷ 128 ∷ [])) 32768 21 16
+    ∷ refusesBytes (headB ++ (7 ∷ [])) 32768 21 16
+    ∷ []
+
+pub binary-refusals-hold : T (all holds binaryRefusals)
+unfolding all holds binaryRefusals
+binary-refusals-hold = tt
 
 -- ---- matches of more than two pins, and ties
 
@@ -348,9 +475,12 @@ ties-hold = tt
 pub work-left : T (
     same (workAfter (refused 1 0) (7 ∷ 8 ∷ [])) (7 ∷ 8 ∷ [])
     && (same (workAfter (refused 10 0) (7 ∷ 8 ∷ [])) (7 ∷ 8 ∷ [])
+    && (same (workAfter (refused 19 0) (7 ∷ 8 ∷ [])) (7 ∷ 8 ∷ [])
+    && (same (workAfter (refused 20 16) (7 ∷ 8 ∷ [])) (0 ∷ 0 ∷ [])
+    && (same (workAfter (refused 21 16) (7 ∷ 8 ∷ [])) (0 ∷ 0 ∷ [])
     && (same (workAfter (refused 11 20) (7 ∷ 8 ∷ [])) (0 ∷ 0 ∷ [])
     && (same (workAfter (refused 18 117) (7 ∷ 8 ∷ [])) (0 ∷ 0 ∷ [])
-    && same (workAfter (mapped (5 ∷ []) (record { gates = 0; area = 0; arrival = 0 })) (7 ∷ 8 ∷ [])) (0 ∷ 0 ∷ []))))
+    && same (workAfter (mapped (5 ∷ []) (record { gates = 0; area = 0; arrival = 0 })) (7 ∷ 8 ∷ [])) (0 ∷ 0 ∷ [])))))))
     )
 unfolding same workAfter
 work-left = tt

@@ -1,4 +1,5 @@
--- The three demands as types, for every call: library text, graph text, number of lent words and number of lent bytes. Assumes nothing.
+-- The three demands as types, for every call: library text, graph text in either form, number of lent words and number of lent bytes; and what is
+-- promised of two texts that mean the same graph. Assumes nothing.
 use Prim.Native.Nat.{ℕ, suc, _*_, _≤_, _<_}
 use mathlib.Core.Path.{_≡_}
 use mathlib.Core.Bool.{Bool, true, false}
@@ -11,6 +12,7 @@ use Rattle.model.specs.Base.{each}
 use Rattle.model.specs.Reading.{holds}
 use Rattle.model.specs.Cells.{nameOf}
 use Rattle.model.specs.Graph.{Graph, literal, varOf, negated, unplaced, placingOrder, literalValue, GraphValues}
+use Rattle.model.specs.GraphText.{readHeader, readGraph, asciiText}
 use Rattle.model.specs.Cuts.{cutsOf, compareLeaves, crowded}
 use Rattle.model.specs.Choice.{feeds, cellOf, absent, chosen, preference}
 use Rattle.model.specs.Cover.{IsOwn, Allowed, Needed, arrivalBy, Cover, CoverArrivals}
@@ -18,6 +20,7 @@ use Rattle.model.specs.Netlist.{Outcome, refused, mapped, gates, figures
 use Rattle.model.specs.Blif.{GateLine, Binding, Blif, readBlif, readFigures, named, drives, fedBy, pinNames, outputName, NetValues, NetArrivals}
 use Rattle.model.specs.Mapper.{Call, Design, readTexts, mapTexts, answerOf, returned, returnedBy, textAfter, workAfter}
 use Rattle.model.specs.declared.Cell.{Cell}
+use Rattle.model.specs.declared.Header.{Header}
 use Rattle.model.specs.declared.Source.{Source}
 use Rattle.model.specs.declared.Figures.{Figures}
 use Rattle.model.specs.declared.Answer.{Answer}
@@ -28,8 +31,8 @@ Distinct [] = Unit
 Distinct (x ∷ xs) = (¬ List·Memᴰ x xs) × Distinct xs
 
 -- ---- Demand 1: "after a call on arbitrary bytes the lent memory holds what document 01 says and nothing else"; every call ends "with a
--- netlist or with the first of the eighteen numbered refusals that applies": a call's answer, and what it leaves of work and text, the memory lent to
--- it (c is `callOf` of the texts and of this memory)
+-- netlist or with the first of the .. numbered refusals that applies": a call's answer, and what it leaves of work and text, the memory lent to
+-- it (c is `callOf` of the texts and of this memory). "Demand 1's list takes in every number added here or later, in the place given."
 pub record Memory (c : Call) (work text : List ℕ) (answer : Answer) (workLeft textLeft : List ℕ) : Type 0 where
   pub answers : answer ≡ answerOf (mapTexts c)
   pub returns : returned answer ≡ returnedBy (mapTexts c)
@@ -191,3 +194,28 @@ pub record Earliest (c : Call) : Type 0 where
   pub timed : OfMappable CoversTimed c
   pub decided : OfMappable Decided c
   pub choice : OfMappable Chosen c
+
+-- ---- either form: "correctness and earliest arrival now range over the graph meant, in either form"
+
+-- a text "within the length in 1" means a graph
+pub record Means (bytes : List ℕ) (g : Graph) : Type 0 where
+  pub header : Header
+  pub short : length bytes ≤ 65536
+  pub isHeader : readHeader bytes ≡ holds header
+  pub isGraph : readGraph bytes header ≡ holds g
+
+-- the call with another graph's text
+abbrev pub onGraph : Call → List ℕ → Call
+onGraph c t = record { library = c .library; graph = t; words = c .words; bytes = c .bytes }
+
+-- "A file free of 19 to 21 and its ASCII twin, each within the length in 1, must give the same netlist": what a call's text means, its ASCII twin
+-- means; and whatever else differs in two texts that mean the same graph, the outcome is the same, netlist, figures or refusal
+pub record Twins (c : Call) : Type 0 where
+  pub twin : (g : Graph) → Means (c .graph) g → length (asciiText g) ≤ 65536 → Means (asciiText g) g
+  pub same : (t : List ℕ) (g : Graph) → Means (c .graph) g → Means t g → mapTexts (onGraph c t) ≡ mapTexts c
+
+-- "Inputs are variables 1 to I and ANDs follow in sequence": 13, 14 and 15 refuse no text in the binary form
+abbrev pub Sequenced : Call → Type 0
+Sequenced c =
+    (h : Header) → readHeader (c .graph) ≡ holds h → h .binary ≡ true
+    → (n k : ℕ) → mapTexts c ≡ refused n k → (¬ (n ≡ 13)) × (¬ (n ≡ 14)) × (¬ (n ≡ 15))

@@ -1,8 +1,8 @@
 -- The whole: two texts, the lent words and bytes, the answer "in checking order", and what the lent memory then holds. Assumes nothing.
 use Prim.Native.Nat.{ℕ, _+_}
-use mathlib.Core.Bool.{Bool, cond, _&&_}
+use mathlib.Core.Bool.{Bool, cond, _&&_, _||_}
 use mathlib.Core.List.{List, _++_}
-use lib.Dec.{leb}
+use lib.Dec.{eqb, leb}
 use lib.ListN.{length, drop, replicate}
 use Rattle.model.specs.Limits.{need}
 use Rattle.model.specs.Reading.{Read, holds, fault, next, unless}
@@ -30,7 +30,7 @@ pub record Design : Type 0 where
   pub cells : List Cell
   pub graph : Graph
 
--- refusals 1 to 14: "Work memory has fewer than 160(M+1) + O 16-bit words" stands between the header's and those of the due lines
+-- refusals 1 to 14 and 19 to 21: "Work memory has fewer than 160(M+1) + O 16-bit words" stands between the header's and those of what follows it
 unfoldable pub readTexts : Call → Read Design
 unfolding next unless readLibrary readHeader readGraph need
 readTexts c =
@@ -86,9 +86,9 @@ unfoldable pub textAfter : Outcome → List ℕ → List ℕ
 textAfter (refused n k) memory = memory
 textAfter (mapped t f) memory = t ++ drop (length t) memory
 
--- the refusals "tried up to 10"
+-- the refusals "tried up to 10": 19 is "tried after 9"
 abbrev pub triedEarly : ℕ → Bool
-triedEarly n = leb n 10
+triedEarly n = leb n 10 || eqb n 19
 
 -- "Work memory is unchanged by every refusal tried up to 10, and all zero after a later one and after success."
 unfoldable pub workAfter : Outcome → List ℕ → List ℕ

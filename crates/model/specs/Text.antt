@@ -53,6 +53,10 @@ pub record Line : Type 0 where
 abbrev pub ended : Line → Bool
 ended l = ltb 0 (l .ending)
 
+-- byte 10 alone ends the line
+abbrev pub endedByTen : Line → Bool
+endedByTen l = eqb (l .ending) 1
+
 -- where the next line begins: behind the contents and the end
 abbrev pub nextOf : Line → ℕ
 nextOf l = l .offset + (length (l .bytes) + l .ending)

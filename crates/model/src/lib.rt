@@ -28,7 +28,8 @@ pub struct LibraryAnswer {
     pub library: Library,
 }
 
-// The numbers of the header line `aag M I L O A`, and the offset of the line after it.
+// The numbers of the header line `aag M I L O A` or `aig M I L O A`, the offset of what follows the line, and whether the graph is in the
+// binary form, "known by the header's first word".
 pub struct Header {
     pub size: usize,
     pub inputs: usize,
@@ -36,6 +37,7 @@ pub struct Header {
     pub outputs: usize,
     pub ands: usize,
     pub next: usize,
+    pub binary: bool,
 }
 
 pub enum HeaderAnswer {

@@ -243,10 +243,10 @@ module _ (w : List ℕ) (lib : Library) (h : Header) (g : Graph) (k : Mapped w l
   -- ---- the whole
 
   abbrev header : Header
-  header = record { size = g .size; inputs = length (g .inputs); latches = h .latches; outputs = length (g .outputs); ands = h .ands; next = h .next }
+  header = record { size = g .size; inputs = length (g .inputs); latches = h .latches; outputs = length (g .outputs); ands = h .ands; next = h .next; binary = h .binary }
 
   same-header : h ≡ header
-  same-header = λ i. record { size = k .size i; inputs = k .inputs i; latches = h .latches; outputs = k .outputs i; ands = h .ands; next = h .next }
+  same-header = λ i. record { size = k .size i; inputs = k .inputs i; latches = h .latches; outputs = k .outputs i; ands = h .ands; next = h .next; binary = h .binary }
 
   pub gated : Gated w lib (h .size)
   gated = subst (Gated w lib) (sym (k .size)) gated-here

@@ -1,4 +1,5 @@
 -- A line of numbers, read from number to number, is the line's fields read as numbers:
+--     closed-is      a line's end is the end of a line of either form of a graph's text
 --     line-words     a line with k + 1 fields, as the crate model says it, is one with the right bytes behind each field
 --     numbers-at     its fields are numbers just where each number is found with the right byte behind it
 --     numbers-ended  and then the place past them is the place past the line
@@ -9,15 +10,31 @@ use mathlib.Core.Path.{_≡_, refl, sym, ap, _∙_}
 use mathlib.Core.Bool.{Bool, true, false, _&&_}
 use mathlib.Core.Option.{Option, none, some}
 use mathlib.Core.List.{List, [], _∷_}
-use lib.Dec.{eqb}
-use lib.ListN.{length}
+use lib.Dec.{eqb, ltb}
+use lib.ListN.{length, drop}
 use Rattle.model.specs.Base.{andThen, only}
 use Rattle.model.specs.Text.{ended, fields, number, numbers}
+use Rattle.model.specs.GraphText.{closed}
 use Rattle.text.specs.declared.Cursor.{Cursor}
 use Rattle.text.specs.Fields.{wordAt, endAt, isByte, onNumber, numberOf, numberThen}
-use Rattle.text.specs.Lines.{lineAt, pastLine, wordsAt, sepsAt, afterAt, numbersAt}
+use Rattle.text.specs.Lines.{pickN, endingOf, lineAt, pastLine, wordsAt, sepsAt, afterAt, numbersAt}
 use Rattle.text.proofs.Found.{past, thenO, found, number-is}
 use Rattle.text.proofs.Bridge.{lineFields, ofLength, fields-at, past-at}
+
+-- byte 10 alone ends a line, and so ends it in either form
+one-byte : (l : List ℕ) → eqb (endingOf l) 1 ≡ ltb 0 (endingOf l)
+unfolding endingOf
+one-byte [] = refl
+one-byte (b ∷ bs) = go (eqb b 10) (one-byte bs)
+  where
+    go : (t : Bool) → eqb (endingOf bs) 1 ≡ ltb 0 (endingOf bs) → eqb (pickN t 1 (endingOf bs)) 1 ≡ ltb 0 (pickN t 1 (endingOf bs))
+    go true e = refl
+    go false e = e
+
+pub closed-is : (binary : Bool) (s : List ℕ) (at : ℕ) → closed binary (lineAt s at) ≡ ended (lineAt s at)
+unfolding lineAt
+closed-is true s at = one-byte (drop at s)
+closed-is false s at = refl
 
 -- the two tests of a line's fields as one
 both : (e : Bool) (ws : List (List ℕ)) (n : ℕ) → only (e && eqb (length ws) n) ws ≡ andThen (only e ws) (ofLength n)

@@ -6,6 +6,8 @@ use mathlib.Core.List.{List, [], _∷_}
 use lib.Dec.{eqb, ltb}
 use lib.ListN.{length, drop, getD}
 use Rattle.model.specs.Text.{number, hexTable, isName}
+use Rattle.model.specs.Reading.{Read, holds, fault}
+use Rattle.model.specs.GraphText.{Passed, difference}
 use Rattle.text.specs.declared.Cursor.{Cursor}
 use Rattle.text.specs.declared.Value.{Value}
 use Rattle.text.specs.declared.Value.the-variants.{Is, Broken as NoValue}
@@ -85,3 +87,13 @@ numberThen s at b = thenByte s (numberAt s at) b
 unfoldable pub tableThen : List ℕ → ℕ → ℕ → Number
 unfolding tableAt thenByte
 tableThen s at b = thenByte s (tableAt s at) b
+
+-- a number that was passed, or a refusal of it
+abbrev pub passedOf : Read Passed → Number
+passedOf (holds d) = Found (d .number) (record { at = d .behind })
+passedOf (fault n k) = NoNumber
+
+-- the difference at a place
+unfoldable pub differenceAt : List ℕ → ℕ → Number
+unfolding difference
+differenceAt s at = passedOf (difference at (drop at s))

@@ -9,7 +9,7 @@ ghost use Rattle.model.specs.Base.{all, same};
 ghost use Rattle.model.specs.Text.{decimal, number, hexDigit, hexFrom, hexTable, isLetter, isNameByte, isName};
 ghost use Rattle.model.specs.LibraryText.{nameBytes};
 ghost use Rattle.words.specs.Put.{putAt};
-ghost use Rattle.text.specs.Fields.{endAt, valueOf, byteAt, numberAt, tableAt, nameAt, thenByte, numberThen, tableThen};
+ghost use Rattle.text.specs.Fields.{endAt, valueOf, byteAt, numberAt, tableAt, nameAt, thenByte, numberThen, tableThen, differenceAt};
 
 // A position in a text. The text itself is a parameter of each method.
 pub struct Cursor {
@@ -273,6 +273,29 @@ impl Cursor {
             Step::To(Cursor { at: end })
         } else {
             Step::Broken
+        }
+    }
+
+    // "A difference is in groups of seven bits, lowest first, the top bit set on all but the last byte"; one that "takes more than two bytes" is broken.
+    pub fn difference(self, s: &[u8]) -> Number
+        ensures { λ r. ⌜ r ≡ differenceAt (now (s .entry)) (self .at) ⌝ }
+    {
+        let at = self.at;
+        if s.len() <= at {
+            return Number::Broken;
+        }
+        let low = s[at];
+        if low < 128 {
+            return Number::Value(low as u16, Cursor { at: at + 1 });
+        }
+        if s.len() <= at + 1 {
+            return Number::Broken;
+        }
+        let high = s[at + 1];
+        if high < 128 {
+            Number::Value(low as u16 - 128 + 128 * high as u16, Cursor { at: at + 2 })
+        } else {
+            Number::Broken
         }
     }
 

@@ -19,7 +19,7 @@ use Rattle.model.specs.Cover.{output}
 use Rattle.model.specs.Netlist.{Gate, Outcome, refused, mapped, mapGraph, gates, figuresOf, netName, sum, largest}
 use Rattle.model.specs.Blif.{GateLine, Blif, readBlif, readFigures, named, drives}
 use Rattle.model.specs.Mapper.{Call, Design, readTexts, mapTexts, mapDesign, within}
-use Rattle.model.specs.Demands.{drivenNets, Printed, OfPrinted, Readable, Formed, Gated, SameValues, SameFigures, NoEarlier, OfMappable, CoversTimed, Decided, Chosen, choiceText, choiceFigures, Values, Earliest}
+use Rattle.model.specs.Demands.{drivenNets, Printed, OfPrinted, Readable, Formed, Gated, SameValues, SameFigures, NoEarlier, OfMappable, CoversTimed, Decided, Chosen, choiceText, choiceFigures, Values, Earliest, Twins}
 use Rattle.model.specs.declared.Cell.{Cell}
 use Rattle.model.specs.declared.Figures.{Figures}
 use Rattle.theory_graph.proofs.Lists.{map-out, map-map, map-same, is-true}
@@ -32,6 +32,7 @@ use Rattle.theory_cover.proofs.Preference.{choice-preferred}
 use Rattle.theory_text.proofs.ReadBack.{lineOf, blifOf}
 use Rattle.theory_text.proofs.ReadTexts.{design-library, design-accepted}
 use Rattle.theory_text.proofs.Names.{net-once}
+use Rattle.theory_text.proofs.Twins.{ascii-means, means-outcome}
 use Rattle.theory.proofs.Gates.{gate-out, line-bound, back, figures-said}
 use Rattle.theory.proofs.Values.{net-value, the, the-holds}
 use Rattle.theory.proofs.Arrivals.{theTime, times-hold, net-time}
@@ -237,3 +238,7 @@ demand-earliest c =
       decided = decided c;
       choice = choice c;
     }
+
+-- "A file free of 19 to 21 and its ASCII twin, each within the length in 1, must give the same netlist"
+pub demand-twins : (c : Call) → Twins c
+demand-twins c = record { twin = ascii-means (c .graph); same = means-outcome c }

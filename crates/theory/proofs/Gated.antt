@@ -18,9 +18,10 @@ use Rattle.model.specs.Demands.{Before, InOrder, Gated}
 use Rattle.model.specs.declared.Cell.{Cell}
 use Rattle.model.specs.declared.Figures.{Figures}
 use Rattle.theory_graph.proofs.Lists.{map-in, map-out, keep-out, by-eqb}
+use Rattle.theory_graph.proofs.Distinct.{from-low}
 use Rattle.theory_graph.specs.Accepted.{Accepted, libraryFits}
 use Rattle.theory_graph.proofs.Placing.{order-once}
-use Rattle.theory_text.proofs.ReadBack.{lineOf, blifOf, from-low}
+use Rattle.theory_text.proofs.ReadBack.{lineOf, blifOf}
 use Rattle.theory_text.proofs.Names.{net-once}
 use Rattle.theory.proofs.Gates.{sourceOf, NeedsOf, gateOf, chosenGates, gate-in, gate-out, line-bound, own-source}
 use Rattle.theory.proofs.Formed.{own-chosen, gateNets, driven-nets}

@@ -6,3 +6,5 @@ pub mod Outcomes
 pub mod Formed
 pub mod Gated
 pub mod Demanded
+pub mod Refusals
+pub mod Sequence

@@ -25,16 +25,16 @@ keep-distinct p (x ∷ xs) d = go (p x) (keep-distinct p xs (d .1))
     go true r = ((λ m. d .0 (keep-out p xs m .0)), r)
     go false r = r
 
-from-above : (n i k : ℕ) → List·Memᴰ k (from i n) → i ≤ k
+pub from-low : (n i k : ℕ) → List·Memᴰ k (from i n) → i ≤ k
 unfolding from
-from-above zero i k m = absurd (List·Memᴰ·not-nil m)
-from-above (suc n) i k (List·Memᴰ·head e) = le-of-eq (sym e)
-from-above (suc n) i k (List·Memᴰ·tail m) = let h : suc i ≤ k = from-above n (suc i) k m in omega arith
+from-low zero i k m = absurd (List·Memᴰ·not-nil m)
+from-low (suc n) i k (List·Memᴰ·head e) = le-of-eq (sym e)
+from-low (suc n) i k (List·Memᴰ·tail m) = let h : suc i ≤ k = from-low n (suc i) k m in omega arith
 
-from-distinct : (n i : ℕ) → Distinct (from i n)
+pub from-distinct : (n i : ℕ) → Distinct (from i n)
 unfolding from
 from-distinct zero i = tt
-from-distinct (suc n) i = ((λ m. let h : suc i ≤ i = from-above n (suc i) i m in omega arith), from-distinct n (suc i))
+from-distinct (suc n) i = ((λ m. let h : suc i ≤ i = from-low n (suc i) i m in omega arith), from-distinct n (suc i))
 
 pub below-distinct : (n : ℕ) → Distinct (below n)
 unfolding below

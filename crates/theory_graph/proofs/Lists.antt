@@ -82,21 +82,22 @@ module _ {A : Type 0} (p : A → Bool) where
       go false e k (List·Memᴰ·head q) later = ap p q ∙ e
       go false e k (List·Memᴰ·tail n) later = later k n
 
-from-in : (n i k : ℕ) → k < n → List·Memᴰ (i + k) (from i n)
+-- i, i + 1 .. of which there are n
+pub from-in : (n i k : ℕ) → k < n → List·Memᴰ (i + k) (from i n)
 unfolding from
 from-in zero i k h = absurd (not-suc-le-zero h)
 from-in (suc n) i zero h = List·Memᴰ·head (add-zero i)
 from-in (suc n) i (suc k) h = List·Memᴰ·tail (subst (λ (j : ℕ). List·Memᴰ j (from (suc i) n)) (suc-add i k ∙ sym (add-suc i k)) (from-in n (suc i) k (le-of-suc-le-suc h)))
 
-from-out : (n i k : ℕ) → List·Memᴰ k (from i n) → k < i + n
+pub from-high : (n i k : ℕ) → List·Memᴰ k (from i n) → k < i + n
 unfolding from
-from-out zero i k m = absurd (List·Memᴰ·not-nil m)
-from-out (suc n) i k (List·Memᴰ·head e) = omega arith
-from-out (suc n) i k (List·Memᴰ·tail m) = let h : k < suc i + n = from-out n (suc i) k m in omega arith
+from-high zero i k m = absurd (List·Memᴰ·not-nil m)
+from-high (suc n) i k (List·Memᴰ·head e) = omega arith
+from-high (suc n) i k (List·Memᴰ·tail m) = let h : k < suc i + n = from-high n (suc i) k m in omega arith
 
 pub below-out : (n k : ℕ) → List·Memᴰ k (below n) → k < n
 unfolding below
-below-out n k m = let h : k < 0 + n = from-out n 0 k m in omega arith
+below-out n k m = let h : k < 0 + n = from-high n 0 k m in omega arith
 
 pub below-in : (n k : ℕ) → k < n → List·Memᴰ k (below n)
 unfolding below

@@ -4,3 +4,4 @@ pub mod Ascending
 pub mod Recursion
 pub mod Greedy
 pub mod Crowded
+pub mod Sequence

@@ -165,11 +165,11 @@ module _ (g : Graph) where
           first-between placed rest (later v (next v refl) (between-first placed rest l) (between-first placed rest r))
 
   -- an AND whose operands are placed is placed
-  ready-placed : (a : And) → List·Memᴰ a (g .ands) → List·Memᴰ (varOf (a .left)) (placingOrder g) → List·Memᴰ (varOf (a .right)) (placingOrder g) → List·Memᴰ (a .var) (placingOrder g)
+  pub ready-placed : (a : And) → List·Memᴰ a (g .ands) → List·Memᴰ (varOf (a .left)) (placingOrder g) → List·Memᴰ (varOf (a .right)) (placingOrder g) → List·Memᴰ (a .var) (placingOrder g)
   unfolding placingOrder
   ready-placed = place-ends (length (g .ands)) (0 ∷ g .inputs) (keep-length (waiting (0 ∷ g .inputs)) (g .ands))
 
-  first-placed : {x : ℕ} → List·Memᴰ x (0 ∷ g .inputs) → List·Memᴰ x (placingOrder g)
+  pub first-placed : {x : ℕ} → List·Memᴰ x (0 ∷ g .inputs) → List·Memᴰ x (placingOrder g)
   unfolding placingOrder
   first-placed m = Memᴰ·append-left (placedAnds g) m
 

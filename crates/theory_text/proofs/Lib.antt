@@ -1,8 +1,16 @@
 pub mod Steps
+pub mod Faults
 pub mod Plain
+pub mod LineLaws
 pub mod ReadBack
 pub mod ReadFigures
 pub mod Names
 pub mod ReadLibrary
+pub mod Items
+pub mod Groups
+pub mod Binary
 pub mod ReadGraph
+pub mod DueBack
+pub mod Sequence
+pub mod Twins
 pub mod ReadTexts

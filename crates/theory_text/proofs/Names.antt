@@ -110,7 +110,8 @@ digits-value (suc fuel) n after h = go (ltb n 10) (nltb→le n 10) (digits-value
     go true u more = ap (λ (k : ℕ). asDigits k after) small
     go false u more = more (let q : 10 ≤ n = u tt in omega arith) ∙ ap (λ (k : ℕ). asDigits k after) whole
 
-decimal-value : (n : ℕ) → asDigits 0 (decimal n) ≡ n
+-- a number written in decimal reads as itself
+pub decimal-value : (n : ℕ) → asDigits 0 (decimal n) ≡ n
 unfolding decimal asDigits
 decimal-value n = digits-value (suc n) n [] (le-refl (suc n))
 

@@ -17,6 +17,7 @@ use Rattle.model.specs.Blif.{Binding, GateLine, Blif, longer, binding, bindings
 use Rattle.model.specs.declared.Cell.{Cell}
 use Rattle.model.specs.declared.Figures.{Figures}
 use Rattle.theory_graph.proofs.Lists.{map-map, map-same, is-true, is-false}
+use Rattle.theory_graph.proofs.Distinct.{from-low}
 use Rattle.theory_text.proofs.Plain.{Free, above, free-append, decimal-free, net-free, Plain, plain, name-plain}
 
 -- ---- parts
@@ -288,11 +289,6 @@ drives-from b (l ∷ ls) o h =
 pub line-drives : (t : Gate) → length (t .pins) ≤ 4 → drives (lineOf t) ≡ netName (t .net)
 unfolding lineOf drives
 line-drives t h = drives-from 65 (t .pins) (t .net) (omega arith)
-
-pub from-low : (n i k : ℕ) → List·Memᴰ k (from i n) → i ≤ k
-unfolding from
-from-low (suc n) i k (List·Memᴰ·head e) = omega arith
-from-low (suc n) i k (List·Memᴰ·tail m) = let h : suc i ≤ k = from-low n (suc i) k m in omega arith
 
 fed-from : (i b : ℕ) → b ≡ 65 + i → (ls : List ℕ) (o : ℕ)
     → map (λ (j : ℕ). netAt (bindingsFrom b ls o) ((65 + j) ∷ [])) (from i (length ls)) ≡ map netName ls

@@ -15,7 +15,8 @@ use Rattle.model.specs.Netlist.{Gate, netlistText}
 use Rattle.model.specs.Blif.{digitsFrom, figure, behindEnd, readFigureWords, readFigures}
 use Rattle.model.specs.declared.Figures.{Figures}
 use Rattle.theory_graph.proofs.Lists.{is-true}
-use Rattle.theory_text.proofs.Plain.{Free, above, decimal-free}
+use Rattle.theory_text.proofs.Plain.{above, decimal-free}
+use Rattle.theory_text.proofs.LineLaws.{fields-word, fields-last}
 use Rattle.theory_text.proofs.ReadBack.{body, bodyOf, figuresLine, namesOf, linesOf, text-lines}
 
 -- ---- a number
@@ -73,16 +74,6 @@ figure-back (suc n) =
     ap figure (r .isLed) ∙ figure-led (r .first) (r .rest) (r .notZero) ∙ ap (digitsFrom 0) (sym (r .isLed)) ∙ digits-read (suc (suc n)) (suc n) [] (le-refl (suc (suc n)))
 
 -- ---- the line
-
-fields-word : (w rest : List ℕ) → Free 32 w → fields (w ++ (32 ∷ rest)) ≡ w ∷ fields rest
-unfolding fields split onto
-fields-word [] rest f = refl
-fields-word (b ∷ w) rest f = ap₂ (λ (t : Bool) (ps : List (List ℕ)). split t b ps) (f .0) (fields-word w rest (f .1))
-
-fields-last : (w : List ℕ) → Free 32 w → fields w ≡ w ∷ []
-unfolding fields split onto
-fields-last [] f = refl
-fields-last (b ∷ w) f = ap₂ (λ (t : Bool) (ps : List (List ℕ)). split t b ps) (f .0) (fields-last w (f .1))
 
 figure-words : (f : Figures) → fields (figuresLine f) ≡ text "#" ∷ text "gates" ∷ decimal (f .gates) ∷ text "area" ∷ decimal (f .area) ∷ text "arrival" ∷ decimal (f .arrival) ∷ []
 unfolding figuresLine text fields split onto

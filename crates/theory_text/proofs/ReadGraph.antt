@@ -1,189 +1,31 @@
 -- A graph that is read is in the limits, and accepted if all its ANDs can be placed. Assumes nothing.
-use Prim.Native.Nat.{ℕ, zero, suc, _+_, _*_, _/_, _%_, _≤_, _<_}
+use Prim.Native.Nat.{ℕ, zero, suc, _+_, _*_, _≤_, _<_}
 use native.Mathlib.Nat.{le-of-suc-le-suc, not-suc-le-zero}
 use native.Mathlib.Omega.{arith}
 use mathlib.Core.Path.{_≡_, refl, sym, _∙_, ap, ap₂, subst}
 use mathlib.Core.Logic.{_⊎_, inl, inr}
 use mathlib.Core.Bool.{Bool, true, false, not, cond, _&&_, _||_, false≢true}
 use mathlib.Core.List.{List, [], _∷_, _++_, map, List·Memᴰ, List·Memᴰ·head, List·Memᴰ·tail, List·Memᴰ·not-nil, List·Memᴰ·cases-cons, List·Memᴰ·append-cases, List·Memᴰ·eq-of-singleton, Memᴰ·cast, cons≢nil, nil≢cons, head-eq-of-cons-eq, tail-eq-of-cons-eq}
-use lib.Dec.{T, eqb, leb, leb→le, le→leb, lit<, T-not, not-T}
+use lib.Dec.{T, eqb, leb, leb→le, le→leb, lit<, not-T}
 use lib.ListN.{length, getD, drop, replicate, length-append, length-map}
-use mir.Facts.{and-yes, yes-and, eqb-yes, eqb-no, leb-yes}
-use Rattle.model.specs.Base.{all, elem, keep, each, only}
-use Rattle.model.specs.Text.{Line, ended, linesFrom, fields, numbers}
-use Rattle.model.specs.Reading.{holds, next, unless, from?}
+use mir.Facts.{and-yes, yes-and, eqb-yes, leb-yes}
+use Rattle.model.specs.Base.{all, elem, keep, each}
+use Rattle.model.specs.Text.{Line, linesFrom}
+use Rattle.model.specs.Reading.{holds, next, from?}
 use Rattle.model.specs.Graph.{And, Graph, varOf, unplaced}
-use Rattle.model.specs.GraphText.{headerOf, inLimits, readHeader, Kind, anInput, anOutput, anAnd, howMany, defines, due, Item, itemLiterals, readDue, uses, definedBy, checkUses, sameKind, isKind, graphOf, readGraph}
+use Rattle.model.specs.GraphText.{closed, headerOf, inLimits, inSequence, readHeader, Kind, anInput, anOutput, anAnd, howMany, defines, due, Item, readDue, readBinary, readItems, uses, definedBy, checkUses, sameKind, isKind, graphOf, readGraph}
 use Rattle.model.specs.Demands.{Distinct}
 use Rattle.model.specs.declared.Header.{Header}
-use Rattle.theory_graph.proofs.Lists.{map-out, keep-out, each-out, elem-T, elem-out, map-map, getD-in, all-of, all-in, is-true, keep-append}
+use Rattle.theory_graph.proofs.Lists.{map-out, keep-out, each-out, elem-out, map-map, getD-in, all-of, all-in, is-true, keep-append}
 use Rattle.theory_graph.specs.Accepted.{Accepted, distinct, andVars}
 use Rattle.theory_text.specs.Fits.{LowLiterals, GraphFits}
-use Rattle.theory_text.proofs.Steps.{holds-once, fault-never, unless-out, from-out, next-out, then-out, only-out, numbers-length}
-
--- the first literal's variable
-abbrev head : Item → ℕ
-head i = varOf (getD (i .literals) 0 0)
+use Rattle.theory_text.proofs.Steps.{holds-once, unless-out, next-out}
+use Rattle.theory_text.proofs.Items.{head, Good, defined-cons, kindsOf, Lawful, due-lawful}
+use Rattle.theory_text.proofs.Binary.{binary-parts, binary-lawful}
 
 -- the AND of a line
-abbrev andOf : Item → And
+abbrev pub andOf : Item → And
 andOf i = record { var = head i; left = getD (i .literals) 1 0; right = getD (i .literals) 2 0 }
-
--- an item in range and of its kind's length
-pub record Good (size : ℕ) (i : Item) : Type 0 where
-  pub long : length (i .literals) ≡ howMany (i .kind)
-  pub low : T (all (λ (n : ℕ). leb n (2 * size + 1)) (i .literals))
-
--- what one due line gives
-record Step (end size : ℕ) (before : List ℕ) (k : Kind) (ks : List Kind) (ls : List Line) (is : List Item) : Type 0 where
-  item : Item
-  rest : List Item
-  isKind′ : item .kind ≡ k
-  isGood : Good size item
-  isEven : T (not (defines k) || (eqb (getD (item .literals) 0 0 % 2) 0 && not (eqb (getD (item .literals) 0 0) 0)))
-  isNew : T (not (defines k && elem (head item) before))
-  isRest : readDue end size (cond (defines k) (head item ∷ before) before) ks ls ≡ holds rest
-  isList : item ∷ rest ≡ is
-
-due-step : (end size : ℕ) (before : List ℕ) (k : Kind) (ks : List Kind) (l : Line) (ls : List Line) (is : List Item)
-    → readDue end size before (k ∷ ks) (l ∷ ls) ≡ holds is → Step end size before k ks ls is
-unfolding readDue itemLiterals
-due-step end size before k ks l ls is e =
-    let a = next-out (from? (itemLiterals k l) 11 (l .offset)) _ is e in
-    let ns = a .0 in
-    let o = then-out (only (ended l && eqb (length (fields (l .bytes))) (howMany k)) (fields (l .bytes))) numbers ns (from-out (itemLiterals k l) 11 (l .offset) ns (a .1)) in
-    let t = only-out (ended l && eqb (length (fields (l .bytes))) (howMany k)) (fields (l .bytes)) (o .0) (o .1) in
-    let long : length ns ≡ howMany k =
-    numbers-length (o .0) ns (o .2) ∙ ap length (sym (t .1)) ∙ eqb-yes (and-yes (ended l) (eqb (length (fields (l .bytes))) (howMany k)) (t .0) .1) in
-    let b = unless-out (all (λ (n : ℕ). leb n (2 * size + 1)) ns && (not (defines k) || (eqb (getD ns 0 0 % 2) 0 && not (eqb (getD ns 0 0) 0)))) 12 (l .offset) _ is (a .2) in
-    let p = and-yes (all (λ (n : ℕ). leb n (2 * size + 1)) ns) (not (defines k) || (eqb (getD ns 0 0 % 2) 0 && not (eqb (getD ns 0 0) 0))) (b .0) in
-    let c = unless-out (not (defines k && elem (varOf (getD ns 0 0)) before)) 13 (l .offset) _ is (b .1) in
-    let d = next-out (readDue end size (cond (defines k) (varOf (getD ns 0 0) ∷ before) before) ks ls) (λ js. holds (record { kind = k; offset = l .offset; literals = ns } ∷ js)) is (c .1) in
-    record {
-      item = record { kind = k; offset = l .offset; literals = ns };
-      rest = d .0;
-      isKind′ = refl;
-      isGood = record { long = long; low = p .0 };
-      isEven = p .1;
-      isNew = c .0;
-      isRest = d .1;
-      isList = holds-once (d .2);
-    }
-
--- ---- what the due lines give
-
-due-kinds : (end size : ℕ) (before : List ℕ) (ks : List Kind) (ls : List Line) (is : List Item) → readDue end size before ks ls ≡ holds is → map (λ (i : Item). i .kind) is ≡ ks
-unfolding readDue
-due-kinds end size before [] ls is e = ap (map (λ (i : Item). i .kind)) (sym (holds-once e))
-due-kinds end size before (k ∷ ks) [] is e = absurd (fault-never e)
-due-kinds end size before (k ∷ ks) (l ∷ ls) is e =
-    let s = due-step end size before k ks l ls is e in
-    ap (map (λ (i : Item). i .kind)) (sym (s .isList))
-    ∙ ap₂ (λ (a : Kind) (b : List Kind). a ∷ b) (s .isKind′) (due-kinds end size (cond (defines k) (head (s .item) ∷ before) before) ks ls (s .rest) (s .isRest))
-
-due-good : (end size : ℕ) (before : List ℕ) (ks : List Kind) (ls : List Line) (is : List Item) → readDue end size before ks ls ≡ holds is → (i : Item) → List·Memᴰ i is → Good size i
-unfolding readDue
-due-good end size before [] ls is e i m = absurd (List·Memᴰ·not-nil (subst (λ (js : List Item). List·Memᴰ i js) (sym (holds-once e)) m))
-due-good end size before (k ∷ ks) [] is e i m = absurd (fault-never e)
-due-good end size before (k ∷ ks) (l ∷ ls) is e i m =
-    go (List·Memᴰ·cases-cons (subst (λ (js : List Item). List·Memᴰ i js) (sym (s .isList)) m))
-    (due-good end size (cond (defines k) (head (s .item) ∷ before) before) ks ls (s .rest) (s .isRest) i)
-  where
-    s : Step end size before k ks ls is
-    s = due-step end size before k ks l ls is e
-
-    go : (i ≡ s .item) ⊎ List·Memᴰ i (s .rest) → (List·Memᴰ i (s .rest) → Good size i) → Good size i
-    go (inl q) later = subst (Good size) (sym q) (s .isGood)
-    go (inr n) later = later n
-
--- a variable that is defined: new, not 0, and in range
-pub record Fresh (size : ℕ) (before : List ℕ) (x : ℕ) : Type 0 where
-  pub isNew : ¬ List·Memᴰ x before
-  pub nonzero : ¬ (x ≡ 0)
-  pub small : x ≤ size
-
-step-fresh : (end size : ℕ) (before : List ℕ) (k : Kind) (ks : List Kind) (ls : List Line) (is : List Item) (s : Step end size before k ks ls is) → defines k ≡ true → Fresh size before (head (s .item))
-unfolding varOf defines howMany
-step-fresh end size before k ks ls is s d = record {
-  isNew = λ m. T-not (elem (head (s .item)) before) (subst (λ (b : Bool). T (not (b && elem (head (s .item)) before))) d (s .isNew)) (elem-T (head (s .item)) before m);
-  nonzero = λ e. let h : getD (s .item .literals) 0 0 / 2 ≡ 0 = e in
-      eqb-no (and-yes (eqb (getD (s .item .literals) 0 0 % 2) 0) (not (eqb (getD (s .item .literals) 0 0) 0)) even .1)
-      (let r : getD (s .item .literals) 0 0 % 2 ≡ 0 = eqb-yes (and-yes (eqb (getD (s .item .literals) 0 0 % 2) 0) (not (eqb (getD (s .item .literals) 0 0) 0)) even .0) in
-      let q : getD (s .item .literals) 0 0 ≡ 0 = omega arith in q);
-  small = let q : getD (s .item .literals) 0 0 ≤ 2 * size + 1 =
-      leb→le (getD (s .item .literals) 0 0) (2 * size + 1)
-      (all-of (λ (n : ℕ). leb n (2 * size + 1)) (s .item .literals) (s .isGood .low) (getD (s .item .literals) 0 0) (getD-in (s .item .literals) 0 0 some-there)) in omega arith;
-}
-  where
-    even : T (eqb (getD (s .item .literals) 0 0 % 2) 0 && not (eqb (getD (s .item .literals) 0 0) 0))
-    even = subst (λ (b : Bool). T (not b || (eqb (getD (s .item .literals) 0 0 % 2) 0 && not (eqb (getD (s .item .literals) 0 0) 0)))) d (s .isEven)
-
-    many : (j : Kind) → 0 < howMany j
-    many anInput = omega arith
-    many anOutput = omega arith
-    many anAnd = omega arith
-
-    some-there : 0 < length (s .item .literals)
-    some-there = omega (arith, many (s .item .kind), s .isGood .long)
-
--- an item that defines, or one that doesn't
-defined-cons : (b : Bool) (i : Item) (is : List Item) → defines (i .kind) ≡ b → definedBy (i ∷ is) ≡ cond b (head i ∷ definedBy is) (definedBy is)
-unfolding definedBy
-defined-cons b i is e = ap (λ (t : Bool). cond t (head i ∷ definedBy is) (definedBy is)) e
-
-due-fresh : (end size : ℕ) (before : List ℕ) (ks : List Kind) (ls : List Line) (is : List Item) → readDue end size before ks ls ≡ holds is
-    → ((x : ℕ) → List·Memᴰ x (definedBy is) → Fresh size before x) × Distinct (definedBy is)
-unfolding readDue definedBy
-due-fresh end size before [] ls is e =
-    subst (λ (js : List Item). ((x : ℕ) → List·Memᴰ x (definedBy js) → Fresh size before x) × Distinct (definedBy js)) (holds-once e) ((λ x m. absurd (List·Memᴰ·not-nil m)), tt)
-due-fresh end size before (k ∷ ks) [] is e = absurd (fault-never e)
-due-fresh end size before (k ∷ ks) (l ∷ ls) is e =
-    subst (λ (js : List Item). ((x : ℕ) → List·Memᴰ x (definedBy js) → Fresh size before x) × Distinct (definedBy js)) (s .isList)
-    (go (defines k) refl (due-fresh end size (cond (defines k) (head (s .item) ∷ before) before) ks ls (s .rest) (s .isRest)))
-  where
-    s : Step end size before k ks ls is
-    s = due-step end size before k ks l ls is e
-
-    wider : {x : ℕ} → Fresh size (head (s .item) ∷ before) x → Fresh size before x
-    wider f = record { isNew = λ m. f .isNew (List·Memᴰ·tail m); nonzero = f .nonzero; small = f .small }
-
-    Both : List ℕ → List ℕ → Type 0
-    Both b ds = ((x : ℕ) → List·Memᴰ x ds → Fresh size b x) × Distinct ds
-
-    go : (b : Bool) → defines k ≡ b → Both (cond (defines k) (head (s .item) ∷ before) before) (definedBy (s .rest)) → Both before (definedBy (s .item ∷ s .rest))
-    go true d r =
-        let r′ : Both (head (s .item) ∷ before) (definedBy (s .rest)) = subst (λ (t : Bool). Both (cond t (head (s .item) ∷ before) before) (definedBy (s .rest))) d r in
-        subst (Both before) (sym (defined-cons true (s .item) (s .rest) (ap defines (s .isKind′) ∙ d)))
-        ((λ x m. first x (List·Memᴰ·cases-cons m) (r′ .0 x)), ((λ m. r′ .0 (head (s .item)) m .isNew (List·Memᴰ·head refl)), r′ .1))
-      where
-        first : (x : ℕ) → (x ≡ head (s .item)) ⊎ List·Memᴰ x (definedBy (s .rest)) → (List·Memᴰ x (definedBy (s .rest)) → Fresh size (head (s .item) ∷ before) x) → Fresh size before x
-        first x (inl q) later = subst (Fresh size before) (sym q) (step-fresh end size before k ks ls is s d)
-        first x (inr m) later = wider (later m)
-    go false d r =
-        subst (Both before) (sym (defined-cons false (s .item) (s .rest) (ap defines (s .isKind′) ∙ d)))
-        (subst (λ (t : Bool). Both (cond t (head (s .item) ∷ before) before) (definedBy (s .rest))) d r)
-
--- ---- what is known of lines that were read, however they were read
-
-abbrev pub kindsOf : List Item → List Kind
-kindsOf is = map (λ (i : Item). i .kind) is
-
--- the kinds are those that are due; every literal is in range; every variable is defined once, in range, and none is 0
-pub record Lawful (h : Header) (is : List Item) : Type 0 where
-  pub kinds : kindsOf is ≡ due h
-  pub good : (i : Item) → List·Memᴰ i is → Good (h .size) i
-  pub fresh : (x : ℕ) → List·Memᴰ x (definedBy is) → Fresh (h .size) [] x
-  pub once : Distinct (definedBy is)
-
-pub due-lawful : (end : ℕ) (h : Header) (ls : List Line) (is : List Item) → readDue end (h .size) [] (due h) ls ≡ holds is → Lawful h is
-due-lawful end h ls is e =
-    let f = due-fresh end (h .size) [] (due h) ls is e in
-    record {
-      kinds = due-kinds end (h .size) [] (due h) ls is e;
-      good = due-good end (h .size) [] (due h) ls is e;
-      fresh = f .0;
-      once = f .1;
-    }
 
 -- ---- the layout of the lines
 
@@ -193,7 +35,7 @@ ins is = map head (keep (isKind anInput) is)
 abbrev ans : List Item → List ℕ
 ans is = map head (keep (isKind anAnd) is)
 
-keep-of : (k j : Kind) (i : Item) (is : List Item) → i .kind ≡ j → keep (isKind k) (i ∷ is) ≡ cond (sameKind k j) (i ∷ keep (isKind k) is) (keep (isKind k) is)
+pub keep-of : (k j : Kind) (i : Item) (is : List Item) → i .kind ≡ j → keep (isKind k) (i ∷ is) ≡ cond (sameKind k j) (i ∷ keep (isKind k) is) (keep (isKind k) is)
 unfolding keep isKind
 keep-of k j i is e = ap (λ (t : Kind). cond (sameKind k t) (i ∷ keep (isKind k) is) (keep (isKind k) is)) e
 
@@ -238,7 +80,7 @@ of-all (suc n) o a (i ∷ is) e =
 
 -- ---- uses
 
-uses-out : (known : List ℕ) (is js : List Item) → checkUses known is ≡ holds js
+pub uses-out : (known : List ℕ) (is js : List Item) → checkUses known is ≡ holds js
     → (is ≡ js) × ((i : Item) → List·Memᴰ i is → T (all (λ (l : ℕ). elem (varOf l) (0 ∷ known)) (uses i)))
 unfolding checkUses
 uses-out known [] js e = (holds-once e, (λ i m. absurd (List·Memᴰ·not-nil m)))
@@ -255,7 +97,7 @@ uses-out known (i ∷ is) js e =
     go t later j (inl q) = subst (λ (x : Item). T (all (λ (l : ℕ). elem (varOf l) (0 ∷ known)) (uses x))) (sym q) t
     go t later j (inr m) = later j m
 
-kind-is : (k j : Kind) → T (sameKind k j) → j ≡ k
+pub kind-is : (k j : Kind) → T (sameKind k j) → j ≡ k
 unfolding sameKind
 kind-is anInput anInput t = refl
 kind-is anInput anOutput t = absurd t
@@ -290,6 +132,21 @@ use-in i k e h n b later =
 
 -- ---- the graph
 
+-- what is known of a graph that is read, whether or not its ANDs can be placed: every variable is defined once, none is 0, all are in range, and what
+-- is used is defined
+pub record Known (g : Graph) : Type 0 where
+  pub once : Distinct (0 ∷ g .inputs ++ andVars g)
+  pub inRange : (v : ℕ) → List·Memᴰ v (g .inputs ++ andVars g) → v ≤ g .size
+  pub used : (l : ℕ) → List·Memᴰ l (g .outputs ++ each (λ (a : And). a .left ∷ a .right ∷ []) (g .ands)) → List·Memᴰ (varOf l) (0 ∷ g .inputs ++ andVars g)
+
+known-accepted : (g : Graph) → Known g → unplaced g ≡ [] → Accepted g
+known-accepted g k p = record {
+  defined = once-distinct (0 ∷ g .inputs ++ andVars g) (k .once);
+  inRange = all-in (λ (v : ℕ). leb v (g .size)) (g .inputs ++ andVars g) (λ x m. le→leb x (g .size) (k .inRange x m));
+  used = k .used;
+  placed = p;
+}
+
 module _ (h : Header) (is : List Item) (lawful : Lawful h is)
     (used : (i : Item) → List·Memᴰ i is → T (all (λ (l : ℕ). elem (varOf l) (0 ∷ definedBy is)) (uses i))) where
   abbrev whole : Graph
@@ -315,14 +172,12 @@ module _ (h : Header) (is : List Item) (lawful : Lawful h is)
       subst (λ (xs : List ℕ). List·Memᴰ (varOf (getD (i .literals) n 0)) (0 ∷ xs)) (sym vars)
       (elem-out (varOf (getD (i .literals) n 0)) (0 ∷ definedBy is) (is-true (elem (varOf (getD (i .literals) n 0)) (0 ∷ definedBy is)) t))
 
-  accepted : unplaced whole ≡ [] → Accepted whole
+  graph-is-known : Known whole
   unfolding graphOf howMany defines
-  accepted p = record {
-    defined = subst (λ (xs : List ℕ). T (distinct (0 ∷ xs))) (sym vars) (once-distinct (0 ∷ definedBy is) ((λ m. lawful .fresh 0 m .nonzero refl), lawful .once));
-    inRange = subst (λ (xs : List ℕ). T (all (λ (v : ℕ). leb v (h .size)) xs)) (sym vars)
-        (all-in (λ (v : ℕ). leb v (h .size)) (definedBy is) (λ x m. le→leb x (h .size) (lawful .fresh x m .small)));
+  graph-is-known = record {
+    once = subst (λ (xs : List ℕ). Distinct (0 ∷ xs)) (sym vars) ((λ m. lawful .fresh 0 m .nonzero refl), lawful .once);
+    inRange = λ v m. lawful .fresh v (subst (λ (xs : List ℕ). List·Memᴰ v xs) vars m) .small;
     used = λ l m. either l (List·Memᴰ·append-cases (whole .outputs) m);
-    placed = p;
   }
     where
       two : (i : Item) → List·Memᴰ i (keep (isKind anAnd) is) → (l : ℕ) → List·Memᴰ l (getD (i .literals) 1 0 ∷ getD (i .literals) 2 0 ∷ [])
@@ -386,6 +241,34 @@ low-literal size i good n h =
     leb→le (getD (i .literals) n 0) (2 * size + 1)
     (all-of (λ (m : ℕ). leb m (2 * size + 1)) (i .literals) (good .low) (getD (i .literals) n 0) (getD-in (i .literals) n 0 (omega (arith, good .long))))
 
+-- ---- the header
+
+-- a header that is read has no latches, and is in the limits; a binary one's M is I + A
+pub record HeaderFits (h : Header) : Type 0 where
+  pub latches : h .latches ≡ 0
+  pub size : h .size ≤ 4095
+  pub outputs : h .outputs ≤ 4096
+  pub variables : h .inputs + h .ands ≤ h .size
+  pub sequence : h .binary ≡ true → h .size ≡ h .inputs + h .ands
+
+pub header-fits : (bytes : List ℕ) (h : Header) → readHeader bytes ≡ holds h → HeaderFits h
+unfolding readHeader inLimits inSequence
+header-fits bytes h e =
+    let a = next-out (from? (headerOf (linesFrom 0 [] bytes)) 7 0) _ h e in
+    let k = a .0 in
+    let b = unless-out (eqb (k .latches) 0) 8 0 _ h (a .2) in
+    let c = unless-out (inLimits k) 9 0 _ h (b .1) in
+    let d = unless-out (inSequence k) 19 0 (holds k) h (c .1) in
+    let p = and-yes (leb (k .size) 4095) (leb (k .outputs) 4096 && leb (k .inputs + k .ands) (k .size)) (c .0) in
+    let q = and-yes (leb (k .outputs) 4096) (leb (k .inputs + k .ands) (k .size)) (p .1) in
+    subst HeaderFits (holds-once (d .1)) (record {
+      latches = eqb-yes (b .0);
+      size = leb-yes (p .0);
+      outputs = leb-yes (q .0);
+      variables = leb-yes (q .1);
+      sequence = λ f. eqb-yes (subst (λ (x : Bool). T (not x || eqb (k .size) (k .inputs + k .ands))) f (d .0));
+    })
+
 -- ---- the text
 
 -- the lines of a graph that is read
@@ -395,21 +278,37 @@ record Lines (bytes : List ℕ) (h : Header) (g : Graph) : Type 0 where
   isUsed : (i : Item) → List·Memᴰ i items → T (all (λ (l : ℕ). elem (varOf l) (0 ∷ definedBy items)) (uses i))
   isGraph : graphOf (h .size) items ≡ g
 
-graph-lines : (bytes : List ℕ) (h : Header) (g : Graph) → readGraph bytes h ≡ holds g → Lines bytes h g
+-- lines are lawful in either form
+items-lawful : (bytes : List ℕ) (h : Header) (is : List Item) → h .inputs + h .ands ≤ h .size → readItems bytes h ≡ holds is → Lawful h is
+unfolding readItems
+items-lawful bytes h is fit e = go (h .binary) e
+  where
+    ls : List Line
+    ls = linesFrom (h .next) [] (drop (h .next) bytes)
+
+    go : (b : Bool) → cond b (readBinary bytes h) (readDue (closed false) (length bytes) (h .size) [] (due h) ls) ≡ holds is → Lawful h is
+    go true q = binary-lawful bytes h is (binary-parts bytes h is q) fit
+    go false q = due-lawful (closed false) (length bytes) h ls is q
+
+graph-lines : (bytes : List ℕ) (h : Header) (g : Graph) → readHeader bytes ≡ holds h → readGraph bytes h ≡ holds g → Lines bytes h g
 unfolding readGraph
-graph-lines bytes h g e =
-    let ls = linesFrom (h .next) [] (drop (h .next) bytes) in
-    let a = next-out (readDue (length bytes) (h .size) [] (due h) ls) (λ is. next (checkUses (definedBy is) is) (λ js. holds (graphOf (h .size) js))) g e in
+graph-lines bytes h g d e =
+    let a = next-out (readItems bytes h) (λ is. next (checkUses (definedBy is) is) (λ js. holds (graphOf (h .size) js))) g e in
     let b = next-out (checkUses (definedBy (a .0)) (a .0)) (λ js. holds (graphOf (h .size) js)) g (a .2) in
     let u = uses-out (definedBy (a .0)) (a .0) (b .0) (b .1) in
-    record { items = a .0; isLawful = due-lawful (length bytes) h ls (a .0) (a .1); isUsed = u .1; isGraph = ap (graphOf (h .size)) (u .0) ∙ holds-once (b .2) }
+    record {
+      items = a .0;
+      isLawful = items-lawful bytes h (a .0) (header-fits bytes h d .variables) (a .1);
+      isUsed = u .1;
+      isGraph = ap (graphOf (h .size)) (u .0) ∙ holds-once (b .2);
+    }
+
+pub graph-known : (bytes : List ℕ) (h : Header) (g : Graph) → readHeader bytes ≡ holds h → readGraph bytes h ≡ holds g → Known g
+graph-known bytes h g d e = let s = graph-lines bytes h g d e in subst Known (s .isGraph) (graph-is-known h (s .items) (s .isLawful) (s .isUsed))
 
 -- a graph text that is read gives, if all its ANDs can be placed, an accepted graph
-pub graph-accepted : (bytes : List ℕ) (h : Header) (g : Graph) → readGraph bytes h ≡ holds g → unplaced g ≡ [] → Accepted g
-graph-accepted bytes h g e p =
-    let s = graph-lines bytes h g e in
-    subst Accepted (s .isGraph)
-    (accepted h (s .items) (s .isLawful) (s .isUsed) (ap unplaced (s .isGraph) ∙ p))
+pub graph-accepted : (bytes : List ℕ) (h : Header) (g : Graph) → readHeader bytes ≡ holds h → readGraph bytes h ≡ holds g → unplaced g ≡ [] → Accepted g
+graph-accepted bytes h g d e p = known-accepted g (graph-known bytes h g d e) p
 
 -- a graph has the numbers of its header
 pub record Counted (h : Header) (g : Graph) : Type 0 where
@@ -418,9 +317,9 @@ pub record Counted (h : Header) (g : Graph) : Type 0 where
   pub outputs : length (g .outputs) ≡ h .outputs
   pub ands : length (g .ands) ≡ h .ands
 
-pub graph-counted : (bytes : List ℕ) (h : Header) (g : Graph) → readGraph bytes h ≡ holds g → Counted h g
+pub graph-counted : (bytes : List ℕ) (h : Header) (g : Graph) → readHeader bytes ≡ holds h → readGraph bytes h ≡ holds g → Counted h g
 unfolding graphOf sameKind
-graph-counted bytes h g e = subst (Counted h) (s .isGraph) (record {
+graph-counted bytes h g d e = subst (Counted h) (s .isGraph) (record {
   size = refl;
   inputs = length-map (keep (isKind anInput) (s .items)) head ∙ (let q = count-due anInput h (s .items) (s .isLawful) in omega (arith, q));
   outputs = length-map (keep (isKind anOutput) (s .items)) (λ (i : Item). getD (i .literals) 0 0) ∙ (let q = count-due anOutput h (s .items) (s .isLawful) in omega (arith, q));
@@ -429,11 +328,11 @@ graph-counted bytes h g e = subst (Counted h) (s .isGraph) (record {
 })
   where
     s : Lines bytes h g
-    s = graph-lines bytes h g e
+    s = graph-lines bytes h g d e
 
-pub graph-low : (bytes : List ℕ) (h : Header) (g : Graph) → readGraph bytes h ≡ holds g → LowLiterals g
+pub graph-low : (bytes : List ℕ) (h : Header) (g : Graph) → readHeader bytes ≡ holds h → readGraph bytes h ≡ holds g → LowLiterals g
 unfolding graphOf howMany
-graph-low bytes h g e = subst LowLiterals (s .isGraph) (record {
+graph-low bytes h g d e = subst LowLiterals (s .isGraph) (record {
   outputs = λ l m. let q = map-out (λ (i : Item). getD (i .literals) 0 0) (keep (isKind anOutput) (s .items)) m in
       subst (λ (n : ℕ). n ≤ 2 * h .size + 1) (sym (q .2)) (low anOutput (q .0) (q .1) 0 (lit< tt));
   lefts = λ a m. let q = map-out andOf (keep (isKind anAnd) (s .items)) m in
@@ -443,7 +342,7 @@ graph-low bytes h g e = subst LowLiterals (s .isGraph) (record {
 })
   where
     s : Lines bytes h g
-    s = graph-lines bytes h g e
+    s = graph-lines bytes h g d e
 
     low : (k : Kind) (i : Item) → List·Memᴰ i (keep (isKind k) (s .items)) → (n : ℕ) → n < howMany k → getD (i .literals) n 0 ≤ 2 * h .size + 1
     low k i m n b =
@@ -451,32 +350,13 @@ graph-low bytes h g e = subst LowLiterals (s .isGraph) (record {
         low-literal (h .size) i (s .isLawful .good i (o .0)) n
         (subst (λ (j : Kind). n < howMany j) (sym (kind-is k (i .kind) (o .1))) b)
 
--- ---- the header
-
--- a header that is read has no latches, and is in the limits
-pub record HeaderFits (h : Header) : Type 0 where
-  pub latches : h .latches ≡ 0
-  pub size : h .size ≤ 4095
-  pub outputs : h .outputs ≤ 4096
-  pub variables : h .inputs + h .ands ≤ h .size
-
-pub header-fits : (bytes : List ℕ) (h : Header) → readHeader bytes ≡ holds h → HeaderFits h
-unfolding readHeader inLimits
-header-fits bytes h e =
-    let a = next-out (from? (headerOf (linesFrom 0 [] bytes)) 7 0) (λ k. unless (eqb (k .latches) 0) 8 0 (unless (inLimits k) 9 0 (holds k))) h e in
-    let b = unless-out (eqb (a .0 .latches) 0) 8 0 (unless (inLimits (a .0)) 9 0 (holds (a .0))) h (a .2) in
-    let c = unless-out (inLimits (a .0)) 9 0 (holds (a .0)) h (b .1) in
-    let p = and-yes (leb (a .0 .size) 4095) (leb (a .0 .outputs) 4096 && leb (a .0 .inputs + a .0 .ands) (a .0 .size)) (c .0) in
-    let q = and-yes (leb (a .0 .outputs) 4096) (leb (a .0 .inputs + a .0 .ands) (a .0 .size)) (p .1) in
-    subst HeaderFits (holds-once (c .1)) (record { latches = eqb-yes (b .0); size = leb-yes (p .0); outputs = leb-yes (q .0); variables = leb-yes (q .1) })
-
 pub graph-fits : (bytes : List ℕ) (h : Header) (g : Graph) → readHeader bytes ≡ holds h → readGraph bytes h ≡ holds g → GraphFits g
 graph-fits bytes h g d e =
     let f = header-fits bytes h d in
-    let c = graph-counted bytes h g e in
+    let c = graph-counted bytes h g d e in
     record {
       size = omega (arith, f .size, c .size);
       outputs = omega (arith, f .outputs, c .outputs);
       variables = omega (arith, f .variables, c .size, c .inputs, c .ands);
-      low = graph-low bytes h g e;
+      low = graph-low bytes h g d e;
     }

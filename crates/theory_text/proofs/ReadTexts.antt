@@ -1,8 +1,8 @@
 -- Two texts that are read give a library that fits and a graph that is in the limits, and accepted if all its ANDs can be placed. Assumes nothing.
-use Prim.Native.Nat.{ℕ, _≤_}
+use Prim.Native.Nat.{_≤_}
 use mathlib.Core.Path.{_≡_, subst}
 use mathlib.Core.Bool.{_&&_}
-use mathlib.Core.List.{List, [], List·Memᴰ}
+use mathlib.Core.List.{[], List·Memᴰ}
 use lib.Dec.{T, leb}
 use lib.ListN.{length}
 use mir.Facts.{and-yes, leb-yes}
@@ -66,4 +66,4 @@ module _ (c : Call) (d : Design) (e : readTexts c ≡ holds d) where
 
   -- and of 13 to 15, if all its ANDs can be placed
   pub design-accepted : unplaced (d .graph) ≡ [] → Accepted (d .graph)
-  design-accepted = let t = texts-read c d e in graph-accepted (c .graph) (t .header) (d .graph) (t .isGraph)
+  design-accepted = let t = texts-read c d e in graph-accepted (c .graph) (t .header) (d .graph) (t .isHeader) (t .isGraph)

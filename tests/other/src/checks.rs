@@ -114,7 +114,7 @@ pub fn limits() -> Check {
 /// Cases with any number of faults: the first in checking order is answered.
 pub fn faults(cases: usize, seed: u64) -> Check {
     let mut rng = Rng::new(seed);
-    let mut counts = [0usize; 19];
+    let mut counts = [0usize; 22];
     for _ in 0..cases {
         let case = gen::faults(&mut rng);
         let (answer, _) = run(&case);
@@ -133,16 +133,17 @@ pub fn faults(cases: usize, seed: u64) -> Check {
 pub fn damage() -> Check {
     let cells = gen::library_text(&gen::small_library());
     let graph = text(&["aag 5 2 0 2 2", "4", "2", "10", "7", "10 3 4", "6 10 3", "c"]);
-    let mut counts = [0usize; 19];
-    for on_cells in [true, false] {
-        for damaged in gen::all_damage(if on_cells { &cells } else { &graph }) {
+    let mut counts = [0usize; 22];
+    let all = [(true, gen::all_damage(&cells)), (false, gen::all_damage(&graph)), (false, gen::all_binary_damage())];
+    for (on_cells, texts) in all {
+        for damaged in texts {
             let (cells, graph) = if on_cells { (&damaged, &graph) } else { (&cells, &damaged) };
             let words = reference::words_needed(graph).unwrap_or(0).min(WORDS_EACH * 200);
             let (answer, _) = reference::map(cells, graph, words, 10_000);
             let judged = judge::judge(cells, graph, words);
             let same = match judged {
                 Some((number, place)) => answer.number == number && answer.value as usize == place,
-                None => answer.number == 0 || answer.number >= 15,
+                None => answer.number == 0 || (15..19).contains(&answer.number),
             };
             ensure!(
                 same,
@@ -193,8 +194,11 @@ pub fn judge_netlist(case: &Case, answer: &reference::Answer, netlist: &[u8]) ->
     Ok(())
 }
 
-/// The lines that are read, without what follows them.
+/// The lines that are read, without what follows them; a binary text whole.
 fn good_part(text: &[u8]) -> Vec<u8> {
+    if text.starts_with(b"aig ") {
+        return text.to_vec();
+    }
     let mut lines = text.split_inclusive(|&byte| byte == b'\n');
     let header = lines.next().unwrap_or(b"");
     let numbers: Vec<usize> =
@@ -207,7 +211,7 @@ fn good_part(text: &[u8]) -> Vec<u8> {
 /// loose reader, and what the making knows.
 pub fn netlists(cases: usize, seed: u64) -> Check {
     let mut rng = Rng::new(seed);
-    let mut counts = [0usize; 19];
+    let mut counts = [0usize; 22];
     let mut by_pins = [0usize; 5];
     let mut timed = 0;
     for _ in 0..cases {
@@ -224,10 +228,60 @@ pub fn netlists(cases: usize, seed: u64) -> Check {
         }
         let words = case.words.of(reference::words_needed(&case.graph).unwrap_or(64));
         let judged = judge::judge(&case.cells, &case.graph, words).map(|(number, place)| (number, place as u32));
-        let read = (1..15).contains(&answer.number).then_some((answer.number, answer.value));
+        let in_texts = (1..15).contains(&answer.number) || answer.number > 18;
+        let read = in_texts.then_some((answer.number, answer.value));
         ensure!(judged == read, "{}: judged {judged:?}, answered {answer:?}", case.what);
     }
     Ok(format!("{cases} cases, by number {counts:?}; {timed} arrive after 0; gates by pins {by_pins:?}"))
+}
+
+/// The case's graph with its variables in sequence, in both forms, if its text
+/// reads, has no circle, and both are within the length in 1.
+pub fn twins_of(case: &Case) -> Option<[Case; 2]> {
+    let read = reference::read_graph(&case.graph, usize::MAX).ok()?;
+    let ands = read.operands.iter().enumerate();
+    let graph = Graph {
+        top: read.top,
+        inputs: read.inputs.iter().copied().map(usize::from).collect(),
+        outputs: read.outputs.iter().map(|&literal| literal as usize).collect(),
+        ands: ands.filter_map(|(left, &ends)| ends.map(|(a, b)| (left, a as usize, b as usize))).collect(),
+    };
+    let sequence = graph.in_sequence()?;
+    let texts = [sequence.text(), sequence.binary()?];
+    let fits = texts.iter().all(|text| text.len() <= 65_536);
+    let twin = |graph| Case { what: format!("twin of {}", case.what), graph, expected: None, ..case.clone() };
+    fits.then(|| texts.map(twin))
+}
+
+/// "A file free of 19 to 21 and its ASCII twin, each within the length in 1,
+/// must give the same netlist": every graph that random cases, limits and small
+/// graphs have, where it can be renumbered.
+pub fn twins(cases: usize, seed: u64) -> Check {
+    let mut rng = Rng::new(seed);
+    let mut counts = [0usize; 22];
+    let some = (0..cases).map(|_| gen::case(&mut rng)).collect::<Vec<_>>();
+    let cells = gen::library_text(&gen::full_library());
+    let small = gen::every_small_graph().into_iter().map(|graph| Case::new("small", cells.clone(), graph.text()));
+    for case in some.into_iter().chain(gen::limits()).chain(small) {
+        let Some([ascii, binary]) = twins_of(&case) else { continue };
+        let (one, other) = (run(&ascii), run(&binary));
+        ensure!(one == other, "{}: {:?} and in binary {:?}", ascii.what, one.0, other.0);
+        let read_back = Graph::from_text(&binary.graph).text();
+        ensure!(read_back == sorted_operands(&ascii.graph), "{}: the texts", ascii.what);
+        counts[one.0.number as usize] += 1;
+    }
+    let all = counts.iter().sum::<usize>();
+    ensure!(all > cases / 2 && counts[0] > cases / 4, "too few twins: {counts:?}");
+    Ok(format!("{all} twins, by number {counts:?}"))
+}
+
+/// An ASCII text with the larger operand first on every AND line.
+fn sorted_operands(text: &[u8]) -> Vec<u8> {
+    let mut graph = Graph::from_text(text);
+    for (_, a, b) in &mut graph.ands {
+        (*a, *b) = ((*a).max(*b), (*a).min(*b));
+    }
+    graph.text()
 }
 
 /// What the brute force has gone through.
@@ -360,5 +414,17 @@ pub fn real_graphs(folder: &std::path::Path) -> Check {
             }
         }
     }
-    Ok(format!("{} graphs, {mapped} netlists", table.lines().count() - 1))
+    let mut pairs = 0;
+    for entry in std::fs::read_dir(folder).map_err(|error| error.to_string())? {
+        let name = entry.map_err(|error| error.to_string())?.file_name().to_string_lossy().into_owned();
+        let Some(stem) = name.strip_suffix(".aig") else { continue };
+        for library in ["tiny.txt", "array.txt", "full.txt"] {
+            let of = |graph: &str| Ok::<_, String>(run(&Case::new(graph, read(library)?, read(graph)?)));
+            let (binary, ascii) = (of(&name)?, of(&format!("{stem}.aag"))?);
+            ensure!(binary == ascii, "{name} with {library}: {:?}, its twin {:?}", binary.0, ascii.0);
+        }
+        pairs += 1;
+    }
+    ensure!(pairs > 0, "no .aig in {}", folder.display());
+    Ok(format!("{} graphs, {mapped} netlists, {pairs} binary twins", table.lines().count() - 1))
 }

@@ -391,8 +391,72 @@ impl Graph {
         WORDS_EACH * (self.top + 1) + self.outputs.len()
     }
 
-    /// A good text read back.
+    /// Left minus first operand and first minus second, AND by AND, the larger
+    /// literal first; none where the variables don't stand in sequence: inputs 1
+    /// to I, then the ANDs, each over lower variables.
+    pub fn differences(&self) -> Option<Vec<usize>> {
+        let count = self.inputs.len();
+        if self.top != count + self.ands.len() || !self.inputs.iter().copied().eq(1..=count) {
+            return None;
+        }
+        let mut differences = Vec::new();
+        for (variable, &(left, a, b)) in (count + 1..).zip(&self.ands) {
+            let (first, second) = (a.max(b), a.min(b));
+            if left != variable || first >= 2 * left {
+                return None;
+            }
+            differences.extend([2 * left - first, first - second]);
+        }
+        Some(differences)
+    }
+
+    /// The binary text, of a graph whose variables stand in sequence.
+    pub fn binary(&self) -> Option<Vec<u8>> {
+        self.binary_padded(|| false)
+    }
+
+    /// The same; each difference below 128 is asked whether it takes a second
+    /// group all the same.
+    pub fn binary_padded(&self, mut padded: impl FnMut() -> bool) -> Option<Vec<u8>> {
+        let mut text = self.binary_head().into_bytes();
+        for difference in self.differences()? {
+            let padded = difference < 128 && padded();
+            text.extend(groups(difference, padded));
+        }
+        Some(text)
+    }
+
+    /// The binary header and output lines.
+    fn binary_head(&self) -> String {
+        let Graph { top, inputs, outputs, ands } = self;
+        let head = format!("aig {top} {} 0 {} {}\n", inputs.len(), outputs.len(), ands.len());
+        outputs.iter().fold(head, |head, literal| head + &format!("{literal}\n"))
+    }
+
+    /// The graph renumbered so that its variables stand in sequence: inputs in
+    /// the file's order, then the ANDs, each after its operands. None with a
+    /// circle.
+    pub fn in_sequence(&self) -> Option<Graph> {
+        let placed = self.placed()?;
+        let mut variables = vec![0; self.top + 1];
+        let all = self.inputs.iter().copied().chain(placed.iter().map(|(left, _, _)| *left));
+        for (index, variable) in all.enumerate() {
+            variables[variable] = 1 + index;
+        }
+        let literal = |literal: usize| 2 * variables[literal / 2] + literal % 2;
+        Some(Graph {
+            top: self.inputs.len() + placed.len(),
+            inputs: (1..=self.inputs.len()).collect(),
+            outputs: self.outputs.iter().map(|&output| literal(output)).collect(),
+            ands: placed.iter().map(|&(left, a, b)| (variables[left], literal(a), literal(b))).collect(),
+        })
+    }
+
+    /// A good text read back, in either form.
     pub fn from_text(text: &[u8]) -> Graph {
+        if text.starts_with(b"aig ") {
+            return Graph::from_binary(text);
+        }
         let text = std::str::from_utf8(text).expect("a good text");
         let mut lines = text.lines().map(|line| -> Vec<usize> {
             line.split(' ').filter(|word| *word != "aag").map(|word| word.parse().expect("a number")).collect()
@@ -405,6 +469,29 @@ impl Graph {
             outputs: take(header[3]).iter().map(|line| line[0]).collect(),
             ands: take(header[4]).iter().map(|line| (line[0] / 2, line[1], line[2])).collect(),
         }
+    }
+
+    fn from_binary(text: &[u8]) -> Graph {
+        let mut rest = text.iter().copied();
+        let mut line = || -> Vec<usize> {
+            let bytes: Vec<u8> = rest.by_ref().take_while(|&byte| byte != b'\n').collect();
+            let line = String::from_utf8(bytes).expect("a good line");
+            line.split(' ').filter(|word| *word != "aig").map(|word| word.parse().expect("a number")).collect()
+        };
+        let header = line();
+        let (inputs, ands) = (header[1], header[4]);
+        let outputs = (0..header[3]).map(|_| line()[0]).collect();
+        let mut byte = || usize::from(rest.next().expect("a difference"));
+        let mut difference = || match byte() {
+            low if low < 128 => low,
+            low => low - 128 + 128 * byte(),
+        };
+        let mut graph = Graph { top: header[0], inputs: (1..=inputs).collect(), outputs, ands: Vec::new() };
+        for left in inputs + 1..=inputs + ands {
+            let first = 2 * left - difference();
+            graph.ands.push((left, first, first - difference()));
+        }
+        graph
     }
 
     /// The ANDs so that each stands after its operands; none on a circle.
@@ -444,6 +531,29 @@ impl Graph {
             value[left] = literal(&value, a) && literal(&value, b);
         }
         self.outputs.iter().map(|&output| literal(&value, output)).collect()
+    }
+}
+
+/// A difference below 2^14 "in groups of seven bits, lowest first, the top bit
+/// set on all but the last byte"; `padded` takes two groups in any case.
+pub fn groups(difference: usize, padded: bool) -> Vec<u8> {
+    let (low, high) = ((difference % 128) as u8, (difference / 128) as u8);
+    if high == 0 && !padded {
+        vec![low]
+    } else {
+        vec![128 + low, high]
+    }
+}
+
+/// A shape's nodes numbered as they come.
+pub fn as_it_comes(shape: &Shape, outputs: &[End]) -> Graph {
+    let literal = |(node, negative): End| 2 * node + usize::from(negative);
+    let ands = (1 + shape.inputs..).zip(&shape.ands);
+    Graph {
+        top: shape.nodes() - 1,
+        inputs: (1..=shape.inputs).collect(),
+        outputs: outputs.iter().map(|&end| literal(end)).collect(),
+        ands: ands.map(|(left, &[a, b])| (left, literal(a), literal(b))).collect(),
     }
 }
 
@@ -553,6 +663,26 @@ pub fn large_graph(rng: &mut Rng, top: usize) -> Graph {
     graph
 }
 
+/// A few ANDs over so many inputs that differences take one or two bytes.
+pub fn wide_graph(rng: &mut Rng) -> Graph {
+    let inputs = rng.pick(&[60, 63, 64, 65, 130, 300]);
+    let ands = rng.between(1, 8);
+    let mut graph = Graph { top: inputs + ands, inputs: (1..=inputs).collect(), outputs: vec![], ands: vec![] };
+    for left in inputs + 1..=graph.top {
+        let literal = |rng: &mut Rng| match rng.below(4) {
+            0 => 2 * left - 1 - rng.below(8),
+            1 => rng.below(6),
+            2 => (2 * left).saturating_sub(126 + rng.below(5)),
+            _ => rng.below(2 * inputs + 2),
+        };
+        let (a, b) = (literal(rng), literal(rng));
+        // Operands that are ANDs have few cuts, and so has this one.
+        graph.ands.push((left, a, if a / 2 > inputs { b.min(2 * inputs + 1) } else { b }));
+        graph.outputs.push(2 * left + rng.below(2));
+    }
+    graph
+}
+
 // ---------------------------------------------------------------- cases
 
 /// How much is lent, measured against what is needed.
@@ -621,7 +751,7 @@ fn lent(rng: &mut Rng) -> Lent {
 
 /// A random case of the long comparison.
 pub fn case(rng: &mut Rng) -> Case {
-    let kind = rng.below(100);
+    let kind = rng.below(125);
     let count = library_size(rng);
     let cells = library_text(&library(rng, count));
     let mut case = match kind {
@@ -660,7 +790,32 @@ pub fn case(rng: &mut Rng) -> Case {
             let cells = if rng.one_in(3) { cells } else { library_text(&full_library()) };
             Case::new("large", cells, large_graph(rng, top).text())
         }
-        _ => Case::new("tiny", cells, graph(rng, 2, 2, CUT_LIMIT).text()),
+        97..=99 => Case::new("tiny", cells, graph(rng, 2, 2, CUT_LIMIT).text()),
+        _ => {
+            let graph = match kind {
+                100..=103 => wide_graph(rng),
+                104 => {
+                    let top = rng.between(60, 400);
+                    large_graph(rng, top)
+                }
+                105..=108 => graph(rng, 6, 20, CUT_LIMIT + 2),
+                _ => {
+                    let most = rng.pick(&[1, 3, 6, 12, 25]);
+                    graph(rng, 8, most, CUT_LIMIT)
+                }
+            };
+            let many = rng.pick(&[2, 10, 1_000]);
+            let sequence = graph.in_sequence().expect("no circle");
+            let mut text = sequence.binary_padded(|| rng.one_in(many)).expect("in sequence");
+            if rng.one_in(6) {
+                let trailing: Vec<u8> = (0..rng.below(20)).map(|_| rng.word() as u8).collect();
+                text.extend(trailing);
+            }
+            match kind {
+                117.. => Case::new("damaged binary", cells, damaged(rng, &text)),
+                _ => Case::new("binary", cells, text),
+            }
+        }
     };
     case.words = lent(rng);
     case.text = lent(rng);
@@ -704,8 +859,9 @@ pub fn damaged(rng: &mut Rng, text: &[u8]) -> Vec<u8> {
             break;
         }
         let at = rng.below(text.len());
-        match rng.below(8) {
+        match rng.below(9) {
             0 | 1 => text[at] = rng.pick(BYTES),
+            8 => text[at] = rng.word() as u8,
             2 => text[at] = rng.pick(b"0123456789"),
             3 => text.insert(at, rng.pick(BYTES)),
             4 => text.insert(at, rng.pick(b"0123456789")),
@@ -723,10 +879,15 @@ pub fn damaged(rng: &mut Rng, text: &[u8]) -> Vec<u8> {
 /// Every byte removed, replaced by and followed by each of `BYTES` in turn,
 /// and every truncation.
 pub fn all_damage(text: &[u8]) -> Vec<Vec<u8>> {
+    all_damage_by(text, BYTES)
+}
+
+/// The same with each of these bytes.
+pub fn all_damage_by(text: &[u8], bytes: &[u8]) -> Vec<Vec<u8>> {
     let mut all = Vec::new();
     for at in 0..=text.len() {
         all.push(text[..at].to_vec());
-        for &byte in BYTES {
+        for &byte in bytes {
             all.push([&text[..at], &[byte], &text[at..]].concat());
             if at < text.len() {
                 all.push([&text[..at], &[byte], &text[at + 1..]].concat());
@@ -739,11 +900,22 @@ pub fn all_damage(text: &[u8]) -> Vec<Vec<u8>> {
     all
 }
 
+/// A small binary text with every damage by every byte: two ANDs, a padded
+/// difference, a second difference of 0, and a byte after the last.
+pub fn all_binary_damage() -> Vec<Vec<u8>> {
+    let text = b"aig 4 2 0 2 2\n8\n7\n\x83\x00\x01\x02\x00c";
+    let every: Vec<u8> = (0..=255).collect();
+    all_damage_by(text, &every)
+}
+
 // ---------------------------------------------------------------- faults
 
 /// A case with any number of faults at once; the answer is known from the
 /// making: the first in checking order.
 pub fn faults(rng: &mut Rng) -> Case {
+    if rng.one_in(4) {
+        return binary_faults(rng);
+    }
     let mut found: Vec<(u32, usize)> = Vec::new();
     let wanted = |rng: &mut Rng, many: usize| rng.one_in(many);
     // Rare faults for what comes early, so that every number comes first often.
@@ -930,7 +1102,7 @@ pub fn faults(rng: &mut Rng) -> Case {
         head = match rng.below(8) {
             0 => format!("aag {m} {i} {l} {o} {a} 0\n"),
             1 => format!("aag {m} {i} {l} {o}\n"),
-            2 => format!("aig {m} {i} {l} {o} {a}\n"),
+            2 => format!("aog {m} {i} {l} {o} {a}\n"),
             3 => format!("aag  {m} {i} {l} {o} {a}\n"),
             4 => format!("aag 0{m} {i} {l} {o} {a}\n"),
             5 => format!("aag {m} {i} {l} {o} 65536\n"),
@@ -990,8 +1162,267 @@ pub fn faults(rng: &mut Rng) -> Case {
     case
 }
 
+/// The same for a binary text: what is due stands in one row, output lines and
+/// then differences, and the first that is faulty decides.
+fn binary_faults(rng: &mut Rng) -> Case {
+    let rarity = rng.pick(&[1, 3, 8, 30]);
+    let wanted = |rng: &mut Rng, many: usize| rng.one_in(many);
+
+    // The graph: no tie cell, so an output of a constant has no cover.
+    let shape = match rng.below(4) {
+        0 => shape_with_cuts(CUT_LIMIT + 1).clone(),
+        _ => shape(rng, 5, 6, CUT_LIMIT),
+    };
+    let mut later = (shape.last_count() > CUT_LIMIT).then_some((16, shape.nodes() - 1));
+    let mut graph = as_it_comes(&shape, &[(1, false), (2, true), (3, true)]);
+    if wanted(rng, 4) {
+        later = later.or(Some((17, graph.outputs.len())));
+        graph.outputs.push(rng.below(2));
+    }
+    let (inputs, outputs, ands) = (graph.inputs.len(), graph.outputs.len(), graph.ands.len());
+
+    // The header.
+    let mut found: Vec<(u32, usize)> = Vec::new();
+    let mut header = [graph.top, inputs, 0, outputs, ands];
+    let seven = wanted(rng, 6 * rarity);
+    if seven {
+        found.push((7, 0));
+    }
+    if wanted(rng, 6 * rarity) {
+        header[2] = rng.pick(&[1, 65_535]);
+        found.push((8, 0));
+    }
+    if wanted(rng, 6 * rarity) {
+        match rng.below(4) {
+            0 => header[0] = rng.pick(&[4_096, 65_535]),
+            1 => header[3] = rng.pick(&[4_097, 65_535]),
+            2 => header[0] = inputs + ands - 1,
+            _ => header[4] = 65_535,
+        }
+        found.push((9, 0));
+    } else if wanted(rng, 4 * rarity) {
+        header[0] = rng.pick(&[graph.top + 1, graph.top + 2, 4_095]);
+        found.push((19, 0));
+    }
+    let [m, i, l, o, a] = header;
+    let head = match rng.below(5) {
+        _ if !seven => format!("aig {m} {i} {l} {o} {a}\n"),
+        0 => format!("aig {m} {i} {l} {o} {a} 0\n"),
+        1 => format!("aig {m} {i} {l} {o} {a}\r\n"),
+        2 => format!("aig {m} {i} {l} {o} 0{a}\n"),
+        3 => format!("aig{m} {i} {l} {o} {a}\n"),
+        _ => format!("big {m} {i} {l} {o} {a}\n"),
+    };
+    let mut words = Lent::This(graph.words());
+    if wanted(rng, 4 * rarity) {
+        words = Lent::This(if rng.one_in(2) { graph.words() - 1 } else { rng.below(900) });
+        found.push((10, 0));
+    }
+
+    // What is due: its bytes, and its refusal if it brings one.
+    let mut due: Vec<(Vec<u8>, Option<u32>)> = Vec::new();
+    for literal in &graph.outputs {
+        let (line, number) = match rng.below(12) {
+            _ if !wanted(rng, 4 * rarity) => (format!("{literal}\n"), None),
+            0 => (format!("{}\n", 2 * graph.top + 2), Some(12)),
+            1 => (String::from("65535\n"), Some(12)),
+            2 => (format!(" {literal}\n"), Some(11)),
+            3 => (format!("{literal} \n"), Some(11)),
+            4 => (format!("{literal}\r\n"), Some(11)),
+            5 => (format!("0{literal}\n"), Some(11)),
+            6 => (String::from("65536\n"), Some(11)),
+            7 => (String::from("\n"), Some(11)),
+            8 => (format!("{literal} 2 2\n"), Some(11)),
+            _ => (format!("{literal}x\n"), Some(11)),
+        };
+        due.push((line.into_bytes(), number));
+    }
+    let differences = graph.differences().expect("in sequence");
+    for (index, &difference) in differences.iter().enumerate() {
+        let left = 2 * (inputs + 1 + index / 2);
+        let taken_from = if index % 2 == 0 { left } else { left - differences[index - 1] };
+        let padded = rng.one_in(5);
+        due.push(match rng.below(8) {
+            _ if !wanted(rng, 4 * rarity) => (groups(difference, padded), None),
+            0 => (vec![0x80, 0x80], Some(20)),
+            1 => (vec![0xff, 0xff], Some(20)),
+            2 => (vec![0x80 + difference as u8 % 128, 0x80, 0x00], Some(20)),
+            3 => (vec![0x80 + rng.below(128) as u8, 0x80 + rng.below(128) as u8], Some(20)),
+            4 => (groups(rng.between(taken_from + 1, 16_383), false), Some(21)),
+            5 => (groups(16_383, false), Some(21)),
+            6 if index % 2 == 0 => (groups(0, padded), Some(21)),
+            _ => (groups(taken_from + 1, padded), Some(21)),
+        });
+    }
+    let mut text = head.into_bytes();
+    let mut offsets: Vec<usize> = Vec::new();
+    for (bytes, _) in &due {
+        offsets.push(text.len());
+        text.extend(bytes);
+    }
+    let mut first = due.iter().zip(&offsets).find_map(|((_, number), &offset)| Some(((*number)?, offset)));
+    if wanted(rng, 4 * rarity) && !due.is_empty() {
+        // Cut off within or before what is due, or on its last byte.
+        let index = rng.below(due.len());
+        let length = offsets[index] + rng.below(due[index].0.len());
+        text.truncate(length);
+        if first.is_none_or(|(_, place)| place >= offsets[index]) {
+            first = Some((if index < outputs { 11 } else { 20 }, offsets[index]));
+        }
+    } else if rng.one_in(3) {
+        let trailing: Vec<u8> = (0..rng.below(9)).map(|_| rng.word() as u8).collect();
+        text.extend(trailing);
+    }
+    // In checking order: 7, 8, 9, 19, 10; then what is due.
+    first = found.first().copied().or(first).or(later);
+    if wanted(rng, 20 * rarity) {
+        text.resize(65_537, 0);
+        first = Some((1, 0));
+    }
+    let mut cells = library_text(&small_library());
+    if wanted(rng, 20 * rarity) {
+        cells.push(b'x');
+        first = first.filter(|&(number, _)| number == 1).or(Some((4, cells.len() - 1)));
+    }
+    let mut case = Case::new("binary faults", cells, text).words(words).text(Lent::Exact);
+    if wanted(rng, 3) {
+        case.text = Lent::OneShort;
+    }
+    case.expected = first;
+    case
+}
+
 /// Every limit, just inside and just outside.
 pub fn limits() -> Vec<Case> {
+    let mut cases = ascii_limits();
+    cases.extend(binary_limits());
+    cases
+}
+
+/// Those of binary texts: 19 to 21, and the other numbers beside them.
+fn binary_limits() -> Vec<Case> {
+    let cells = library_text(&small_library());
+    let rich = library_text(&full_library());
+    let small = Graph { top: 3, inputs: vec![1, 2], outputs: vec![6], ands: vec![(3, 4, 2)] };
+    let mut cases = Vec::new();
+    let mut add = |case: Case| cases.push(case);
+
+    // The header: 7, 8, 9, 19, 10.
+    for (head, words, number) in [
+        ("aig 0 0 0 0 0", Lent::Exact, 0),
+        ("aig 0 0 0 0 0", Lent::OneShort, 10),
+        ("aig 1 0 0 0 0", Lent::Exact, 19),
+        ("aig 1 0 0 0 0", Lent::This(0), 19),
+        ("aig 3 2 0 0 0", Lent::Exact, 19),
+        ("aig 3 4 0 0 0", Lent::Exact, 9),
+        ("aig 3 2 0 0 2", Lent::Exact, 9),
+        ("aig 3 0 0 4097 0", Lent::Exact, 9),
+        ("aig 3 0 0 4096 0", Lent::Exact, 19),
+        ("aig 3 2 1 0 0", Lent::Exact, 8),
+        ("aig 4096 0 1 0 0", Lent::Exact, 8),
+        ("aig 4095 4095 0 0 0", Lent::Exact, 0),
+        ("aig 4095 4095 0 0 0", Lent::OneShort, 10),
+        ("aig 4095 4094 0 0 0", Lent::Exact, 19),
+        ("aig 4095 4094 0 0 0", Lent::OneShort, 19),
+        ("aig 4095 0 0 0 0", Lent::This(0), 19),
+        ("aig 4096 4096 0 0 0", Lent::This(0), 9),
+        ("aig 4096 0 0 0 0", Lent::This(0), 9),
+        ("aig 65535 65535 0 0 65535", Lent::This(0), 9),
+        ("aig 65536 0 0 0 0", Lent::This(0), 7),
+        ("aig 0 0 0 0 0 0", Lent::This(0), 7),
+        ("aig 00 0 0 0 0", Lent::This(0), 7),
+        ("aig 0 0 0 0 0\r", Lent::This(0), 7),
+        ("aigs 0 0 0 0 0", Lent::This(0), 7),
+        ("aig", Lent::This(0), 7),
+    ] {
+        add(Case::new(head, cells.clone(), format!("{head}\n").into_bytes()).words(words).expect(number, 0));
+    }
+
+    // Case B's header and output line take 16 bytes; 6 is 6 - 2 = 4 and 4 - 2 = 2.
+    #[rustfmt::skip]
+    let edges: [(&[u8], u32, usize); 37] = [
+        (&[], 20, 16), (&[0x02], 20, 17), (&[0x82], 20, 16), (&[0x82, 0x80], 20, 16),
+        (&[0x82, 0x80, 0x00, 0x02], 20, 16), (&[0x02, 0x82], 20, 17), (&[0x02, 0x82, 0x80], 20, 17),
+        (&[0x02, 0x82, 0x80, 0x00], 20, 17), (&[0x82, 0x00], 20, 18), (&[0x82, 0x00, 0x82], 20, 18),
+        (&[0x82, 0x00, 0x82, 0x80], 20, 18), (&[0x80, 0x80], 20, 16), (&[0xff, 0xff], 20, 16),
+        (&[0xff, 0xff, 0x7f], 20, 16), (&[0x02, 0xff, 0xff], 20, 17),
+        (&[0x00], 21, 16), (&[0x00, 0x02], 21, 16), (&[0x80, 0x00], 21, 16), (&[0x00, 0xff, 0xff], 21, 16),
+        (&[0x07], 21, 16), (&[0x07, 0x80], 21, 16), (&[0x87, 0x00, 0x02], 21, 16), (&[0xff, 0x7f, 0x02], 21, 16),
+        (&[0x86, 0x01, 0x02], 21, 16), (&[0x02, 0x05], 21, 17), (&[0x02, 0x85, 0x00], 21, 17),
+        (&[0x02, 0xff, 0x7f], 21, 17), (&[0x06, 0x01], 21, 17), (&[0x86, 0x00, 0x01], 21, 18),
+        (&[0x02, 0x02], 0, 0), (&[0x82, 0x00, 0x02], 0, 0), (&[0x02, 0x82, 0x00], 0, 0),
+        (&[0x02, 0x00], 0, 0), (&[0x02, 0x80, 0x00], 0, 0), (&[0x02, 0x02, 0xff, 0xff], 0, 0),
+        (&[0x06, 0x00], 17, 0), (&[0x02, 0x04], 17, 0),
+    ];
+    for (bytes, number, place) in edges {
+        let text = [small.binary_head().as_bytes(), bytes].concat();
+        add(Case::new(format!("differences {bytes:02x?}"), cells.clone(), text).expect(number, place));
+    }
+    for (line, number) in
+        [("8\n", 12), ("7\n", 21), ("06\n", 11), ("6\r\n", 11), ("", 11), ("6", 11), ("6 2 4\n", 11), ("\n", 11)]
+    {
+        // A first difference of 0 behind each.
+        let bytes: &[u8] = if line.ends_with('\n') { b"\x00" } else { b"" };
+        let text = [b"aig 3 2 0 1 1\n", line.as_bytes(), bytes].concat();
+        let place = if number == 21 { 16 } else { 14 };
+        add(Case::new(format!("output line {line:?}"), cells.clone(), text).expect(number, place));
+    }
+
+    // Differences of one byte and two, just what they are taken from and more.
+    for inputs in [0, 2, 62, 63, 64, 4_094] {
+        let left = 2 * (inputs + 1);
+        let head = format!("aig {} {inputs} 0 1 1\n{}\n", inputs + 1, left + 1);
+        let mut one_and = |first: usize, second: usize, padded: bool| {
+            let bytes = [groups(first, padded), groups(second, padded)];
+            let text = [head.as_bytes(), &bytes[0], &bytes[1]].concat();
+            let what = format!("{inputs} inputs, differences {first} and {second}");
+            let case = Case::new(what, rich.clone(), text);
+            add(if first == 0 || first > left {
+                case.expect(21, head.len())
+            } else if second > left - first {
+                case.expect(21, head.len() + bytes[0].len())
+            } else {
+                case.expect(0, 0)
+            });
+        };
+        for first in [0, 1, 126, 127, 128, 129, left - 1, left, left + 1, 255, 256, 8_190, 8_191, 16_383] {
+            one_and(first, 0, false);
+            one_and(first, 0, true);
+        }
+        for second in [0, 1, 126, 127, 128, 129, left - 2, left - 1, left, 255, 256, 8_189, 8_190, 16_383] {
+            one_and(1, second, false);
+            one_and(1, second, true);
+        }
+    }
+
+    // Lengths, words and text memory.
+    let good = small.binary().expect("in sequence");
+    for length in [65_535, 65_536, 65_537] {
+        let mut text = good.clone();
+        text.resize(length, 0xff);
+        let case = Case::new(format!("binary graph of {length} bytes"), cells.clone(), text);
+        add(case.expect(if length > 65_536 { 1 } else { 0 }, 0));
+    }
+    for (text, number) in [(Lent::Exact, 0), (Lent::Over(1), 0), (Lent::OneShort, 18), (Lent::This(0), 18)] {
+        let case = Case::new(format!("small binary graph, text {text:?}"), cells.clone(), good.clone()).text(text);
+        add(case.expect(number, if number == 18 { LISTING.len() } else { 0 }));
+    }
+    let full = large_graph(&mut Rng::new(3), 4_095).in_sequence().expect("no circle");
+    for (words, number) in [(Lent::Exact, 0), (Lent::OneShort, 10)] {
+        for text in [full.text(), full.binary().expect("in sequence")] {
+            let what = format!("full graph in sequence, {} bytes, words {words:?}", text.len());
+            add(Case::new(what, rich.clone(), text).words(words).expect(number, 0));
+        }
+    }
+    let mut cut = full.binary().expect("in sequence");
+    let last = cut.len() - groups(*full.differences().expect("in sequence").last().expect("an AND"), false).len();
+    cut.pop();
+    add(Case::new("full graph, its last byte cut off", rich.clone(), cut).expect(20, last));
+    cases
+}
+
+/// Those of ASCII texts.
+fn ascii_limits() -> Vec<Case> {
     let cells = library_text(&small_library());
     let small = Graph { top: 3, inputs: vec![1, 2], outputs: vec![6], ands: vec![(3, 2, 4)] };
     let mut cases = Vec::new();
@@ -1088,18 +1519,11 @@ pub fn limits() -> Vec<Case> {
 
     // Cuts.
     for (wanted, number) in [(CUT_LIMIT, 0), (CUT_LIMIT + 1, 16)] {
-        let shape = shape_with_cuts(wanted);
-        let top = shape.nodes() - 1;
-        let literal = |(node, negative): End| 2 * node + usize::from(negative);
-        let ands = shape.ands.iter().enumerate();
-        let graph = Graph {
-            top,
-            inputs: (1..=shape.inputs).collect(),
-            outputs: vec![],
-            ands: ands.map(|(index, &[a, b])| (1 + shape.inputs + index, literal(a), literal(b))).collect(),
-        };
-        let case = Case::new(format!("{wanted} cuts"), cells.clone(), graph.text());
-        add(case.expect(number, if number == 16 { top } else { 0 }));
+        let graph = as_it_comes(shape_with_cuts(wanted), &[]);
+        for text in [graph.text(), graph.binary().expect("in sequence")] {
+            let case = Case::new(format!("{wanted} cuts"), cells.clone(), text);
+            add(case.expect(number, if number == 16 { graph.top } else { 0 }));
+        }
     }
     let (graph, place) = restart();
     add(Case::new("two ANDs with a cut too many", cells.clone(), graph.text()).expect(16, place));

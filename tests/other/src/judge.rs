@@ -1,6 +1,6 @@
-//! A second reader for refusals 1 to 14, made another way round: it reads
-//! loosely, prints what it understood and compares the bytes. Used where no
-//! one knows by construction what a damaged text brings.
+//! A second reader for refusals 1 to 14 and 19 to 21, made another way round:
+//! it reads loosely, prints what it understood and compares the bytes. Used
+//! where no one knows by construction what a damaged text brings.
 
 use crate::WORDS_EACH;
 use std::collections::BTreeSet;
@@ -58,7 +58,7 @@ fn figures(line: &[u8], head: &str, wanted: usize) -> Option<Vec<u16>> {
     (figures.len() == wanted && again.as_bytes() == line).then_some(figures)
 }
 
-/// The refusal among 1 to 14 that the texts bring, if one does.
+/// The refusal among 1 to 14 and 19 to 21 that the texts bring, if one does.
 pub fn judge(cells: &[u8], graph: &[u8], words: usize) -> Option<(u32, usize)> {
     if cells.len().max(graph.len()) > 65_536 {
         return Some((1, 0));
@@ -81,7 +81,9 @@ pub fn judge(cells: &[u8], graph: &[u8], words: usize) -> Option<(u32, usize)> {
         }
     }
     let mut due = lines(graph);
-    let Some(header) = due.next().and_then(|(_, line)| figures(line, "aag", 5)) else {
+    let first = due.next().map_or(&graph[..0], |(_, line)| line);
+    let is_binary = first.starts_with(b"aig");
+    let Some(header) = figures(first, if is_binary { "aig" } else { "aag" }, 5) else {
         return Some((7, 0));
     };
     let [m, i, l, o, a] = [0, 1, 2, 3, 4].map(|index: usize| usize::from(header[index]));
@@ -91,17 +93,23 @@ pub fn judge(cells: &[u8], graph: &[u8], words: usize) -> Option<(u32, usize)> {
     if m >= 4096 || o >= 4097 || m < i + a {
         return Some((9, 0));
     }
+    if is_binary && m > i + a {
+        return Some((19, 0));
+    }
     if words < WORDS_EACH * m + WORDS_EACH + o {
         return Some((10, 0));
     }
     let mut defined = vec![false; m + 1];
     defined[0] = true;
     let mut used: Vec<(usize, usize)> = Vec::new();
-    let sorts = [(i, 1), (o, 1), (a, 3)];
+    // A binary text has output lines alone, then differences.
+    let mut end = first.len();
+    let sorts = if is_binary { [(0, 1), (o, 1), (0, 3)] } else { [(i, 1), (o, 1), (a, 3)] };
     for (sort, (count, wanted)) in sorts.into_iter().enumerate() {
         for _ in 0..count {
             let Some((offset, line)) = due.next() else { return Some((11, graph.len())) };
             let Some(literals) = figures(line, "", wanted) else { return Some((11, offset)) };
+            end = offset + line.len();
             let literals: Vec<usize> = literals.into_iter().map(usize::from).collect();
             if literals.iter().any(|literal| literal / 2 > m) {
                 return Some((12, offset));
@@ -120,5 +128,31 @@ pub fn judge(cells: &[u8], graph: &[u8], words: usize) -> Option<(u32, usize)> {
             used.extend(reads.iter().map(|literal| (offset, literal / 2)));
         }
     }
+    if is_binary {
+        return judge_differences(graph, end, i, a);
+    }
     used.into_iter().find(|&(_, variable)| !defined[variable]).map(|(offset, _)| (14, offset))
+}
+
+/// Cuts the rest into runs of bytes that end with one below 128, however long,
+/// and takes each from what the one before it leaves.
+fn judge_differences(graph: &[u8], from: usize, inputs: usize, ands: usize) -> Option<(u32, usize)> {
+    let mut at = from;
+    let mut runs = graph[from..].split_inclusive(|&byte| byte < 128);
+    let mut remains = 0;
+    for index in 0..2 * ands {
+        let run = runs.next().unwrap_or(&[]);
+        let value = match *run {
+            [low] if low < 128 => i64::from(low),
+            [low, high] if high < 128 => i64::from(low) - 128 + 128 * i64::from(high),
+            _ => return Some((20, at)),
+        };
+        let is_first = index % 2 == 0;
+        remains = if is_first { 2 * (inputs + 1 + index / 2) as i64 } else { remains } - value;
+        if remains < 0 || (is_first && value == 0) {
+            return Some((21, at));
+        }
+        at += run.len();
+    }
+    None
 }

@@ -1,6 +1,6 @@
 //! The test side of the mapper: another mapper, a reader of its netlists, a
 //! brute force over covers, generators, and the boundary to the mapper under
-//! test. Everything here is written from document 01 alone.
+//! test. Everything here is written from the documents alone.
 
 /// The plain expression; with the feature `mutants`, the other one while that
 /// mutant is switched on.

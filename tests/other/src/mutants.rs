@@ -17,7 +17,7 @@ pub fn is_on(mutant: u32) -> bool {
 }
 
 /// Number and what is wrong.
-pub const LIST: [(u32, &str); 20] = [
+pub const LIST: [(u32, &str); 27] = [
     (1, "an AND with a cut too many is accepted"),
     (2, "a tie between cell and inverter goes to the inverter"),
     (3, "a cut's function walks on below a leaf whose operands are leaves too"),
@@ -38,4 +38,11 @@ pub const LIST: [(u32, &str); 20] = [
     (18, "inputs are printed by number, not in the file's order"),
     (19, "an ignored pin's delay is left out of the arrival"),
     (20, "a repeated name is tried after the absent pins"),
+    (21, "a binary header's M may exceed I + A"),
+    (22, "19 is tried after 10"),
+    (23, "both differences of an AND are read before 21 is tried"),
+    (24, "a second difference is taken from the left literal"),
+    (25, "a second difference of 0 is refused"),
+    (26, "the groups of a difference are taken highest first"),
+    (27, "a difference padded with a group of zeros is refused"),
 ];

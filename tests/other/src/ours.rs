@@ -55,7 +55,7 @@ pub fn map(cells: &[u8], graph: &[u8], work: &mut [u16], text: &mut [u8]) -> Ans
     if answer.number == 0 {
         text[..netlist.len()].copy_from_slice(&netlist);
     }
-    if answer.number == 0 || answer.number > 10 {
+    if !crate::reference::leaves_work_memory(answer.number) {
         work.fill(0);
     }
     answer

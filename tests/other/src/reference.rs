@@ -1,4 +1,5 @@
-//! Another mapper, plain and slow. Quoted sentences are document 01's.
+//! Another mapper, plain and slow. Quoted sentences are document 01's and, for
+//! binary graph texts, those of request N1 in document 02.
 
 use crate::{CUT_LIMIT, WORDS_EACH};
 use std::collections::{BTreeMap, BTreeSet};
@@ -55,7 +56,7 @@ pub fn answer(printed: Result<Printed, Refusal>, text_len: usize) -> (Answer, Ve
     }
 }
 
-/// Refusals 1 to 17, or the netlist.
+/// Refusals 1 to 17 and 19 to 21, or the netlist.
 pub fn print_all(cells: &[u8], graph: &[u8], words: usize) -> Result<Printed, Refusal> {
     if cells.len() > 65_536 || graph.len() > 65_536 {
         return refuse(1, 0);
@@ -184,24 +185,41 @@ pub struct Graph {
     pub operands: Vec<Option<(u32, u32)>>,
 }
 
-/// M, I, L, O, A.
-fn read_header(line: &[u8]) -> Option<[usize; 5]> {
+/// "Read the `aig` form too, known by the header's first word."
+#[derive(Clone, Copy, Debug, PartialEq, Eq)]
+enum Form {
+    Ascii,
+    Binary,
+}
+
+/// The form, then M, I, L, O, A.
+fn read_header(line: &[u8]) -> Option<(Form, [usize; 5])> {
     let fields = fields(line, 6)?;
     let figures = numbers(&fields[1..])?;
-    let [m, i, l, o, a] = [0, 1, 2, 3, 4].map(|index: usize| figures[index] as usize);
-    (fields[0] == b"aag").then_some([m, i, l, o, a])
+    let form = match fields[0] {
+        b"aag" => Form::Ascii,
+        b"aig" => Form::Binary,
+        _ => return None,
+    };
+    Some((form, [0, 1, 2, 3, 4].map(|index: usize| figures[index] as usize)))
 }
 
 /// The words of work memory that a graph text asks for, if its header reads.
 pub fn words_needed(text: &[u8]) -> Option<usize> {
-    let [m, _, _, o, _] = line_at(text, 0).and_then(read_header)?;
+    let (_, [m, _, _, o, _]) = line_at(text, 0).and_then(read_header)?;
     Some(WORDS_EACH * (m + 1) + o)
 }
 
-/// Refusals 7 to 14.
+/// "Work memory is unchanged by every refusal tried up to 10": 19 is "tried
+/// after 9", and so before it.
+pub fn leaves_work_memory(number: u32) -> bool {
+    (1..=10).contains(&number) || number == 19
+}
+
+/// Refusals 7 to 14 and 19 to 21.
 pub fn read_graph(text: &[u8], words: usize) -> Result<Graph, Refusal> {
     let header = line_at(text, 0);
-    let Some([m, i, l, o, a]) = header.and_then(read_header) else {
+    let Some((form, [m, i, l, o, a])) = header.and_then(read_header) else {
         return refuse(7, 0);
     };
     if l != 0 {
@@ -210,26 +228,47 @@ pub fn read_graph(text: &[u8], words: usize) -> Result<Graph, Refusal> {
     if m > 4_095 || o > 4_096 || plain_or!(17, i + a > m, i + a >= m && m > 0) {
         return refuse(9, 0);
     }
+    // "19 when a binary header's M isn't I + A, tried after 9, place 0"
+    let sums_up = plain_or!(21, m == i + a, true);
+    if form == Form::Binary && plain_or!(22, !sums_up, !sums_up && words >= WORDS_EACH * (m + 1) + o) {
+        return refuse(19, 0);
+    }
     if words < WORDS_EACH * (m + 1) + o {
         return refuse(10, 0);
     }
+    let offset = header.map_or(0, <[u8]>::len) + 1;
+    match form {
+        Form::Ascii => read_lines(text, offset, m, [i, o, a]),
+        Form::Binary => read_binary(text, offset, m, [i, o, a]),
+    }
+}
 
+/// The numbers of a due line and the offset of the next: refusal 11, and 12 for
+/// "A literal exceeds 2M+1".
+fn due_line(text: &[u8], offset: usize, wanted: usize, m: usize) -> Result<(Vec<u32>, usize), Refusal> {
+    let line = line_at(text, offset);
+    let literals = line.and_then(|line| numbers(&fields(line, wanted)?));
+    let Some(literals) = literals else {
+        return refuse(11, offset);
+    };
+    if literals.iter().any(|&literal| literal as usize > 2 * m + 1) {
+        return refuse(12, offset);
+    }
+    Ok((literals, offset + line.map_or(0, <[u8]>::len) + 1))
+}
+
+/// "then I input lines, O output lines and A lines `left right right`":
+/// refusals 11 to 14.
+fn read_lines(text: &[u8], first_line: usize, m: usize, [i, o, a]: [usize; 3]) -> Result<Graph, Refusal> {
     let mut graph = Graph { top: m, inputs: Vec::new(), outputs: Vec::new(), operands: vec![None; m + 1] };
     let mut defined: BTreeSet<u16> = BTreeSet::new();
     let mut uses: Vec<(usize, u16)> = Vec::new();
-    let mut offset = header.map_or(0, <[u8]>::len) + 1;
+    let mut offset = first_line;
     for due in 0..i + o + a {
         let (is_output, is_and) = (due >= i && due < i + o, due >= i + o);
-        let line = line_at(text, offset);
-        let literals = line.and_then(|line| numbers(&fields(line, if is_and { 3 } else { 1 })?));
-        let Some(literals) = literals else {
-            return refuse(11, offset);
-        };
+        let (literals, next) = due_line(text, offset, if is_and { 3 } else { 1 }, m)?;
         let first = literals[0];
         let variable = (first / 2) as u16;
-        if literals.iter().any(|&literal| literal as usize > 2 * m + 1) {
-            return refuse(12, offset);
-        }
         if !is_output && (first % 2 == 1 || first == 0) {
             return refuse(12, offset);
         }
@@ -246,7 +285,7 @@ pub fn read_graph(text: &[u8], words: usize) -> Result<Graph, Refusal> {
         } else {
             graph.inputs.push(variable);
         }
-        offset += line.map_or(0, <[u8]>::len) + 1;
+        offset = next;
     }
     for (offset, variable) in uses {
         if variable != 0 && !defined.contains(&variable) {
@@ -254,6 +293,57 @@ pub fn read_graph(text: &[u8], words: usize) -> Result<Graph, Refusal> {
         }
     }
     Ok(graph)
+}
+
+/// "Inputs are variables 1 to I and ANDs follow in sequence." "Output lines are
+/// text as before and keep 11 and 12." Then "Each AND is two differences, left
+/// minus first operand and first minus second"; 20 and 21 "are tried difference
+/// by difference after the output lines".
+fn read_binary(text: &[u8], first_line: usize, m: usize, [i, o, a]: [usize; 3]) -> Result<Graph, Refusal> {
+    let inputs = (1..=i).map(|variable| variable as u16).collect();
+    let mut graph = Graph { top: m, inputs, outputs: Vec::new(), operands: vec![None; m + 1] };
+    let mut offset = first_line;
+    for _ in 0..o {
+        let (literals, next) = due_line(text, offset, 1, m)?;
+        graph.outputs.push(literals[0]);
+        offset = next;
+    }
+    for variable in i + 1..=i + a {
+        let left = 2 * variable as u32;
+        let (one, second_at) = difference(text, offset)?;
+        if plain_or!(23, false, difference(text, second_at).is_err()) {
+            return refuse(20, second_at);
+        }
+        if one == 0 || one > left {
+            return refuse(21, offset);
+        }
+        let first = left - one;
+        let (other, next) = difference(text, second_at)?;
+        let taken_from = plain_or!(24, first, left);
+        if plain_or!(25, other > taken_from, other == 0 || other > taken_from) {
+            return refuse(21, second_at);
+        }
+        graph.operands[variable] = Some((first, taken_from - other));
+        offset = next;
+    }
+    Ok(graph)
+}
+
+/// A difference and the offset after it: "in groups of seven bits, lowest first,
+/// the top bit set on all but the last byte". "20 when a difference takes more
+/// than two bytes or the text ends before its end".
+fn difference(text: &[u8], offset: usize) -> Result<(u32, usize), Refusal> {
+    let mut value = 0;
+    for group in 0..2 {
+        let Some(&byte) = text.get(offset + group) else { break };
+        let bits = u32::from(byte % 128);
+        value = plain_or!(26, value + (bits << (7 * group)), (value << 7) + bits);
+        if byte < 128 {
+            let padded = plain_or!(27, false, group == 1 && byte == 0);
+            return if padded { refuse(20, offset) } else { Ok((value, offset + group + 1)) };
+        }
+    }
+    refuse(20, offset)
 }
 
 /// "variable 0 and the inputs first, then again and again the lowest-numbered

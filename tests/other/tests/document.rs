@@ -1,6 +1,7 @@
 //! The reference against the document, the brute force and its own netlists.
 
-use other::checks;
+use other::reference::{self, Answer};
+use other::{checks, gen, CUT_LIMIT, WORDS_EACH};
 
 fn passes(check: checks::Check) {
     match check {
@@ -30,6 +31,11 @@ fn damage() {
 }
 
 #[test]
+fn twins() {
+    passes(checks::twins(4_000, 1));
+}
+
+#[test]
 fn netlists() {
     passes(checks::netlists(4_000, 1));
 }
@@ -50,6 +56,7 @@ fn every_small_graph() {
 fn longer() {
     passes(checks::netlists(40_000, 2));
     passes(checks::all_covers(20_000, 2));
+    passes(checks::twins(40_000, 2));
 }
 
 /// Runs where GRAPHS_DIR names a folder of graphs with its `graphs.tsv`.
@@ -59,4 +66,201 @@ fn real_graphs() {
         Some(folder) => passes(checks::real_graphs(folder.as_ref())),
         None => println!("no GRAPHS_DIR"),
     }
+}
+
+// ---------------------------------------------------------------- request N1
+
+/// With the library of case B and the memories of the program.
+fn map(graph: &[u8]) -> (Answer, String) {
+    let (answer, netlist) = reference::map(&gen::library_text(&gen::small_library()), graph, 32_768, 65_536);
+    (answer, String::from_utf8_lossy(&netlist).into_owned())
+}
+
+/// Number and place; 0 and 0 for success.
+fn refusal(graph: &[u8]) -> (u32, u32) {
+    let (answer, _) = map(graph);
+    (answer.number, if answer.number == 0 { 0 } else { answer.value })
+}
+
+/// The operands of the AND in `aig M I 0 0 1` with I inputs and these bytes.
+fn operands(inputs: usize, bytes: &[u8]) -> Option<(u32, u32)> {
+    let head = format!("aig {} {inputs} 0 0 1\n", inputs + 1);
+    let graph = [head.as_bytes(), bytes].concat();
+    reference::read_graph(&graph, 700_000).ok().and_then(|graph| graph.operands[inputs + 1])
+}
+
+/// Case B in binary: its header takes 14 bytes, the output line 2, and 6 is
+/// 6 - 2 = 4 with 4 - 2 = 2.
+const B: &[u8] = b"aig 3 2 0 1 1\n6\n\x02\x02";
+
+/// Case F in binary: 8 of 4 and 2, 10 of 8 and 6, 12 of 10 and 8.
+const F: &[u8] = b"aig 6 3 0 1 3\n12\n\x04\x02\x02\x02\x02\x02";
+
+/// "Read the `aig` form too, known by the header's first word."
+#[test]
+fn known_by_the_first_word() {
+    assert_eq!(map(B).1, gen::LISTING);
+    // The same bytes under the other word: 6 is an input line, then no line ends.
+    assert_eq!(refusal(b"aag 3 2 0 1 1\n6\n\x02\x02"), (11, 16));
+    for head in
+        ["aig", "aigs 3 2 0 1 1\n", "Aig 3 2 0 1 1\n", "aog 3 2 0 1 1\n", "aig  3 2 0 1 1\n", "aig 3 2 0 1 01\n"]
+    {
+        assert_eq!(refusal(&[head.as_bytes(), b"6\n\x02\x02"].concat()), (7, 0), "{head}");
+    }
+}
+
+/// "Inputs are variables 1 to I and ANDs follow in sequence."
+#[test]
+fn variables_stand_in_sequence() {
+    let graph = reference::read_graph(F, 32_768).expect("a good text");
+    assert_eq!(graph.inputs, [1, 2, 3]);
+    let ands: Vec<usize> = (0..=6).filter(|&variable| graph.operands[variable].is_some()).collect();
+    assert_eq!(ands, [4, 5, 6]);
+    let (_, netlist) = map(b"aig 3 2 0 3 1\n6\n4\n2\n\x02\x02");
+    assert!(netlist.starts_with(".model top\n.inputs p1 p2\n.outputs p3 p2 p1\n"), "{netlist}");
+}
+
+/// "Each AND is two differences, left minus first operand and first minus
+/// second."
+#[test]
+fn two_differences() {
+    let graph = reference::read_graph(F, 32_768).expect("a good text");
+    assert_eq!(graph.operands[4..], [Some((4, 2)), Some((8, 6)), Some((10, 8))]);
+    // 6 - 1 = 5 and 5 - 2 = 3: both complemented.
+    assert_eq!(operands(2, &[1, 2]), Some((5, 3)));
+    assert_eq!(operands(2, &[6, 0]), Some((0, 0)));
+    assert_eq!(operands(2, &[1, 5]), Some((5, 0)));
+}
+
+/// "A difference is in groups of seven bits, lowest first, the top bit set on
+/// all but the last byte."
+#[test]
+fn groups_of_seven_bits() {
+    // The left literal is 2 * 65 = 130.
+    assert_eq!(operands(64, &[0x7f, 0]), Some((3, 3)));
+    assert_eq!(operands(64, &[0x80, 0x01, 0]), Some((2, 2)));
+    assert_eq!(operands(64, &[0x81, 0x01, 0]), Some((1, 1)));
+    assert_eq!(operands(64, &[0x82, 0x01, 0]), Some((0, 0)));
+    assert_eq!(operands(64, &[0x01, 0x81, 0x01]), Some((129, 0)));
+    // 8190 = 126 + 128 * 63.
+    assert_eq!(operands(4_094, &[0xfe, 0x3f, 0]), Some((0, 0)));
+    // A group of zeros at the end is read like any other.
+    assert_eq!(operands(64, &[0x81, 0x00, 0x80, 0x00]), Some((129, 129)));
+}
+
+/// "A file free of 19 to 21 and its ASCII twin, each within the length in 1,
+/// must give the same netlist"
+#[test]
+fn twins_give_the_same_netlist() {
+    assert_eq!(map(B), map(b"aag 3 2 0 1 1\n2\n4\n6\n6 4 2\n"));
+    assert_eq!(map(F), map(b"aag 6 3 0 1 3\n2\n4\n6\n12\n8 4 2\n10 8 6\n12 10 8\n"));
+}
+
+/// "19 when a binary header's M isn't I + A, tried after 9, place 0."
+#[test]
+fn nineteen() {
+    assert_eq!(refusal(b"aig 4 2 0 1 1\n6\n\x02\x02"), (19, 0));
+    assert_eq!(refusal(b"aig 1 0 0 0 0\n"), (19, 0));
+    assert_eq!(refusal(b"aig 0 0 0 0 0\n"), (0, 0));
+    assert_eq!(refusal(b"aag 1 0 0 0 0\n"), (0, 0), "an ASCII header may leave variables out");
+    assert_eq!(refusal(b"aig 2 2 0 1 1\n6\n\x02\x02"), (9, 0), "I + A exceeds M");
+    assert_eq!(refusal(b"aig 4096 2 0 1 1\n"), (9, 0));
+    assert_eq!(refusal(b"aig 4 2 1 1 1\n"), (8, 0));
+    // 19 before 10: no word is lent.
+    let cells = gen::library_text(&gen::small_library());
+    let number = |graph: &[u8], words| reference::map(&cells, graph, words, 65_536).0.number;
+    assert_eq!(number(b"aig 4 2 0 1 1\n", 0), 19);
+    assert_eq!(number(B, 4 * WORDS_EACH), 10);
+    assert_eq!(number(B, 4 * WORDS_EACH + 1), 0);
+    // "Work memory is unchanged by every refusal tried up to 10, and all zero
+    // after a later one and after success."
+    let kept: Vec<u32> = (0..=21).filter(|&number| reference::leaves_work_memory(number)).collect();
+    assert_eq!(kept, [1, 2, 3, 4, 5, 6, 7, 8, 9, 10, 19]);
+}
+
+/// "Output lines are text as before and keep 11 and 12."
+#[test]
+fn output_lines() {
+    assert_eq!(refusal(b"aig 3 2 0 1 1\n06\n\x02\x02"), (11, 14));
+    assert_eq!(refusal(b"aig 3 2 0 1 1\n6\r\n\x02\x02"), (11, 14));
+    assert_eq!(refusal(b"aig 3 2 0 1 1\n6"), (11, 14));
+    assert_eq!(refusal(b"aig 3 2 0 1 1\n"), (11, 14), "missing: the text's length");
+    assert_eq!(refusal(b"aig 3 2 0 2 1\n6\n65536\n\x02\x02"), (11, 16));
+    assert_eq!(refusal(b"aig 3 2 0 2 1\n6\n"), (11, 16));
+    assert_eq!(refusal(b"aig 3 2 0 1 1\n7\n\x02\x02"), (0, 0));
+    assert_eq!(refusal(b"aig 3 2 0 1 1\n8\n\x02\x02"), (12, 14));
+    assert_eq!(refusal(b"aig 3 2 0 2 1\n8\nx\n\x02\x02"), (12, 14), "line by line");
+}
+
+/// "20 when a difference takes more than two bytes or the text ends before its
+/// end"
+#[test]
+fn twenty() {
+    assert_eq!(refusal(b"aig 3 2 0 1 1\n6\n\x82\x80\x00\x02"), (20, 16));
+    assert_eq!(refusal(b"aig 3 2 0 1 1\n6\n\x82\x80"), (20, 16), "also at the text's end");
+    assert_eq!(refusal(b"aig 3 2 0 1 1\n6\n\x82"), (20, 16));
+    assert_eq!(refusal(b"aig 3 2 0 1 1\n6\n"), (20, 16), "missing: the text's length");
+    assert_eq!(refusal(b"aig 3 2 0 1 1\n6\n\x02"), (20, 17));
+    assert_eq!(refusal(b"aig 3 2 0 1 1\n6\n\x02\x82"), (20, 17));
+    assert_eq!(refusal(b"aig 3 2 0 1 1\n6\n\x82\x00\xff\xff\x01"), (20, 18));
+    assert_eq!(refusal(b"aig 3 2 0 1 1\n6\n\x82\x00\x82\x00"), (0, 0));
+}
+
+/// "21 when a first difference is 0 or a difference exceeds what it is taken
+/// from"
+#[test]
+fn twenty_one() {
+    assert_eq!(refusal(b"aig 3 2 0 1 1\n6\n\x00\x02"), (21, 16));
+    assert_eq!(refusal(b"aig 3 2 0 1 1\n6\n\x80\x00\x02"), (21, 16), "0 in two groups");
+    assert_eq!(refusal(b"aig 3 2 0 1 1\n6\n\x07\x02"), (21, 16), "7 exceeds 6");
+    assert_eq!(refusal(b"aig 3 2 0 1 1\n6\n\xff\x7f\x02"), (21, 16));
+    assert_eq!(refusal(b"aig 3 2 0 1 1\n6\n\x02\x05"), (21, 17), "5 exceeds 4");
+    assert_eq!(refusal(b"aig 3 2 0 1 1\n6\n\x06\x01"), (21, 17), "1 exceeds 0");
+    assert_eq!(refusal(b"aig 3 2 0 1 1\n6\n\x02\x00"), (0, 0), "a second difference may be 0");
+    assert_eq!(refusal(b"aig 3 2 0 1 1\n6\n\x02\x04"), (17, 0), "4 of 4 leaves variable 0");
+    // The fourth AND's left literal is 2 * 6 = 12.
+    let four = b"aig 6 2 0 0 4\n\x02\x02\x02\x02\x02\x02";
+    assert_eq!(refusal(&[&four[..], b"\x0c\x00"].concat()), (0, 0));
+    assert_eq!(refusal(&[&four[..], b"\x0d\x00"].concat()), (21, 20));
+}
+
+/// "both are tried difference by difference after the output lines, at the
+/// difference's first byte"
+#[test]
+fn difference_by_difference() {
+    assert_eq!(refusal(b"aig 3 2 0 1 1\n6\n\x00"), (21, 16), "before the missing second");
+    assert_eq!(refusal(b"aig 3 2 0 1 1\n6\n\x07\xff\xff"), (21, 16));
+    assert_eq!(refusal(b"aig 3 2 0 1 1\n6\n\x80\x80\x00"), (20, 16), "20 before 21 on one difference");
+    assert_eq!(refusal(b"aig 4 2 0 0 2\n\x02\x05\x80\x80"), (21, 15));
+    assert_eq!(refusal(b"aig 4 2 0 0 2\n\x02\x80\x80\x00"), (20, 15));
+    assert_eq!(refusal(b"aig 3 2 0 1 1\n8\n\x00"), (12, 14), "after the output lines");
+    assert_eq!(refusal(b"aig 3 2 0 2 1\n6\nx\n\x00"), (11, 16));
+    // "What follows the last AND line isn't read."
+    assert_eq!(map(&[B, b"\xff\xff\x00i0 x\nc\n"].concat()), map(B));
+    assert_eq!(refusal(b"aig 0 0 0 0 0\n\xff\xff"), (0, 0));
+}
+
+/// "Demand 1's list takes in every number added here or later, in the place
+/// given."
+#[test]
+fn in_the_place_given() {
+    let cells = gen::library_text(&gen::small_library());
+    let broken: &[u8] = b"aig 4 2 1 1 1\n6\n\x00";
+    assert_eq!(reference::map(&cells[1..], broken, 0, 0).0.number, 2, "the library's first");
+    assert_eq!(refusal(&[broken, &[0; 65_537]].concat()), (1, 0));
+    assert_eq!(refusal(&[B, &[0; 65_536 - 18]].concat()), (0, 0));
+    assert_eq!(refusal(&[B, &[0; 65_537 - 18]].concat()), (1, 0));
+    assert_eq!(refusal(b"aig 4 2 1 1\n"), (7, 0));
+    assert_eq!(refusal(b"aig 4 2 1 1 1\r\n"), (7, 0));
+    // 20 and 21 before 16, 17 and 18.
+    let shape = gen::shape_with_cuts(CUT_LIMIT + 1);
+    let wide = gen::as_it_comes(shape, &[(0, true)]);
+    let good = wide.binary().expect("in sequence");
+    assert_eq!(refusal(&good), (16, wide.top as u32));
+    assert_eq!(refusal(&good[..good.len() - 1]).0, 20);
+    assert_eq!(refusal(b"aig 1 0 0 1 1\n0\n\x01\x01"), (17, 0));
+    assert_eq!(refusal(b"aig 1 0 0 1 1\n0\n\x01\x02"), (21, 17));
+    let short = |graph: &[u8]| reference::map(&cells, graph, 32_768, 0).0;
+    assert_eq!(short(B), Answer { number: 18, value: gen::LISTING.len() as u32, ..Answer::default() });
+    assert_eq!(short(&B[..17]), Answer { number: 20, value: 17, ..Answer::default() });
 }

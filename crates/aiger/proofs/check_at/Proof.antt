@@ -3,7 +3,7 @@
 use mathlib.Core.Path.{sym, _∙_}
 use borrow.Author.Tests.{not-true, not-false}
 use Rattle.aiger.specs.Passes.{checkAt}
-use Rattle.aiger.proofs.Judging.{fit-known}
+use Rattle.loading.proofs.Tests.{fit-known}
 use borrow.Author.Needs.{needs}
 use Rattle.aiger.proofs.check_at.Statement.{statement}
 use Rattle.aiger.proofs.check_at.Tie as tie

@@ -3,7 +3,7 @@
 use borrow.Author.Needs.{needs}
 use mathlib.Core.Path.{sym, _∙_}
 use Prim.Native.Nat.{_-_}
-use Rattle.aiger.specs.Lines.{dueCount}
+use Rattle.loading.specs.Tests.{dueCount}
 use Rattle.aiger.proofs.Judging.{Left, left-first, left-on, left-stop, left-end}
 use Rattle.aiger.proofs.check_lines.Statement.{statement}
 use Rattle.aiger.proofs.check_lines.Tie as tie

@@ -9,8 +9,8 @@ use Rattle.aiger.proofs.header_form.Tie as tie
 tag-requires : tie.Need-tag-requires
 tag-requires c κs = search needs
 
-enum-known-c : tie.Need-enum-known-c
-enum-known-c c = search needs
+enum-known-binary : tie.Need-enum-known-binary
+enum-known-binary c = search needs
 
 header-numbers-requires : tie.Need-header-numbers-requires
 header-numbers-requires c κs = search needs
@@ -20,7 +20,9 @@ enum-told c = search needs
 
 returns : tie.Need-returns
 unfolding formAt
-returns c = rw (sym (c .before .before .before .before .tag .ensures) ∙ c .before .before .c .given .1) (c .header-numbers .ensures)
+returns c =
+    let at-binary = c .before .before in
+    rw (sym (at-binary .before .before .tag .ensures) ∙ at-binary .binary .given .1) (c .header-numbers .ensures)
 
 returns-2 : tie.Need-returns-2
 unfolding formAt
@@ -29,4 +31,4 @@ returns-2 c = rw (sym (c .before .before .tag .ensures) ∙ c .enum-told .given 
 pub header-form-spec : {M : Type 1} → statement M
 header-form-spec =
     tie.close
-    (tie.spec tag-requires enum-known-c header-numbers-requires enum-told returns returns-2)
+    (tie.spec tag-requires enum-known-binary header-numbers-requires enum-told returns returns-2)

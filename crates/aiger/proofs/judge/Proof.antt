@@ -4,7 +4,7 @@ use mathlib.Core.Path.{sym, _∙_}
 use borrow.Author.Tests.{not-true, not-false}
 use Rattle.text.proofs.Bytes.{and-false}
 use Rattle.aiger.specs.Lines.{judgedAt}
-use Rattle.aiger.proofs.Judging.{fit-known}
+use Rattle.loading.proofs.Tests.{fit-known}
 use borrow.Author.Needs.{needs}
 use Rattle.aiger.proofs.judge.Statement.{statement}
 use Rattle.aiger.proofs.judge.Tie as tie

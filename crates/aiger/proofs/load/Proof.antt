@@ -1,64 +1,48 @@
--- `aiger::load` meets its contract, by the laws of its two passes.
+-- `aiger::load` meets its contract: each form by its own reader.
 -- Assumes nothing.
-use Rattle.aiger.proofs.Head.{header-fit}
-use Rattle.placing.proofs.Slots.{fit-length, fit-room}
-use Rattle.aiger.proofs.Loads.{load-done, load-stop}
+use mathlib.Core.Path.{sym, _∙_}
+use Rattle.model.specs.GraphText.{readGraph}
+use Rattle.model.proofs.Answers.{verdict-ruled}
+use Rattle.binary.proofs.Loads.{header-fit}
+use Rattle.aiger.proofs.Loads.{words-binary, words-ascii}
 use borrow.Author.Needs.{needs}
 use Rattle.aiger.proofs.load.Statement.{statement}
 use Rattle.aiger.proofs.load.Tie as tie
 
-open-words-requires : tie.Need-open-words-requires
-open-words-requires c κs =
-    let start = c .before .before .before in
-    fit-room _ _ (header-fit (start .args .s .now) (start .args .h) (start .args .work .now) (start .pre .0) (start .pre .1))
+load-binary-requires : tie.Need-load-binary-requires
+load-binary-requires c κs =
+    let at-if1 = c .before in
+    let start = at-if1 .before .before .before in
+    (start .pre .0, at-if1 .if1 .taken, start .pre .1)
 
-read-lines-requires : tie.Need-read-lines-requires
-read-lines-requires c κs =
-    let start = c .before .before .before .before .before .before .before in
-    fit-length _ _ _ (header-fit (start .args .s .now) (start .args .h) (start .args .work .now) (start .pre .0) (start .pre .1)) (search needs)
-
-enum-told : tie.Need-enum-told
-enum-told c = search needs
-
-check-lines-requires : tie.Need-check-lines-requires
-check-lines-requires c κs =
-    let start = c .before .before .before .before .before .before .before .before .before .before .before .before .before in
-    fit-length _ _ _ (header-fit (start .args .s .now) (start .args .h) (start .args .work .now) (start .pre .0) (start .pre .1)) (search needs)
-
-enum-known-n : tie.Need-enum-known-n
-enum-known-n c = search needs
+load-ascii-requires : tie.Need-load-ascii-requires
+load-ascii-requires c κs =
+    let at-if1 = c .before in
+    let start = at-if1 .before .before .before in
+    (header-fit (start .args .s .now) (start .args .h) (start .args .work .now) (start .pre .0) (start .pre .1), at-if1 .if1 .left)
 
 same-length : tie.Need-same-length
 same-length c = search needs
 
 returns : tie.Need-returns
 returns c =
-    let at-enum-told = c .before .before in
-    let at-read-lines = at-enum-told .before .before .before .before in
-    let at-open-words = at-read-lines .before .before .before .before in
-    let start = at-open-words .before .before .before .before in
-    load-done (start .args .s .now) (start .args .h) (start .args .work .now) (header-fit (start .args .s .now) (start .args .h) (start .args .work .now) (start .pre .0) (start .pre .1)) _ _ _ (at-open-words .open-words .ensures) (at-read-lines .read-lines .ensures .1) (at-read-lines .read-lines .ensures .0) (at-enum-told .enum-told .given .1) _ (c .check-lines .ensures)
+    let at-load-binary = c .before .before in
+    let at-if1 = at-load-binary .before .before in
+    let args = at-if1 .before .before .before .args in
+    let r = at-load-binary .load-binary .ensures in
+    (r .0, (r .1 .0 ∙ sym (words-binary (args .work .now) (args .s .now) (args .h) (at-if1 .if1 .taken)), r .1 .1))
 
 same-length-2 : tie.Need-same-length-2
 same-length-2 c = search needs
 
 returns-2 : tie.Need-returns-2
 returns-2 c =
-    let at-read-lines = c .before .before .before .before .before in
-    let at-open-words = at-read-lines .before .before .before .before in
-    let start = at-open-words .before .before .before .before in
-    load-stop (start .args .s .now) (start .args .h) (start .args .work .now) (header-fit (start .args .s .now) (start .args .h) (start .args .work .now) (start .pre .0) (start .pre .1)) _ _ _ (at-open-words .open-words .ensures) (at-read-lines .read-lines .ensures .1) (at-read-lines .read-lines .ensures .0) _ _ (c .before .n .given .1)
+    let at-load-ascii = c .before .before in
+    let at-if1 = at-load-ascii .before .before in
+    let args = at-if1 .before .before .before .args in
+    let r = at-load-ascii .load-ascii .ensures in
+    (r .0, (r .1 ∙ sym (words-ascii (args .work .now) (args .s .now) (args .h) (at-if1 .if1 .left)), verdict-ruled _ (readGraph (args .s .now) (args .h)) (r .0)))
 
 pub load-spec : {M : Type 1} → statement M
 load-spec =
-    tie.close
-    (tie.spec
-    open-words-requires
-    read-lines-requires
-    enum-told
-    check-lines-requires
-    enum-known-n
-    same-length
-    returns
-    same-length-2
-    returns-2)
+    tie.close (tie.spec load-binary-requires load-ascii-requires same-length returns same-length-2 returns-2)

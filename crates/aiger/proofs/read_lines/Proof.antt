@@ -4,7 +4,7 @@ use borrow.Author.Needs.{needs}
 use mathlib.Core.Path.{sym, _∙_}
 use Prim.Native.Nat.{_-_}
 use native.Mathlib.Omega.{arith}
-use Rattle.aiger.specs.Lines.{dueCount}
+use Rattle.loading.specs.Tests.{dueCount}
 use Rattle.placing.proofs.Slots.{fit-length}
 use Rattle.aiger.proofs.Judging.{Rest, rest-first, rest-on, rest-stop, rest-end}
 use Rattle.aiger.proofs.read_lines.Statement.{statement}

@@ -1,11 +1,11 @@
--- `aiger::tag` meets its contract: the field's bytes are compared as a part of the text.
+-- `aiger::tag` meets its contract: the first word's bytes are compared as a part of the text.
 -- Assumes nothing.
 use mathlib.Core.Path.{sym, ap, _∙_}
 use native.Mathlib.Omega.{arith}
 use Rattle.model.specs.Base.{same}
 use Rattle.model.specs.Text.{text}
 use Rattle.text.proofs.Words.{end-le, part-is}
-use Rattle.aiger.specs.Lines.{tagAt, aag}
+use Rattle.aiger.specs.Lines.{tagAt, aag, aig}
 use borrow.Author.Needs.{needs}
 use Rattle.aiger.proofs.tag.Statement.{statement}
 use Rattle.aiger.proofs.tag.Tie as tie
@@ -28,19 +28,55 @@ slice-aggregate-same-bytes c = search needs
 same-bytes-requires : tie.Need-same-bytes-requires
 same-bytes-requires c κs = search needs
 
-byte-requires : tie.Need-byte-requires
-byte-requires c κs = search needs
+tag-behind-requires : tie.Need-tag-behind-requires
+tag-behind-requires c κs = search needs
 
 returns : tie.Need-returns
-unfolding tagAt aag text
+unfolding tagAt aig text
 returns c =
     let at-same-bytes = c .before .before in
     let at-field-end = at-same-bytes .before .before .before in
-    rw (ap (λ x. same x aag) (sym (part-is _ 0 _ (at-field-end .field-end .ensures))) ∙ sym (at-same-bytes .same-bytes .ensures) ∙ c .before .if1 .taken, sym (at-field-end .field-end .ensures)) (c .byte .ensures)
+    rw (ap (λ x. same x aig) (sym (part-is _ 0 _ (at-field-end .field-end .ensures))) ∙ sym (at-same-bytes .same-bytes .ensures) ∙ c .before .if1 .taken, sym (at-field-end .field-end .ensures)) (c .tag-behind .ensures)
+
+sub-same-bytes-2 : tie.Need-sub-same-bytes-2
+sub-same-bytes-2 c = search needs
+
+part-same-bytes-start-2 : tie.Need-part-same-bytes-start-2
+part-same-bytes-start-2 c = search needs
+
+part-same-bytes-end-2 : tie.Need-part-same-bytes-end-2
+part-same-bytes-end-2 c =
+    let at-field-end = c .before .before .before .before in
+    omega (arith, at-field-end .field-end .ensures, end-le (at-field-end .before .before .args .s .now) 0 (omega arith))
+
+slice-aggregate-same-bytes-2 : tie.Need-slice-aggregate-same-bytes-2
+slice-aggregate-same-bytes-2 c = search needs
+
+same-bytes-requires-2 : tie.Need-same-bytes-requires-2
+same-bytes-requires-2 c κs = search needs
+
+tag-behind-requires-2 : tie.Need-tag-behind-requires-2
+tag-behind-requires-2 c κs = search needs
 
 returns-2 : tie.Need-returns-2
-unfolding tagAt aag text
-returns-2 c = rw (ap (λ x. same x aag) (sym (part-is _ 0 _ (c .before .before .before .before .field-end .ensures))) ∙ sym (c .before .same-bytes .ensures) ∙ c .if1 .left)
+unfolding tagAt aag aig text
+returns-2 c =
+    let at-same-bytes2 = c .before .before in
+    let at-if1 = at-same-bytes2 .before .before .before in
+    let at-same-bytes = at-if1 .before in
+    let at-field-end = at-same-bytes .before .before .before in
+    let part = sym (part-is _ 0 _ (at-field-end .field-end .ensures)) in
+    rw (ap (λ x. same x aig) part ∙ sym (at-same-bytes .same-bytes .ensures) ∙ at-if1 .if1 .left, ap (λ x. same x aag) part ∙ sym (at-same-bytes2 .same-bytes2 .ensures) ∙ c .before .if2 .taken, sym (at-field-end .field-end .ensures)) (c .tag-behind2 .ensures)
+
+returns-3 : tie.Need-returns-3
+unfolding tagAt aag aig text
+returns-3 c =
+    let at-same-bytes2 = c .before in
+    let at-if1 = at-same-bytes2 .before .before .before in
+    let at-same-bytes = at-if1 .before in
+    let at-field-end = at-same-bytes .before .before .before in
+    let part = sym (part-is _ 0 _ (at-field-end .field-end .ensures)) in
+    rw (ap (λ x. same x aig) part ∙ sym (at-same-bytes .same-bytes .ensures) ∙ at-if1 .if1 .left, ap (λ x. same x aag) part ∙ sym (at-same-bytes2 .same-bytes2 .ensures) ∙ c .if2 .left)
 
 pub tag-spec : {M : Type 1} → statement M
 tag-spec =
@@ -52,6 +88,13 @@ tag-spec =
     part-same-bytes-end
     slice-aggregate-same-bytes
     same-bytes-requires
-    byte-requires
+    tag-behind-requires
     returns
-    returns-2)
+    sub-same-bytes-2
+    part-same-bytes-start-2
+    part-same-bytes-end-2
+    slice-aggregate-same-bytes-2
+    same-bytes-requires-2
+    tag-behind-requires-2
+    returns-2
+    returns-3)

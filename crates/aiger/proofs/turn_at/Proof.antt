@@ -2,7 +2,8 @@
 -- Assumes nothing.
 use mathlib.Core.Path.{sym, ap, _∙_}
 use Rattle.aiger.specs.Lines.{judgedAt}
-use Rattle.aiger.proofs.Judging.{fit-known, judged-good, turn-none, turn-good, turn-bad}
+use Rattle.loading.proofs.Tests.{fit-known}
+use Rattle.aiger.proofs.Judging.{judged-good, turn-none, turn-good, turn-bad}
 use borrow.Author.Needs.{needs}
 use Rattle.aiger.proofs.turn_at.Statement.{statement}
 use Rattle.aiger.proofs.turn_at.Tie as tie

@@ -2,7 +2,8 @@
 -- Assumes nothing.
 use mathlib.Core.Path.{sym, _∙_}
 use native.Mathlib.Omega.{arith}
-use Rattle.aiger.proofs.Head.{header-read, header-form, limits-known}
+use Rattle.theory_text.proofs.ReadGraph.{header-fits}
+use Rattle.aiger.proofs.Head.{header-read}
 use borrow.Author.Needs.{needs}
 use Rattle.aiger_run.proofs.show.Statement.{statement}
 use Rattle.aiger_run.proofs.show.Tie as tie
@@ -14,13 +15,19 @@ enum-known-h : tie.Need-enum-known-h
 enum-known-h c = search needs
 
 need-words-requires : tie.Need-need-words-requires
-need-words-requires c κs = let k = limits-known _ (header-form _ _ (header-read _ _ (sym (c .before .before .before .header .ensures) ∙ c .before .h .given .1)) .1) in (omega (arith, k .0), omega (arith, k .1))
+need-words-requires c κs =
+    let at-h = c .before in
+    let f = header-fits _ _ (header-read _ _ (sym (at-h .before .before .header .ensures .0) ∙ at-h .h .given .1)) in
+    (omega (arith, f .size), omega (arith, f .outputs))
 
 refused-requires : tie.Need-refused-requires
 refused-requires c κs = search needs
 
 show-loaded-requires : tie.Need-show-loaded-requires
-show-loaded-requires c κs = (header-read _ _ (sym (c .before .before .before .before .before .before .header .ensures) ∙ c .before .before .before .before .h .given .1), omega (arith, c .before .before .need-words .ensures))
+show-loaded-requires c κs =
+    let at-need-words = c .before .before in
+    let at-h = at-need-words .before .before in
+    (header-read _ _ (sym (at-h .before .before .header .ensures .0) ∙ at-h .h .given .1), omega (arith, at-need-words .need-words .ensures))
 
 enum-known-n : tie.Need-enum-known-n
 enum-known-n c = search needs

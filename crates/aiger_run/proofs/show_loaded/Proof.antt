@@ -1,7 +1,7 @@
 -- `aiger_run::show_loaded` is safe: what `place` asks is what an accepted `load` leaves.
 -- Assumes nothing.
 use mathlib.Core.Path.{sym, _∙_}
-use Rattle.aiger.proofs.Head.{header-fit}
+use Rattle.binary.proofs.Loads.{header-fit}
 use Rattle.aiger.proofs.Loads.{place-asks}
 use borrow.Author.Needs.{needs}
 use Rattle.aiger_run.proofs.show_loaded.Statement.{statement}
@@ -14,7 +14,13 @@ enum-told : tie.Need-enum-told
 enum-told c = search needs
 
 show-placed-requires : tie.Need-show-placed-requires
-show-placed-requires c κs = place-asks (c .before .before .before .before .before .before .before .before .before .args .work .now) _ (c .before .before .before .before .before .before .before .before .before .args .text .now) (c .before .before .before .before .before .before .before .before .before .args .h) (header-fit (c .before .before .before .before .before .before .before .before .before .args .text .now) (c .before .before .before .before .before .before .before .before .before .args .h) (c .before .before .before .before .before .before .before .before .before .args .work .now) (c .before .before .before .before .before .before .before .before .before .pre .0) (c .before .before .before .before .before .before .before .before .before .pre .1)) (sym (c .before .before .before .before .before .load .ensures .0) ∙ c .before .enum-told .given .1) (c .before .before .before .before .before .load .ensures .1)
+show-placed-requires c κs =
+    let at-enum-told = c .before in
+    let at-load = at-enum-told .before .before .before .before in
+    let start = at-load .before .before .before .before in
+    let args = start .args in
+    let fit = header-fit (args .text .now) (args .h) (args .work .now) (start .pre .0) (start .pre .1) in
+    place-asks (args .work .now) (args .text .now) (args .h) _ fit (sym (at-load .load .ensures .0) ∙ at-enum-told .enum-told .given .1) (at-load .load .ensures .1 .0)
 
 enum-known-n : tie.Need-enum-known-n
 enum-known-n c = search needs

@@ -21,7 +21,7 @@ returns : tie.Need-returns
 returns c =
     let e = c .before .before .before .before .before .map-texts .ensures in
     let m = e .0 in
-    (c .answer .ensures ∙ ap answered (m .returns), (m .words, (m .bytes, (e .1 .0, e .1 .1 .0))))
+    (c .answer .ensures ∙ ap answered (m .returns), (m .words, (m .bytes, (e .1 .0, (e .1 .1 .0, e .1 .1 .1 .1)))))
 
 pub mapper-map-spec : {M : Type 1} → statement M
 mapper-map-spec =

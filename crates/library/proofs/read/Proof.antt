@@ -3,6 +3,7 @@
 use borrow.Author.Needs.{needs}
 use mathlib.Core.Path.{sym, ap, _∙_}
 use Rattle.model.specs.Cells.{libraryAnswer}
+use Rattle.model.proofs.Answers.{library-ruled}
 use Rattle.library.proofs.First.{names-not, names-read}
 use Rattle.library.proofs.read.Statement.{statement}
 use Rattle.library.proofs.read.Tie as tie
@@ -19,12 +20,12 @@ refused-requires c κs = search needs
 returns : tie.Need-returns
 returns c =
     let e = names-read _ (sym (c .before .before .names-line .ensures) ∙ c .before .if1 .taken) in
-    c .cells .ensures ∙ sym (ap libraryAnswer e)
+    library-ruled _ _ (c .cells .ensures ∙ sym (ap libraryAnswer e))
 
 returns-2 : tie.Need-returns-2
 returns-2 c =
     let e = names-not _ (sym (c .before .before .names-line .ensures) ∙ c .before .if1 .left) in
-    c .refused .ensures ∙ sym (ap libraryAnswer e)
+    library-ruled _ _ (c .refused .ensures ∙ sym (ap libraryAnswer e))
 
 pub read-spec : {M : Type 1} → statement M
 read-spec =

@@ -1,6 +1,6 @@
--- `mapper::load_graph` meets its contract: the graph behind its header, then the placing order, or 11 to 14. Assumes nothing.
-use Rattle.aiger.proofs.Head.{header-fit}
-use Rattle.mapper.proofs.Turns.{told-as, Reads, reading-loaded, reading-stops}
+-- `mapper::load_graph` meets its contract: the graph behind its header, then the placing order, or 11 to 14, 20 and 21. Assumes nothing.
+use Rattle.binary.proofs.Loads.{header-fit}
+use Rattle.mapper.proofs.Turns.{told-as, reading-loaded, reading-stops}
 use borrow.Author.Needs.{needs}
 use Rattle.mapper.proofs.load_graph.Statement.{statement}
 use Rattle.mapper.proofs.load_graph.Tie as tie
@@ -13,9 +13,13 @@ enum-told c = search needs
 
 place-graph-requires : tie.Need-place-graph-requires
 place-graph-requires c κs =
-    let s = c .before .before .before .before .before .before .before .before .before .before .before in
-    let r = c .before .before .before .before .before .before .load in
-    let d = reading-loaded (s .args .lib) (s .pre .0) (s .args .graph .now) (s .args .h) (s .args .work .now) (header-fit (s .args .graph .now) (s .args .h) (s .args .work .now) (s .pre .1) (s .pre .2)) (s .pre .1) (r .result) (r .ensures .0) (c .before .before .enum-told .given .1) _ (r .ensures .1) in
+    let at-enum-told = c .before .before in
+    let at-load = at-enum-told .before .before .before .before in
+    let start = at-load .before .before .before .before .before in
+    let args = start .args in
+    let r = at-load .load in
+    let fit = header-fit (args .graph .now) (args .h) (args .work .now) (start .pre .1) (start .pre .2) in
+    let d = reading-loaded (args .lib) (start .pre .0) (args .graph .now) (args .h) (args .work .now) fit (start .pre .1) (r .result) (r .ensures .0) (at-enum-told .enum-told .given .1) _ (r .ensures .1 .0) in
     (d .graph, d .loaded)
 
 enum-known-number : tie.Need-enum-known-number
@@ -29,19 +33,27 @@ same-length-2 c = search needs
 
 returns : tie.Need-returns
 returns c =
-    let s = c .before .before .before .before .before .before .before .before .before .before .before .before .before .before .before .before in
-    let r = c .before .before .before .before .before .before .before .before .before .before .before .load in
-    let d = reading-loaded (s .args .lib) (s .pre .0) (s .args .graph .now) (s .args .h) (s .args .work .now) (header-fit (s .args .graph .now) (s .args .h) (s .args .work .now) (s .pre .1) (s .pre .2)) (s .pre .1) (r .result) (r .ensures .0) (c .before .before .before .before .before .before .before .enum-told .given .1) _ (r .ensures .1) in
-    told-as (d .outcome _) (c .before .before .before .before .place-graph .ensures (d .graph) (d .loaded))
+    let at-place-graph = c .before .before .before .before in
+    let at-enum-told = at-place-graph .before .before .before in
+    let at-load = at-enum-told .before .before .before .before in
+    let start = at-load .before .before .before .before .before in
+    let args = start .args in
+    let r = at-load .load in
+    let fit = header-fit (args .graph .now) (args .h) (args .work .now) (start .pre .1) (start .pre .2) in
+    let d = reading-loaded (args .lib) (start .pre .0) (args .graph .now) (args .h) (args .work .now) fit (start .pre .1) (r .result) (r .ensures .0) (at-enum-told .enum-told .given .1) _ (r .ensures .1 .0) in
+    told-as (d .outcome _) (at-place-graph .place-graph .ensures (d .graph) (d .loaded))
 
 same-length-3 : tie.Need-same-length-3
 same-length-3 c = search needs
 
 returns-2 : tie.Need-returns-2
 returns-2 c =
-    let s = c .before .before .before .before .before .before .before .before .before .before in
-    let r = c .before .before .before .before .before .load in
-    reading-stops (s .args .lib) (s .pre .0) (s .args .graph .now) (s .args .h) (s .args .work .now) (header-fit (s .args .graph .now) (s .args .h) (s .args .work .now) (s .pre .1) (s .pre .2)) (s .pre .1) (r .result) (r .ensures .0) _ _ (c .before .number .given .1) (s .args .text .now)
+    let at-number = c .before in
+    let at-load = at-number .before .before .before .before in
+    let start = at-load .before .before .before .before .before in
+    let args = start .args in
+    let fit = header-fit (args .graph .now) (args .h) (args .work .now) (start .pre .1) (start .pre .2) in
+    reading-stops (args .lib) (start .pre .0) (args .graph .now) (args .h) (args .work .now) fit (start .pre .1) (at-load .load .result) (at-load .load .ensures .0) _ _ (at-number .number .given .1) (args .text .now)
 
 pub load-graph-spec : {M : Type 1} → statement M
 load-graph-spec =

@@ -1,4 +1,4 @@
--- `mapper::map_header` meets its contract: 7 to 10 leave both memories as they were, and whatever comes later leaves the words zero.
+-- `mapper::map_header` meets its contract: 7 to 10 and 19 leave both memories as they were, and whatever comes later leaves the words zero.
 -- Assumes nothing.
 use native.Mathlib.Omega.{arith}
 use mathlib.Core.Path.{sym, _∙_}
@@ -17,25 +17,26 @@ enum-known-h c = search needs
 
 need-words-requires : tie.Need-need-words-requires
 need-words-requires c κs =
-    let s = c .before .before .before .before .before .before .before in
-    let r = c .before .before .before .header in
-    let k = c .before .h in
-    let f = header-fits (s .args .graph .now) (k .given .0 .0) (header-read _ _ (sym (r .ensures) ∙ k .given .1)) in
+    let at-h = c .before in
+    let at-header = at-h .before .before in
+    let start = at-header .before .before .before .before in
+    let f = header-fits (start .args .graph .now) (at-h .h .given .0 .0) (header-read _ _ (sym (at-header .header .ensures .0) ∙ at-h .h .given .1)) in
     omega (arith, f .size, f .outputs)
 
 returns : tie.Need-returns
 returns c =
-    let s = c .before .before .before .before .before .before .before .before .before in
-    let r = c .before .before .before .before .before .header in
-    let k = c .before .before .before .h in
-    header-short (s .args .lib) (s .args .graph .now) (s .args .work .now) (s .args .text .now) (k .given .0 .0) (header-read _ _ (sym (r .ensures) ∙ k .given .1)) (omega (arith, c .before .need-words .ensures))
+    let at-need-words = c .before in
+    let at-h = at-need-words .before .before in
+    let at-header = at-h .before .before in
+    let args = at-header .before .before .before .before .args in
+    header-short (args .lib) (args .graph .now) (args .work .now) (args .text .now) (at-h .h .given .0 .0) (header-read _ _ (sym (at-header .header .ensures .0) ∙ at-h .h .given .1)) (omega (arith, at-need-words .need-words .ensures))
 
 load-graph-requires : tie.Need-load-graph-requires
 load-graph-requires c κs =
-    let s = c .before .before .before .before .before .before .before .before .before .before .before in
-    let r = c .before .before .before .before .before .before .before .header in
-    let k = c .before .before .before .before .before .h in
-    (s .pre, (header-read _ _ (sym (r .ensures) ∙ k .given .1)), omega (arith, c .before .before .before .need-words .ensures))
+    let at-need-words = c .before .before .before in
+    let at-h = at-need-words .before .before in
+    let at-header = at-h .before .before in
+    (at-header .before .before .before .before .pre, (header-read _ _ (sym (at-header .header .ensures .0) ∙ at-h .h .given .1)), omega (arith, at-need-words .need-words .ensures))
 
 clear-all-requires : tie.Need-clear-all-requires
 clear-all-requires c κs = search needs
@@ -51,17 +52,21 @@ same-length-2 c = search needs
 
 returns-2 : tie.Need-returns-2
 returns-2 c =
-    let s = c .before .before .before .before .before .before .before .before .before .before .before .before .before .before .before .before .before .before .before .before in
-    let r = c .before .before .before .before .before .before .before .before .before .before .before .before .before .before .before .before .header in
-    let k = c .before .before .before .before .before .before .before .before .before .before .before .before .before .before .h in
-    let g = c .before .before .before .before .before .before .before .before .load-graph in
-    header-done (s .args .lib) (s .args .graph .now) (s .args .work .now) (s .args .text .now) (k .given .0 .0) (header-read _ _ (sym (r .ensures) ∙ k .given .1)) (omega (arith, c .before .before .before .before .before .before .before .before .before .before .before .before .need-words .ensures)) _ _ (g .last .1 .1 .1 .0) _ (g .ensures) (omega arith) (c .before .before .clear-all .ensures)
+    let at-clear-all = c .before .before in
+    let at-load-graph = at-clear-all .before .before .before .before .before .before in
+    let at-need-words = at-load-graph .before .before .before .before in
+    let at-h = at-need-words .before .before in
+    let at-header = at-h .before .before in
+    let args = at-header .before .before .before .before .args in
+    let g = at-load-graph .load-graph in
+    header-done (args .lib) (args .graph .now) (args .work .now) (args .text .now) (at-h .h .given .0 .0) (header-read _ _ (sym (at-header .header .ensures .0) ∙ at-h .h .given .1)) (omega (arith, at-need-words .need-words .ensures)) _ _ (g .last .1 .1 .1 .0) _ (g .ensures) (omega arith) (at-clear-all .clear-all .ensures)
 
 returns-3 : tie.Need-returns-3
 returns-3 c =
-    let s = c .before .before .before .before .before .before .before in
-    let r = c .before .before .before .header in
-    header-stops (s .args .lib) (s .args .graph .now) (s .args .work .now) (s .args .text .now) (r .result) (r .ensures) _ _ (c .before .number .given .1)
+    let at-number = c .before in
+    let at-header = at-number .before .before in
+    let args = at-header .before .before .before .before .args in
+    header-stops (args .lib) (args .graph .now) (args .work .now) (args .text .now) (at-header .header .result) (at-header .header .ensures .0) _ _ (at-number .number .given .1)
 
 pub map-header-spec : {M : Type 1} → statement M
 map-header-spec =

@@ -1,9 +1,10 @@
--- `mapper::map_texts` meets its contract: demand 1 from the functions below it, demands 2 and 3 from the laws of the definitions.
+-- `mapper::map_texts` meets its contract: demand 1 from the functions below it, what is promised of the definitions from their laws.
 -- Assumes nothing.
 use native.Mathlib.Omega.{arith}
 use Rattle.model.specs.Mapper.{Call, callOf}
-use Rattle.model.specs.Demands.{Values, Earliest}
-use Rattle.theory.proofs.Demanded.{demand-values, demand-earliest}
+use Rattle.model.specs.Demands.{Values, Earliest, Twins, Sequenced}
+use Rattle.theory.proofs.Demanded.{demand-values, demand-earliest, demand-twins}
+use Rattle.theory.proofs.Sequence.{demand-sequenced}
 use Rattle.mapper.proofs.Ends.{left-as}
 use Rattle.mapper.proofs.Whole.{memory-of, memory-fits, long-library, long-graph, library-stops, library-read}
 use borrow.Author.Needs.{needs}
@@ -11,8 +12,8 @@ use Rattle.mapper.proofs.map_texts.Statement.{statement}
 use Rattle.mapper.proofs.map_texts.Tie as tie
 
 -- the clauses behind demand 1, which hold of every call
-abbrev demanded : (c : Call) {A : Type 0} → A → Values c × (Earliest c × A)
-demanded c fits = (demand-values c, (demand-earliest c, fits))
+abbrev demanded : (c : Call) {A : Type 0} → A → Values c × (Earliest c × (A × (Twins c × Sequenced c)))
+demanded c fits = (demand-values c, (demand-earliest c, (fits, (demand-twins c, demand-sequenced c))))
 
 returns : tie.Need-returns
 returns c =
@@ -35,7 +36,7 @@ map-header-requires c κs =
     let t = c .before .before .before in
     let l = t .before .before .read in
     let s = t .before .before .before .before .before .before .before .before .before .args in
-    library-read (s .cells .now) (s .graph .now) (s .work .now) (s .text .now) (omega arith) (omega arith) (l .result) (l .ensures) (t .enum-told .given .1) .ok
+    library-read (s .cells .now) (s .graph .now) (s .work .now) (s .text .now) (omega arith) (omega arith) (l .result) (l .ensures .0) (t .enum-told .given .1) .ok
 
 enum-known-v : tie.Need-enum-known-v
 enum-known-v c = search needs
@@ -53,7 +54,7 @@ returns-3 c =
     let l = t .before .before .read in
     let s = t .before .before .before .before .before .before .before .before .before .args in
     let call = callOf (s .cells .now) (s .graph .now) (s .work .now) (s .text .now) in
-    let r = library-read (s .cells .now) (s .graph .now) (s .work .now) (s .text .now) (omega arith) (omega arith) (l .result) (l .ensures) (t .enum-told .given .1) in
+    let r = library-read (s .cells .now) (s .graph .now) (s .work .now) (s .text .now) (omega arith) (omega arith) (l .result) (l .ensures .0) (t .enum-told .given .1) in
     let m = memory-of call (s .work .now) (s .text .now) (h .result) (h .last .1 .1 .0) (h .last .1 .1 .1 .0) (left-as (r .goes) (h .ensures)) in
     (m, demanded call (memory-fits call (s .work .now) (s .text .now) (h .result) (h .last .1 .1 .0) (h .last .1 .1 .1 .0) m))
 
@@ -62,7 +63,7 @@ returns-4 c =
     let l = c .before .before .before .read in
     let s = c .before .before .before .before .before .before .before .before .before .before .args in
     let call = callOf (s .cells .now) (s .graph .now) (s .work .now) (s .text .now) in
-    (library-stops (s .cells .now) (s .graph .now) (s .work .now) (s .text .now) (omega arith) (omega arith) (l .result) (l .ensures) _ _ (c .before .v .given .1), demanded call tt)
+    (library-stops (s .cells .now) (s .graph .now) (s .work .now) (s .text .now) (omega arith) (omega arith) (l .result) (l .ensures .0) _ _ (c .before .v .given .1), demanded call tt)
 
 pub map-texts-spec : {M : Type 1} → statement M
 map-texts-spec =

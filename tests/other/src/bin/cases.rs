@@ -13,13 +13,16 @@ struct Cases {
 }
 
 impl Cases {
-    fn add(&mut self, cells: &str, graph: &str, words: usize, bytes: usize) {
+    fn add(&mut self, cells: &str, graph: impl AsRef<[u8]>, words: usize, bytes: usize) {
+        let graph = graph.as_ref();
         let lent = format!("{} {} {} {}", words / 16, words % 16, bytes / 16, bytes % 16);
-        for part in [lent.as_bytes(), cells.as_bytes(), graph.as_bytes()] {
+        for part in [lent.as_bytes(), cells.as_bytes(), graph] {
+            // Byte 0 ends a part, so a binary graph has none.
+            assert!(!part.contains(&0));
             self.input.extend_from_slice(part);
             self.input.push(0);
         }
-        let (a, netlist) = map(cells.as_bytes(), graph.as_bytes(), words, bytes);
+        let (a, netlist) = map(cells.as_bytes(), graph, words, bytes);
         let line = format!("{} {} {} {} {} \n", a.number, a.value, a.gates, a.area, a.arrival);
         self.printed.extend_from_slice(line.as_bytes());
         self.printed.extend_from_slice(&netlist);
@@ -98,6 +101,41 @@ fn main() {
         "aag 3 2 0 1 1\n2\n4\n7\n6 2 4\nc\nwhat follows is not read",
     ] {
         c.add(&library, graph, 32768, 65536);
+    }
+    // binary graphs: B and F, differences of two bytes, 19 before 10, and 11, 12, 20 and 21 at each of their places
+    let b_in_binary: &[u8] = b"aig 3 2 0 1 1\n6\n\x02\x02";
+    let f_in_binary: &[u8] = b"aig 6 3 0 1 3\n12\n\x04\x02\x02\x02\x02\x02";
+    for graph in [b_in_binary, f_in_binary] {
+        c.add(&library, graph, 32768, 65536);
+        c.add(&library, [graph, b"\xff\xff"].concat(), 32768, 65536);
+        c.add(&library, &graph[..graph.len() - 1], 32768, 65536);
+    }
+    c.add(&library, b"aig 0 0 0 0 0\n", 32768, 65536);
+    c.add(&library, b_in_binary, need, 117);
+    c.add(&library, b_in_binary, need - 1, 117);
+    c.add(&library, b_in_binary, need, 116);
+    c.add(&library, b"aig 4 2 0 1 1\n6\n\x02\x02", 0, 65536);
+    c.add(&library, b"aig 2 2 0 1 1\n6\n\x02\x02", 32768, 65536);
+    c.add(&library, b"aig 65 64 0 1 1\n130\n\x80\x01\x01", 32768, 65536);
+    c.add(&library, b"aig 65 64 0 1 1\n131\n\x01\x80\x01", 32768, 65536);
+    c.add(&library, b"aig 3 2 0 1 1\n8\n\x02\x02", 32768, 65536);
+    c.add(&library, b"aig 3 2 0 1 1\n06\n\x02\x02", 32768, 65536);
+    for bytes in [
+        &b""[..],
+        b"\x02",
+        b"\x82",
+        b"\x82\x80",
+        b"\x82\x80\x01",
+        b"\x02\x82\x80",
+        b"\x02\x82",
+        b"\x07\x02",
+        b"\x07\xff\xff",
+        b"\x86\x01\x02",
+        b"\x02\x05",
+        b"\x06\x01",
+        b"\x02\x85\x7f",
+    ] {
+        c.add(&library, [b"aig 3 2 0 1 1\n6\n", bytes].concat(), 32768, 65536);
     }
     // real graphs
     for name in [

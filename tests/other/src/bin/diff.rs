@@ -4,7 +4,7 @@
 //! `--cases N`   so many random cases after the fixed ones
 //! `--seed S`    where the random cases come from
 //! `--only K`    the random case number K alone
-//! `--graphs D`  also every `.aag` with every library `.txt` of a folder
+//! `--graphs D`  also every `.aag` and `.aig` with every library `.txt` of a folder
 //! `--out D`     where the texts of the first difference go
 //! `--trace`     name every case before it runs, to find one that ends the run
 //! `--mutant K`  with the features `self,mutants`: a mistake behind the boundary
@@ -83,7 +83,7 @@ impl<T: Copy + PartialEq> Memory<T> {
 
 #[derive(Default)]
 struct Tally {
-    counts: [u64; 19],
+    counts: [u64; 22],
     reference: Duration,
     ours: Duration,
 }
@@ -115,7 +115,7 @@ fn compare(case: &Case, rng: &mut Rng, tally: &mut Tally) -> Result<(), Differen
     let got = behind_the_boundary(case, work.lent(), text.lent());
     tally.ours += start.elapsed();
 
-    let zeros = if (1..=10).contains(&wanted.number) { 0 } else { words };
+    let zeros = if reference::leaves_work_memory(wanted.number) { 0 } else { words };
     let wrong = if got != wanted {
         Some("the answers differ".to_string())
     } else if let Some(at) = text.first_change(&netlist) {
@@ -125,7 +125,7 @@ fn compare(case: &Case, rng: &mut Rng, tally: &mut Tally) -> Result<(), Differen
     } else {
         checks::as_expected(case, &wanted).err()
     };
-    tally.counts[wanted.number.min(18) as usize] += 1;
+    tally.counts[wanted.number.min(21) as usize] += 1;
     match wrong {
         None => Ok(()),
         Some(wrong) => {
@@ -155,7 +155,8 @@ thread_local! {
 }
 
 /// The marked cases' texts, every limit, every graph of two inputs and two
-/// ANDs, and every damage of a small pair.
+/// ANDs in both forms, and every damage of a small library, a small graph and a
+/// small binary graph.
 fn fixed() -> Vec<Case> {
     let mut cases = gen::limits();
     let graph = |lines: &[&str]| lines.iter().map(|line| format!("{line}\n")).collect::<String>().into_bytes();
@@ -176,6 +177,11 @@ fn fixed() -> Vec<Case> {
     }
     let f = graph(&["aag 6 3 0 1 3", "2", "4", "6", "12", "8 2 4", "10 8 6", "12 8 10"]);
     cases.push(Case::new("F", plain.clone(), f).expect(0, 0));
+    let binary = |head: &str, bytes: &[u8]| [head.as_bytes(), bytes].concat();
+    let b_twin = binary("aig 3 2 0 1 1\n6\n", &[2, 2]);
+    cases.push(Case::new("B in binary", plain.clone(), b_twin).expect(0, 0));
+    let f_twin = binary("aig 6 3 0 1 3\n12\n", &[4, 2, 2, 2, 2, 2]);
+    cases.push(Case::new("F in binary", plain.clone(), f_twin).expect(0, 0));
     cases.push(Case::new("H", with("tie0", 0, 0, 0), h.clone()).expect(0, 0));
     cases.push(Case::new("I", plain.clone(), h).expect(17, 0));
     cases.push(Case::new("J", plain.clone(), graph(&["aag 2 0 0 0 2", "2 4 4", "4 2 2"])).expect(15, 1));
@@ -186,11 +192,16 @@ fn fixed() -> Vec<Case> {
     let mut rng = Rng::new(4);
     for graph in gen::every_small_graph() {
         let count = gen::library_size(&mut rng);
-        cases.push(Case::new("small graph", gen::library_text(&gen::library(&mut rng, count)), graph.text()));
+        let cells = gen::library_text(&gen::library(&mut rng, count));
+        cases.push(Case::new("small graph", cells.clone(), graph.text()));
+        cases.push(Case::new("small binary graph", cells, graph.binary().expect("in sequence")));
     }
     let longer = graph(&["aag 5 2 0 2 2", "4", "2", "10", "7", "10 3 4", "6 10 3", "c"]);
     for damaged in gen::all_damage(&longer) {
         cases.push(Case::new("damaged graph", plain.clone(), damaged));
+    }
+    for damaged in gen::all_binary_damage() {
+        cases.push(Case::new("damaged binary graph", plain.clone(), damaged));
     }
     cases
 }
@@ -204,7 +215,7 @@ fn folder(path: &Path) -> Vec<Case> {
         names.iter().filter(|name| name.to_string_lossy().ends_with(ending)).collect()
     };
     let mut cases = Vec::new();
-    for graph in of(".aag") {
+    for graph in [of(".aag"), of(".aig")].concat() {
         for cells in of(".txt") {
             let what = format!("{} with {}", graph.display(), cells.display());
             let read = |name: &PathBuf| fs::read(name).expect("a text");
@@ -249,18 +260,25 @@ fn main() {
             run("folder".into(), &case, &mut rng);
         }
     }
+    let mut twins = 0;
     let numbers = options.only.map_or(0..options.cases, |only| only..only + 1);
     for number in numbers {
         // A case depends on its number alone, so that it can be run alone.
         let mut rng = Rng::new(options.seed.wrapping_mul(0x1_0000_0001).wrapping_add(number));
         let case = gen::case(&mut rng);
         run(format!("seed {} case {number}", options.seed), &case, &mut rng);
+        // Of every eighth also its graph in sequence, in both forms.
+        let pair = if number % 8 == 0 { checks::twins_of(&case) } else { None };
+        for twin in pair.into_iter().flatten() {
+            run(format!("seed {} case {number}, twin", options.seed), &twin, &mut rng);
+            twins += 1;
+        }
     }
     let counts: Vec<String> =
         tally.counts.iter().enumerate().map(|(number, count)| format!("{number}:{count}")).collect();
     let all: u64 = tally.counts.iter().sum();
     println!(
-        "{all} cases, by number {}, 0 differences; reference {:.1} s, under test {:.1} s",
+        "{all} cases, {twins} of them twins, by number {}, 0 differences; reference {:.1} s, under test {:.1} s",
         counts.join(" "),
         tally.reference.as_secs_f64(),
         tally.ours.as_secs_f64()

@@ -1,0 +1,63 @@
+-- `aiger::load_ascii` meets its contract, by the laws of its two passes.
+-- Assumes nothing.
+use Rattle.placing.proofs.Slots.{fit-length, fit-room}
+use Rattle.aiger.proofs.Loads.{ascii-done, ascii-stop}
+use borrow.Author.Needs.{needs}
+use Rattle.aiger.proofs.load_ascii.Statement.{statement}
+use Rattle.aiger.proofs.load_ascii.Tie as tie
+
+open-words-requires : tie.Need-open-words-requires
+open-words-requires c κs =
+    let start = c .before .before .before in
+    fit-room _ _ (start .pre .0)
+
+read-lines-requires : tie.Need-read-lines-requires
+read-lines-requires c κs =
+    let start = c .before .before .before .before .before .before .before in
+    fit-length _ _ _ (start .pre .0) (search needs)
+
+enum-told : tie.Need-enum-told
+enum-told c = search needs
+
+check-lines-requires : tie.Need-check-lines-requires
+check-lines-requires c κs =
+    let start = c .before .before .before .before .before .before .before .before .before .before .before .before .before in
+    fit-length _ _ _ (start .pre .0) (search needs)
+
+enum-known-n : tie.Need-enum-known-n
+enum-known-n c = search needs
+
+same-length : tie.Need-same-length
+same-length c = search needs
+
+returns : tie.Need-returns
+returns c =
+    let at-enum-told = c .before .before in
+    let at-read-lines = at-enum-told .before .before .before .before in
+    let at-open-words = at-read-lines .before .before .before .before in
+    let start = at-open-words .before .before .before .before in
+    ascii-done (start .args .s .now) (start .args .h) (start .args .work .now) (start .pre .0) (start .pre .1) _ _ _ (at-open-words .open-words .ensures) (at-read-lines .read-lines .ensures .1) (at-read-lines .read-lines .ensures .0) (at-enum-told .enum-told .given .1) _ (c .check-lines .ensures)
+
+same-length-2 : tie.Need-same-length-2
+same-length-2 c = search needs
+
+returns-2 : tie.Need-returns-2
+returns-2 c =
+    let at-read-lines = c .before .before .before .before .before in
+    let at-open-words = at-read-lines .before .before .before .before in
+    let start = at-open-words .before .before .before .before in
+    ascii-stop (start .args .s .now) (start .args .h) (start .args .work .now) (start .pre .0) (start .pre .1) _ _ _ (at-open-words .open-words .ensures) (at-read-lines .read-lines .ensures .1) (at-read-lines .read-lines .ensures .0) _ _ (c .before .n .given .1)
+
+pub load-ascii-spec : {M : Type 1} → statement M
+load-ascii-spec =
+    tie.close
+    (tie.spec
+    open-words-requires
+    read-lines-requires
+    enum-told
+    check-lines-requires
+    enum-known-n
+    same-length
+    returns
+    same-length-2
+    returns-2)

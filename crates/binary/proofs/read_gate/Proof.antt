@@ -1,0 +1,61 @@
+-- `binary::read_gate` meets its contract: each return knows what the two differences left.
+-- Assumes nothing.
+use mathlib.Core.Path.{sym, _∙_}
+use Rattle.binary.specs.Gates.{gateAt}
+use borrow.Author.Needs.{needs}
+use Rattle.binary.proofs.read_gate.Statement.{statement}
+use Rattle.binary.proofs.read_gate.Tie as tie
+
+less-by-requires : tie.Need-less-by-requires
+less-by-requires c κs = search needs
+
+enum-known-first : tie.Need-enum-known-first
+enum-known-first c = search needs
+
+less-by-requires-2 : tie.Need-less-by-requires-2
+less-by-requires-2 c κs = search needs
+
+enum-known-second : tie.Need-enum-known-second
+enum-known-second c = search needs
+
+enum-known-n : tie.Need-enum-known-n
+enum-known-n c = search needs
+
+enum-known-n-2 : tie.Need-enum-known-n-2
+enum-known-n-2 c = search needs
+
+returns : tie.Need-returns
+unfolding gateAt
+returns c =
+    let at-second = c .before in
+    let at-less-by2 = at-second .before .before in
+    let at-first = at-less-by2 .before .before in
+    rw (sym (at-first .before .before .less-by .ensures) ∙ at-first .first .given .1, sym (at-less-by2 .less-by2 .ensures) ∙ at-second .second .given .1)
+
+returns-2 : tie.Need-returns-2
+unfolding gateAt
+returns-2 c =
+    let at-n = c .before in
+    let at-less-by2 = at-n .before .before in
+    let at-first = at-less-by2 .before .before in
+    rw (sym (at-first .before .before .less-by .ensures) ∙ at-first .first .given .1, sym (at-less-by2 .less-by2 .ensures) ∙ at-n .n .given .1)
+
+returns-3 : tie.Need-returns-3
+unfolding gateAt
+returns-3 c =
+    let at-n = c .before in
+    rw (sym (at-n .before .before .less-by .ensures) ∙ at-n .n2 .given .1)
+
+pub read-gate-spec : {M : Type 1} → statement M
+read-gate-spec =
+    tie.close
+    (tie.spec
+    less-by-requires
+    enum-known-first
+    less-by-requires-2
+    enum-known-second
+    enum-known-n
+    enum-known-n-2
+    returns
+    returns-2
+    returns-3)

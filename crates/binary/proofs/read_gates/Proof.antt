@@ -1,0 +1,94 @@
+-- `binary::read_gates` meets its contract. The invariant: what the ANDs from here on give is what all give; the measure is those that are left.
+-- Assumes nothing.
+use mathlib.Core.Path.{sym, ap, _∙_}
+use Prim.Native.Nat.{_+_, _-_}
+use native.Mathlib.Omega.{arith}
+use borrow.Author.Needs.{needs}
+use Rattle.placing.proofs.Slots.{fit-length}
+use Rattle.binary.specs.Passes.{gateTurn, gateLeft, asVerdict}
+use Rattle.binary.proofs.Passes.{Rest, rest-first, rest-on, rest-stop, rest-end}
+use Rattle.binary.proofs.read_gates.Statement.{statement}
+use Rattle.binary.proofs.read_gates.Tie as tie
+
+abbrev Inv-loop : tie.InvT-loop
+Inv-loop s from work₀ h end at₀ k₀ work at k = Rest (gateTurn s h) (gateLeft s h) (h .ands) (h .inputs + h .outputs) (from) work₀ k at work
+
+abbrev μ-loop : tie.MeasureT-loop
+μ-loop s from work₀ h end at₀ k₀ work at k = h .inputs + h .outputs + h .ands - k
+
+add-end : tie.Need-add-end Inv-loop μ-loop
+add-end c = search needs
+
+add-end-2 : tie.Need-add-end-2 Inv-loop μ-loop
+add-end-2 c = search needs
+
+add-k : tie.Need-add-k Inv-loop μ-loop
+add-k c = search needs
+
+loop-holds : tie.Need-loop-holds Inv-loop μ-loop
+loop-holds c = rest-first _ _ _ _ _ _
+
+gate-turn-requires : tie.Need-gate-turn-requires Inv-loop μ-loop
+gate-turn-requires c κs =
+    let at-loop = c .before .before in
+    let start = at-loop .before .before .before .before .before .before in
+    (fit-length (start .args .h) (start .args .work .now) _ (start .pre) (at-loop .loop .inv .long), at-loop .loop .inv .since, omega arith)
+
+enum-known-next : tie.Need-enum-known-next Inv-loop μ-loop
+enum-known-next c = search needs
+
+enum-known-n : tie.Need-enum-known-n Inv-loop μ-loop
+enum-known-n c = search needs
+
+same-length : tie.Need-same-length Inv-loop μ-loop
+same-length c = search needs
+
+returns : tie.Need-returns Inv-loop μ-loop
+returns c =
+    let at-turn = c .before .before .before .before .before in
+    let at-loop-test = at-turn .before .before in
+    let at-loop = at-loop-test .before in
+    let r = rest-stop _ _ _ _ _ _ _ _ _ (at-loop .loop .inv) (at-loop-test .loop-test .taken) _ _ _ (sym (at-turn .gate-turn .ensures .0) ∙ c .before .n .given .1) (at-turn .gate-turn .ensures .1) in
+    (ap asVerdict (r .0), r .1)
+
+add-k-2 : tie.Need-add-k-2 Inv-loop μ-loop
+add-k-2 c = search needs
+
+loop-less : tie.Need-loop-less Inv-loop μ-loop
+loop-less c = search needs
+
+loop-again : tie.Need-loop-again Inv-loop μ-loop
+loop-again c =
+    let at-turn = c .before .before .before .before .before in
+    let at-loop-test = at-turn .before .before in
+    let at-loop = at-loop-test .before in
+    rest-on _ _ _ _ _ _ _ _ _ (at-loop .loop .inv) (at-loop-test .loop-test .taken) _ _ (sym (at-turn .gate-turn .ensures .0) ∙ c .before .next .given .1) (at-turn .gate-turn .ensures .1) (search needs)
+
+same-length-2 : tie.Need-same-length-2 Inv-loop μ-loop
+same-length-2 c = search needs
+
+returns-2 : tie.Need-returns-2 Inv-loop μ-loop
+returns-2 c =
+    let r = rest-end _ _ _ _ _ _ _ _ _ (c .before .loop .inv) (c .loop-test .left) in
+    (ap asVerdict (r .0), r .1)
+
+pub read-gates-spec : {M : Type 1} → statement M
+read-gates-spec =
+    tie.close
+    (tie.spec
+    Inv-loop
+    μ-loop
+    add-end
+    add-end-2
+    add-k
+    loop-holds
+    gate-turn-requires
+    enum-known-next
+    enum-known-n
+    same-length
+    returns
+    add-k-2
+    loop-less
+    loop-again
+    same-length-2
+    returns-2)

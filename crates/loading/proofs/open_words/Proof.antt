@@ -1,0 +1,38 @@
+-- `loading::open_words` meets its contract, by those of the three stores.
+-- Assumes nothing.
+use mathlib.Core.Path.{ap, _∙_}
+use mathlib.Core.List.{List}
+use Prim.Native.Nat.{ℕ}
+use Rattle.words.specs.Layout.{constantKind}
+use Rattle.words.specs.Record.{putNode}
+use Rattle.placing.specs.Placing.{putPlaced}
+use Rattle.loading.specs.Stores.{opened}
+use borrow.Author.Needs.{needs}
+use Rattle.loading.proofs.open_words.Statement.{statement}
+use Rattle.loading.proofs.open_words.Tie as tie
+
+clear-columns-requires : tie.Need-clear-columns-requires
+clear-columns-requires c κs = search needs
+
+store-node-requires : tie.Need-store-node-requires
+store-node-requires c κs = search needs
+
+place-at-requires : tie.Need-place-at-requires
+place-at-requires c κs = search needs
+
+same-length : tie.Need-same-length
+same-length c = search needs
+
+returns : tie.Need-returns
+unfolding opened
+returns c =
+    let at-place-at = c .before .before in
+    let at-store-node = at-place-at .before .before .before .before in
+    let at-clear-columns = at-store-node .before .before .before .before in
+    let start = at-clear-columns .before .before .before in
+    at-place-at .place-at .ensures ∙ ap (λ (x : List ℕ). putPlaced x (start .args .m) 0 0) (at-store-node .store-node .ensures ∙ ap (λ (x : List ℕ). putNode x (start .args .m) 0 constantKind 0 0) (at-clear-columns .clear-columns .ensures))
+
+pub open-words-spec : {M : Type 1} → statement M
+open-words-spec =
+    tie.close
+    (tie.spec clear-columns-requires store-node-requires place-at-requires same-length returns)

@@ -1,0 +1,48 @@
+-- Which numbers and places the refusal of an outcome has. Assumes nothing.
+use Prim.Native.Nat.{ℕ}
+use mathlib.Core.Path.{_≡_, refl}
+use mathlib.Core.Bool.{Bool, true, false, cond}
+use mathlib.Core.Option.{Option, none, some}
+use mathlib.Core.List.{List, [], _∷_}
+use lib.Dec.{leb}
+use lib.ListN.{length}
+use Rattle.model.specs.Base.{lowest}
+use Rattle.model.specs.Graph.{Graph, unplaced}
+use Rattle.model.specs.Cuts.{crowded}
+use Rattle.model.specs.Choice.{chosen}
+use Rattle.model.specs.Netlist.{Outcome, refused, mapped, uncovered, printed, mapChosen, mapCut, mapPlaced, mapGraph}
+use Rattle.model.specs.Mapper.{within}
+use Rattle.model.specs.declared.Cell.{Cell}
+
+-- the number and the place of a refusal, if the outcome is one
+abbrev pub Refusal : (ℕ → ℕ → Type 0) → Outcome → Type 0
+Refusal P (refused n k) = P n k
+Refusal P (mapped t f) = Unit {0}
+
+module _ (P : ℕ → ℕ → Type 0) where
+  -- 18
+  pub within-refusal : ((k : ℕ) → P 18 k) → (bytes : ℕ) (o : Outcome) → Refusal P o → Refusal P (within bytes o)
+  unfolding within
+  within-refusal p18 bytes (refused n k) l = l
+  within-refusal p18 bytes (mapped t f) l = go (leb (length t) bytes)
+    where
+      go : (b : Bool) → Refusal P (cond b (mapped t f) (refused 18 (length t)))
+      go true = tt
+      go false = p18 (length t)
+
+  -- 15 to 17
+  pub map-refusal : (cells : List Cell) (g : Graph) → ((v : ℕ) → lowest (unplaced g) ≡ some v → P 15 v) → ((k : ℕ) → P 16 k) → ((k : ℕ) → P 17 k) → Refusal P (mapGraph cells g)
+  unfolding mapGraph mapPlaced mapCut mapChosen printed
+  map-refusal cells g p15 p16 p17 = places (lowest (unplaced g)) refl
+    where
+      outs : (us : List ℕ) → Refusal P (printed cells g (chosen cells g) us)
+      outs [] = tt
+      outs (u ∷ us) = p17 u
+
+      cuts : (vs : List ℕ) → Refusal P (mapCut cells g vs)
+      cuts [] = unfold chosen in outs (uncovered (chosen cells g) 0 (g .outputs))
+      cuts (v ∷ vs) = p16 v
+
+      places : (o : Option ℕ) → lowest (unplaced g) ≡ o → Refusal P (mapPlaced cells g o)
+      places none e = cuts (crowded g)
+      places (some v) e = p15 v e

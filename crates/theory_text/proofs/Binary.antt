@@ -1,0 +1,303 @@
+-- The binary form of a graph's text: its inputs, output lines and ANDs are as lawful as due lines, define 1 to I + A in sequence, and use nothing else.
+-- Assumes nothing.
+use Prim.Native.Nat.{ℕ, zero, suc, _+_, _-_, _*_, _/_, _≤_, _<_}
+use native.Mathlib.Nat.{le-of-eq}
+use native.Mathlib.Omega.{arith}
+use mathlib.Core.Path.{_≡_, refl, sym, _∙_, ap, ap₂, subst}
+use mathlib.Core.Logic.{_⊎_, inl, inr}
+use mathlib.Core.Bool.{Bool, true, false, not, cond, _&&_}
+use mathlib.Core.List.{List, [], _∷_, _++_, map, List·Memᴰ, List·Memᴰ·head, List·Memᴰ·tail, List·Memᴰ·not-nil, List·Memᴰ·cases-cons, List·Memᴰ·append-cases, Memᴰ·append-left, Memᴰ·append-right, map-append, cons≢nil, head-eq-of-cons-eq, tail-eq-of-cons-eq}
+use lib.Dec.{T, eqb, leb, leb→le, le→leb, ltb, ltb→lt, nltb→le}
+use lib.ListN.{length, getD, drop, replicate}
+use mir.Facts.{and-yes, yes-and, eqb-no, leb-yes}
+use Rattle.model.specs.Base.{from, all, elem}
+use Rattle.model.specs.Text.{linesFrom}
+use Rattle.model.specs.Reading.{Read, holds, next, unless}
+use Rattle.model.specs.Graph.{varOf}
+use Rattle.model.specs.GraphText.{closed, Kind, anInput, anOutput, anAnd, howMany, defines, due, Item, readDue, Passed, difference, lessBy, readAnds, behindLines, inputItems, readBinary, uses, definedBy, checkUses}
+use Rattle.model.specs.Demands.{Distinct}
+use Rattle.model.specs.declared.Header.{Header}
+use Rattle.theory_graph.proofs.Lists.{from-in, from-high, map-out, elem-T, all-of, all-in, is-true}
+use Rattle.theory_graph.proofs.Distinct.{from-low, from-distinct, append-distinct}
+use Rattle.theory_text.proofs.Steps.{holds-once, unless-out, next-out}
+use Rattle.theory_text.proofs.Items.{head, Good, due-kinds, due-good, Fresh, defined-cons, kindsOf, Lawful}
+
+-- lines whose uses are all known pass
+pub uses-in : (known : List ℕ) (is : List Item) → ((i : Item) → List·Memᴰ i is → T (all (λ (l : ℕ). elem (varOf l) (0 ∷ known)) (uses i))) → checkUses known is ≡ holds is
+unfolding checkUses next
+uses-in known [] h = refl
+uses-in known (i ∷ is) h =
+    ap (λ (t : Bool). unless t 14 (i .offset) (next (checkUses known is) (λ js. holds (i ∷ js)))) (is-true (all (λ (l : ℕ). elem (varOf l) (0 ∷ known)) (uses i)) (h i (List·Memᴰ·head refl)))
+    ∙ ap (λ (r : Read (List Item)). next r (λ js. holds (i ∷ js))) (uses-in known is (λ j m. h j (List·Memᴰ·tail m)))
+
+-- ---- the binary form
+
+var-low : (l m : ℕ) → l ≤ 2 * m + 1 → varOf l ≤ m
+unfolding varOf
+var-low l m h = omega arith
+
+-- what is left by a difference, which is less where the difference is a first one
+pub record Less (isFirst : Bool) (n left : ℕ) : Type 0 where
+  pub atMost : left ≤ n
+  pub below : isFirst ≡ true → left < n
+
+pub less-out : (isFirst : Bool) (bytes : List ℕ) (at n : ℕ) (p : Passed) → lessBy isFirst bytes at n ≡ holds p → Less isFirst n (p .number)
+unfolding lessBy
+less-out isFirst bytes at n p e =
+    let a = next-out (difference at (drop at bytes)) _ p e in
+    let b = unless-out (not (isFirst && eqb (a .0 .number) 0) && leb (a .0 .number) n) 21 at _ p (a .2) in
+    let t = and-yes (not (isFirst && eqb (a .0 .number) 0)) (leb (a .0 .number) n) (b .0) in
+    let q : a .0 .number ≤ n = leb-yes (t .1) in
+    let i : n - a .0 .number ≡ p .number = ap (λ (x : Passed). x .number) (holds-once (b .1)) in
+    record {
+      atMost = omega arith;
+      below = λ f. let z : ¬ (a .0 .number ≡ 0) = eqb-no (subst (λ (x : Bool). T (not (x && eqb (a .0 .number) 0))) f (t .0)) in omega arith;
+    }
+
+-- "left minus first operand and first minus second": an AND of a variable in a range, its operands' literals below its own
+pub record InTurn (low high : ℕ) (i : Item) : Type 0 where
+  pub var : ℕ
+  pub first : ℕ
+  pub second : ℕ
+  pub isAnd : i .kind ≡ anAnd
+  pub isLiterals : i .literals ≡ 2 * var ∷ first ∷ second ∷ []
+  pub atLeast : low ≤ var
+  pub below : var < high
+  pub less : first < 2 * var
+  pub lesser : second ≤ first
+
+-- what one AND gives
+record Packed (bytes : List ℕ) (v n : ℕ) (is : List Item) : Type 0 where
+  item : Item
+  rest : List Item
+  behind : ℕ
+  isTurn : InTurn v (suc v) item
+  isRest : readAnds bytes behind (2 * suc v) n ≡ holds rest
+  isList : item ∷ rest ≡ is
+
+and-step : (bytes : List ℕ) (at v n : ℕ) (is : List Item) → readAnds bytes at (2 * v) (suc n) ≡ holds is → Packed bytes v n is
+unfolding readAnds
+and-step bytes at v n is e =
+    let a = next-out (lessBy true bytes at (2 * v)) _ is e in
+    let b = next-out (lessBy false bytes (a .0 .behind) (a .0 .number)) _ is (a .2) in
+    let c = next-out (readAnds bytes (b .0 .behind) (2 * v + 2) n) _ is (b .2) in
+    let l = less-out true bytes at (2 * v) (a .0) (a .1) in
+    let m = less-out false bytes (a .0 .behind) (a .0 .number) (b .0) (b .1) in
+    record {
+      item = record { kind = anAnd; offset = at; literals = 2 * v ∷ a .0 .number ∷ b .0 .number ∷ [] };
+      rest = c .0;
+      behind = b .0 .behind;
+      isTurn = record {
+        var = v;
+        first = a .0 .number;
+        second = b .0 .number;
+        isAnd = refl;
+        isLiterals = refl;
+        atLeast = omega arith;
+        below = omega arith;
+        less = l .below refl;
+        lesser = m .atMost;
+      };
+      isRest = subst (λ (k : ℕ). readAnds bytes (b .0 .behind) k n ≡ holds (c .0)) (let q : 2 * v + 2 ≡ 2 * suc v = omega arith in q) (c .1);
+      isList = holds-once (c .2);
+    }
+
+ands-kinds : (bytes : List ℕ) (at v n : ℕ) (is : List Item) → readAnds bytes at (2 * v) n ≡ holds is → kindsOf is ≡ replicate n anAnd
+unfolding readAnds
+ands-kinds bytes at v zero is e = ap kindsOf (sym (holds-once e))
+ands-kinds bytes at v (suc n) is e =
+    let s = and-step bytes at v n is e in
+    ap kindsOf (sym (s .isList)) ∙ ap₂ (λ (a : Kind) (b : List Kind). a ∷ b) (s .isTurn .isAnd) (ands-kinds bytes (s .behind) (suc v) n (s .rest) (s .isRest))
+
+-- "ANDs follow in sequence"
+ands-turn : (bytes : List ℕ) (at v n : ℕ) (is : List Item) → readAnds bytes at (2 * v) n ≡ holds is → (i : Item) → List·Memᴰ i is → InTurn v (v + n) i
+unfolding readAnds
+ands-turn bytes at v zero is e i m = absurd (List·Memᴰ·not-nil (subst (λ (js : List Item). List·Memᴰ i js) (sym (holds-once e)) m))
+ands-turn bytes at v (suc n) is e i m =
+    go (List·Memᴰ·cases-cons (subst (λ (js : List Item). List·Memᴰ i js) (sym (s .isList)) m)) (ands-turn bytes (s .behind) (suc v) n (s .rest) (s .isRest) i)
+  where
+    s : Packed bytes v n is
+    s = and-step bytes at v n is e
+
+    wider : (low high : ℕ) (j : Item) → v ≤ low → high ≤ v + suc n → InTurn low high j → InTurn v (v + suc n) j
+    wider low high j a b t = record {
+      var = t .var;
+      first = t .first;
+      second = t .second;
+      isAnd = t .isAnd;
+      isLiterals = t .isLiterals;
+      atLeast = omega (arith, t .atLeast);
+      below = omega (arith, t .below);
+      less = t .less;
+      lesser = t .lesser;
+    }
+
+    go : (i ≡ s .item) ⊎ List·Memᴰ i (s .rest) → (List·Memᴰ i (s .rest) → InTurn (suc v) (suc v + n) i) → InTurn v (v + suc n) i
+    go (inl q) later = wider v (suc v) i (omega arith) (omega arith) (subst (InTurn v (suc v)) (sym q) (s .isTurn))
+    go (inr k) later = wider (suc v) (suc v + n) i (omega arith) (omega arith) (later k)
+
+pub turn-head : (low high : ℕ) (i : Item) (t : InTurn low high i) → head i ≡ t .var
+unfolding varOf
+turn-head low high i t = ap (λ (ns : List ℕ). varOf (getD ns 0 0)) (t .isLiterals) ∙ (let q : 2 * t .var / 2 ≡ t .var = omega arith in q)
+
+ands-defined : (bytes : List ℕ) (at v n : ℕ) (is : List Item) → readAnds bytes at (2 * v) n ≡ holds is → definedBy is ≡ from v n
+unfolding readAnds definedBy from defines
+ands-defined bytes at v zero is e = ap definedBy (sym (holds-once e))
+ands-defined bytes at v (suc n) is e =
+    let s = and-step bytes at v n is e in
+    let t = s .isTurn in
+    let q : t .var ≡ v = omega (arith, t .atLeast, t .below) in
+    ap definedBy (sym (s .isList))
+    ∙ defined-cons true (s .item) (s .rest) (ap defines (t .isAnd))
+    ∙ ap₂ (λ (a : ℕ) (b : List ℕ). a ∷ b) (turn-head v (suc v) (s .item) t ∙ q) (ands-defined bytes (s .behind) (suc v) n (s .rest) (s .isRest))
+
+-- variables 1 to I
+abbrev inputItem : ℕ → ℕ → Item
+inputItem at v = record { kind = anInput; offset = at; literals = 2 * v ∷ [] }
+
+inputs-kinds : (at n i : ℕ) → kindsOf (map (inputItem at) (from i n)) ≡ replicate n anInput
+unfolding from
+inputs-kinds at zero i = refl
+inputs-kinds at (suc n) i = ap (λ (ks : List Kind). anInput ∷ ks) (inputs-kinds at n (suc i))
+
+inputs-defined : (at n i : ℕ) → definedBy (map (inputItem at) (from i n)) ≡ from i n
+unfolding from definedBy defines varOf
+inputs-defined at zero i = refl
+inputs-defined at (suc n) i = ap₂ (λ (a : ℕ) (b : List ℕ). a ∷ b) (let q : 2 * i / 2 ≡ i = omega arith in q) (inputs-defined at n (suc i))
+
+pub defined-append : (xs ys : List Item) → definedBy (xs ++ ys) ≡ definedBy xs ++ definedBy ys
+unfolding definedBy
+defined-append [] ys = refl
+defined-append (x ∷ xs) ys = go (defines (x .kind)) (defined-append xs ys)
+  where
+    go : (b : Bool) → definedBy (xs ++ ys) ≡ definedBy xs ++ definedBy ys
+        → cond b (head x ∷ definedBy (xs ++ ys)) (definedBy (xs ++ ys)) ≡ cond b (head x ∷ definedBy xs) (definedBy xs) ++ definedBy ys
+    go true e = ap (λ (l : List ℕ). head x ∷ l) e
+    go false e = e
+
+outputs-defined : (n : ℕ) (is : List Item) → kindsOf is ≡ replicate n anOutput → definedBy is ≡ []
+unfolding definedBy defines
+outputs-defined n [] e = refl
+outputs-defined zero (i ∷ is) e = absurd (cons≢nil e)
+outputs-defined (suc n) (i ∷ is) e = defined-cons false i is (ap defines (head-eq-of-cons-eq e)) ∙ outputs-defined n is (tail-eq-of-cons-eq e)
+
+-- the three parts of what the binary form has
+pub record Binary (bytes : List ℕ) (h : Header) (is : List Item) : Type 0 where
+  pub outs : List Item
+  pub gates : List Item
+  pub isOuts : readDue (closed true) (length bytes) (h .size) [] (replicate (h .outputs) anOutput) (linesFrom (h .next) [] (drop (h .next) bytes)) ≡ holds outs
+  pub isGates : (at : ℕ) × (readAnds bytes at (2 * suc (h .inputs)) (h .ands) ≡ holds gates)
+  pub isItems : inputItems h ++ (outs ++ gates) ≡ is
+
+pub binary-parts : (bytes : List ℕ) (h : Header) (is : List Item) → readBinary bytes h ≡ holds is → Binary bytes h is
+unfolding readBinary
+binary-parts bytes h is e =
+    let ls = linesFrom (h .next) [] (drop (h .next) bytes) in
+    let a = next-out (readDue (closed true) (length bytes) (h .size) [] (replicate (h .outputs) anOutput) ls) _ is e in
+    let b = next-out (readAnds bytes (behindLines (h .next) (h .outputs) ls) (2 * suc (h .inputs)) (h .ands)) _ is (a .2) in
+    record { outs = a .0; gates = b .0; isOuts = a .1; isGates = (behindLines (h .next) (h .outputs) ls, b .1); isItems = holds-once (b .2) }
+
+module _ (bytes : List ℕ) (h : Header) (is : List Item) (s : Binary bytes h is) where
+  pub outs-kinds : kindsOf (s .outs) ≡ replicate (h .outputs) anOutput
+  outs-kinds = due-kinds (closed true) (length bytes) (h .size) [] (replicate (h .outputs) anOutput) (linesFrom (h .next) [] (drop (h .next) bytes)) (s .outs) (s .isOuts)
+
+  -- "Inputs are variables 1 to I and ANDs follow in sequence."
+  pub binary-defined : definedBy is ≡ from 1 (h .inputs) ++ from (suc (h .inputs)) (h .ands)
+  unfolding inputItems
+  binary-defined =
+      ap definedBy (sym (s .isItems))
+      ∙ defined-append (inputItems h) (s .outs ++ s .gates)
+      ∙ ap₂ (λ (xs ys : List ℕ). xs ++ ys) (inputs-defined (h .next) (h .inputs) 1)
+      (defined-append (s .outs) (s .gates)
+      ∙ ap₂ (λ (xs ys : List ℕ). xs ++ ys) (outputs-defined (h .outputs) (s .outs) outs-kinds)
+      (ands-defined bytes (s .isGates .0) (suc (h .inputs)) (h .ands) (s .gates) (s .isGates .1)))
+
+  -- and in turn
+  pub binary-turns : (i : Item) → List·Memᴰ i (s .gates) → InTurn (suc (h .inputs)) (suc (h .inputs) + h .ands) i
+  binary-turns = ands-turn bytes (s .isGates .0) (suc (h .inputs)) (h .ands) (s .gates) (s .isGates .1)
+
+  binary-kinds : kindsOf is ≡ due h
+  unfolding inputItems due
+  binary-kinds =
+      ap kindsOf (sym (s .isItems))
+      ∙ map-append (λ (i : Item). i .kind) (inputItems h) (s .outs ++ s .gates)
+      ∙ ap₂ (λ (xs ys : List Kind). xs ++ ys) (inputs-kinds (h .next) (h .inputs) 1)
+      (map-append (λ (i : Item). i .kind) (s .outs) (s .gates)
+      ∙ ap₂ (λ (xs ys : List Kind). xs ++ ys) outs-kinds (ands-kinds bytes (s .isGates .0) (suc (h .inputs)) (h .ands) (s .gates) (s .isGates .1)))
+
+  binary-good : h .inputs + h .ands ≤ h .size → (i : Item) → List·Memᴰ i is → Good (h .size) i
+  unfolding inputItems howMany all
+  binary-good fit i m = first (List·Memᴰ·append-cases (inputItems h) (subst (λ (js : List Item). List·Memᴰ i js) (sym (s .isItems)) m))
+    where
+      input : (v : ℕ) → List·Memᴰ v (from 1 (h .inputs)) → i ≡ inputItem (h .next) v → Good (h .size) i
+      input v n q =
+          subst (Good (h .size)) (sym q)
+          (record { long = refl; low = yes-and (leb (2 * v) (2 * h .size + 1)) true (le→leb (2 * v) (2 * h .size + 1) (let u = from-high (h .inputs) 1 v n in omega (arith, u))) tt })
+
+      gate : InTurn (suc (h .inputs)) (suc (h .inputs) + h .ands) i → Good (h .size) i
+      gate t = record {
+        long = ap length (t .isLiterals) ∙ sym (ap howMany (t .isAnd));
+        low = subst (λ (ns : List ℕ). T (all (λ (n : ℕ). leb n (2 * h .size + 1)) ns)) (sym (t .isLiterals))
+            (yes-and (leb (2 * t .var) (2 * h .size + 1)) _ (le→leb (2 * t .var) (2 * h .size + 1) (omega (arith, t .below)))
+            (yes-and (leb (t .first) (2 * h .size + 1)) _ (le→leb (t .first) (2 * h .size + 1) (omega (arith, t .below, t .less)))
+            (yes-and (leb (t .second) (2 * h .size + 1)) true (le→leb (t .second) (2 * h .size + 1) (omega (arith, t .below, t .less, t .lesser))) tt)));
+      }
+
+      second : List·Memᴰ i (s .outs) ⊎ List·Memᴰ i (s .gates) → Good (h .size) i
+      second (inl n) =
+          due-good (closed true) (length bytes) (h .size) [] (replicate (h .outputs) anOutput) (linesFrom (h .next) [] (drop (h .next) bytes)) (s .outs) (s .isOuts) i n
+      second (inr n) = gate (binary-turns i n)
+
+      first : List·Memᴰ i (inputItems h) ⊎ List·Memᴰ i (s .outs ++ s .gates) → Good (h .size) i
+      first (inl n) = let o = map-out (inputItem (h .next)) (from 1 (h .inputs)) n in input (o .0) (o .1) (o .2)
+      first (inr n) = second (List·Memᴰ·append-cases (s .outs) n)
+
+  -- what the binary form has is lawful
+  pub binary-lawful : h .inputs + h .ands ≤ h .size → Lawful h is
+  binary-lawful fit = record {
+    kinds = binary-kinds;
+    good = binary-good fit;
+    fresh = λ x m. fresh x (List·Memᴰ·append-cases (from 1 (h .inputs)) (subst (λ (xs : List ℕ). List·Memᴰ x xs) binary-defined m));
+    once = subst Distinct (sym binary-defined)
+        (append-distinct (from 1 (h .inputs)) (from (suc (h .inputs)) (h .ands)) (from-distinct (h .inputs) 1) (from-distinct (h .ands) (suc (h .inputs)))
+        (λ x a b. let u = from-high (h .inputs) 1 x a in let v = from-low (h .ands) (suc (h .inputs)) x b in omega (arith, u, v)));
+  }
+    where
+      fresh : (x : ℕ) → List·Memᴰ x (from 1 (h .inputs)) ⊎ List·Memᴰ x (from (suc (h .inputs)) (h .ands)) → Fresh (h .size) [] x
+      fresh x (inl m) =
+          let u = from-high (h .inputs) 1 x m in
+          let v = from-low (h .inputs) 1 x m in
+          record { isNew = List·Memᴰ·not-nil; nonzero = λ e. omega (arith, v); small = omega (arith, u) }
+      fresh x (inr m) =
+          let u = from-high (h .ands) (suc (h .inputs)) x m in
+          let v = from-low (h .ands) (suc (h .inputs)) x m in
+          record { isNew = List·Memᴰ·not-nil; nonzero = λ e. omega (arith, v); small = omega (arith, u) }
+
+  -- every variable up to M is defined, where M is I + A
+  all-defined : h .size ≡ h .inputs + h .ands → (x : ℕ) → x ≤ h .size → List·Memᴰ x (0 ∷ definedBy is)
+  all-defined q zero b = List·Memᴰ·head refl
+  all-defined q (suc x) b = List·Memᴰ·tail (subst (λ (xs : List ℕ). List·Memᴰ (suc x) xs) (sym binary-defined) (go (ltb x (h .inputs)) (ltb→lt x (h .inputs)) (nltb→le x (h .inputs))))
+    where
+      go : (t : Bool) → (T t → x < h .inputs) → (T (not t) → h .inputs ≤ x) → List·Memᴰ (suc x) (from 1 (h .inputs) ++ from (suc (h .inputs)) (h .ands))
+      go true y n = Memᴰ·append-left (from (suc (h .inputs)) (h .ands)) (subst (λ (k : ℕ). List·Memᴰ k (from 1 (h .inputs))) (let e : 1 + x ≡ suc x = omega arith in e) (from-in (h .inputs) 1 x (y tt)))
+      go false y n =
+          let u : h .inputs ≤ x = n tt in
+          let e : suc (h .inputs) + (x - h .inputs) ≡ suc x = omega arith in
+          Memᴰ·append-right (from 1 (h .inputs)) (subst (λ (k : ℕ). List·Memᴰ k (from (suc (h .inputs)) (h .ands))) e (from-in (h .ands) (suc (h .inputs)) (x - h .inputs) (omega arith)))
+
+  -- so 14 refuses no binary text
+  pub binary-used : h .size ≡ h .inputs + h .ands → checkUses (definedBy is) is ≡ holds is
+  unfolding uses
+  binary-used q = uses-in (definedBy is) is (λ i m. all-in (λ (l : ℕ). elem (varOf l) (0 ∷ definedBy is)) (uses i) (used i m))
+    where
+      within : (b : Bool) (ns : List ℕ) (l : ℕ) → List·Memᴰ l (cond b (drop 1 ns) ns) → List·Memᴰ l ns
+      within true (n ∷ ns) l m = List·Memᴰ·tail m
+      within true [] l m = m
+      within false ns l m = m
+
+      used : (i : Item) → List·Memᴰ i is → (l : ℕ) → List·Memᴰ l (uses i) → T (elem (varOf l) (0 ∷ definedBy is))
+      used i m l n =
+          elem-T (varOf l) (0 ∷ definedBy is)
+          (all-defined q (varOf l)
+          (var-low l (h .size) (leb→le l (2 * h .size + 1)
+          (all-of (λ (k : ℕ). leb k (2 * h .size + 1)) (i .literals) (binary-good (le-of-eq (sym q)) i m .low) l (within (defines (i .kind)) (i .literals) l n)))))
