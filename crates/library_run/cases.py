@@ -51,6 +51,7 @@ def texts():
                  (b"0 0\n", b"0 0 0\n"), (b"0 0\n", b"0\n"), (b"\n", b""), (b"\n", b"\r\n"), (b" 1 10", b"\t1 10")]:
         out += [head + good.replace(a, b, 1), head + b"nand2 2 0007 2 20 20 0 0\n" + good.replace(a, b, 1) + b"x"]
     out += [head + good + good, head + good + b"inv 9\n", head + good + b"inv 1 ffff 1 10 0 0 0\n", head + b"a 0 0000 1 0 0 0 0\nab 0 0000 1 0 0 0 0\n"]
+    out += [head + b"w 4 fff%c 1 1 1 1 1\n" % b for b in range(1, 256)]  # each byte as a digit; byte 0 ends a text
     for name in ("tiny", "array", "full"):  # 5, 24 and 32 cells; then a cell more, a line repeated, an end cut off, a byte changed
         t = (HERE / "libraries" / (name + ".txt")).read_bytes()
         lines = t.splitlines(keepends=True)

@@ -115,12 +115,14 @@ pub fn number_of(w: &[u8]) -> Value
 
 // ---- "four lower-case hexadecimal digits"
 
+// The value of a digit of the foundry's sheet: "Write it as listed cases, digits and letters by range, so that they can tick them off." A digit's
+// value is its distance from `0`, a letter's ten and its distance from `a`; no other byte is a digit.
 fn hex_digit(b: u8) -> Value
     ensures { λ r. ⌜ r ≡ valueOf (hexDigit b) ⌝ }
 {
     match b {
-        b'0'..=b'9' => Value::Is(b as u16 - 48),
-        b'a'..=b'f' => Value::Is(b as u16 - 87),
+        b'0'..=b'9' => Value::Is((b - b'0') as u16),
+        b'a'..=b'f' => Value::Is((b - b'a') as u16 + 10),
         _ => Value::Broken,
     }
 }

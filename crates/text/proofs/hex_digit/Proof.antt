@@ -3,15 +3,20 @@
 use borrow.Author.Needs.{needs}
 use native.Mathlib.Omega.{arith}
 use borrow.Author.Tests.{le-leb, lt-leb}
+use Prim.Native.Nat.{_+_, _-_}
+use mathlib.Core.Path.{_≡_}
 use Rattle.model.specs.Text.{hexDigit, between}
 use Rattle.text.proofs.hex_digit.Statement.{statement}
 use Rattle.text.proofs.hex_digit.Tie as tie
 
-sub-t5 : tie.Need-sub-t5
-sub-t5 c = search needs
+cast-t5 : tie.Need-cast-t5
+cast-t5 c = search needs
 
-sub-t7 : tie.Need-sub-t7
-sub-t7 c = search needs
+cast-t7 : tie.Need-cast-t7
+cast-t7 c = search needs
+
+add-t8 : tie.Need-add-t8
+add-t8 c = search needs
 
 returns : tie.Need-returns
 unfolding hexDigit between
@@ -19,7 +24,10 @@ returns c = let b = c .before .before .args .b in simp (le-leb 48 b (omega arith
 
 returns-2 : tie.Need-returns-2
 unfolding hexDigit between
-returns-2 c = let b = c .before .before .before .before .args .b in simp (le-leb 48 b (omega arith), lt-leb b 57 (omega arith), le-leb 97 b (omega arith), le-leb b 102 (omega arith))
+returns-2 c =
+    let b = c .before .before .before .before .args .b in
+    let e : b - 97 + 10 ≡ b - 87 = omega arith in
+    simp (le-leb 48 b (omega arith), lt-leb b 57 (omega arith), le-leb 97 b (omega arith), le-leb b 102 (omega arith), e)
 
 returns-3 : tie.Need-returns-3
 unfolding hexDigit between
@@ -34,4 +42,4 @@ unfolding hexDigit between
 returns-5 c = let b = c .before .before .before .before .args .b in simp (le-leb 48 b (omega arith), lt-leb b 57 (omega arith), le-leb 97 b (omega arith), lt-leb b 102 (omega arith))
 
 pub hex-digit-spec : {M : Type 1} → statement M
-hex-digit-spec = tie.close (tie.spec sub-t5 sub-t7 returns returns-2 returns-3 returns-4 returns-5)
+hex-digit-spec = tie.close (tie.spec cast-t5 cast-t7 add-t8 returns returns-2 returns-3 returns-4 returns-5)
