@@ -1,4 +1,4 @@
-/* A mapper by document 01 and request N1 in plain C, to compare with: nothing in it is proved.
+/* A mapper by document 01 and requests N1 and N3 in plain C, to compare with: nothing in it is proved.
  * cuts: plain merge up to the fifth leaf, a sorted list of cut records by value
  * functions: walk with a memo stamped by the cut's own number
  * matching: chains of all variants (cell, each of 24 orders, mask) by table, built by the plain rule of 16 rows
@@ -456,7 +456,7 @@ static NI Answer measure(const u16 *w, const Library *lib, Header h)  /* place: 
     for (u32 k = 0; k < h.i; k++) n += 2 + digits(ORDER(k + 1));
     for (u32 k = 0; k < h.o; k++) {
         u32 x = OUTS(k), t = arr(w, x % 2, x / 2);
-        n += 2 + digits(x / 2);
+        n += 2 + digits(k) + 11 + digits(x / 2) + digits(k) + 4;  /* " o" k; ".names p" v " o" k byte 10; "1 1" byte 10 */
         if (t > a.arrival) a.arrival = t;
     }
     for (u32 v = 0; v < W; v++)
@@ -501,11 +501,16 @@ static NI void put_netlist(const u16 *w, const Library *lib, Header h, Answer a,
     u32 at = put_text(t, 0, ".model top\n.inputs", 18);
     for (u32 k = 0; k < h.i; k++) { t[at] = ' '; at = put_net(t, at + 1, 0, ORDER(k + 1)); }
     at = put_text(t, at, "\n.outputs", 9);
-    for (u32 k = 0; k < h.o; k++) { t[at] = ' '; at = put_net(t, at + 1, OUTS(k) % 2, OUTS(k) / 2); }
+    for (u32 k = 0; k < h.o; k++) { at = put_text(t, at, " o", 2); at = put_number(t, at, k); }
     at = put_text(t, at, "\n", 1);
     for (u32 v = 0; v < W; v++)
         for (u32 p = 0; p < 2; p++)
             if ((NEEDED(v) >> p & 1) && SRC(p, v) % 4 != OWN) at = put_gate(w, lib, t, at, p, v);
+    for (u32 k = 0; k < h.o; k++) {
+        at = put_net(t, put_text(t, at, ".names ", 7), OUTS(k) % 2, OUTS(k) / 2);
+        at = put_number(t, put_text(t, at, " o", 2), k);
+        at = put_text(t, at, "\n1 1\n", 5);
+    }
     at = put_text(t, at, ".end\n# gates ", 13);
     at = put_number(t, at, a.gates);
     at = put_text(t, at, " area ", 6);

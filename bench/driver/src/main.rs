@@ -6,8 +6,8 @@ use std::{env, fs, process::exit};
 
 const USAGE: &str = "usage: driver [--other] [--time] [--calls N] CELLS GRAPH...";
 
-/// More than any netlist takes: a graph has at most 8,192 phases, and a gate
-/// line at most 55 bytes.
+/// More than any netlist takes: a graph has at most 8,192 phases and 4,096
+/// outputs; a gate line takes at most 55 bytes, an output with its lines 29.
 const TEXT_BYTES: usize = 1_000_000;
 
 /// CPU time of this process in seconds. The standard library has wall time

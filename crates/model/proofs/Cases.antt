@@ -1,5 +1,5 @@
--- The marked cases A to K of the document, from the texts on, a case for each refusal, the binary form, matches and ties, and what a call leaves and
--- returns, checked against the definitions by computing.
+-- The marked cases A to K of the document, from the texts on, a case for each refusal, the binary form, matches and ties, outputs' names, and what a call
+-- leaves and returns, checked against the definitions by computing.
 -- Assumes nothing.
 use Prim.Native.Nat.{ℕ, _+_}
 use Prim.Native.String.{String}
@@ -19,7 +19,7 @@ use Rattle.model.specs.Reading.{Read, fault, next, Ruling, verdictRuling
 use Rattle.model.specs.Reading.{holds as reads}
 use Rattle.model.specs.GraphText.{readHeader, readGraph, asciiText, headerAnswer, headerRuling, headerValues}
 use Rattle.model.specs.Mapper.{Call, mapTexts, answerOf, Returned, returned, returnedBy, textAfter, workAfter}
-use Rattle.model.specs.Blif.{readFigures}
+use Rattle.model.specs.Blif.{Wire, Blif, readBlif, readFigures}
 use Rattle.model.specs.declared.Figures.{Figures}
 use Rattle.model.specs.declared.Verdict.the-variants.{Accepted, Refused}
 
@@ -30,7 +30,7 @@ library = text "cell pins table area d0 d1 d2 d3\ninv 1 0001 1 10 0 0 0\nnand2 2
 
 unfoldable pub listing : List ℕ
 unfolding text
-listing = text ".model top\n.inputs p1 p2\n.outputs p3\n.gate inv A=m3 O=p3\n.gate nand2 A=p1 B=p2 O=m3\n.end\n# gates 2 area 3 arrival 30\n"
+listing = text ".model top\n.inputs p1 p2\n.outputs o0\n.gate inv A=m3 O=p3\n.gate nand2 A=p1 B=p2 O=m3\n.names p3 o0\n1 1\n.end\n# gates 2 area 3 arrival 30\n"
 
 -- the library with a line added
 unfoldable pub with : String → List ℕ
@@ -78,6 +78,10 @@ pub data Case : Type 0 where
   says : List ℕ → ℕ → ℕ → ℕ → Case
   -- a text says no figures
   saysNothing : List ℕ → Case
+  -- a text reads as a netlist with these outputs and wires, each wire's source and target
+  wires : List ℕ → List (List ℕ) → List (List ℕ) → Case
+  -- a text that does not read as a netlist
+  unread : List ℕ → Case
 
 unfoldable pub isPrint : List ℕ → ℕ → ℕ → ℕ → Outcome → Bool
 unfolding same
@@ -106,6 +110,15 @@ areSaid count area arrival (some f) = eqb count (f .gates) && (eqb area (f .area
 unfoldable pub nothingSaid : Option Figures → Bool
 nothingSaid none = true
 nothingSaid (some f) = false
+
+unfoldable pub areWires : List (List ℕ) → List (List ℕ) → Option Blif → Bool
+unfolding sameCuts each
+areWires outs nets none = false
+areWires outs nets (some n) = sameCuts outs (n .outputs) && sameCuts nets (each (λ (x : Wire). x .source ∷ x .target ∷ []) (n .wires))
+
+unfoldable pub noNetlist : Option Blif → Bool
+noNetlist none = true
+noNetlist (some n) = false
 
 -- the first of some ANDs
 unfoldable pub isAnd : ℕ → ℕ → ℕ → List And → Bool
@@ -139,7 +152,7 @@ unfolding graphBytes text
 graphText g = graphBytes (text g)
 
 unfoldable pub holds : Case → Bool
-unfolding isPrint isGiven isRefusal sameCuts isAnd ofGraph mapText mapTexts text graphBytes graphText asciiText same library cutsOf cutTable rowMap orders areSaid nothingSaid readFigures
+unfolding isPrint isGiven isRefusal sameCuts isAnd ofGraph mapText mapTexts text graphBytes graphText asciiText same library cutsOf cutTable rowMap orders areSaid nothingSaid readFigures areWires noNetlist readBlif
 holds (prints l g t count area arrival) = isPrint t count area arrival (mapText l g)
 holds (gives l g count arrival) = isGiven count arrival (mapText l g)
 holds (refuses l g n k) = isRefusal n k (mapText l g)
@@ -155,6 +168,8 @@ holds (listsBytes g v cuts cut f) = ofGraph (λ h. sameCuts cuts (cutsOf h v) &&
 holds (takes order r q) = eqb q (rowMap (getD orders order []) r)
 holds (says t count area arrival) = areSaid count area arrival (readFigures t)
 holds (saysNothing t) = nothingSaid (readFigures t)
+holds (wires t outs nets) = areWires outs nets (readBlif t)
+holds (unread t) = noNetlist (readBlif t)
 
 unfoldable pub marked : List Case
 unfolding library listing with graphB graphC graphF
@@ -291,8 +306,8 @@ refusals =
     ∷ refuses library "aag 1 1 0 2 0\n2\n2\n0\n" 17 1
     ∷ refuses (text "cell pins table area d0 d1 d2 d3\n") "aag 1 1 0 2 0\n2\n3\n2\n" 17 0
     -- 18, and the words that are enough
-    ∷ suffices library graphB 641 117 2 30
-    ∷ lacks library graphB 641 116 18 117
+    ∷ suffices library graphB 641 134 2 30
+    ∷ lacks library graphB 641 133 18 134
     ∷ []
 
 -- each refusal is given where it is due
@@ -408,7 +423,7 @@ unfoldable pub three : List Case
 unfolding cells text
 three =
     prints (cells "inv 1 0001 1 10 0 0 0\nmux3 3 00ac 7 11 13 40 0\n") "aag 6 3 0 1 3\n2\n4\n6\n13\n8 2 5\n10 3 6\n12 9 11\n"
-    (text ".model top\n.inputs p1 p2 p3\n.outputs m6\n.gate inv A=p2 O=m2\n.gate mux3 A=m2 B=p3 C=p1 O=m6\n.end\n# gates 2 area 8 arrival 40\n") 2 8 40
+    (text ".model top\n.inputs p1 p2 p3\n.outputs o0\n.gate inv A=p2 O=m2\n.gate mux3 A=m2 B=p3 C=p1 O=m6\n.names m6 o0\n1 1\n.end\n# gates 2 area 8 arrival 40\n") 2 8 40
     ∷ []
 
 pub three-hold : T (all holds three)
@@ -424,7 +439,7 @@ unfoldable pub four : List Case
 unfolding cells text graphFour
 four =
     prints (cells "inv 1 0001 1 10 0 0 0\naoai4 4 07ff 9 31 5 17 1059\n") graphFour
-    (text ".model top\n.inputs p1 p2 p3 p4\n.outputs m7 p7\n.gate inv A=p3 O=m3\n.gate inv A=m7 O=p7\n.gate aoai4 A=p1 B=m3 C=p4 D=p2 O=m7\n.end\n# gates 3 area 11 arrival 1069\n") 3 11 1069
+    (text ".model top\n.inputs p1 p2 p3 p4\n.outputs o0 o1\n.gate inv A=p3 O=m3\n.gate inv A=m7 O=p7\n.gate aoai4 A=p1 B=m3 C=p4 D=p2 O=m7\n.names m7 o0\n1 1\n.names p7 o1\n1 1\n.end\n# gates 3 area 11 arrival 1069\n") 3 11 1069
     ∷ []
 
 pub four-hold : T (all holds four)
@@ -436,7 +451,7 @@ unfoldable pub fourAgain : List Case
 unfolding cells text graphFour
 fourAgain =
     prints (cells "inv 1 0001 1 10 0 0 0\naoai4 4 07ff 9 31 5 17 23\n") graphFour
-    (text ".model top\n.inputs p1 p2 p3 p4\n.outputs m7 p7\n.gate inv A=p3 O=m3\n.gate inv A=m7 O=p7\n.gate aoai4 A=p1 B=m3 C=p4 D=p2 O=m7\n.end\n# gates 3 area 11 arrival 41\n") 3 11 41
+    (text ".model top\n.inputs p1 p2 p3 p4\n.outputs o0 o1\n.gate inv A=p3 O=m3\n.gate inv A=m7 O=p7\n.gate aoai4 A=p1 B=m3 C=p4 D=p2 O=m7\n.names m7 o0\n1 1\n.names p7 o1\n1 1\n.end\n# gates 3 area 11 arrival 41\n") 3 11 41
     ∷ []
 
 pub four-again-hold : T (all holds fourAgain)
@@ -450,24 +465,89 @@ unfolding cells text
 ties =
     -- the lower cut, though the other's cell stands on an earlier line
     prints (cells "and3 3 0080 1 20 20 20 0\nand2 2 0008 1 10 10 0 0\n") "aag 5 3 0 1 2\n2\n4\n6\n10\n8 2 4\n10 8 6\n"
-    (text ".model top\n.inputs p1 p2 p3\n.outputs p5\n.gate and2 A=p1 B=p2 O=p4\n.gate and2 A=p3 B=p4 O=p5\n.end\n# gates 2 area 2 arrival 20\n") 2 2 20
+    (text ".model top\n.inputs p1 p2 p3\n.outputs o0\n.gate and2 A=p1 B=p2 O=p4\n.gate and2 A=p3 B=p4 O=p5\n.names p5 o0\n1 1\n.end\n# gates 2 area 2 arrival 20\n") 2 2 20
     -- the earlier line, though the other matches under a lower order
     ∷ prints (cells "y 2 0004 1 5 5 0 0\nx 2 0002 1 5 5 0 0\n") "aag 3 2 0 1 1\n2\n4\n6\n6 2 5\n"
-    (text ".model top\n.inputs p1 p2\n.outputs p3\n.gate y A=p2 B=p1 O=p3\n.end\n# gates 1 area 1 arrival 5\n") 1 1 5
+    (text ".model top\n.inputs p1 p2\n.outputs o0\n.gate y A=p2 B=p1 O=p3\n.names p3 o0\n1 1\n.end\n# gates 1 area 1 arrival 5\n") 1 1 5
     -- the lower order, though the other has a lower mask: the inverter takes no time
     ∷ prints (cells "inv 1 0001 1 0 0 0 0\nx 2 0002 1 5 5 0 0\n") "aag 3 2 0 1 1\n2\n4\n6\n6 3 4\n"
-    (text ".model top\n.inputs p1 p2\n.outputs p3\n.gate inv A=p1 O=m1\n.gate inv A=p2 O=m2\n.gate x A=m1 B=m2 O=p3\n.end\n# gates 3 area 3 arrival 5\n") 3 3 5
+    (text ".model top\n.inputs p1 p2\n.outputs o0\n.gate inv A=p1 O=m1\n.gate inv A=p2 O=m2\n.gate x A=m1 B=m2 O=p3\n.names p3 o0\n1 1\n.end\n# gates 3 area 3 arrival 5\n") 3 3 5
     -- the lower mask: complemented at both pins the cell is the same, and the inverter takes no time
     ∷ prints (cells "inv 1 0001 1 0 0 0 0\nxor2 2 0006 3 5 5 0 0\n") "aag 5 2 0 1 3\n2\n4\n11\n6 2 5\n8 3 4\n10 7 9\n"
-    (text ".model top\n.inputs p1 p2\n.outputs m5\n.gate xor2 A=p1 B=p2 O=m5\n.end\n# gates 1 area 3 arrival 5\n") 1 3 5
+    (text ".model top\n.inputs p1 p2\n.outputs o0\n.gate xor2 A=p1 B=p2 O=m5\n.names m5 o0\n1 1\n.end\n# gates 1 area 3 arrival 5\n") 1 3 5
     -- the first of the quickest inverters
     ∷ prints (cells "slow 1 0001 1 11 0 0 0\nb 1 0001 9 10 0 0 0\na 1 0001 1 10 0 0 0\n") "aag 1 1 0 1 0\n2\n3\n"
-    (text ".model top\n.inputs p1\n.outputs m1\n.gate b A=p1 O=m1\n.end\n# gates 1 area 9 arrival 10\n") 1 9 10
+    (text ".model top\n.inputs p1\n.outputs o0\n.gate b A=p1 O=m1\n.names m1 o0\n1 1\n.end\n# gates 1 area 9 arrival 10\n") 1 9 10
     ∷ []
 
 pub ties-hold : T (all holds ties)
 unfolding all holds ties
 ties-hold = tt
+
+-- ---- outputs with names of their own
+
+-- "The list becomes `o0`, `o1` and so on, in file order. Before `.end`, each gets `.names` with its net and its own name, then `1 1`."
+unfoldable pub ownNames : List Case
+unfolding library with text
+ownNames =
+    -- two outputs on one net: two names, and one gate
+    prints library "aag 3 2 0 2 1\n2\n4\n6\n6\n6 2 4\n"
+    (text ".model top\n.inputs p1 p2\n.outputs o0 o1\n.gate inv A=m3 O=p3\n.gate nand2 A=p1 B=p2 O=m3\n.names p3 o0\n1 1\n.names p3 o1\n1 1\n.end\n# gates 2 area 3 arrival 30\n") 2 3 30
+    -- both phases of one AND
+    ∷ prints library "aag 3 2 0 2 1\n2\n4\n6\n7\n6 2 4\n"
+    (text ".model top\n.inputs p1 p2\n.outputs o0 o1\n.gate inv A=m3 O=p3\n.gate nand2 A=p1 B=p2 O=m3\n.names p3 o0\n1 1\n.names m3 o1\n1 1\n.end\n# gates 2 area 3 arrival 30\n") 2 3 30
+    -- an output that is an input, and its complement, in file order
+    ∷ prints library "aag 1 1 0 1 0\n2\n2\n" (text ".model top\n.inputs p1\n.outputs o0\n.names p1 o0\n1 1\n.end\n# gates 0 area 0 arrival 0\n") 0 0 0
+    ∷ prints library "aag 2 2 0 3 0\n4\n2\n4\n3\n2\n"
+    (text ".model top\n.inputs p2 p1\n.outputs o0 o1 o2\n.gate inv A=p1 O=m1\n.names p2 o0\n1 1\n.names m1 o1\n1 1\n.names p1 o2\n1 1\n.end\n# gates 1 area 1 arrival 10\n") 1 1 10
+    -- the constants
+    ∷ prints (with "tie0 0 0000 1 0 0 0 0\n") "aag 0 0 0 2 0\n1\n0\n"
+    (text ".model top\n.inputs\n.outputs o0 o1\n.gate tie0 O=p0\n.gate inv A=p0 O=m0\n.names m0 o0\n1 1\n.names p0 o1\n1 1\n.end\n# gates 2 area 2 arrival 10\n") 2 2 10
+    -- no outputs
+    ∷ prints library "aag 3 2 0 0 1\n2\n4\n6 2 4\n" (text ".model top\n.inputs p1 p2\n.outputs\n.end\n# gates 0 area 0 arrival 0\n") 0 0 0
+    -- eleven outputs: a name of two digits
+    ∷ prints library "aag 1 1 0 11 0\n2\n2\n2\n2\n2\n2\n2\n2\n2\n2\n2\n2\n"
+    (text ".model top\n.inputs p1\n.outputs o0 o1 o2 o3 o4 o5 o6 o7 o8 o9 o10\n.names p1 o0\n1 1\n.names p1 o1\n1 1\n.names p1 o2\n1 1\n.names p1 o3\n1 1\n.names p1 o4\n1 1\n.names p1 o5\n1 1\n.names p1 o6\n1 1\n.names p1 o7\n1 1\n.names p1 o8\n1 1\n.names p1 o9\n1 1\n.names p1 o10\n1 1\n.end\n# gates 0 area 0 arrival 0\n") 0 0 0
+    -- "the figure in 18" counts these lines
+    ∷ suffices library "aag 1 1 0 1 0\n2\n2\n" 32768 83 0 0
+    ∷ lacks library "aag 1 1 0 1 0\n2\n2\n" 32768 82 18 83
+    ∷ []
+
+pub own-names-hold : T (all holds ownNames)
+unfolding all holds ownNames
+own-names-hold = tt
+
+-- the lines before an output's own, and those behind them
+unfoldable pub wired : String → List ℕ
+unfolding text
+wired lines = text ".model top\n.inputs p1\n.outputs o0\n" ++ (text lines ++ text ".end\n# gates 0 area 0 arrival 0\n")
+
+-- how these lines are read: `.names` of two nets and the row `1 1`, behind the gates
+unfoldable pub wiresRead : List Case
+unfolding listing wired text
+wiresRead =
+    wires listing (text "o0" ∷ []) (text "p3" ∷ text "o0" ∷ [])
+    ∷ wires (wired ".names p1 o0\n1 1\n") (text "o0" ∷ []) (text "p1" ∷ text "o0" ∷ [])
+    ∷ wires (wired ".gate inv A=p1 O=m1\n.names m1 o0\n1 1\n.names p1 o1\n1 1\n") (text "o0" ∷ []) (text "m1" ∷ text "o0" ∷ text "p1" ∷ text "o1" ∷ [])
+    ∷ wires (wired "") (text "o0" ∷ []) []
+    -- an inverter, a constant, two rows and no row are no wires
+    ∷ unread (wired ".names p1 o0\n1 0\n")
+    ∷ unread (wired ".names p1 o0\n0 1\n")
+    ∷ unread (wired ".names p1 o0\n- 1\n")
+    ∷ unread (wired ".names p1 o0\n1 1\n0 1\n")
+    ∷ unread (wired ".names p1 o0\n")
+    ∷ unread (wired ".names p1 o0\n1 1 \n")
+    -- one net or three; another keyword; a gate behind a wire; no end
+    ∷ unread (wired ".names o0\n1 1\n")
+    ∷ unread (wired ".names p1 p1 o0\n1 1\n")
+    ∷ unread (wired ".name p1 o0\n1 1\n")
+    ∷ unread (wired ".names p1 o0\n1 1\n.gate inv A=p1 O=m1\n")
+    ∷ unread (text ".model top\n.inputs p1\n.outputs o0\n.names p1 o0\n1 1\n")
+    ∷ []
+
+pub wires-read-hold : T (all holds wiresRead)
+unfolding all holds wiresRead
+wires-read-hold = tt
 
 -- ---- the lent memory, and what a call returns
 
@@ -479,7 +559,7 @@ pub work-left : T (
     && (same (workAfter (refused 20 16) (7 ∷ 8 ∷ [])) (0 ∷ 0 ∷ [])
     && (same (workAfter (refused 21 16) (7 ∷ 8 ∷ [])) (0 ∷ 0 ∷ [])
     && (same (workAfter (refused 11 20) (7 ∷ 8 ∷ [])) (0 ∷ 0 ∷ [])
-    && (same (workAfter (refused 18 117) (7 ∷ 8 ∷ [])) (0 ∷ 0 ∷ [])
+    && (same (workAfter (refused 18 134) (7 ∷ 8 ∷ [])) (0 ∷ 0 ∷ [])
     && same (workAfter (mapped (5 ∷ []) (record { gates = 0; area = 0; arrival = 0 })) (7 ∷ 8 ∷ [])) (0 ∷ 0 ∷ [])))))))
     )
 unfolding same workAfter
@@ -489,7 +569,7 @@ work-left = tt
 pub text-left : T (
     same (textAfter (refused 10 0) (7 ∷ 8 ∷ 9 ∷ [])) (7 ∷ 8 ∷ 9 ∷ [])
     && (same (textAfter (refused 11 20) (7 ∷ 8 ∷ 9 ∷ [])) (7 ∷ 8 ∷ 9 ∷ [])
-    && (same (textAfter (refused 18 117) (7 ∷ 8 ∷ 9 ∷ [])) (7 ∷ 8 ∷ 9 ∷ [])
+    && (same (textAfter (refused 18 134) (7 ∷ 8 ∷ 9 ∷ [])) (7 ∷ 8 ∷ 9 ∷ [])
     && same (textAfter (mapped (5 ∷ 6 ∷ []) (record { gates = 0; area = 0; arrival = 0 })) (7 ∷ 8 ∷ 9 ∷ [])) (5 ∷ 6 ∷ 9 ∷ [])))
     )
 unfolding same textAfter
@@ -503,10 +583,10 @@ isReturned number value count area arrival r =
 -- "Success returns number 0, the netlist's length and the three figures of its `# gates` line; a refusal its number, its place and zero figures":
 -- of B, and of B with one byte too few
 pub returns-are : T (
-    isReturned 0 117 2 3 30 (returned (answerOf (mapText library graphB)))
-    && (isReturned 0 117 2 3 30 (returnedBy (mapText library graphB))
-    && (isReturned 18 117 0 0 0 (returned (answerOf (mapTexts (given library graphB 641 116))))
-    && isReturned 18 117 0 0 0 (returnedBy (mapTexts (given library graphB 641 116)))))
+    isReturned 0 134 2 3 30 (returned (answerOf (mapText library graphB)))
+    && (isReturned 0 134 2 3 30 (returnedBy (mapText library graphB))
+    && (isReturned 18 134 0 0 0 (returned (answerOf (mapTexts (given library graphB 641 133))))
+    && isReturned 18 134 0 0 0 (returnedBy (mapTexts (given library graphB 641 133)))))
     )
 unfolding isReturned returned returnedBy answerOf mapText mapTexts library graphB text
 returns-are = tt
@@ -531,7 +611,7 @@ unfoldable pub said : List Case
 unfolding listing text
 said =
     says listing 2 3 30
-    ∷ says (listing ++ text "# timing p3 30\n") 2 3 30
+    ∷ says (listing ++ text "# timing o0 30\n") 2 3 30
     ∷ says (text ".end\n# gates 0 area 65536 arrival 1000\n") 0 65536 1000
     ∷ saysNothing (text ".end\n")
     ∷ saysNothing (text "# gates 2 area 3 arrival 30\n.end\n")

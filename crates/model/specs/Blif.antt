@@ -26,11 +26,17 @@ pub record GateLine : Type 0 where
   pub cell : List ℕ
   pub bindings : List Binding
 
--- a model: its inputs, outputs and gates
+-- `.names source target` with the one row `1 1`: the target is 1 where the source is, and nowhere else
+pub record Wire : Type 0 where
+  pub source : List ℕ
+  pub target : List ℕ
+
+-- a model: its inputs, outputs, gates and wires
 pub record Blif : Type 0 where
   pub inputs : List (List ℕ)
   pub outputs : List (List ℕ)
   pub gates : List GateLine
+  pub wires : List Wire
 
 -- a binding whose pin's name has one byte more in front
 unfoldable pub longer : ℕ → Binding → Binding
@@ -70,26 +76,60 @@ unfoldable pub readGate : List ℕ → Option GateLine
 unfolding andThen wordsAfter text gateOf
 readGate l = andThen (wordsAfter (text ".gate") l) gateOf
 
--- the gate lines up to `.end`
-unfoldable pub readGates : List (List ℕ) → Option (List GateLine)
-unfolding readGate same text andThen
-readGates [] = none
-readGates (l ∷ ls) = cond (same l (text ".end")) (some [])
-    (andThen (readGate l) (λ t. andThen (readGates ls) (λ ts. some (t ∷ ts))))
+-- two words
+unfoldable pub wireOf : List (List ℕ) → Option Wire
+wireOf [] = none
+wireOf (a ∷ []) = none
+wireOf (a ∷ b ∷ []) = some (record { source = a; target = b })
+wireOf (a ∷ b ∷ c ∷ ws) = none
 
--- `.model top`, `.inputs`, `.outputs`, the gates
+-- a line `.names` of two nets, and behind it the row `1 1`: with any other row it is no wire
+unfoldable pub readWire : List ℕ → List ℕ → Option Wire
+unfolding same text andThen only wordsAfter wireOf
+readWire l row = andThen (only (same row (text "1 1")) l) (λ k. andThen (wordsAfter (text ".names") k) wireOf)
+
+-- wires up to `.end`
+unfoldable pub readWires : List (List ℕ) → Option (List Wire)
+unfolding same text andThen readWire
+readWires [] = none
+readWires (l ∷ []) = cond (same l (text ".end")) (some []) none
+readWires (l ∷ row ∷ ls) =
+    let rest = readWires ls in
+    cond (same l (text ".end")) (some []) (andThen (readWire l row) (λ x. andThen rest (λ xs. some (x ∷ xs))))
+
+-- gates, and the wires behind them
+pub record Body : Type 0 where
+  pub gates : List GateLine
+  pub wires : List Wire
+
+-- a gate before what follows it, or else wires alone
+unfoldable pub bodyFrom : Option GateLine → Option Body → Option (List Wire) → Option Body
+unfolding andThen
+bodyFrom (some t) rest wires = andThen rest (λ b. some (record { gates = t ∷ b .gates; wires = b .wires }))
+bodyFrom none rest wires = andThen wires (λ xs. some (record { gates = []; wires = xs }))
+
+-- the lines of gates and wires, up to `.end`
+unfoldable pub readBody : List (List ℕ) → Option Body
+unfolding readGate readWires bodyFrom
+readBody [] = none
+readBody (l ∷ ls) =
+    let rest = readBody ls in
+    let wires = readWires (l ∷ ls) in
+    bodyFrom (readGate l) rest wires
+
+-- `.model top`, `.inputs`, `.outputs`, the gates, the wires
 unfoldable pub readLines : List (List ℕ) → Option Blif
-unfolding same text wordsAfter readGates andThen
+unfolding same text wordsAfter readBody andThen
 readLines [] = none
 readLines (m ∷ []) = none
 readLines (m ∷ i ∷ []) = none
 readLines (m ∷ i ∷ o ∷ ls) = cond (same m (text ".model top"))
     (andThen (wordsAfter (text ".inputs") i) (λ is.
     andThen (wordsAfter (text ".outputs") o) (λ os.
-    andThen (readGates ls) (λ ts. some (record { inputs = is; outputs = os; gates = ts })))))
+    andThen (readBody ls) (λ b. some (record { inputs = is; outputs = os; gates = b .gates; wires = b .wires })))))
     none
 
--- a model with its inputs, outputs and gates
+-- a model with its inputs, outputs, gates and wires
 unfoldable pub readBlif : List ℕ → Option Blif
 unfolding readLines parts
 readBlif bytes = readLines (parts 10 bytes)
@@ -171,12 +211,16 @@ unfolding one
 rowOf [] = 0
 rowOf (b ∷ bs) = one b + 2 * rowOf bs
 
--- the nets' values w hold: an input net has its input's value, a gate's net its cell's value at its pins
+-- the nets' values w hold: an input net has its input's value, a gate's net its cell's value at its pins, and an output "is read at its `o` name",
+-- which has its net's value
 pub record NetValues (cells : List Cell) (n : Blif) (setting : List Bool) (w : List ℕ → Bool) : Type 0 where
   pub atInputs : map w (n .inputs) ≡ setting
   pub atGates : (t : GateLine) → List·Memᴰ t (n .gates) → w (drives t) ≡ value (named cells (t .cell) .table) (rowOf (map w (fedBy cells t)))
+  pub atWires : (x : Wire) → List·Memᴰ x (n .wires) → w (x .target) ≡ w (x .source)
 
 -- "A printed net's arrival follows the same rule over the gate lines, in whatever order they stand, with the library text's `d` delays."
+-- The `.names` lines "aren't gates and add no delay": an output's own name arrives as its net.
 pub record NetArrivals (cells : List Cell) (n : Blif) (at : List ℕ → ℕ) : Type 0 where
   pub atInputs : (name : List ℕ) → List·Memᴰ name (n .inputs) → at name ≡ 0
   pub atGates : (t : GateLine) → List·Memᴰ t (n .gates) → at (drives t) ≡ latest (map at (fedBy cells t)) (named cells (t .cell) .delays)
+  pub atWires : (x : Wire) → List·Memᴰ x (n .wires) → at (x .target) ≡ at (x .source)

@@ -8,7 +8,7 @@ use mathlib.Core.List.{List, [], _∷_, _++_, map, List·Memᴰ}
 use mathlib.Core.Logic.{_⊎_, _↔_}
 use Prim.Native.Nat.{Ordering·gt}
 use lib.ListN.{length, getD}
-use Rattle.model.specs.Base.{each}
+use Rattle.model.specs.Base.{each, below}
 use Rattle.model.specs.Reading.{holds}
 use Rattle.model.specs.Cells.{nameOf}
 use Rattle.model.specs.Graph.{Graph, literal, varOf, negated, unplaced, placingOrder, literalValue, GraphValues}
@@ -16,8 +16,8 @@ use Rattle.model.specs.GraphText.{readHeader, readGraph, asciiText}
 use Rattle.model.specs.Cuts.{cutsOf, compareLeaves, crowded}
 use Rattle.model.specs.Choice.{feeds, cellOf, absent, chosen, preference}
 use Rattle.model.specs.Cover.{IsOwn, Allowed, Needed, arrivalBy, Cover, CoverArrivals}
-use Rattle.model.specs.Netlist.{Outcome, refused, mapped, gates, figuresOf, netlistText, netName, sum, largest}
-use Rattle.model.specs.Blif.{GateLine, Binding, Blif, readBlif, readFigures, named, drives, fedBy, pinNames, outputName, NetValues, NetArrivals}
+use Rattle.model.specs.Netlist.{Outcome, refused, mapped, gates, figuresOf, netlistText, netName, outName, sum, largest}
+use Rattle.model.specs.Blif.{GateLine, Binding, Wire, Blif, readBlif, readFigures, named, drives, fedBy, pinNames, outputName, NetValues, NetArrivals}
 use Rattle.model.specs.Mapper.{Call, Design, readTexts, mapTexts, answerOf, returned, returnedBy, textAfter, workAfter}
 use Rattle.model.specs.declared.Cell.{Cell}
 use Rattle.model.specs.declared.Header.{Header}
@@ -41,10 +41,10 @@ pub record Memory (c : Call) (work text : List ℕ) (answer : Answer) (workLeft 
 
 -- ---- what is printed
 
--- the nets that a netlist drives: "`.inputs` drives its nets"
+-- the nets that a netlist drives: "`.inputs` drives its nets", each gate its own, and each output's `.names` line that output's own name
 unfoldable pub drivenNets : Blif → List (List ℕ)
 unfolding drives
-drivenNets n = n .inputs ++ map drives (n .gates)
+drivenNets n = n .inputs ++ (map drives (n .gates) ++ map (λ (x : Wire). x .target) (n .wires))
 
 -- the text t is printed with figures f for a design, reads back as n, and its `# gates` line says f
 pub record Printed (c : Call) (t : List ℕ) (f : Figures) (d : Design) (n : Blif) : Type 0 where
@@ -61,16 +61,20 @@ OfPrinted P c = (t : List ℕ) (f : Figures) (d : Design) (n : Blif) → Printed
 abbrev pub Readable : Call → Type 0
 Readable c = (t : List ℕ) (f : Figures) → mapTexts c ≡ mapped t f → (d : Design) × (n : Blif) × Printed c t f d n
 
--- "Inputs and outputs keep the file's order." "Nets are `p` or `m` (negative) and the variable". Each gate is of a listed cell and binds its
--- pins and its output; no net is driven twice, and every net that is used is driven
+-- "Inputs and outputs keep the file's order." "The list becomes `o0`, `o1` and so on, in file order. Before `.end`, each gets `.names` with its net and
+-- its own name": the wires lead to the listed names, in this order, from the nets of the graph's outputs. "Nets are `p` or `m` (negative) and the
+-- variable": inputs' and gates' nets are such, and all others are outputs' own names. Each gate is of a listed cell and binds its pins and its
+-- output; no net is driven twice, and every net that is used is driven
 pub record Formed (cells : List Cell) (g : Graph) (f : Figures) (n : Blif) : Type 0 where
   pub inputs : n .inputs ≡ map (λ (v : ℕ). netName (literal false v)) (g .inputs)
-  pub outputs : n .outputs ≡ map netName (g .outputs)
+  pub outputs : n .outputs ≡ map outName (below (length (g .outputs)))
+  pub targets : map (λ (x : Wire). x .target) (n .wires) ≡ n .outputs
+  pub sources : map (λ (x : Wire). x .source) (n .wires) ≡ map netName (g .outputs)
   pub listed : (t : GateLine) → List·Memᴰ t (n .gates) → (c : Cell) × List·Memᴰ c cells × (nameOf c ≡ t .cell)
       × (map (λ (b : Binding). b .pin) (t .bindings) ≡ pinNames (c .pins) ++ (outputName ∷ []))
-  pub nets : (net : List ℕ) → List·Memᴰ net (drivenNets n) → (l : ℕ) × (net ≡ netName l)
+  pub nets : (net : List ℕ) → List·Memᴰ net (n .inputs ++ map drives (n .gates)) → (l : ℕ) × (net ≡ netName l)
   pub once : Distinct (drivenNets n)
-  pub driven : (net : List ℕ) → List·Memᴰ net (n .outputs ++ each (fedBy cells) (n .gates)) → List·Memᴰ net (drivenNets n)
+  pub driven : (net : List ℕ) → List·Memᴰ net (n .outputs ++ (each (fedBy cells) (n .gates) ++ map (λ (x : Wire). x .source) (n .wires))) → List·Memᴰ net (drivenNets n)
 
 -- "by ascending variable, `p` first"
 abbrev pub Before : ℕ → ℕ → Type 0
@@ -90,14 +94,15 @@ pub record Gated (cells : List Cell) (g : Graph) (f : Figures) (n : Blif) : Type
       → (t .cell ≡ nameOf (cellOf cells (chosen cells g l .source))) × (fedBy cells t ≡ map netName (feeds cells (cutsOf g) l (chosen cells g l .source)))
 
 -- ---- Demand 2: "the printed netlist, read by BLIF's rules with the listed cells' tables, gives every output the value that the AIGER graph
--- gives it, for every setting of the inputs": both have values, and with any such values each output has the graph's
+-- gives it, for every setting of the inputs": both have values, and with any such values each output, at its `o` name, has the graph's
 pub record SameValues (cells : List Cell) (g : Graph) (f : Figures) (n : Blif) : Type 0 where
   pub graphHas : (setting : ℕ → Bool) → (v : ℕ → Bool) × GraphValues g setting v
   pub netlistHas : (setting : ℕ → Bool) → (w : List ℕ → Bool) × NetValues cells n (map setting (g .inputs)) w
   pub same : (setting v : ℕ → Bool) → GraphValues g setting v → (w : List ℕ → Bool) → NetValues cells n (map setting (g .inputs)) w
       → map w (n .outputs) ≡ map (literalValue v) (g .outputs)
 
--- "the figures equal those of the printed text": nets have arrivals, and with any such arrivals the figures are the text's.
+-- "the figures equal those of the printed text": nets have arrivals, and with any such arrivals, an output's "read at its `o` name", the figures are
+-- the text's.
 -- "Gates number at most 2(M+1)."
 pub record SameFigures (cells : List Cell) (g : Graph) (f : Figures) (n : Blif) : Type 0 where
   pub hasArrivals : (at : List ℕ → ℕ) × NetArrivals cells n at
@@ -113,6 +118,13 @@ NoEarlier cells g f n =
     (at : List ℕ → ℕ) → NetArrivals cells n at → (l : ℕ) → List·Memᴰ (netName l) (drivenNets n)
     → (c : Cover cells g (g .outputs)) (arrival : ℕ → ℕ) → CoverArrivals cells g (g .outputs) c arrival → Needed cells g (g .outputs) (c .source) l
     → at (netName l) ≤ arrival l
+
+-- the same of the nets `o0`, `o1` and so on: output k's own name arrives as its net, which every cover of the outputs has
+abbrev pub OutputsNoEarlier : List Cell → Graph → Figures → Blif → Type 0
+OutputsNoEarlier cells g f n =
+    (at : List ℕ → ℕ) → NetArrivals cells n at → (k : ℕ) → k < length (g .outputs)
+    → (at (outName k) ≡ at (netName (getD (g .outputs) k 0)))
+    × ((c : Cover cells g (g .outputs)) (arrival : ℕ → ℕ) → CoverArrivals cells g (g .outputs) c arrival → at (outName k) ≤ arrival (getD (g .outputs) k 0))
 
 -- "Where no refusal tried before 16 applies and no AND is over 24 cuts"
 pub record Mappable (c : Call) (d : Design) : Type 0 where
@@ -191,6 +203,7 @@ pub record Values (c : Call) : Type 0 where
 -- Demand 3
 pub record Earliest (c : Call) : Type 0 where
   pub earliest : OfPrinted NoEarlier c
+  pub outputs : OfPrinted OutputsNoEarlier c
   pub timed : OfMappable CoversTimed c
   pub decided : OfMappable Decided c
   pub choice : OfMappable Chosen c

@@ -87,9 +87,25 @@ unfolding text pinWords netName nameOf
 gateLine t = text ".gate " ++ (nameOf (t .cell) ++ (pinWords 65 (t .pins) ++ (pinWords 79 (t .net ∷ []) ++ text "\n")))
 
 -- "With no names the second or third line is the keyword alone."
-unfoldable pub namesLine : List ℕ → List ℕ → List ℕ
-unfolding text each netName
-namesLine keyword nets = keyword ++ (each (λ (l : ℕ). 32 ∷ netName l) nets ++ text "\n")
+unfoldable pub namesLine : List ℕ → List (List ℕ) → List ℕ
+unfolding text each
+namesLine keyword names = keyword ++ (each (λ (name : List ℕ). 32 ∷ name) names ++ text "\n")
+
+-- an output's own name: "`o0`, `o1` and so on, in file order"
+unfoldable pub outName : ℕ → List ℕ
+unfolding decimal
+outName k = 111 ∷ decimal k
+
+-- "each gets `.names` with its net and its own name, then `1 1`": the lines of output k, which is phase l
+unfoldable pub wireLine : ℕ → ℕ → List ℕ
+unfolding text netName outName
+wireLine k l = text ".names " ++ (netName l ++ (32 ∷ outName k ++ text "\n1 1\n"))
+
+-- those of all outputs from output k on
+unfoldable pub wireLines : ℕ → List ℕ → List ℕ
+unfolding wireLine
+wireLines k [] = []
+wireLines k (l ∷ ls) = wireLine k l ++ wireLines (suc k) ls
 
 -- the sum of a list
 unfoldable pub sum : List ℕ → ℕ
@@ -110,15 +126,16 @@ figuresOf g phase ts = record {
   arrival = largest (map (λ (l : ℕ). phase l .arrival) (g .outputs));
 }
 
--- `.model top`, the names lines, the gates, `.end` and the `# gates` line: "Inputs and outputs keep the file's order."
+-- `.model top`, the names lines, the gates, "Before `.end`" the outputs' lines, and the `# gates` line: "Inputs and outputs keep the file's order."
 unfoldable pub netlistText : Graph → List Gate → Figures → List ℕ
-unfolding text namesLine gateLine decimal literal each
+unfolding text namesLine gateLine decimal literal each netName outName below wireLines
 netlistText g ts f =
     text ".model top\n"
-    ++ (namesLine (text ".inputs") (map (literal false) (g .inputs))
-    ++ (namesLine (text ".outputs") (g .outputs)
+    ++ (namesLine (text ".inputs") (map (λ (v : ℕ). netName (literal false v)) (g .inputs))
+    ++ (namesLine (text ".outputs") (map outName (below (length (g .outputs))))
     ++ (each gateLine ts
-    ++ (text ".end\n# gates " ++ (decimal (f .gates) ++ (text " area " ++ (decimal (f .area) ++ (text " arrival " ++ (decimal (f .arrival) ++ text "\n")))))))))
+    ++ (wireLines 0 (g .outputs)
+    ++ (text ".end\n# gates " ++ (decimal (f .gates) ++ (text " area " ++ (decimal (f .area) ++ (text " arrival " ++ (decimal (f .arrival) ++ text "\n"))))))))))
 
 -- ---- what is printed for a graph that is read
 

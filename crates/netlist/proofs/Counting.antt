@@ -13,23 +13,31 @@ use Rattle.model.specs.Base.{from, each}
 use Rattle.model.specs.Text.{text, decimal}
 use Rattle.model.specs.Cells.{nameOf}
 use Rattle.model.specs.Graph.{varOf}
-use Rattle.model.specs.Netlist.{Gate, netName, pinWords, gateLine, sum, largest}
+use Rattle.model.specs.Netlist.{Gate, netName, outName, pinWords, gateLine, wireLine, sum, largest}
 use Rattle.model.specs.declared.Cell.{Cell}
 use Rattle.model.specs.declared.Library.{Library}
 use Rattle.model.specs.declared.Header.{Header}
 use Rattle.model.specs.declared.Figures.{Figures}
+use Rattle.words.specs.Layout.{outputAt}
 use Rattle.words.specs.Phases.{phaseAt, isNeeded}
 use Rattle.text.proofs.Decimal.{dec-below}
 use Rattle.netlist.specs.declared.Driver.{Driver}
 use Rattle.netlist.specs.declared.Tally.{Tally}
 use Rattle.netlist.specs.declared.Measured.{Measured}
-use Rattle.netlist.specs.Lines.{lineOf, gateBy, gateAt, gatesFrom, gatesOf, tallied, noTally, netAt, netsFrom, spaced, latestFrom, frameText, figuresText, gatesIn, figuresIn, textIn, measuredIn}
+use Rattle.netlist.specs.Lines.{lineOf, gateBy, gateAt, gatesFrom, gatesOf, tallied, noTally, inputNet, inputNamesFrom, outputNamesFrom, spaced, wireLinesFrom, latestFrom, frameText, figuresText, gatesIn, figuresIn, textIn, measuredIn}
 
 -- ---- names
 
 pub net-length : (l : ℕ) → length (netName l) ≡ length (decimal (l / 2)) + 1
 unfolding netName varOf
 net-length l = sym (add-one (length (decimal (l / 2))))
+
+pub out-is : (k : ℕ) → outName k ≡ 111 ∷ decimal k
+unfolding outName
+out-is k = refl
+
+pub out-length : (k : ℕ) → length (outName k) ≡ length (decimal k) + 1
+out-length k = ap length (out-is k) ∙ sym (add-one (length (decimal k)))
 
 -- the digits of a number below 2 ^ 32
 pub ten-digits : (n : ℕ) → n < 4294967296 → length (decimal n) ≤ 10
@@ -100,6 +108,16 @@ pub from-none : (i n : ℕ) → n ≤ i → from i (n - i) ≡ []
 unfolding from
 from-none i n h = let e : n - i ≡ 0 = omega arith in ap (from i) e
 
+-- what stands for each of them
+module _ {B : Type 0} (f : ℕ → List B) (n : ℕ) where
+  pub each-next : (i : ℕ) → i < n → each f (from i (n - i)) ≡ f i ++ each f (from (i + 1) (n - (i + 1)))
+  unfolding each
+  each-next i h = ap (each f) (from-next i n h)
+
+  pub each-none : (i : ℕ) → n ≤ i → each f (from i (n - i)) ≡ []
+  unfolding each
+  each-none i h = ap (each f) (from-none i n h)
+
 -- ---- gates
 
 module _ {A B : Type 0} (f : A → List B) where
@@ -119,12 +137,12 @@ sum-append (x ∷ xs) ys = omega (arith, sum-append xs ys)
 
 module _ (w : List ℕ) (lib : Library) (m n : ℕ) where
   pub gates-next : (l : ℕ) → l < n → gatesFrom w lib m l (n - l) ≡ gateAt w lib m l ++ gatesFrom w lib m (l + 1) (n - (l + 1))
-  unfolding gatesFrom each
-  gates-next l h = ap (each (gateAt w lib m)) (from-next l n h)
+  unfolding gatesFrom
+  gates-next l h = each-next (gateAt w lib m) n l h
 
   pub gates-none : (l : ℕ) → n ≤ l → gatesFrom w lib m l (n - l) ≡ []
-  unfolding gatesFrom each
-  gates-none l h = ap (each (gateAt w lib m)) (from-none l n h)
+  unfolding gatesFrom
+  gates-none l h = each-none (gateAt w lib m) n l h
 
   pub lines-next : (l : ℕ) → l < n → each gateLine (gatesFrom w lib m l (n - l)) ≡ each gateLine (gateAt w lib m l) ++ each gateLine (gatesFrom w lib m (l + 1) (n - (l + 1)))
   lines-next l h = ap (each gateLine) (gates-next l h) ∙ each-append gateLine (gateAt w lib m l) (gatesFrom w lib m (l + 1) (n - (l + 1)))
@@ -188,22 +206,61 @@ tally-one t u =
 
 -- ---- names lines
 
-module _ (w : List ℕ) (m : ℕ) (outs : Bool) (n : ℕ) where
-  pub nets-next : (i : ℕ) → i < n → netsFrom w m outs i (n - i) ≡ netAt w m outs i ∷ netsFrom w m outs (i + 1) (n - (i + 1))
-  unfolding netsFrom
-  nets-next i h = ap (map (netAt w m outs)) (from-next i n h)
+-- a name with the space before it, and what follows
+pub name-length : (name more : List ℕ) → length ((32 ∷ []) ++ (name ++ more)) ≡ 1 + (length name + length more)
+name-length name more = let e : length ((32 ∷ []) ++ (name ++ more)) ≡ suc (length name + length more) = ap suc (length-append name more) in omega arith
 
-  pub nets-none : (i : ℕ) → n ≤ i → netsFrom w m outs i (n - i) ≡ []
-  unfolding netsFrom
-  nets-none i h = ap (map (netAt w m outs)) (from-none i n h)
-
-  pub names-next : (i : ℕ) → i < n → spaced (netsFrom w m outs i (n - i)) ≡ (32 ∷ []) ++ (netName (netAt w m outs i) ++ spaced (netsFrom w m outs (i + 1) (n - (i + 1))))
+-- the names of the numbers from i on
+module _ (name : ℕ → List ℕ) (n : ℕ) where
+  spaced-next : (i : ℕ) → i < n → spaced (map name (from i (n - i))) ≡ (32 ∷ []) ++ (name i ++ spaced (map name (from (i + 1) (n - (i + 1)))))
   unfolding spaced each
-  names-next i h = ap spaced (nets-next i h)
+  spaced-next i h = ap (λ (ks : List ℕ). spaced (map name ks)) (from-next i n h)
 
-  pub names-none : (i : ℕ) → n ≤ i → spaced (netsFrom w m outs i (n - i)) ≡ []
+  spaced-none : (i : ℕ) → n ≤ i → spaced (map name (from i (n - i))) ≡ []
   unfolding spaced each
-  names-none i h = ap spaced (nets-none i h)
+  spaced-none i h = ap (λ (ks : List ℕ). spaced (map name ks)) (from-none i n h)
+
+module _ (w : List ℕ) (m n : ℕ) where
+  pub inputs-next : (i : ℕ) → i < n → spaced (inputNamesFrom w m i (n - i)) ≡ (32 ∷ []) ++ (netName (inputNet w m i) ++ spaced (inputNamesFrom w m (i + 1) (n - (i + 1))))
+  unfolding inputNamesFrom
+  inputs-next i h = spaced-next (λ (k : ℕ). netName (inputNet w m k)) n i h
+
+  pub inputs-none : (i : ℕ) → n ≤ i → spaced (inputNamesFrom w m i (n - i)) ≡ []
+  unfolding inputNamesFrom
+  inputs-none i h = spaced-none (λ (k : ℕ). netName (inputNet w m k)) n i h
+
+module _ (n : ℕ) where
+  pub outputs-next : (i : ℕ) → i < n → spaced (outputNamesFrom i (n - i)) ≡ (32 ∷ []) ++ (outName i ++ spaced (outputNamesFrom (i + 1) (n - (i + 1))))
+  unfolding outputNamesFrom
+  outputs-next i h = spaced-next outName n i h
+
+  pub outputs-none : (i : ℕ) → n ≤ i → spaced (outputNamesFrom i (n - i)) ≡ []
+  unfolding outputNamesFrom
+  outputs-none i h = spaced-none outName n i h
+
+-- ---- the outputs' wires
+
+abbrev pub namesBytes : List ℕ
+namesBytes = 46 ∷ 110 ∷ 97 ∷ 109 ∷ 101 ∷ 115 ∷ 32 ∷ []
+
+abbrev pub rowBytes : List ℕ
+rowBytes = 10 ∷ 49 ∷ 32 ∷ 49 ∷ 10 ∷ []
+
+pub wire-is : (k l : ℕ) → wireLine k l ≡ namesBytes ++ (netName l ++ ((32 ∷ []) ++ (outName k ++ rowBytes)))
+unfolding wireLine text
+wire-is k l = refl
+
+pub wire-length : (k l : ℕ) → length (wireLine k l) ≡ length (netName l) + length (outName k) + 13
+wire-length k l = ap length (wire-is k l) ∙ simp length-append (omega arith)
+
+module _ (w : List ℕ) (m n : ℕ) where
+  pub wires-next : (i : ℕ) → i < n → wireLinesFrom w m i (n - i) ≡ wireLine i (outputAt w m i) ++ wireLinesFrom w m (i + 1) (n - (i + 1))
+  unfolding wireLinesFrom
+  wires-next i h = each-next (λ (k : ℕ). wireLine k (outputAt w m k)) n i h
+
+  pub wires-none : (i : ℕ) → n ≤ i → wireLinesFrom w m i (n - i) ≡ []
+  unfolding wireLinesFrom
+  wires-none i h = each-none (λ (k : ℕ). wireLine k (outputAt w m k)) n i h
 
 -- ---- the latest
 
@@ -211,13 +268,13 @@ pub max-assoc : (a b c : ℕ) → max (max a b) c ≡ max a (max b c)
 max-assoc a b c = omega arith
 
 module _ (w : List ℕ) (m n : ℕ) where
-  pub latest-next : (i : ℕ) → i < n → latestFrom w m i (n - i) ≡ max (phaseAt w m (netAt w m true i) .arrival) (latestFrom w m (i + 1) (n - (i + 1)))
+  pub latest-next : (i : ℕ) → i < n → latestFrom w m i (n - i) ≡ max (phaseAt w m (outputAt w m i) .arrival) (latestFrom w m (i + 1) (n - (i + 1)))
   unfolding latestFrom largest
-  latest-next i h = ap (λ (ls : List ℕ). largest (map (λ (l : ℕ). phaseAt w m l .arrival) ls)) (nets-next w m true n i h)
+  latest-next i h = ap (λ (ks : List ℕ). largest (map (λ (k : ℕ). phaseAt w m (outputAt w m k) .arrival) ks)) (from-next i n h)
 
   pub latest-none : (i : ℕ) → n ≤ i → latestFrom w m i (n - i) ≡ 0
   unfolding latestFrom largest
-  latest-none i h = ap (λ (ls : List ℕ). largest (map (λ (l : ℕ). phaseAt w m l .arrival) ls)) (nets-none w m true n i h)
+  latest-none i h = ap (λ (ks : List ℕ). largest (map (λ (k : ℕ). phaseAt w m (outputAt w m k) .arrival) ks)) (from-none i n h)
 
 -- ---- the first lines and the last
 
@@ -238,7 +295,7 @@ abbrev pub arrivalBytes : List ℕ
 arrivalBytes = 32 ∷ 97 ∷ 114 ∷ 114 ∷ 105 ∷ 118 ∷ 97 ∷ 108 ∷ 32 ∷ []
 
 pub frame-is : (w : List ℕ) (m inputs outputs : ℕ)
-    → frameText w m inputs outputs ≡ modelBytes ++ (spaced (netsFrom w m false 0 inputs) ++ (outputsBytes ++ (spaced (netsFrom w m true 0 outputs) ++ (10 ∷ []))))
+    → frameText w m inputs outputs ≡ modelBytes ++ (spaced (inputNamesFrom w m 0 inputs) ++ (outputsBytes ++ (spaced (outputNamesFrom 0 outputs) ++ (10 ∷ []))))
 unfolding frameText text
 frame-is w m inputs outputs = refl
 
@@ -248,17 +305,13 @@ unfolding figuresText text
 figures-are f = refl
 
 pub frame-length : (w : List ℕ) (m inputs outputs : ℕ)
-    → length (frameText w m inputs outputs) ≡ length (spaced (netsFrom w m false 0 inputs)) + length (spaced (netsFrom w m true 0 outputs)) + 28
+    → length (frameText w m inputs outputs) ≡ length (spaced (inputNamesFrom w m 0 inputs)) + length (spaced (outputNamesFrom 0 outputs)) + 28
 unfolding frameText text
 frame-length w m inputs outputs = simp length-append (omega arith)
 
 pub figures-length : (f : Figures) → length (figuresText f) ≡ length (decimal (f .gates)) + length (decimal (f .area)) + length (decimal (f .arrival)) + 29
 unfolding figuresText text
 figures-length f = simp length-append (omega arith)
-
--- a name with the space before it, and what follows
-pub name-length : (l : ℕ) (more : List ℕ) → length ((32 ∷ []) ++ (netName l ++ more)) ≡ 1 + (length (netName l) + length more)
-name-length l more = let e : length ((32 ∷ []) ++ (netName l ++ more)) ≡ suc (length (netName l) + length more) = ap suc (length-append (netName l) more) in omega arith
 
 pub longer : (xs ys : List ℕ) → length xs ≤ length (xs ++ ys)
 longer xs ys = omega (arith, length-append xs ys)
@@ -273,19 +326,21 @@ module _ (w : List ℕ) (lib : Library) (h : Header) (t : Tally) (counted : t �
       let area : t .area ≡ sum (map (λ (u : Gate). u .cell .area) (gatesIn w lib h)) = ap (λ (x : Tally). x .area) counted ∙ omega arith in
       λ i. record { gates = gates i; area = area i; arrival = e i }
 
-  pub measured-in : (f : Figures) (frame figures : ℕ) → f ≡ figuresIn w lib h → frame ≡ length (frameText w (h .size) (h .inputs) (h .outputs)) → figures ≡ length (figuresText f)
-      → _≡_ {A = Measured} (record { length = frame + t .length + figures; figures = f }) (measuredIn w lib h)
+  pub measured-in : (f : Figures) (frame wires figures : ℕ) → f ≡ figuresIn w lib h → frame ≡ length (frameText w (h .size) (h .inputs) (h .outputs))
+      → wires ≡ length (wireLinesFrom w (h .size) 0 (h .outputs)) → figures ≡ length (figuresText f)
+      → _≡_ {A = Measured} (record { length = frame + t .length + wires + figures; figures = f }) (measuredIn w lib h)
   unfolding measuredIn textIn gatesIn tallied
-  measured-in f frame figures e p q =
-      let gates = gatesIn w lib h in
-      let lines : t .length ≡ length (each gateLine gates) = ap (λ (x : Tally). x .length) counted ∙ omega arith in
-      let parts : length (frameText w (h .size) (h .inputs) (h .outputs) ++ (each gateLine gates ++ figuresText f)) ≡ length (frameText w (h .size) (h .inputs) (h .outputs)) + (length (each gateLine gates) + length (figuresText f)) =
-      length-append (frameText w (h .size) (h .inputs) (h .outputs)) (each gateLine gates ++ figuresText f) ∙ ap (λ (n : ℕ). length (frameText w (h .size) (h .inputs) (h .outputs)) + n) (length-append (each gateLine gates) (figuresText f)) in
-      let whole : frame + t .length + figures ≡ length (frameText w (h .size) (h .inputs) (h .outputs) ++ (each gateLine gates ++ figuresText f)) = omega arith in
+  measured-in f frame wires figures e p q r =
+      let top = frameText w (h .size) (h .inputs) (h .outputs) in
+      let lines = each gateLine (gatesIn w lib h) in
+      let ends = wireLinesFrom w (h .size) 0 (h .outputs) in
+      let counts : t .length ≡ length lines = ap (λ (x : Tally). x .length) counted ∙ omega arith in
+      let parts : length (top ++ (lines ++ (ends ++ figuresText f))) ≡ length top + (length lines + (length ends + length (figuresText f))) = simp length-append in
+      let whole : frame + t .length + wires + figures ≡ length (top ++ (lines ++ (ends ++ figuresText f))) = omega arith in
       (λ i. record { length = whole i; figures = f })
-      ∙ ap (λ (x : Figures). record { length = length (frameText w (h .size) (h .inputs) (h .outputs) ++ (each gateLine gates ++ figuresText x)); figures = x }) e
+      ∙ ap (λ (x : Figures). record { length = length (top ++ (lines ++ (ends ++ figuresText x))); figures = x }) e
 
 pub text-is : (w : List ℕ) (lib : Library) (h : Header) (f : Figures)
-    → textIn w lib h f ≡ frameText w (h .size) (h .inputs) (h .outputs) ++ (each gateLine (gatesFrom w lib (h .size) 0 (2 * (h .size + 1))) ++ figuresText f)
+    → textIn w lib h f ≡ frameText w (h .size) (h .inputs) (h .outputs) ++ (each gateLine (gatesFrom w lib (h .size) 0 (2 * (h .size + 1))) ++ (wireLinesFrom w (h .size) 0 (h .outputs) ++ figuresText f))
 unfolding textIn gatesIn
 text-is w lib h f = refl

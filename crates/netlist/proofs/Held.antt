@@ -24,7 +24,7 @@ use Rattle.model.specs.Cuts as cuts
 use Rattle.model.specs.Matching.{phaseTable, fedNets, matchNets}
 use Rattle.model.specs.Choice.{feeds, cellOf, absent, chosen}
 use Rattle.model.specs.Cover.{IsMatch, Allowed}
-use Rattle.model.specs.Netlist.{Gate, gates, gateLine, namesLine, needed, isOwn, sum, largest, figuresOf, netlistText}
+use Rattle.model.specs.Netlist.{Gate, gates, gateLine, netName, namesLine, wireLine, wireLines, needed, isOwn, sum, largest, figuresOf, netlistText}
 use Rattle.model.specs.Demands.{Distinct, choiceFigures}
 use Rattle.model.specs.declared.Cell.{Cell}
 use Rattle.model.specs.declared.Library.{Library}
@@ -49,7 +49,7 @@ use Rattle.theory_cover.proofs.Matches.{fits-places}
 use Rattle.theory_cover.proofs.Sound.{chosen-fine, needed-present}
 use Rattle.theory_text.proofs.Names.{library-cell, cell-form}
 use Rattle.theory.proofs.Needs.{listed-needed}
-use Rattle.netlist.specs.Lines.{lineCell, SourceReady, Gated, matchedGate, invertedGate, gateBy, gateAt, gatesFrom, Named, netAt, netsFrom, spaced, latestFrom, frameText, figuresText, gatesIn, figuresIn, textIn, measuredIn}
+use Rattle.netlist.specs.Lines.{lineCell, SourceReady, Gated, matchedGate, invertedGate, gateBy, gateAt, gatesFrom, Named, inputNet, inputNamesFrom, outputNamesFrom, spaced, wireLinesFrom, latestFrom, frameText, figuresText, gatesIn, figuresIn, textIn, measuredIn}
 use Rattle.netlist.specs.Mapped.{Mapped, gatesFor, textFor, measuredFor}
 use Rattle.netlist.proofs.Counting.{gate-needed, gate-idle, longer}
 
@@ -63,6 +63,15 @@ module _ {A : Type 0} (d : A) (f : ℕ → A) where
   map-from (x ∷ xs) i h =
       ap₂ (λ (y : A) (ys : List A). y ∷ ys) (ap f (sym (add-zero i)) ∙ h 0 (omega arith))
       (map-from xs (suc i) (λ j l. let e : suc i + j ≡ i + suc j = omega arith in ap f e ∙ h (suc j) (omega arith)))
+
+-- the lines of outputs that stand at each place
+module _ (f : ℕ → ℕ) where
+  wires-from : (ls : List ℕ) (i : ℕ) → ((j : ℕ) → j < length ls → f (i + j) ≡ getD ls j 0) → each (λ (k : ℕ). wireLine k (f k)) (from i (length ls)) ≡ wireLines i ls
+  unfolding from each wireLines
+  wires-from [] i h = refl
+  wires-from (l ∷ ls) i h =
+      ap₂ (λ (x : ℕ) (more : List ℕ). wireLine i x ++ more) (ap f (sym (add-zero i)) ∙ h 0 (omega arith))
+      (wires-from ls (suc i) (λ j b. let e : suc i + j ≡ i + suc j = omega arith in ap f e ∙ h (suc j) (omega arith)))
 
 -- at each element one or none: those that are kept
 module _ {A B : Type 0} (f : A → List B) (p : A → Bool) (h : A → B) where
@@ -95,11 +104,16 @@ few-cuts g none v = placed (elem v (placingOrder g)) refl
 regroup : (a b s n o t r : List ℕ) → ((a ++ b) ++ (s ++ ((n ++ o) ++ (t ++ n)))) ++ r ≡ a ++ ((b ++ (s ++ n)) ++ ((o ++ (t ++ n)) ++ r))
 regroup a b s n o t r = simp append-assoc
 
+-- the parts of a netlist with given names of the inputs, gates and wires
+abbrev parted : List (List ℕ) → List (List ℕ) → List Gate → List ℕ → Figures → List ℕ
+parted ins outs ts wires f =
+    (text ".model top\n.inputs" ++ (spaced ins ++ (text "\n.outputs" ++ (spaced outs ++ text "\n")))) ++ (each gateLine ts ++ (wires ++ figuresText f))
+
 text-shape : (g : Graph) (ts : List Gate) (f : Figures)
-    → (text ".model top\n.inputs" ++ (spaced (map (literal false) (g .inputs)) ++ (text "\n.outputs" ++ (spaced (g .outputs) ++ text "\n")))) ++ (each gateLine ts ++ figuresText f) ≡ netlistText g ts f
-unfolding text spaced namesLine netlistText figuresText
+    → parted (map (λ (v : ℕ). netName (literal false v)) (g .inputs)) (outputNamesFrom 0 (length (g .outputs))) ts (wireLines 0 (g .outputs)) f ≡ netlistText g ts f
+unfolding text spaced namesLine netlistText figuresText outputNamesFrom below
 text-shape g ts f =
-    regroup (text ".model top\n") (text ".inputs") (spaced (map (literal false) (g .inputs))) (text "\n") (text ".outputs") (spaced (g .outputs)) (each gateLine ts ++ figuresText f)
+    regroup (text ".model top\n") (text ".inputs") (spaced (map (λ (v : ℕ). netName (literal false v)) (g .inputs))) (text "\n") (text ".outputs") (spaced (outputNamesFrom 0 (length (g .outputs)))) (each gateLine ts ++ (wireLines 0 (g .outputs) ++ figuresText f))
 
 -- ---- the words
 
@@ -226,19 +240,30 @@ module _ (w : List ℕ) (lib : Library) (h : Header) (g : Graph) (k : Mapped w l
 
   -- ---- names
 
-  outputs-held : netsFrom w (g .size) true 0 (length (g .outputs)) ≡ g .outputs
-  unfolding netsFrom netAt
-  outputs-held = map-from 0 (outputAt w (g .size)) (g .outputs) 0 (λ j l. let e : 0 + j ≡ j = omega arith in ap (outputAt w (g .size)) e ∙ k .graph .outputs j l)
+  output-held : (j : ℕ) → j < length (g .outputs) → outputAt w (g .size) (0 + j) ≡ getD (g .outputs) j 0
+  output-held j l = let e : 0 + j ≡ j = omega arith in ap (outputAt w (g .size)) e ∙ k .graph .outputs j l
 
-  inputs-held : netsFrom w (g .size) false 0 (length (g .inputs)) ≡ map (literal false) (g .inputs)
-  unfolding netsFrom netAt placingOrder
-  inputs-held =
-      sym (map-map (literal false) (λ (i : ℕ). slotAt w (g .size) (i + 1)) (from 0 (length (g .inputs))))
-      ∙ ap (map (literal false)) (map-from 0 (λ (i : ℕ). slotAt w (g .size) (i + 1)) (g .inputs) 0 (λ j l.
+  outputs-held : map (outputAt w (g .size)) (from 0 (length (g .outputs))) ≡ g .outputs
+  outputs-held = map-from 0 (outputAt w (g .size)) (g .outputs) 0 output-held
+
+  wires-held : wireLinesFrom w (g .size) 0 (length (g .outputs)) ≡ wireLines 0 (g .outputs)
+  unfolding wireLinesFrom
+  wires-held = wires-from (outputAt w (g .size)) (g .outputs) 0 output-held
+
+  slots-held : map (λ (i : ℕ). slotAt w (g .size) (i + 1)) (from 0 (length (g .inputs))) ≡ g .inputs
+  unfolding placingOrder
+  slots-held =
+      map-from 0 (λ (i : ℕ). slotAt w (g .size) (i + 1)) (g .inputs) 0 (λ j l.
       let e : 0 + j + 1 ≡ suc j = omega arith in
       ap (slotAt w (g .size)) e
       ∙ k .order .slots (suc j) (omega (arith, longer (g .inputs) (placeF (length (g .ands)) (g .ands) (0 ∷ g .inputs))))
-      ∙ List·getD-append (g .inputs) (placeF (length (g .ands)) (g .ands) (0 ∷ g .inputs)) 0 j l))
+      ∙ List·getD-append (g .inputs) (placeF (length (g .ands)) (g .ands) (0 ∷ g .inputs)) 0 j l)
+
+  inputs-held : inputNamesFrom w (g .size) 0 (length (g .inputs)) ≡ map (λ (v : ℕ). netName (literal false v)) (g .inputs)
+  unfolding inputNamesFrom inputNet
+  inputs-held =
+      sym (map-map (λ (v : ℕ). netName (literal false v)) (λ (i : ℕ). slotAt w (g .size) (i + 1)) (from 0 (length (g .inputs))))
+      ∙ ap (map (λ (v : ℕ). netName (literal false v))) slots-held
 
   -- ---- the whole
 
@@ -257,8 +282,8 @@ module _ (w : List ℕ) (lib : Library) (h : Header) (g : Graph) (k : Mapped w l
   text-here : (f : Figures) → textIn w lib header f ≡ textFor lib g f
   unfolding textIn frameText gatesIn
   text-here f =
-      ap₂ (λ (ins outs : List ℕ). (text ".model top\n.inputs" ++ (spaced ins ++ (text "\n.outputs" ++ (spaced outs ++ text "\n")))) ++ (each gateLine (gatesFrom w lib (g .size) 0 (2 * (g .size + 1))) ++ figuresText f)) inputs-held outputs-held
-      ∙ ap (λ (ts : List Gate). (text ".model top\n.inputs" ++ (spaced (map (literal false) (g .inputs)) ++ (text "\n.outputs" ++ (spaced (g .outputs) ++ text "\n")))) ++ (each gateLine ts ++ figuresText f)) gates-held
+      ap₂ (λ (ins : List (List ℕ)) (wires : List ℕ). parted ins (outputNamesFrom 0 (length (g .outputs))) (gatesFrom w lib (g .size) 0 (2 * (g .size + 1))) wires f) inputs-held wires-held
+      ∙ ap (λ (ts : List Gate). parted (map (λ (v : ℕ). netName (literal false v)) (g .inputs)) (outputNamesFrom 0 (length (g .outputs))) ts (wireLines 0 (g .outputs)) f) gates-held
       ∙ text-shape g (gatesFor lib g) f
 
   pub text-held : (f : Figures) → textIn w lib h f ≡ textFor lib g f
@@ -267,7 +292,8 @@ module _ (w : List ℕ) (lib : Library) (h : Header) (g : Graph) (k : Mapped w l
   arrival-held : latestFrom w (g .size) 0 (length (g .outputs)) ≡ largest (map (λ (l : ℕ). chosen (cellsOf lib) g l .arrival) (g .outputs))
   unfolding latestFrom
   arrival-held =
-      ap (λ (ls : List ℕ). largest (map (λ (l : ℕ). phaseAt w (g .size) l .arrival) ls)) outputs-held
+      ap largest (sym (map-map (λ (l : ℕ). phaseAt w (g .size) l .arrival) (outputAt w (g .size)) (from 0 (length (g .outputs)))))
+      ∙ ap (λ (ls : List ℕ). largest (map (λ (l : ℕ). phaseAt w (g .size) l .arrival) ls)) outputs-held
       ∙ ap largest (map-same (λ (l : ℕ). phaseAt w (g .size) l .arrival) (λ (l : ℕ). chosen (cellsOf lib) g l .arrival) (g .outputs) (λ l m. ap (λ (p : Phase). p .arrival) (phase-held l (output-small l m))))
 
   figures-here : figuresIn w lib header ≡ choiceFigures (cellsOf lib) g

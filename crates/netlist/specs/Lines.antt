@@ -1,6 +1,6 @@
 -- The gates, the nets of the names lines, the figures and the text, as the lent words have them. Assumes nothing.
 use mathlib.Core.Path.{_≡_}
-use mathlib.Core.Bool.{Bool, true, false, cond}
+use mathlib.Core.Bool.{Bool, false, cond}
 use mathlib.Core.List.{List, [], _∷_, _++_, map}
 use Prim.Native.Nat.{ℕ, zero, suc, _+_, _*_, _/_, _≤_, _<_}
 use lib.ListN.{length, getD, take}
@@ -11,7 +11,7 @@ use Rattle.model.specs.Table.{orders}
 use Rattle.model.specs.Text.{text, decimal}
 use Rattle.model.specs.Graph.{varOf, literal, opposite}
 use Rattle.model.specs.Matching.{fedNets}
-use Rattle.model.specs.Netlist.{Gate, netName, gateLine, sum, largest}
+use Rattle.model.specs.Netlist.{Gate, netName, outName, gateLine, wireLine, sum, largest}
 use Rattle.model.specs.declared.Cell.{Cell}
 use Rattle.model.specs.declared.Library.{Library}
 use Rattle.model.specs.declared.Header.{Header}
@@ -124,16 +124,11 @@ noTally = record { length = 0; gates = 0; area = 0 }
 
 -- a tally of at most n gates
 pub record Bounded (t : Tally) (n : ℕ) : Type 0 where
-  pub length : t .length ≤ 100 * n
+  pub length : t .length ≤ 85 * n
   pub gates : t .gates ≤ n
   pub area : t .area ≤ 65535 * n
 
--- ---- the names lines
-
--- how many inputs or outputs there may be
-abbrev pub limit : ℕ → ℕ → Bool → ℕ
-limit m outputs true = outputs
-limit m outputs false = m
+-- ---- the names lines, and the outputs' wires
 
 -- the names of the words can be made
 pub record Named (w : List ℕ) (m inputs outputs : ℕ) : Type 0 where
@@ -142,34 +137,42 @@ pub record Named (w : List ℕ) (m inputs outputs : ℕ) : Type 0 where
   pub fewOutputs : outputs ≤ 4096
   pub within : (i : ℕ) → i < outputs → outputAt w m i / 2 ≤ m
 
--- the net of input i or of output i
-unfoldable pub netAt : List ℕ → ℕ → Bool → ℕ → ℕ
+-- the net of input i
+unfoldable pub inputNet : List ℕ → ℕ → ℕ → ℕ
 unfolding literal
-netAt w m true i = outputAt w m i
-netAt w m false i = literal false (slotAt w m (i + 1))
+inputNet w m i = literal false (slotAt w m (i + 1))
 
--- n of them, from i on
-unfoldable pub netsFrom : List ℕ → ℕ → Bool → ℕ → ℕ → List ℕ
-unfolding from
-netsFrom w m outs i n = map (netAt w m outs) (from i n)
+-- the names of n inputs, and of n outputs, from i on
+unfoldable pub inputNamesFrom : List ℕ → ℕ → ℕ → ℕ → List (List ℕ)
+unfolding from netName inputNet
+inputNamesFrom w m i n = map (λ (k : ℕ). netName (inputNet w m k)) (from i n)
+
+unfoldable pub outputNamesFrom : ℕ → ℕ → List (List ℕ)
+unfolding from outName
+outputNamesFrom i n = map outName (from i n)
 
 -- each name with the space before it, as `namesLine` has them
-unfoldable pub spaced : List ℕ → List ℕ
-unfolding each netName
-spaced nets = each (λ (l : ℕ). 32 ∷ netName l) nets
+unfoldable pub spaced : List (List ℕ) → List ℕ
+unfolding each
+spaced names = each (λ (name : List ℕ). 32 ∷ name) names
+
+-- the lines of n outputs' wires from output i on
+unfoldable pub wireLinesFrom : List ℕ → ℕ → ℕ → ℕ → List ℕ
+unfolding each from wireLine
+wireLinesFrom w m i n = each (λ (k : ℕ). wireLine k (outputAt w m k)) (from i n)
 
 -- the latest of n outputs from i on
 unfoldable pub latestFrom : List ℕ → ℕ → ℕ → ℕ → ℕ
-unfolding largest
-latestFrom w m i n = largest (map (λ (l : ℕ). phaseAt w m l .arrival) (netsFrom w m true i n))
+unfolding from largest
+latestFrom w m i n = largest (map (λ (k : ℕ). phaseAt w m (outputAt w m k) .arrival) (from i n))
 
 -- ---- the netlist
 
--- the lines before the gates, and those behind them
+-- the lines before the gates, and those behind the wires
 unfoldable pub frameText : List ℕ → ℕ → ℕ → ℕ → List ℕ
 unfolding text
 frameText w m inputs outputs =
-    text ".model top\n.inputs" ++ (spaced (netsFrom w m false 0 inputs) ++ (text "\n.outputs" ++ (spaced (netsFrom w m true 0 outputs) ++ text "\n")))
+    text ".model top\n.inputs" ++ (spaced (inputNamesFrom w m 0 inputs) ++ (text "\n.outputs" ++ (spaced (outputNamesFrom 0 outputs) ++ text "\n")))
 
 unfoldable pub figuresText : Figures → List ℕ
 unfolding text decimal
@@ -189,7 +192,9 @@ figuresIn w lib h = record {
 
 unfoldable pub textIn : List ℕ → Library → Header → Figures → List ℕ
 unfolding each gatesIn
-textIn w lib h f = frameText w (h .size) (h .inputs) (h .outputs) ++ (each gateLine (gatesIn w lib h) ++ figuresText f)
+textIn w lib h f =
+    frameText w (h .size) (h .inputs) (h .outputs)
+    ++ (each gateLine (gatesIn w lib h) ++ (wireLinesFrom w (h .size) 0 (h .outputs) ++ figuresText f))
 
 unfoldable pub measuredIn : List ℕ → Library → Header → Measured
 unfolding textIn figuresIn

@@ -8,19 +8,18 @@ use model::Library;
 use model::Match;
 use model::Source;
 ghost use mathlib.Core.Path.{_≡_};
-ghost use mathlib.Core.Bool.{true, false};
 ghost use mathlib.Core.List.{List, _∷_, [], _++_};
 ghost use Prim.Native.Nat.{ℕ, _+_, _-_, _*_, _/_, _≤_, _<_, max};
 ghost use lib.ListN.{length, take, drop};
 ghost use Rattle.model.specs.Base.{each};
 ghost use Rattle.model.specs.Text.{decimal};
 ghost use Rattle.model.specs.Graph.{Graph};
-ghost use Rattle.model.specs.Netlist.{netName, pinWords, gateLine};
+ghost use Rattle.model.specs.Netlist.{netName, pinWords, gateLine, outName, wireLine};
 ghost use Rattle.words.specs.Layout.{Room, RoomFor, outputAt};
 ghost use Rattle.words.specs.Phases.{phaseAt};
 ghost use Rattle.truth.specs.Variant.{placesOf};
 ghost use Rattle.netlist.specs.Writing.{Wrote};
-ghost use Rattle.netlist.specs.Lines.{lineOf, fourNets, MatchReady, SourceReady, Gated, matchedGate, invertedGate, gateBy, gateAt, isGateAt, gateFrom, gatesFrom, gatesOf, Drives, tallied, noTally, Bounded, limit, Named, netAt, netsFrom, spaced, latestFrom, frameText, figuresText, textIn, measuredIn, Small};
+ghost use Rattle.netlist.specs.Lines.{lineOf, fourNets, MatchReady, SourceReady, Gated, matchedGate, invertedGate, gateBy, gateAt, isGateAt, gateFrom, gatesFrom, gatesOf, Drives, tallied, noTally, Bounded, Named, inputNet, inputNamesFrom, outputNamesFrom, spaced, wireLinesFrom, latestFrom, frameText, figuresText, textIn, measuredIn, Small};
 ghost use Rattle.netlist.specs.Mapped.{Mapped, textFor, measuredFor};
 
 // What drives a net: a cell and, for its first `count` pins, the nets that feed it, as literals. Nothing where the net is not there.
@@ -166,7 +165,7 @@ fn put_gate(out: &mut [u8], at: usize, c: Cell, nets: [u32; 4], count: usize, ne
 // How long a gate line is.
 fn gate_len(c: Cell, nets: [u32; 4], count: usize, net: u32) -> usize
     requires { ⌜ count ≤ 4 ⌝ }
-    ensures { λ r. ⌜ (r ≡ length (lineOf c (take count nets) net)) × (r ≤ 100) ⌝ }
+    ensures { λ r. ⌜ (r ≡ length (lineOf c (take count nets) net)) × (r ≤ 85) ⌝ }
 {
     name_len(c.len) + pins_len(nets, count) + net_len(net) + 10
 }
@@ -394,35 +393,23 @@ fn count_gates(work: &[u16], lib: Library, m: usize) -> Tally
 
 // ---- names lines
 
-// The net of input i, or of output i.
-fn net_at(work: &[u16], m: usize, outputs: usize, outs: bool, i: usize) -> u32
-    requires { ⌜ RoomFor (now work) m outputs × (i < limit m outputs outs) ⌝ }
-    ensures { λ r. ⌜ r ≡ netAt (now (work .entry)) m outs i ⌝ }
+// The net of input i.
+fn input_net(work: &[u16], m: usize, i: usize) -> u32
+    requires { ⌜ Room (now work) m × (i < m) ⌝ }
+    ensures { λ r. ⌜ r ≡ inputNet (now (work .entry)) m i ⌝ }
 {
-    if outs {
-        words::output(work, m, outputs, i) as u32
-    } else {
-        2 * words::slot(work, m, i + 1) as u32
-    }
+    2 * words::slot(work, m, i + 1) as u32
 }
 
 // "Inputs and outputs keep the file's order."
-fn put_names(
-    work: &[u16],
-    m: usize,
-    outputs: usize,
-    outs: bool,
-    n: usize,
-    out: &mut [u8],
-    at: usize,
-) -> usize
-    requires { ⌜ RoomFor (now work) m outputs × (n ≤ limit m outputs outs) × (at + length (spaced (netsFrom (now work) m outs 0 n)) ≤ length (now out)) ⌝ }
-    ensures { λ r. ⌜ Wrote (now (out .entry)) (now (out .exit)) at r (spaced (netsFrom (now (work .entry)) m outs 0 n)) ⌝ }
+fn put_inputs(work: &[u16], m: usize, n: usize, out: &mut [u8], at: usize) -> usize
+    requires { ⌜ Room (now work) m × (n ≤ m) × (at + length (spaced (inputNamesFrom (now work) m 0 n)) ≤ length (now out)) ⌝ }
+    ensures { λ r. ⌜ Wrote (now (out .entry)) (now (out .exit)) at r (spaced (inputNamesFrom (now (work .entry)) m 0 n)) ⌝ }
 {
     let mut next = at;
     let mut i: usize = 0;
     while i < n {
-        let net = net_at(work, m, outputs, outs, i);
+        let net = input_net(work, m, i);
         let place = put_byte(out, next, b' ');
         next = put_net(out, place, net);
         i += 1;
@@ -430,14 +417,57 @@ fn put_names(
     next
 }
 
-fn names_len(work: &[u16], m: usize, outputs: usize, outs: bool, n: usize) -> usize
-    requires { ⌜ RoomFor (now work) m outputs × (n ≤ limit m outputs outs) × (n ≤ 4096) ⌝ }
-    ensures { λ r. ⌜ (r ≡ length (spaced (netsFrom (now (work .entry)) m outs 0 n))) × (r ≤ 12 * n) ⌝ }
+fn inputs_len(work: &[u16], m: usize, n: usize) -> usize
+    requires { ⌜ Room (now work) m × (n ≤ m) ⌝ }
+    ensures { λ r. ⌜ (r ≡ length (spaced (inputNamesFrom (now (work .entry)) m 0 n))) × (r ≤ 12 * n) ⌝ }
 {
     let mut len: usize = 0;
     let mut i: usize = 0;
     while i < n {
-        len = len + 1 + net_len(net_at(work, m, outputs, outs, i));
+        len = len + 1 + net_len(input_net(work, m, i));
+        i += 1;
+    }
+    len
+}
+
+// Output k's own name: "`o0`, `o1` and so on".
+fn put_out(out: &mut [u8], at: usize, k: u32) -> usize
+    requires { ⌜ at + length (outName k) ≤ length (now out) ⌝ }
+    ensures { λ r. ⌜ Wrote (now (out .entry)) (now (out .exit)) at r (outName k) ⌝ }
+{
+    let next = put_byte(out, at, b'o');
+    text::put_number(out, next, k)
+}
+
+fn out_len(k: u32) -> usize
+    ensures { λ r. ⌜ (r ≡ length (outName k)) × (r ≤ 11) ⌝ }
+{
+    text::number_len(k) + 1
+}
+
+// "The list becomes `o0`, `o1` and so on, in file order."
+fn put_outputs(n: usize, out: &mut [u8], at: usize) -> usize
+    requires { ⌜ (n ≤ 4096) × (at + length (spaced (outputNamesFrom 0 n)) ≤ length (now out)) ⌝ }
+    ensures { λ r. ⌜ Wrote (now (out .entry)) (now (out .exit)) at r (spaced (outputNamesFrom 0 n)) ⌝ }
+{
+    let mut next = at;
+    let mut i: usize = 0;
+    while i < n {
+        let place = put_byte(out, next, b' ');
+        next = put_out(out, place, i as u32);
+        i += 1;
+    }
+    next
+}
+
+fn outputs_len(n: usize) -> usize
+    requires { ⌜ n ≤ 4096 ⌝ }
+    ensures { λ r. ⌜ (r ≡ length (spaced (outputNamesFrom 0 n))) × (r ≤ 12 * n) ⌝ }
+{
+    let mut len: usize = 0;
+    let mut i: usize = 0;
+    while i < n {
+        len = len + 1 + out_len(i as u32);
         i += 1;
     }
     len
@@ -449,9 +479,9 @@ fn put_frame(work: &[u16], m: usize, inputs: usize, outputs: usize, out: &mut [u
     ensures { λ r. ⌜ Wrote (now (out .entry)) (now (out .exit)) 0 r (frameText (now (work .entry)) m inputs outputs) ⌝ }
 {
     let a = put_bytes(out, 0, b".model top\n.inputs");
-    let b = put_names(work, m, outputs, false, inputs, out, a);
+    let b = put_inputs(work, m, inputs, out, a);
     let c = put_bytes(out, b, b"\n.outputs");
-    let d = put_names(work, m, outputs, true, outputs, out, c);
+    let d = put_outputs(outputs, out, c);
     put_byte(out, d, b'\n')
 }
 
@@ -459,9 +489,65 @@ fn frame_len(work: &[u16], m: usize, inputs: usize, outputs: usize) -> usize
     requires { ⌜ Named (now work) m inputs outputs ⌝ }
     ensures { λ r. ⌜ (r ≡ length (frameText (now (work .entry)) m inputs outputs)) × (r ≤ 100000) ⌝ }
 {
-    let a = names_len(work, m, outputs, false, inputs);
-    let b = names_len(work, m, outputs, true, outputs);
+    let a = inputs_len(work, m, inputs);
+    let b = outputs_len(outputs);
     a + b + 28
+}
+
+// ---- the outputs' wires
+
+// The net of output i.
+fn output_net(work: &[u16], m: usize, outputs: usize, i: usize) -> u32
+    requires { ⌜ RoomFor (now work) m outputs × (i < outputs) ⌝ }
+    ensures { λ r. ⌜ r ≡ outputAt (now (work .entry)) m i ⌝ }
+{
+    words::output(work, m, outputs, i) as u32
+}
+
+// "`.names` with its net and its own name, then `1 1`": the lines of output k, which is phase l.
+fn put_wire(out: &mut [u8], at: usize, k: u32, l: u32) -> usize
+    requires { ⌜ at + length (wireLine k l) ≤ length (now out) ⌝ }
+    ensures { λ r. ⌜ Wrote (now (out .entry)) (now (out .exit)) at r (wireLine k l) ⌝ }
+{
+    let a = put_bytes(out, at, b".names ");
+    let b = put_net(out, a, l);
+    let c = put_byte(out, b, b' ');
+    let d = put_out(out, c, k);
+    put_bytes(out, d, b"\n1 1\n")
+}
+
+fn wire_len(k: u32, l: u32) -> usize
+    ensures { λ r. ⌜ (r ≡ length (wireLine k l)) × (r ≤ 35) ⌝ }
+{
+    net_len(l) + out_len(k) + 13
+}
+
+// "Before `.end`, each gets `.names`"
+fn put_wires(work: &[u16], m: usize, outputs: usize, out: &mut [u8], at: usize) -> usize
+    requires { ⌜ RoomFor (now work) m outputs × (outputs ≤ 4096) × (at + length (wireLinesFrom (now work) m 0 outputs) ≤ length (now out)) ⌝ }
+    ensures { λ r. ⌜ Wrote (now (out .entry)) (now (out .exit)) at r (wireLinesFrom (now (work .entry)) m 0 outputs) ⌝ }
+{
+    let mut next = at;
+    let mut i: usize = 0;
+    while i < outputs {
+        let net = output_net(work, m, outputs, i);
+        next = put_wire(out, next, i as u32, net);
+        i += 1;
+    }
+    next
+}
+
+fn wires_len(work: &[u16], m: usize, outputs: usize) -> usize
+    requires { ⌜ RoomFor (now work) m outputs × (outputs ≤ 4096) ⌝ }
+    ensures { λ r. ⌜ (r ≡ length (wireLinesFrom (now (work .entry)) m 0 outputs)) × (r ≤ 35 * outputs) ⌝ }
+{
+    let mut len: usize = 0;
+    let mut i: usize = 0;
+    while i < outputs {
+        len = len + wire_len(i as u32, output_net(work, m, outputs, i));
+        i += 1;
+    }
+    len
 }
 
 // ---- figures
@@ -495,7 +581,7 @@ fn larger(a: u32, b: u32) -> u32
 // When output i arrives.
 fn output_arrival(work: &[u16], m: usize, outputs: usize, i: usize) -> u32
     requires { ⌜ RoomFor (now work) m outputs × (i < outputs) × (outputAt (now work) m i / 2 ≤ m) ⌝ }
-    ensures { λ r. ⌜ r ≡ phaseAt (now (work .entry)) m (netAt (now (work .entry)) m true i) .arrival ⌝ }
+    ensures { λ r. ⌜ r ≡ phaseAt (now (work .entry)) m (outputAt (now (work .entry)) m i) .arrival ⌝ }
 {
     let l = words::output(work, m, outputs, i);
     let p = words::phase(work, m, l);
@@ -529,7 +615,9 @@ fn measure_words(work: &[u16], lib: Library, h: Header) -> Measured
         area: t.area,
         arrival,
     };
-    let length = frame_len(work, h.size, h.inputs, h.outputs) + t.length + figures_len(figures);
+    let frame = frame_len(work, h.size, h.inputs, h.outputs);
+    let wires = wires_len(work, h.size, h.outputs);
+    let length = frame + t.length + wires + figures_len(figures);
     Measured { length, figures }
 }
 
@@ -539,7 +627,8 @@ fn write_words(work: &[u16], lib: Library, h: Header, f: Figures, out: &mut [u8]
 {
     let a = put_frame(work, h.size, h.inputs, h.outputs, out);
     let b = put_gates(work, lib, h.size, out, a);
-    put_figures(out, b, f)
+    let c = put_wires(work, h.size, h.outputs, out, b);
+    put_figures(out, c, f)
 }
 
 // The netlist's length and figures, before a byte is written.

@@ -22,7 +22,8 @@ use Rattle.theory_cover.proofs.Earliest.{earliest}
 use Rattle.theory_cover.proofs.Sound.{chosen-fine}
 use Rattle.theory_text.proofs.ReadBack.{lineOf, blifOf}
 use Rattle.theory.proofs.Needs.{needed-listed}
-use Rattle.theory.proofs.Gates.{sourceOf, NeedsOf, gateOf, chosenGates, byName, by-name, by-feeding, present, bound, input-bound, gate-in, gate-out, line-bound, own-value, own-source, own-net}
+use Rattle.theory.proofs.Gates.{sourceOf, NeedsOf, gateOf, chosenGates, by-feeding, present, bound, input-bound, gate-in, gate-out, line-bound, own-value, own-source, own-net}
+use Rattle.theory.proofs.Wires.{byLabel, by-net, by-wire}
 
 module _ (cells : List Cell) (fit : T (libraryFits cells)) (g : Graph) (ok : Accepted g)
     (present-outputs : (l : ℕ) → List·Memᴰ l (g .outputs) → absent (chosen cells g l .source) ≡ false) where
@@ -43,11 +44,11 @@ module _ (cells : List Cell) (fit : T (libraryFits cells)) (g : Graph) (ok : Acc
   clock l = cond (elem l (needed cells g (chosen cells g))) (chosen cells g l .arrival) 0
 
   abbrev pub theTime : List ℕ → ℕ
-  theTime = byName 0 clock (below (2 * suc (g .size)))
+  theTime = byLabel 0 clock (g .outputs) (below (2 * suc (g .size)))
 
   the-time : (l : ℕ) → NeedsOf cells g l → theTime (netName l) ≡ chosen cells g l .arrival
   the-time l n =
-      by-name 0 clock (below (2 * suc (g .size))) l (below-in (2 * suc (g .size)) l (bound cells fit g ok present-outputs l n))
+      by-net 0 clock (g .outputs) (below (2 * suc (g .size))) l (below-in (2 * suc (g .size)) l (bound cells fit g ok present-outputs l n))
       ∙ ap (λ (b : Bool). cond b (chosen cells g l .arrival) 0) (elem-in l (needed cells g (chosen cells g)) (needed-listed cells g (order-once g ok) l n))
 
   -- an input's own net is a cover of it, so the choice is no later
@@ -78,10 +79,14 @@ module _ (cells : List Cell) (fit : T (libraryFits cells)) (g : Graph) (ok : Acc
   -- the chosen arrivals are by the rule
   pub times-hold : NetArrivals cells (blifOf g (chosenGates cells g)) theTime
   unfolding blifOf
-  times-hold = record { atInputs = λ name m. at-input name (map-out (λ (v : ℕ). netName (literal false v)) (g .inputs) m); atGates = λ t m. at-gate t (map-out lineOf (chosenGates cells g) m) }
+  times-hold = record {
+    atInputs = λ name m. at-input name (map-out (λ (v : ℕ). netName (literal false v)) (g .inputs) m);
+    atGates = λ t m. at-gate t (map-out lineOf (chosenGates cells g) m);
+    atWires = by-wire 0 clock (g .outputs) (below (2 * suc (g .size))) (λ l m. below-in (2 * suc (g .size)) l (bound cells fit g ok present-outputs l (output m)));
+  }
     where
       zero-time : (l : ℕ) → IsOwn g l → l < 2 * suc (g .size) → theTime (netName l) ≡ 0
-      zero-time l o h = by-name 0 clock (below (2 * suc (g .size))) l (below-in (2 * suc (g .size)) l h) ∙ go (elem l (needed cells g (chosen cells g)))
+      zero-time l o h = by-net 0 clock (g .outputs) (below (2 * suc (g .size))) l (below-in (2 * suc (g .size)) l h) ∙ go (elem l (needed cells g (chosen cells g)))
         where
           go : (b : Bool) → cond b (chosen cells g l .arrival) 0 ≡ 0
           go true = input-time l o

@@ -7,33 +7,34 @@ use mathlib.Core.Path.{_≡_, refl, sym, _∙_, ap, subst}
 use mathlib.Core.Logic.{_⊎_, inl, inr, _↔_}
 use mathlib.Core.Bool.{Bool, true, false, cond}
 use mathlib.Core.Option.{Option, some}
-use mathlib.Core.List.{List, [], _∷_, map, List·Memᴰ, List·Memᴰ·append-cases, Memᴰ·append-left}
+use mathlib.Core.List.{List, [], _∷_, _++_, map, List·Memᴰ, List·Memᴰ·append-cases, Memᴰ·append-left}
 use lib.Dec.{T, leb, leb→le, le→leb}
-use lib.ListN.{length}
+use lib.ListN.{length, getD}
 use Rattle.model.specs.Reading.{Read, holds, fault}
 use Rattle.model.specs.Cells.{nameOf}
-use Rattle.model.specs.Base.{each, flip}
-use Rattle.model.specs.Graph.{And, Graph, varOf, negated, literal, literalValue, valueOf}
+use Rattle.model.specs.Base.{each, flip, below}
+use Rattle.model.specs.Graph.{And, Graph, varOf, negated, literalValue, valueOf}
 use Rattle.model.specs.Choice.{chosen}
 use Rattle.model.specs.Cover.{output}
-use Rattle.model.specs.Netlist.{Gate, Outcome, refused, mapped, mapGraph, gates, figuresOf, netName, sum, largest}
-use Rattle.model.specs.Blif.{GateLine, Blif, readBlif, readFigures, named, drives}
+use Rattle.model.specs.Netlist.{Gate, Outcome, refused, mapped, mapGraph, gates, figuresOf, netName, outName, sum, largest}
+use Rattle.model.specs.Blif.{GateLine, Wire, Blif, readBlif, readFigures, named, drives}
 use Rattle.model.specs.Mapper.{Call, Design, readTexts, mapTexts, mapDesign, within}
-use Rattle.model.specs.Demands.{drivenNets, Printed, OfPrinted, Readable, Formed, Gated, SameValues, SameFigures, NoEarlier, OfMappable, CoversTimed, Decided, Chosen, choiceText, choiceFigures, Values, Earliest, Twins}
+use Rattle.model.specs.Demands.{drivenNets, Printed, OfPrinted, Readable, Formed, Gated, SameValues, SameFigures, NoEarlier, OutputsNoEarlier, OfMappable, CoversTimed, Decided, Chosen, choiceText, choiceFigures, Values, Earliest, Twins}
 use Rattle.model.specs.declared.Cell.{Cell}
 use Rattle.model.specs.declared.Figures.{Figures}
-use Rattle.theory_graph.proofs.Lists.{map-out, map-map, map-same, is-true}
+use Rattle.theory_graph.proofs.Lists.{map-out, map-map, map-same, is-true, getD-in}
 use Rattle.theory_graph.proofs.Distinct.{length-map}
 use Rattle.theory_graph.specs.Accepted.{Accepted, libraryFits}
 use Rattle.theory_graph.proofs.Placing.{defined-placed}
 use Rattle.theory_graph.proofs.GraphValue.{values-exist, values-only}
 use Rattle.theory_cover.proofs.Demand3.{choice-earliest, cover-timed, choice-cover, seventeen-iff, choice-printed}
 use Rattle.theory_cover.proofs.Preference.{choice-preferred}
-use Rattle.theory_text.proofs.ReadBack.{lineOf, blifOf}
+use Rattle.theory_text.proofs.ReadBack.{lineOf, inputNames, wiresFrom, blifOf}
 use Rattle.theory_text.proofs.ReadTexts.{design-library, design-accepted}
 use Rattle.theory_text.proofs.Names.{net-once}
 use Rattle.theory_text.proofs.Twins.{ascii-means, means-outcome}
 use Rattle.theory.proofs.Gates.{gate-out, line-bound, back, figures-said}
+use Rattle.theory.proofs.Wires.{out-net, wire-targets, at-output, at-outputs}
 use Rattle.theory.proofs.Values.{net-value, the, the-holds}
 use Rattle.theory.proofs.Arrivals.{theTime, times-hold, net-time}
 use Rattle.theory.proofs.Outcomes.{FromChoice, outcome-is, printed-choice, refused-never}
@@ -100,7 +101,7 @@ values = of-printed SameValues (λ t f d k. record {
   graphHas = λ setting. (valueOf (d .graph) setting, values-exist (d .graph) (k .graph) setting);
   netlistHas = λ setting. (the (d .cells) (k .library) (d .graph) (k .graph) (k .choice .covered) setting, the-holds (d .cells) (k .library) (d .graph) (k .graph) (k .choice .covered) setting);
   same = λ setting v hv w hw.
-      map-map w netName (d .graph .outputs)
+      at-outputs w (d .graph .outputs) (hw .atWires)
       ∙ map-same (λ (l : ℕ). w (netName l)) (literalValue v) (d .graph .outputs)
       (λ l m. net-value (d .cells) (k .library) (d .graph) (k .graph) (k .choice .covered) setting w hw l (output m)
       ∙ ap (flip (negated l))
@@ -123,7 +124,7 @@ figures = of-printed SameFigures (λ t f d k.
           ap (λ (x : Figures). x .arrival) (c .areFigures)
           ∙ ap largest (map-same (λ (l : ℕ). chosen (d .cells) (d .graph) l .arrival) (λ (l : ℕ). at (netName l)) (d .graph .outputs)
           (λ l m. sym (net-time (d .cells) (k .library) (d .graph) (k .graph) (c .covered) at h l (output m)))
-          ∙ sym (map-map at netName (d .graph .outputs)));
+          ∙ sym (at-outputs at (d .graph .outputs) (h .atWires)));
       bound = le-trans (le-of-eq (ap (λ (x : Figures). x .gates) (c .areFigures))) (gate-count (d .cells) (k .library) (d .graph) (k .graph) (c .covered));
     })
   where
@@ -141,14 +142,20 @@ unfolding blifOf drivenNets
 no-earlier = of-printed NoEarlier at-net
   where
     at-net : (t : List ℕ) (f : Figures) (d : Design) → Known t f d → NoEarlier (d .cells) (d .graph) f (chosenBlif d)
-    at-net t f d k at h l m c arrival times n = go (List·Memᴰ·append-cases (map (λ (v : ℕ). netName (literal false v)) (d .graph .inputs)) m)
+    at-net t f d k at h l m c arrival times n = go (List·Memᴰ·append-cases (inputNames (d .graph)) m)
       where
         ts : List Gate
         ts = gates (d .cells) (d .graph) (chosen (d .cells) (d .graph))
 
-        go : List·Memᴰ (netName l) (map (λ (v : ℕ). netName (literal false v)) (d .graph .inputs)) ⊎ List·Memᴰ (netName l) (map drives (map lineOf ts)) → at (netName l) ≤ arrival l
-        go (inl i) = le-trans (le-of-eq (h .atInputs (netName l) i)) (omega arith)
-        go (inr i) =
+        ends : List (List ℕ)
+        ends = map (λ (x : Wire). x .target) (wiresFrom 0 (d .graph .outputs))
+
+        -- a gate's net, for a net's name is no output's own
+        gate : List·Memᴰ (netName l) (map drives (map lineOf ts)) ⊎ List·Memᴰ (netName l) ends → at (netName l) ≤ arrival l
+        gate (inr i) =
+            let o = map-out outName (below (length (d .graph .outputs))) (subst (λ (xs : List (List ℕ)). List·Memᴰ (netName l) xs) (wire-targets (d .graph .outputs)) i) in
+            absurd (out-net (o .0) l (sym (o .2)))
+        gate (inl i) =
             let o = map-out drives (map lineOf ts) i in
             let u = map-out lineOf ts (o .1) in
             let r = gate-out (d .cells) (k .library) (d .graph) (k .graph) (k .choice .covered) (u .0) (u .1) in
@@ -159,6 +166,22 @@ no-earlier = of-printed NoEarlier at-net
             (le-of-eq (ap at e ∙ net-time (d .cells) (k .library) (d .graph) (k .graph) (k .choice .covered) at h (r .at) (r .needs)
             ∙ ap (λ (x : ℕ). chosen (d .cells) (d .graph) x .arrival) s))
             (choice-earliest (d .cells) (d .graph) (k .graph) (d .graph .outputs) c arrival times l n .1)
+
+        go : List·Memᴰ (netName l) (inputNames (d .graph)) ⊎ List·Memᴰ (netName l) (map drives (map lineOf ts) ++ ends) → at (netName l) ≤ arrival l
+        go (inl i) = le-trans (le-of-eq (h .atInputs (netName l) i)) (omega arith)
+        go (inr i) = gate (List·Memᴰ·append-cases (map drives (map lineOf ts)) i)
+
+pub outputs-no-earlier : (c : Call) → OfPrinted OutputsNoEarlier c
+unfolding blifOf
+outputs-no-earlier = of-printed OutputsNoEarlier (λ t f d k at h j b.
+    let l = getD (d .graph .outputs) j 0 in
+    let n = output (getD-in (d .graph .outputs) j 0 b) in
+    let e : at (outName j) ≡ at (netName l) = at-output at (d .graph .outputs) (h .atWires) j b in (
+      e,
+      (λ c arrival times.
+          le-trans (le-of-eq (e ∙ net-time (d .cells) (k .library) (d .graph) (k .graph) (k .choice .covered) at h l n))
+          (choice-earliest (d .cells) (d .graph) (k .graph) (d .graph .outputs) c arrival times l (output (getD-in (d .graph .outputs) j 0 b)) .1)),
+    ))
 
 pub covers-timed : (c : Call) → OfMappable CoversTimed c
 covers-timed c d p = cover-timed (d .cells) (d .graph) (design-accepted c d (p .design) (p .placed))
@@ -234,6 +257,7 @@ pub demand-earliest : (c : Call) → Earliest c
 demand-earliest c =
     record {
       earliest = no-earlier c;
+      outputs = outputs-no-earlier c;
       timed = covers-timed c;
       decided = decided c;
       choice = choice c;

@@ -14,8 +14,8 @@ use Rattle.model.specs.Graph.{And, Graph, placeF, placingOrder, varOf, negated,
 use Rattle.model.specs.Cuts.{cutsOf}
 use Rattle.model.specs.Choice.{feeds, cellOf, absent, chosen}
 use Rattle.model.specs.Cover.{IsOwn, output, fed}
-use Rattle.model.specs.Netlist.{Gate, isOwn, needed, gates, netName}
-use Rattle.model.specs.Blif.{GateLine, Binding, drives, fedBy, pinNames, outputName}
+use Rattle.model.specs.Netlist.{Gate, isOwn, needed, gates, netName, outName}
+use Rattle.model.specs.Blif.{GateLine, Binding, Wire, drives, fedBy, pinNames, outputName}
 use Rattle.model.specs.Demands.{Distinct, drivenNets, Formed}
 use Rattle.model.specs.declared.Cell.{Cell}
 use Rattle.model.specs.declared.Source.{Source}
@@ -28,7 +28,7 @@ use Rattle.theory_graph.proofs.Runs.{along}
 use Rattle.theory_graph.specs.Accepted.{Accepted, libraryFits}
 use Rattle.theory_graph.proofs.Placing.{order-once}
 use Rattle.theory_graph.proofs.Nodes.{node-input}
-use Rattle.theory_text.proofs.ReadBack.{lineOf, blifOf}
+use Rattle.theory_text.proofs.ReadBack.{lineOf, inputNames, outputNames, wiresFrom, blifOf}
 use Rattle.theory_text.proofs.Names.{net-once}
 use Rattle.model.specs.Choice.{choose, earlier, direct, inverterPhases}
 use lib.Dec.{ltb, ltb→lt}
@@ -36,7 +36,8 @@ use Rattle.theory_cover.proofs.Turns.{own, chosen-entry}
 use Rattle.theory_graph.proofs.Placing.{distinct-once}
 use Rattle.theory_graph.proofs.Lists.{each-out}
 use Rattle.theory_graph.proofs.Distinct.{map-distinct, keep-distinct, below-distinct, append-distinct, length-map, length-keep, length-from}
-use Rattle.theory.proofs.Gates.{sourceOf, NeedsOf, gateOf, chosenGates, bound, gate-in, gate-out, line-bound, gate-listed, own-value, own-source, own-net}
+use Rattle.theory.proofs.Gates.{sourceOf, NeedsOf, gateOf, chosenGates, gate-in, gate-out, line-bound, gate-listed, own-value, own-source, own-net}
+use Rattle.theory.proofs.Wires.{out-once, out-net, wire-targets, wire-sources}
 
 -- ---- "for an input's positive phase its own net"
 
@@ -104,39 +105,49 @@ module _ (cells : List Cell) (fit : T (libraryFits cells)) (g : Graph) (ok : Acc
       ∙ ap (map (λ (u : Gate). netName (u .net))) gates-are
       ∙ map-map (λ (u : Gate). netName (u .net)) (gateOf cells g) gateNets
 
-  driven-are : drivenNets (blifOf g (chosenGates cells g)) ≡ map (λ (v : ℕ). netName (literal false v)) (g .inputs) ++ map netName gateNets
+  driven-are : drivenNets (blifOf g (chosenGates cells g)) ≡ inputNames g ++ (map netName gateNets ++ outputNames g)
   unfolding drivenNets blifOf
-  driven-are = ap (λ (xs : List (List ℕ)). map (λ (v : ℕ). netName (literal false v)) (g .inputs) ++ xs) driven-nets
+  driven-are = ap₂ (λ (xs ys : List (List ℕ)). inputNames g ++ (xs ++ ys)) driven-nets (wire-targets (g .outputs))
 
   -- a needed (chosen cells g)'s net is driven
   pub needed-driven : (l : ℕ) → NeedsOf cells g l → List·Memᴰ (netName l) (drivenNets (blifOf g (chosenGates cells g)))
   unfolding drivenNets blifOf
   needed-driven l n = go (isOwn (sourceOf cells g l)) refl
     where
-      go : (b : Bool) → isOwn (sourceOf cells g l) ≡ b → List·Memᴰ (netName l) (map (λ (v : ℕ). netName (literal false v)) (g .inputs) ++ map drives (map lineOf (chosenGates cells g)))
+      go : (b : Bool) → isOwn (sourceOf cells g l) ≡ b → List·Memᴰ (netName l) (inputNames g ++ (map drives (map lineOf (chosenGates cells g)) ++ map (λ (x : Wire). x .target) (wiresFrom 0 (g .outputs))))
       go true e =
           let o = own-source cells fit g ok present-outputs l n e in
-          Memᴰ·append-left (map drives (map lineOf (chosenGates cells g)))
+          Memᴰ·append-left (map drives (map lineOf (chosenGates cells g)) ++ map (λ (x : Wire). x .target) (wiresFrom 0 (g .outputs)))
           (Memᴰ·cast (ap netName (sym (own-value cells fit g ok present-outputs (λ u. false) l o .0))) (map-in (λ (v : ℕ). netName (literal false v)) (o .isInput)))
       go false e =
-          Memᴰ·append-right (map (λ (v : ℕ). netName (literal false v)) (g .inputs))
-          (Memᴰ·cast (sym (line-bound cells fit g ok present-outputs l n e .isDriven)) (map-in drives (map-in lineOf (gate-in cells fit g ok present-outputs l n e))))
+          Memᴰ·append-right (inputNames g)
+          (Memᴰ·append-left (map (λ (x : Wire). x .target) (wiresFrom 0 (g .outputs)))
+          (Memᴰ·cast (sym (line-bound cells fit g ok present-outputs l n e .isDriven)) (map-in drives (map-in lineOf (gate-in cells fit g ok present-outputs l n e)))))
 
   driven-once : Distinct (drivenNets (blifOf g (chosenGates cells g)))
   driven-once =
       subst Distinct (sym driven-are)
-      (append-distinct (map (λ (v : ℕ). netName (literal false v)) (g .inputs)) (map netName gateNets)
+      (append-distinct (inputNames g) (map netName gateNets ++ outputNames g)
       (map-distinct (λ (v : ℕ). netName (literal false v)) (g .inputs)
       (λ x y e. sym (lit-var false x) ∙ ap varOf (net-once (literal false x) (literal false y) e) ∙ lit-var false y)
       (distinct-once (0 ∷ g .inputs) (map (λ (a : And). a .var) (g .ands)) (ok .defined) .1))
+      (append-distinct (map netName gateNets) (outputNames g)
       (map-distinct netName gateNets net-once
       (keep-distinct (λ (l : ℕ). cond (elem l (needed cells g (chosen cells g))) (not (isOwn (sourceOf cells g l))) false) (below (2 * suc (g .size))) (below-distinct (2 * suc (g .size)))))
-      apart)
+      (map-distinct outName (below (length (g .outputs))) out-once (below-distinct (length (g .outputs))))
+      (λ x m. no-output x (net-of (map-out netName gateNets m))))
+      (λ x m n. both x m (List·Memᴰ·append-cases (map netName gateNets) n)))
     where
       not-own : (a b : Bool) → T (cond a (not b) false) → b ≡ false
       not-own true true u = absurd u
       not-own true false u = refl
       not-own false b u = absurd u
+
+      net-of : {x : List ℕ} → (l : ℕ) × List·Memᴰ l gateNets × (x ≡ netName l) → (l : ℕ) × (x ≡ netName l)
+      net-of o = (o .0, o .2)
+
+      no-output : (x : List ℕ) → (l : ℕ) × (x ≡ netName l) → ¬ List·Memᴰ x (outputNames g)
+      no-output x o n = let k = map-out outName (below (length (g .outputs))) n in out-net (k .0) (o .0) (sym (k .2) ∙ o .1)
 
       own-is : (s : Source) → s ≡ Input → true ≡ isOwn s
       own-is s e = unfold isOwn in sym (ap isOwn e)
@@ -153,15 +164,21 @@ module _ (cells : List Cell) (fit : T (libraryFits cells)) (g : Graph) (ok : Acc
           (own-chosen cells g (order-once g ok) (literal false (i .0)) (own-net cells fit g ok present-outputs (i .0) (i .1))) in
           let own : true ≡ isOwn (sourceOf cells g l) = own-is (sourceOf cells g l) is in true≢false (own ∙ no)
 
+      both : (x : List ℕ) → List·Memᴰ x (inputNames g) → ¬ (List·Memᴰ x (map netName gateNets) ⊎ List·Memᴰ x (outputNames g))
+      both x m (inl n) = apart x m n
+      both x m (inr n) = let i = map-out (λ (v : ℕ). netName (literal false v)) (g .inputs) m in no-output x (literal false (i .0), i .2) n
+
   pub well-formed : (f : Figures) → Formed cells g f (blifOf g (chosenGates cells g))
   unfolding blifOf
   well-formed f = record {
     inputs = refl;
     outputs = refl;
+    targets = wire-targets (g .outputs);
+    sources = wire-sources (g .outputs);
     listed = λ t m. of-line t (map-out lineOf (chosenGates cells g) m);
-    nets = λ net m. is-net net (List·Memᴰ·append-cases (map (λ (v : ℕ). netName (literal false v)) (g .inputs)) (subst (λ (xs : List (List ℕ)). List·Memᴰ net xs) driven-are m));
+    nets = λ net m. is-net net (List·Memᴰ·append-cases (map (λ (v : ℕ). netName (literal false v)) (g .inputs)) (subst (λ (xs : List (List ℕ)). List·Memᴰ net (inputNames g ++ xs)) driven-nets m));
     once = driven-once;
-    driven = λ net m. used net (List·Memᴰ·append-cases (map netName (g .outputs)) m);
+    driven = λ net m. used net (List·Memᴰ·append-cases (outputNames g) m);
   }
     where
       of-line : (t : GateLine) → (u : Gate) × List·Memᴰ u (chosenGates cells g) × (t ≡ lineOf u)
@@ -180,9 +197,12 @@ module _ (cells : List Cell) (fit : T (libraryFits cells)) (g : Graph) (ok : Acc
       is-net net (inl m) = let o = map-out (λ (v : ℕ). netName (literal false v)) (g .inputs) m in (literal false (o .0), o .2)
       is-net net (inr m) = let o = map-out netName gateNets m in (o .0, o .2)
 
-      used : (net : List ℕ) → List·Memᴰ net (map netName (g .outputs)) ⊎ List·Memᴰ net (each (fedBy cells) (map lineOf (chosenGates cells g))) → List·Memᴰ net (drivenNets (blifOf g (chosenGates cells g)))
-      used net (inl m) = let o = map-out netName (g .outputs) m in Memᴰ·cast (o .2) (needed-driven (o .0) (output (o .1)))
-      used net (inr m) =
+      -- an output's net, from which its wire comes, or a net at a gate's pin
+      inner : (net : List ℕ) → List·Memᴰ net (each (fedBy cells) (map lineOf (chosenGates cells g))) ⊎ List·Memᴰ net (map (λ (x : Wire). x .source) (wiresFrom 0 (g .outputs))) → List·Memᴰ net (drivenNets (blifOf g (chosenGates cells g)))
+      inner net (inr m) =
+          let o = map-out netName (g .outputs) (subst (λ (xs : List (List ℕ)). List·Memᴰ net xs) (wire-sources (g .outputs)) m) in
+          Memᴰ·cast (o .2) (needed-driven (o .0) (output (o .1)))
+      inner net (inl m) =
           let t = each-out (fedBy cells) (map lineOf (chosenGates cells g)) m in
           let u = map-out lineOf (chosenGates cells g) (t .1) in
           let r = gate-out cells fit g ok present-outputs (u .0) (u .1) in
@@ -191,3 +211,8 @@ module _ (cells : List Cell) (fit : T (libraryFits cells)) (g : Graph) (ok : Acc
           let x = map-out netName (feeds cells (cutsOf g) l (sourceOf cells g l))
           (subst (λ (nets : List (List ℕ)). List·Memᴰ net nets) (ap (fedBy cells) e ∙ line-bound cells fit g ok present-outputs l (r .needs) (r .notOwn) .isFed) (t .2)) in
           Memᴰ·cast (x .2) (needed-driven (x .0) (fed (r .needs) (x .1)))
+
+      used : (net : List ℕ) → List·Memᴰ net (outputNames g) ⊎ List·Memᴰ net (each (fedBy cells) (map lineOf (chosenGates cells g)) ++ map (λ (x : Wire). x .source) (wiresFrom 0 (g .outputs))) → List·Memᴰ net (drivenNets (blifOf g (chosenGates cells g)))
+      used net (inl m) =
+          subst (λ (xs : List (List ℕ)). List·Memᴰ net xs) (sym driven-are) (Memᴰ·append-right (inputNames g) (Memᴰ·append-right (map netName gateNets) m))
+      used net (inr m) = inner net (List·Memᴰ·append-cases (each (fedBy cells) (map lineOf (chosenGates cells g))) m)

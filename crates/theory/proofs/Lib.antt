@@ -1,5 +1,6 @@
 pub mod Needs
 pub mod Gates
+pub mod Wires
 pub mod Values
 pub mod Arrivals
 pub mod Outcomes

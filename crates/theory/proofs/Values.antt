@@ -10,7 +10,7 @@ use Rattle.model.specs.Cells.{cellAt}
 use Rattle.model.specs.Graph.{Graph, varOf, literal, literalValue, valueOf}
 use Rattle.model.specs.Cuts.{cutsOf}
 use Rattle.model.specs.Choice.{feeds, cellOf, absent, chosen}
-use Rattle.model.specs.Cover.{Allowed, fed}
+use Rattle.model.specs.Cover.{Allowed, output, fed}
 use Rattle.model.specs.Netlist.{Gate, isOwn, netName}
 use Rattle.model.specs.Blif.{GateLine, named, drives, fedBy, rowOf, NetValues}
 use Rattle.model.specs.declared.Cell.{Cell}
@@ -24,7 +24,8 @@ use Rattle.theory_graph.proofs.Values.{valueOf-valuation}
 use Rattle.theory_cover.proofs.Sound.{chosen-fine}
 use Rattle.theory_cover.proofs.Gates.{gate-value, inverter-value}
 use Rattle.theory_text.proofs.ReadBack.{lineOf, blifOf}
-use Rattle.theory.proofs.Gates.{sourceOf, NeedsOf, gateOf, chosenGates, byName, by-name, by-feeding, present, bound, input-bound, gate-in, gate-out, line-bound, own-value, own-source, own-net}
+use Rattle.theory.proofs.Gates.{sourceOf, NeedsOf, gateOf, chosenGates, by-feeding, present, bound, input-bound, gate-in, gate-out, line-bound, own-value, own-source, own-net}
+use Rattle.theory.proofs.Wires.{byLabel, by-net, by-wire}
 
 module _ (cells : List Cell) (fit : T (libraryFits cells)) (g : Graph) (ok : Accepted g)
     (present-outputs : (l : ℕ) → List·Memᴰ l (g .outputs) → absent (chosen cells g l .source) ≡ false) where
@@ -72,10 +73,10 @@ module _ (cells : List Cell) (fit : T (libraryFits cells)) (g : Graph) (ok : Acc
                 ∙ right setting l n e
 
     abbrev pub the : List ℕ → Bool
-    the = byName false val (below (2 * suc (g .size)))
+    the = byLabel false val (g .outputs) (below (2 * suc (g .size)))
 
     the-value : (l : ℕ) → l < 2 * suc (g .size) → the (netName l) ≡ val l
-    the-value l h = by-name false val (below (2 * suc (g .size))) l (below-in (2 * suc (g .size)) l h)
+    the-value l h = by-net false val (g .outputs) (below (2 * suc (g .size))) l (below-in (2 * suc (g .size)) l h)
 
     inputs-hold : (vs : List ℕ) → ((v : ℕ) → List·Memᴰ v vs → List·Memᴰ v (g .inputs)) → map the (map (λ (v : ℕ). netName (literal false v)) vs) ≡ map setting vs
     inputs-hold [] h = refl
@@ -91,7 +92,11 @@ module _ (cells : List Cell) (fit : T (libraryFits cells)) (g : Graph) (ok : Acc
     -- the AIGER values hold
     pub the-holds : NetValues cells (blifOf g (chosenGates cells g)) (map setting (g .inputs)) the
     unfolding blifOf
-    the-holds = record { atInputs = inputs-hold (g .inputs) (λ v m. m); atGates = λ t m. at-gate t (map-out lineOf (chosenGates cells g) m) }
+    the-holds = record {
+      atInputs = inputs-hold (g .inputs) (λ v m. m);
+      atGates = λ t m. at-gate t (map-out lineOf (chosenGates cells g) m);
+      atWires = by-wire false val (g .outputs) (below (2 * suc (g .size))) (λ l m. below-in (2 * suc (g .size)) l (bound cells fit g ok present-outputs l (output m)));
+    }
       where
         at-gate : (t : GateLine) → (u : Gate) × List·Memᴰ u (chosenGates cells g) × (t ≡ lineOf u) → the (drives t) ≡ value (named cells (t .cell) .table) (rowOf (map the (fedBy cells t)))
         at-gate t o =

@@ -50,7 +50,7 @@ net-free s l h = (go (negated l), decimal-free s (varOf l) h)
 
 -- ---- a cell's name
 
--- a cell's name as a line can hold it: not empty, no space, no line end
+-- a name as a line can hold it: not empty, no space, no line end
 pub data Plain : List ℕ → Type 0 where
   plain : {b : ℕ} {w : List ℕ} → Free 32 (b ∷ w) → Free 10 (b ∷ w) → Plain (b ∷ w)
 

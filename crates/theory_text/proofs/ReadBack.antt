@@ -3,7 +3,7 @@ use Prim.Native.Nat.{ℕ, suc, _+_, _≤_, _<_}
 use native.Mathlib.Omega.{arith}
 use mathlib.Core.Path.{_≡_, refl, sym, _∙_, ap, ap₂}
 use mathlib.Core.Bool.{Bool, true, false, cond, _&&_}
-use mathlib.Core.Option.{Option, some}
+use mathlib.Core.Option.{Option, none, some}
 use mathlib.Core.List.{List, [], _∷_, _++_, map, append-assoc, append-nil, List·Memᴰ, List·Memᴰ·head, List·Memᴰ·tail}
 use lib.Dec.{T, eqb, eqb-refl, lit<}
 use lib.ListN.{length}
@@ -11,9 +11,9 @@ use mir.Facts.{yes-eqb, no-eqb}
 use Rattle.model.specs.Base.{each, same, andThen, only, from, below}
 use Rattle.model.specs.Text.{text, decimal, onto, split, parts, isName}
 use Rattle.model.specs.Cells.{nameOf}
-use Rattle.model.specs.Graph.{Graph, literal, negated, varOf}
-use Rattle.model.specs.Netlist.{Gate, netName, pinWords, gateLine, namesLine, netlistText}
-use Rattle.model.specs.Blif.{Binding, GateLine, Blif, longer, binding, bindingsOf, afterWord, wordsAfter, gateOf, readGate, readGates, readLines, readBlif, named, netAt, pinNames, outputName, drives, fedBy}
+use Rattle.model.specs.Graph.{Graph, literal}
+use Rattle.model.specs.Netlist.{Gate, netName, outName, pinWords, gateLine, namesLine, wireLine, wireLines, netlistText}
+use Rattle.model.specs.Blif.{Binding, GateLine, Wire, Blif, Body, longer, binding, bindingsOf, afterWord, wordsAfter, gateOf, readGate, wireOf, readWire, readWires, bodyFrom, readBody, readLines, readBlif, named, netAt, pinNames, outputName, drives, fedBy}
 use Rattle.model.specs.declared.Cell.{Cell}
 use Rattle.model.specs.declared.Figures.{Figures}
 use Rattle.theory_graph.proofs.Lists.{map-map, map-same, is-true, is-false}
@@ -36,17 +36,70 @@ parts-last sep b (c ∷ w) f = ap₂ (λ (t : Bool) (ps : List (List ℕ)). spli
 
 -- ---- a line of names
 
-names-words : (b : ℕ) (w : List ℕ) → Free 32 (b ∷ w) → (nets : List ℕ) → parts 32 ((b ∷ w) ++ each (λ (l : ℕ). 32 ∷ netName l) nets) ≡ (b ∷ w) ∷ map netName nets
-unfolding each netName
-names-words b w f [] = ap (parts 32) (append-nil (b ∷ w)) ∙ parts-last 32 b w f
-names-words b w f (l ∷ ls) =
-    parts-line 32 (b ∷ w) (netName l ++ each (λ (k : ℕ). 32 ∷ netName k) ls) f
-    ∙ ap (λ (ps : List (List ℕ)). (b ∷ w) ∷ ps) (names-words (cond (negated l) 109 112) (decimal (varOf l)) (net-free 32 l (lit< tt)) ls)
+-- names that a line can hold
+abbrev Plains : List (List ℕ) → Type 0
+Plains [] = Unit {0}
+Plains (n ∷ ns) = Plain n × Plains ns
 
-names-free : (nets : List ℕ) → Free 10 (each (λ (l : ℕ). 32 ∷ netName l) nets)
+plains-map : {A : Type 0} (f : A → List ℕ) → ((x : A) → Plain (f x)) → (xs : List A) → Plains (map f xs)
+plains-map f h [] = tt
+plains-map f h (x ∷ xs) = (h x, plains-map f h xs)
+
+net-plain : (l : ℕ) → Plain (netName l)
+unfolding netName
+net-plain l = plain (net-free 32 l (lit< tt)) (net-free 10 l (lit< tt))
+
+out-plain : (k : ℕ) → Plain (outName k)
+unfolding outName
+out-plain k = plain (refl, decimal-free 32 k (lit< tt)) (refl, decimal-free 10 k (lit< tt))
+
+plain-free : (name : List ℕ) → Plain name → Free 10 name
+plain-free name (plain f h) = h
+
+-- the line, without its line end
+unfoldable pub namesOf : List ℕ → List (List ℕ) → List ℕ
 unfolding each
-names-free [] = tt
-names-free (l ∷ ls) = (refl, free-append 10 (netName l) (each (λ (k : ℕ). 32 ∷ netName k) ls) (net-free 10 l (lit< tt)) (names-free ls))
+namesOf keyword names = keyword ++ each (λ (n : List ℕ). 32 ∷ n) names
+
+-- its words
+names-words : (keyword : List ℕ) → Plain keyword → (names : List (List ℕ)) → Plains names → parts 32 (namesOf keyword names) ≡ keyword ∷ names
+unfolding namesOf
+names-words keyword (plain {b = b} {w = w} f h) [] ps = ap (parts 32) (append-nil (b ∷ w)) ∙ parts-last 32 b w f
+names-words keyword (plain {b = b} {w = w} f h) (n ∷ ns) ps =
+    parts-line 32 (b ∷ w) (n ++ each (λ (m : List ℕ). 32 ∷ m) ns) f
+    ∙ ap (λ (xs : List (List ℕ)). (b ∷ w) ∷ xs) (names-words n (ps .0) ns (ps .1))
+
+names-free : (keyword : List ℕ) → Plain keyword → (names : List (List ℕ)) → Plains names → Free 10 (namesOf keyword names)
+unfolding namesOf
+names-free keyword p names ps = free-append 10 keyword (each (λ (n : List ℕ). 32 ∷ n) names) (plain-free keyword p) (go names ps)
+  where
+    go : (ns : List (List ℕ)) → Plains ns → Free 10 (each (λ (n : List ℕ). 32 ∷ n) ns)
+    go [] qs = tt
+    go (n ∷ ns) qs = (refl, free-append 10 n (each (λ (m : List ℕ). 32 ∷ m) ns) (plain-free n (qs .0)) (go ns (qs .1)))
+
+-- the line with its end, before what follows
+names-line : (keyword : List ℕ) → Plain keyword → (names : List (List ℕ)) → Plains names → (rest : List ℕ)
+    → parts 10 (namesLine keyword names ++ rest) ≡ namesOf keyword names ∷ parts 10 rest
+unfolding namesLine namesOf text
+names-line keyword p names ps rest =
+    ap (parts 10)
+    (append-assoc keyword (each (λ (n : List ℕ). 32 ∷ n) names ++ text "\n") rest
+    ∙ ap (λ (x : List ℕ). keyword ++ x) (append-assoc (each (λ (n : List ℕ). 32 ∷ n) names) (text "\n") rest)
+    ∙ sym (append-assoc keyword (each (λ (n : List ℕ). 32 ∷ n) names) (10 ∷ rest)))
+    ∙ parts-line 10 (namesOf keyword names) rest (names-free keyword p names ps)
+
+-- the keywords that names follow
+inputs-plain : Plain (text ".inputs")
+unfolding text
+inputs-plain = plain {b = 46} {w = 105 ∷ 110 ∷ 112 ∷ 117 ∷ 116 ∷ 115 ∷ []} (refl, (refl, (refl, (refl, (refl, (refl, (refl, tt))))))) (refl, (refl, (refl, (refl, (refl, (refl, (refl, tt)))))))
+
+outputs-plain : Plain (text ".outputs")
+unfolding text
+outputs-plain = plain {b = 46} {w = 111 ∷ 117 ∷ 116 ∷ 112 ∷ 117 ∷ 116 ∷ 115 ∷ []} (refl, (refl, (refl, (refl, (refl, (refl, (refl, (refl, tt)))))))) (refl, (refl, (refl, (refl, (refl, (refl, (refl, (refl, tt))))))))
+
+wire-plain : Plain (text ".names")
+unfolding text
+wire-plain = plain {b = 46} {w = 110 ∷ 97 ∷ 109 ∷ 101 ∷ 115 ∷ []} (refl, (refl, (refl, (refl, (refl, (refl, tt)))))) (refl, (refl, (refl, (refl, (refl, (refl, tt))))))
 
 -- ---- a gate line
 
@@ -135,7 +188,7 @@ body-free name (plain f h) ls o = (
   ),
 )
 
--- ---- the whole text
+-- ---- all gate lines
 
 unfoldable pub bodyOf : Gate → List ℕ
 unfolding body nameOf
@@ -161,29 +214,106 @@ gate-lines (t ∷ ts) h rest =
     ∙ parts-line 10 (bodyOf t) (each gateLine ts ++ rest) (body-free (nameOf (t .cell)) (name-plain (nameOf (t .cell)) (h t (List·Memᴰ·head refl))) (t .pins) (t .net))
     ∙ ap (λ (ps : List (List ℕ)). bodyOf t ∷ ps) (gate-lines ts (λ u m. h u (List·Memᴰ·tail m)) rest)
 
-read-gates : (ts : List Gate) → ((t : Gate) → List·Memᴰ t ts → T (isName (nameOf (t .cell)))) → (more : List (List ℕ)) → readGates (map bodyOf ts ++ (text ".end" ∷ more)) ≡ some (map lineOf ts)
-unfolding readGates same text andThen bodyOf body lineOf
-read-gates [] h more = refl
-read-gates (t ∷ ts) h more =
-    ap (λ (x : Option GateLine). andThen x (λ l. andThen (readGates (map bodyOf ts ++ (text ".end" ∷ more))) (λ ls. some (l ∷ ls))))
-    (read-gate (nameOf (t .cell)) (name-plain (nameOf (t .cell)) (h t (List·Memᴰ·head refl))) (t .pins) (t .net))
-    ∙ ap (λ (x : Option (List GateLine)). andThen x (λ ls. some (lineOf t ∷ ls))) (read-gates ts (λ u m. h u (List·Memᴰ·tail m)) more)
+-- ---- the outputs' own names
 
--- a line of names, ended
-names-line : (keyword nets rest : List ℕ) → Free 10 keyword → parts 10 (namesLine keyword nets ++ rest) ≡ (keyword ++ each (λ (l : ℕ). 32 ∷ netName l) nets) ∷ parts 10 rest
-unfolding namesLine text
-names-line keyword nets rest f =
-    ap (parts 10)
-    (append-assoc keyword (each (λ (l : ℕ). 32 ∷ netName l) nets ++ text "\n") rest
-    ∙ ap (λ (x : List ℕ). keyword ++ x) (append-assoc (each (λ (l : ℕ). 32 ∷ netName l) nets) (text "\n") rest)
-    ∙ sym (append-assoc keyword (each (λ (l : ℕ). 32 ∷ netName l) nets) (10 ∷ rest)))
-    ∙ parts-line 10 (keyword ++ each (λ (l : ℕ). 32 ∷ netName l) nets) rest
-    (free-append 10 keyword (each (λ (l : ℕ). 32 ∷ netName l) nets) f (names-free nets))
+-- output k's wire and those of the outputs behind it
+unfoldable pub wiresFrom : ℕ → List ℕ → List Wire
+unfolding netName outName
+wiresFrom k [] = []
+wiresFrom k (l ∷ ls) = record { source = netName l; target = outName k } ∷ wiresFrom (suc k) ls
+
+-- the first line of a wire, without its line end
+unfoldable pub wireBody : ℕ → ℕ → List ℕ
+unfolding text namesOf netName outName
+wireBody k l = namesOf (text ".names") (netName l ∷ outName k ∷ [])
+
+-- the lines of all wires
+unfoldable pub wireBodies : ℕ → List ℕ → List (List ℕ)
+unfolding text wireBody
+wireBodies k [] = []
+wireBodies k (l ∷ ls) = wireBody k l ∷ text "1 1" ∷ wireBodies (suc k) ls
+
+wire-line : (k l : ℕ) (rest : List ℕ) → wireLine k l ++ rest ≡ wireBody k l ++ (10 ∷ text "1 1" ++ (10 ∷ rest))
+unfolding wireLine wireBody namesOf each text
+wire-line k l rest =
+    ap (λ (x : List ℕ). text ".names " ++ x)
+    (append-assoc (netName l) (32 ∷ outName k ++ text "\n1 1\n") rest
+    ∙ ap (λ (x : List ℕ). netName l ++ (32 ∷ x))
+    (append-assoc (outName k) (text "\n1 1\n") rest
+    ∙ ap (λ (x : List ℕ). x ++ (text "\n1 1\n" ++ rest)) (sym (append-nil (outName k))))
+    ∙ sym (append-assoc (netName l) (32 ∷ outName k ++ []) (text "\n1 1\n" ++ rest)))
+
+wire-lines : (k : ℕ) (ls rest : List ℕ) → parts 10 (wireLines k ls ++ rest) ≡ wireBodies k ls ++ parts 10 rest
+unfolding wireLines wireBodies wireBody text
+wire-lines k [] rest = refl
+wire-lines k (l ∷ ls) rest =
+    ap (parts 10) (append-assoc (wireLine k l) (wireLines (suc k) ls) rest ∙ wire-line k l (wireLines (suc k) ls ++ rest))
+    ∙ parts-line 10 (wireBody k l) (text "1 1" ++ (10 ∷ wireLines (suc k) ls ++ rest)) (names-free (text ".names") wire-plain (netName l ∷ outName k ∷ []) (net-plain l, (out-plain k, tt)))
+    ∙ ap (λ (ps : List (List ℕ)). wireBody k l ∷ ps)
+    (parts-line 10 (text "1 1") (wireLines (suc k) ls ++ rest) (refl, (refl, (refl, tt)))
+    ∙ ap (λ (ps : List (List ℕ)). text "1 1" ∷ ps) (wire-lines (suc k) ls rest))
+
+wire-words : (k l : ℕ) → parts 32 (wireBody k l) ≡ text ".names" ∷ netName l ∷ outName k ∷ []
+unfolding wireBody
+wire-words k l = names-words (text ".names") wire-plain (netName l ∷ outName k ∷ []) (net-plain l, (out-plain k, tt))
+
+read-wire : (k l : ℕ) → readWire (wireBody k l) (text "1 1") ≡ some (record { source = netName l; target = outName k })
+unfolding readWire wordsAfter afterWord same text only andThen wireOf
+read-wire k l = ap (λ (ps : List (List ℕ)). andThen (afterWord (text ".names") ps) wireOf) (wire-words k l)
+
+read-wires : (k : ℕ) (ls : List ℕ) (more : List (List ℕ)) → readWires (wireBodies k ls ++ (text ".end" ∷ more)) ≡ some (wiresFrom k ls)
+unfolding readWires wireBodies wireBody namesOf wiresFrom same text andThen
+read-wires k [] [] = refl
+read-wires k [] (m ∷ more) = refl
+read-wires k (l ∷ ls) more =
+    ap₂ (λ (o : Option Wire) (os : Option (List Wire)). andThen o (λ x. andThen os (λ xs. some (x ∷ xs)))) (read-wire k l) (read-wires (suc k) ls more)
+
+-- ---- the gates and the wires behind them
+
+abbrev bodyWith : List GateLine → List Wire → Option Body
+bodyWith ts xs = some (record { gates = ts; wires = xs })
+
+body-gate : (l : List ℕ) (ls : List (List ℕ)) (t : GateLine) (ts : List GateLine) (xs : List Wire) → readGate l ≡ some t → readBody ls ≡ bodyWith ts xs → readBody (l ∷ ls) ≡ bodyWith (t ∷ ts) xs
+unfolding readBody bodyFrom andThen
+body-gate l ls t ts xs e q = ap₂ (λ (o : Option GateLine) (b : Option Body). bodyFrom o b (readWires (l ∷ ls))) e q
+
+body-wires : (l : List ℕ) (ls : List (List ℕ)) (xs : List Wire) → readGate l ≡ none → readWires (l ∷ ls) ≡ some xs → readBody (l ∷ ls) ≡ bodyWith [] xs
+unfolding readBody bodyFrom andThen
+body-wires l ls xs e q = ap₂ (λ (o : Option GateLine) (b : Option (List Wire)). bodyFrom o (readBody ls) b) e q
+
+-- a wire's line and the end are no gate's
+no-gate : (k l : ℕ) → readGate (wireBody k l) ≡ none
+unfolding readGate wordsAfter afterWord same text only andThen
+no-gate k l = ap (λ (ps : List (List ℕ)). andThen (afterWord (text ".gate") ps) gateOf) (wire-words k l)
+
+no-gate-end : readGate (text ".end") ≡ none
+unfolding readGate wordsAfter afterWord parts split onto same text only andThen
+no-gate-end = refl
+
+read-body : (ts : List Gate) → ((t : Gate) → List·Memᴰ t ts → T (isName (nameOf (t .cell)))) → (k : ℕ) (ls : List ℕ) (more : List (List ℕ))
+    → readBody (map bodyOf ts ++ (wireBodies k ls ++ (text ".end" ∷ more))) ≡ bodyWith (map lineOf ts) (wiresFrom k ls)
+unfolding bodyOf lineOf wireBodies
+read-body [] h k [] more = body-wires (text ".end") more (wiresFrom k []) no-gate-end (read-wires k [] more)
+read-body [] h k (l ∷ ls) more =
+    body-wires (wireBody k l) (text "1 1" ∷ wireBodies (suc k) ls ++ (text ".end" ∷ more)) (wiresFrom k (l ∷ ls)) (no-gate k l) (read-wires k (l ∷ ls) more)
+read-body (t ∷ ts) h k ls more =
+    body-gate (bodyOf t) (map bodyOf ts ++ (wireBodies k ls ++ (text ".end" ∷ more))) (lineOf t) (map lineOf ts) (wiresFrom k ls)
+    (read-gate (nameOf (t .cell)) (name-plain (nameOf (t .cell)) (h t (List·Memᴰ·head refl))) (t .pins) (t .net))
+    (read-body ts (λ u m. h u (List·Memᴰ·tail m)) k ls more)
+
+-- ---- the whole text
+
+-- the names of the inputs and of the outputs
+abbrev pub inputNames : Graph → List (List ℕ)
+inputNames g = map (λ (v : ℕ). netName (literal false v)) (g .inputs)
+
+abbrev pub outputNames : Graph → List (List ℕ)
+outputNames g = map outName (below (length (g .outputs)))
 
 -- what the text says
 unfoldable pub blifOf : Graph → List Gate → Blif
-unfolding lineOf
-blifOf g ts = record { inputs = map (λ (v : ℕ). netName (literal false v)) (g .inputs); outputs = map netName (g .outputs); gates = map lineOf ts }
+unfolding lineOf wiresFrom
+blifOf g ts = record { inputs = inputNames g; outputs = outputNames g; gates = map lineOf ts; wires = wiresFrom 0 (g .outputs) }
 
 -- the `# gates` line without its line end
 unfoldable pub figuresLine : Figures → List ℕ
@@ -201,38 +331,46 @@ figures-free f =
     (free-append 10 (text " arrival ") (decimal (f .arrival)) (refl, (refl, (refl, (refl, (refl, (refl, (refl, (refl, (refl, tt)))))))))
     (decimal-free 10 (f .arrival) (lit< tt))))))
 
--- the line of names, without its line end
-unfoldable pub namesOf : List ℕ → List ℕ → List ℕ
-namesOf keyword nets = keyword ++ each (λ (l : ℕ). 32 ∷ netName l) nets
-
 -- the lines of the printed text
 unfoldable pub linesOf : Graph → List Gate → Figures → List (List ℕ)
-unfolding text namesOf bodyOf figuresLine
+unfolding text namesOf bodyOf wireBodies figuresLine
 linesOf g ts f =
-    text ".model top" ∷ namesOf (text ".inputs") (map (literal false) (g .inputs)) ∷ namesOf (text ".outputs") (g .outputs)
-    ∷ map bodyOf ts ++ (text ".end" ∷ figuresLine f ∷ [])
+    text ".model top" ∷ namesOf (text ".inputs") (inputNames g) ∷ namesOf (text ".outputs") (outputNames g)
+    ∷ map bodyOf ts ++ (wireBodies 0 (g .outputs) ++ (text ".end" ∷ figuresLine f ∷ []))
+
+module _ (g : Graph) where
+  inputs-fit : Plains (inputNames g)
+  inputs-fit = plains-map (λ (v : ℕ). netName (literal false v)) (λ v. net-plain (literal false v)) (g .inputs)
+
+  outputs-fit : Plains (outputNames g)
+  outputs-fit = plains-map outName out-plain (below (length (g .outputs)))
 
 pub text-lines : (g : Graph) (ts : List Gate) (f : Figures) → ((t : Gate) → List·Memᴰ t ts → T (isName (nameOf (t .cell)))) → parts 10 (netlistText g ts f) ≡ linesOf g ts f
-unfolding netlistText linesOf namesOf figuresLine text parts split onto
+unfolding netlistText linesOf figuresLine text parts split onto
 text-lines g ts f h =
     ap (λ (ps : List (List ℕ)). text ".model top" ∷ ps)
-    (names-line (text ".inputs") (map (literal false) (g .inputs)) after-inputs (refl, (refl, (refl, (refl, (refl, (refl, (refl, tt)))))))
-    ∙ ap (λ (ps : List (List ℕ)). namesOf (text ".inputs") (map (literal false) (g .inputs)) ∷ ps)
-    (names-line (text ".outputs") (g .outputs) after-outputs (refl, (refl, (refl, (refl, (refl, (refl, (refl, (refl, tt))))))))
-    ∙ ap (λ (ps : List (List ℕ)). namesOf (text ".outputs") (g .outputs) ∷ ps)
-    (gate-lines ts h after-gates ∙ ap (λ (ps : List (List ℕ)). map bodyOf ts ++ (text ".end" ∷ ps)) last)))
+    (names-line (text ".inputs") inputs-plain (inputNames g) (inputs-fit g) after-inputs
+    ∙ ap (λ (ps : List (List ℕ)). namesOf (text ".inputs") (inputNames g) ∷ ps)
+    (names-line (text ".outputs") outputs-plain (outputNames g) (outputs-fit g) after-outputs
+    ∙ ap (λ (ps : List (List ℕ)). namesOf (text ".outputs") (outputNames g) ∷ ps)
+    (gate-lines ts h after-gates
+    ∙ ap (λ (ps : List (List ℕ)). map bodyOf ts ++ ps)
+    (wire-lines 0 (g .outputs) after-wires ∙ ap (λ (ps : List (List ℕ)). wireBodies 0 (g .outputs) ++ (text ".end" ∷ ps)) last))))
   where
     figures-line : List ℕ
     figures-line = text "# gates " ++ (decimal (f .gates) ++ (text " area " ++ (decimal (f .area) ++ (text " arrival " ++ (decimal (f .arrival) ++ text "\n")))))
 
+    after-wires : List ℕ
+    after-wires = text ".end\n" ++ figures-line
+
     after-gates : List ℕ
-    after-gates = text ".end\n" ++ figures-line
+    after-gates = wireLines 0 (g .outputs) ++ after-wires
 
     after-outputs : List ℕ
     after-outputs = each gateLine ts ++ after-gates
 
     after-inputs : List ℕ
-    after-inputs = namesLine (text ".outputs") (g .outputs) ++ after-outputs
+    after-inputs = namesLine (text ".outputs") (outputNames g) ++ after-outputs
 
     ended : figures-line ≡ figuresLine f ++ text "\n"
     ended = sym (simp append-assoc)
@@ -242,19 +380,20 @@ text-lines g ts f h =
 
 -- the printed text reads back
 pub read-back : (g : Graph) (ts : List Gate) (f : Figures) → ((t : Gate) → List·Memᴰ t ts → T (isName (nameOf (t .cell)))) → readBlif (netlistText g ts f) ≡ some (blifOf g ts)
-unfolding readBlif blifOf readLines linesOf namesOf wordsAfter afterWord same only text andThen
+unfolding readBlif blifOf readLines linesOf wordsAfter afterWord same only text andThen
 read-back g ts f h =
     ap readLines (text-lines g ts f h)
-    ∙ ap (λ (ps : List (List ℕ)). andThen (afterWord (text ".inputs") ps) (λ is. andThen (wordsAfter (text ".outputs") (namesOf (text ".outputs") (g .outputs))) (λ os. andThen (readGates lines) (λ us. some (record { inputs = is; outputs = os; gates = us })))))
-    (names-words 46 (105 ∷ 110 ∷ 112 ∷ 117 ∷ 116 ∷ 115 ∷ []) (refl, (refl, (refl, (refl, (refl, (refl, (refl, tt))))))) (map (literal false) (g .inputs)))
-    ∙ ap (λ (ps : List (List ℕ)). andThen (afterWord (text ".outputs") ps) (λ os. andThen (readGates lines) (λ us. some (record { inputs = map netName (map (literal false) (g .inputs)); outputs = os; gates = us }))))
-    (names-words 46 (111 ∷ 117 ∷ 116 ∷ 112 ∷ 117 ∷ 116 ∷ 115 ∷ []) (refl, (refl, (refl, (refl, (refl, (refl, (refl, (refl, tt)))))))) (g .outputs))
-    ∙ ap (λ (x : Option (List GateLine)). andThen x (λ us. some (record { inputs = map netName (map (literal false) (g .inputs)); outputs = map netName (g .outputs); gates = us })))
-    (read-gates ts h (figuresLine f ∷ []))
-    ∙ ap (λ (is : List (List ℕ)). some (record { inputs = is; outputs = map netName (g .outputs); gates = map lineOf ts })) (map-map netName (literal false) (g .inputs))
+    ∙ ap (λ (ps : List (List ℕ)). andThen (afterWord (text ".inputs") ps) (λ is. andThen (wordsAfter (text ".outputs") (namesOf (text ".outputs") (outputNames g))) (λ os. andThen (readBody lines) (model is os))))
+    (names-words (text ".inputs") inputs-plain (inputNames g) (inputs-fit g))
+    ∙ ap (λ (ps : List (List ℕ)). andThen (afterWord (text ".outputs") ps) (λ os. andThen (readBody lines) (model (inputNames g) os)))
+    (names-words (text ".outputs") outputs-plain (outputNames g) (outputs-fit g))
+    ∙ ap (λ (b : Option Body). andThen b (model (inputNames g) (outputNames g))) (read-body ts h 0 (g .outputs) (figuresLine f ∷ []))
   where
     lines : List (List ℕ)
-    lines = map bodyOf ts ++ (text ".end" ∷ figuresLine f ∷ [])
+    lines = map bodyOf ts ++ (wireBodies 0 (g .outputs) ++ (text ".end" ∷ figuresLine f ∷ []))
+
+    model : List (List ℕ) → List (List ℕ) → Body → Option Blif
+    model is os b = some (record { inputs = is; outputs = os; gates = b .gates; wires = b .wires })
 
 -- ---- what a gate line says
 

@@ -10,14 +10,14 @@ use lib.Dec.{T, ltb, ltb→lt, leb, le→leb, nltb→le, lit<}
 use Rattle.model.specs.Base.{same, andThen, only}
 use Rattle.model.specs.Text.{text, digits, decimal, fields, split, onto, between, isName}
 use Rattle.model.specs.Cells.{nameOf}
-use Rattle.model.specs.Graph.{Graph, literal}
+use Rattle.model.specs.Graph.{Graph}
 use Rattle.model.specs.Netlist.{Gate, netlistText}
 use Rattle.model.specs.Blif.{digitsFrom, figure, behindEnd, readFigureWords, readFigures}
 use Rattle.model.specs.declared.Figures.{Figures}
 use Rattle.theory_graph.proofs.Lists.{is-true}
 use Rattle.theory_text.proofs.Plain.{above, decimal-free}
 use Rattle.theory_text.proofs.LineLaws.{fields-word, fields-last}
-use Rattle.theory_text.proofs.ReadBack.{body, bodyOf, figuresLine, namesOf, linesOf, text-lines}
+use Rattle.theory_text.proofs.ReadBack.{body, bodyOf, figuresLine, namesOf, inputNames, outputNames, wireBody, wireBodies, linesOf, text-lines}
 
 -- ---- a number
 
@@ -93,21 +93,32 @@ line-figures f =
     ∙ ap (λ (o : Option ℕ). andThen o (λ a. andThen (figure (decimal (f .arrival))) (λ t. some (record { gates = f .gates; area = a; arrival = t })))) (figure-back (f .area))
     ∙ ap (λ (o : Option ℕ). andThen o (λ t. some (record { gates = f .gates; area = f .area; arrival = t }))) (figure-back (f .arrival))
 
--- ---- behind the gates
+-- ---- behind the end
 
-behind-gates : (ts : List Gate) (l : List ℕ) (more : List (List ℕ)) → behindEnd (map bodyOf ts ++ (text ".end" ∷ l ∷ more)) ≡ some l
-unfolding behindEnd same text bodyOf body
-behind-gates [] l more = refl
-behind-gates (t ∷ []) l more = refl
-behind-gates (t ∷ u ∷ ts) l more = behind-gates (u ∷ ts) l more
+behind-wires : (k : ℕ) (outs : List ℕ) (l : List ℕ) (more : List (List ℕ)) → behindEnd (wireBodies k outs ++ (text ".end" ∷ l ∷ more)) ≡ some l
+unfolding behindEnd wireBodies wireBody namesOf same text
+behind-wires k [] l more = refl
+behind-wires k (o ∷ []) l more = refl
+behind-wires k (o ∷ p ∷ outs) l more = behind-wires (suc k) (p ∷ outs) l more
+
+behind-gates : (ts : List Gate) (outs : List ℕ) (l : List ℕ) (more : List (List ℕ)) → behindEnd (map bodyOf ts ++ (wireBodies 0 outs ++ (text ".end" ∷ l ∷ more))) ≡ some l
+unfolding behindEnd same text bodyOf body wireBodies
+behind-gates [] outs l more = behind-wires 0 outs l more
+behind-gates (t ∷ []) [] l more = refl
+behind-gates (t ∷ []) (o ∷ outs) l more = behind-wires 0 (o ∷ outs) l more
+behind-gates (t ∷ u ∷ ts) outs l more = behind-gates (u ∷ ts) outs l more
 
 -- the printed text says its figures
 pub figures-back : (g : Graph) (ts : List Gate) (f : Figures) → ((t : Gate) → List·Memᴰ t ts → T (isName (nameOf (t .cell)))) → readFigures (netlistText g ts f) ≡ some f
-unfolding readFigures linesOf namesOf behindEnd same text andThen
+unfolding readFigures linesOf namesOf behindEnd wireBodies same text andThen
 figures-back g ts f h =
     ap (λ (ls : List (List ℕ)). andThen (behindEnd ls) (λ l. readFigureWords (fields l))) (text-lines g ts f h)
-    ∙ go ts
+    ∙ ap (λ (o : Option (List ℕ)). andThen o (λ l. readFigureWords (fields l))) (go ts (g .outputs) (behind-gates ts (g .outputs) (figuresLine f) []))
+    ∙ line-figures f
   where
-    go : (us : List Gate) → andThen (behindEnd (text ".model top" ∷ namesOf (text ".inputs") (map (literal false) (g .inputs)) ∷ namesOf (text ".outputs") (g .outputs) ∷ map bodyOf us ++ (text ".end" ∷ figuresLine f ∷ []))) (λ l. readFigureWords (fields l)) ≡ some f
-    go [] = line-figures f
-    go (t ∷ us) = ap (λ (o : Option (List ℕ)). andThen o (λ l. readFigureWords (fields l))) (behind-gates (t ∷ us) (figuresLine f) []) ∙ line-figures f
+    -- the first three lines are not the end, and a line follows each of them
+    go : (us : List Gate) (outs : List ℕ) → behindEnd (map bodyOf us ++ (wireBodies 0 outs ++ (text ".end" ∷ figuresLine f ∷ []))) ≡ some (figuresLine f)
+        → behindEnd (text ".model top" ∷ namesOf (text ".inputs") (inputNames g) ∷ namesOf (text ".outputs") (outputNames g) ∷ map bodyOf us ++ (wireBodies 0 outs ++ (text ".end" ∷ figuresLine f ∷ []))) ≡ some (figuresLine f)
+    go [] [] q = q
+    go [] (o ∷ outs) q = q
+    go (u ∷ us) outs q = q

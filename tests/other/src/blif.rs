@@ -1,6 +1,7 @@
 //! Reads a printed netlist and judges it by itself: form, one driver per net,
-//! no circle, only needed gates, values, arrivals and figures. It shares no
-//! code with the reference.
+//! no circle, only needed gates, values, arrivals and figures; what an output is
+//! and when it arrives "is read at its `o` name". It shares no code with the
+//! reference.
 
 use std::collections::{BTreeMap, BTreeSet};
 
@@ -43,6 +44,8 @@ pub struct Netlist {
     pub inputs: Vec<String>,
     pub outputs: Vec<String>,
     pub gates: Vec<Gate>,
+    /// The `.names` lines: a net, and the net that it drives.
+    pub names: Vec<[String; 2]>,
     /// Gates, area and arrival as the last line says.
     pub said: [u64; 3],
 }
@@ -64,13 +67,21 @@ pub fn read(text: &[u8]) -> Result<Netlist, String> {
     }
     let inputs = names(lines.next(), ".inputs")?;
     let outputs = names(lines.next(), ".outputs")?;
-    let mut gates = Vec::new();
+    let (mut gates, mut copies) = (Vec::new(), Vec::new());
     let said = loop {
         let line = lines.next().ok_or("no .end")?;
         if line == ".end" {
             let last: Vec<&str> = lines.next().ok_or("no figures")?.split(' ').collect();
             let figure = |index: usize| last.get(index).and_then(|word| word.parse().ok()).ok_or("no figure");
             break [figure(2)?, figure(4)?, figure(6)?];
+        }
+        if line.starts_with(".names") {
+            let nets = names(Some(line), ".names")?;
+            copies.push(<[String; 2]>::try_from(nets).map_err(|nets| format!(".names with {nets:?}"))?);
+            if lines.next() != Some("1 1") {
+                return Err(format!("no 1 1 after {line}"));
+            }
+            continue;
         }
         let words = names(Some(line), ".gate")?;
         let (cell, feeds) = words.split_first().ok_or("no cell name")?;
@@ -79,7 +90,7 @@ pub fn read(text: &[u8]) -> Result<Netlist, String> {
         let net = pins.pop().ok_or("no output pin")?;
         gates.push(Gate { cell: cell.clone(), pins, net });
     };
-    let netlist = Netlist { inputs, outputs, gates, said };
+    let netlist = Netlist { inputs, outputs, gates, names: copies, said };
     if netlist.print() != text {
         return Err("the text isn't in the form printed".into());
     }
@@ -98,6 +109,9 @@ impl Netlist {
                 text += &format!(" {}={net}", ["A", "B", "C", "D"].get(pin).unwrap_or(&"?"));
             }
             text += &format!(" O={}\n", gate.net);
+        }
+        for [net, name] in &self.names {
+            text += &format!(".names {net} {name}\n1 1\n");
         }
         let [gates, area, arrival] = self.said;
         text += &format!(".end\n# gates {gates} area {area} arrival {arrival}\n");
@@ -156,12 +170,30 @@ impl Netlist {
                 }
             }
         }
-        for output in &self.outputs {
-            if !driver.contains_key(output.as_str()) {
-                return Err(format!("output {output} isn't driven"));
+        self.outputs_are_named(&driver)?;
+        Ok(ordered)
+    }
+
+    /// The names in `.outputs` differ, and each is driven once, by a `.names`
+    /// line, from a net that an input or a gate drives.
+    fn outputs_are_named(&self, driver: &BTreeMap<&str, Option<usize>>) -> Result<(), String> {
+        let outputs: BTreeSet<&str> = self.outputs.iter().map(String::as_str).collect();
+        if outputs.len() < self.outputs.len() {
+            return Err("`.outputs` repeats a name".into());
+        }
+        let mut named: BTreeSet<&str> = BTreeSet::new();
+        for [net, name] in &self.names {
+            if !driver.contains_key(net.as_str()) {
+                return Err(format!("net {net} of {name} isn't driven"));
+            }
+            if driver.contains_key(name.as_str()) || !named.insert(name) {
+                return Err(format!("net {name} is driven twice"));
             }
         }
-        Ok(ordered)
+        match outputs.symmetric_difference(&named).next() {
+            Some(name) => Err(format!("{name} isn't both an output and named")),
+            None => Ok(()),
+        }
     }
 
     /// The values of the outputs where the inputs have these.
@@ -172,17 +204,23 @@ impl Netlist {
             let row: u32 = gate.pins.iter().enumerate().map(|(pin, net)| u32::from(value[net.as_str()]) << pin).sum();
             value.insert(&gate.net, kinds[&gate.cell].table >> row & 1 == 1);
         }
+        for [net, name] in &self.names {
+            value.insert(name, value[net.as_str()]);
+        }
         self.outputs.iter().map(|output| value[output.as_str()]).collect()
     }
 
     /// "0 for an input, 0 for a cell without pins, otherwise the largest of
-    /// feeding arrival plus pin delay"
+    /// feeding arrival plus pin delay"; `.names` lines "add no delay".
     pub fn arrivals(&self, kinds: &BTreeMap<String, Kind>, ordered: &[&Gate]) -> BTreeMap<String, u64> {
         let mut arrivals: BTreeMap<String, u64> = self.inputs.iter().map(|input| (input.clone(), 0)).collect();
         for gate in ordered {
             let delays = &kinds[&gate.cell].delays;
             let latest = gate.pins.iter().zip(delays).map(|(net, delay)| arrivals[net] + delay).max();
             arrivals.insert(gate.net.clone(), latest.unwrap_or(0));
+        }
+        for [net, name] in &self.names {
+            arrivals.insert(name.clone(), arrivals[net]);
         }
         arrivals
     }
@@ -209,6 +247,7 @@ impl Netlist {
         }
         let mut feeding: BTreeMap<&str, &[String]> = BTreeMap::new();
         feeding.extend(self.gates.iter().map(|gate| (gate.net.as_str(), &gate.pins[..])));
+        feeding.extend(self.names.iter().map(|names| (names[1].as_str(), &names[..1])));
         let mut asked: Vec<&str> = self.outputs.iter().map(String::as_str).collect();
         let mut reached: BTreeSet<&str> = BTreeSet::new();
         while let Some(net) = asked.pop() {

@@ -3,7 +3,7 @@
 
 use crate::gen::{self, Case, Graph, Lent, Rng};
 use crate::{blif, brute, judge, reference, CUT_LIMIT, WORDS_EACH};
-use std::collections::BTreeMap;
+use std::collections::{BTreeMap, BTreeSet};
 
 pub type Check = Result<String, String>;
 
@@ -177,8 +177,13 @@ pub fn judge_netlist(case: &Case, answer: &reference::Answer, netlist: &[u8]) ->
     let graph = Graph::from_text(&good_part(&case.graph));
     let net = |literal: usize| format!("{}{}", ["p", "m"][literal % 2], literal / 2);
     let inputs: Vec<String> = graph.inputs.iter().map(|variable| net(2 * variable)).collect();
-    let outputs: Vec<String> = graph.outputs.iter().map(|&literal| net(literal)).collect();
+    // "`o0`, `o1` and so on, in file order", and "each gets `.names` with its
+    // net and its own name".
+    let outputs: Vec<String> = (0..graph.outputs.len()).map(|index| format!("o{index}")).collect();
+    let named: Vec<[String; 2]> =
+        graph.outputs.iter().zip(&outputs).map(|(&literal, name)| [net(literal), name.clone()]).collect();
     ensure!(read.inputs == inputs && read.outputs == outputs, "{}", told("names".into()));
+    ensure!(read.names == named, "{}", told(".names lines".into()));
     ensure!(read.gates.len() <= 2 * (graph.top + 1), "{}", told("too many gates".into()));
 
     let placed = graph.placed().ok_or_else(|| told("a circle was mapped".into()))?;
@@ -214,6 +219,7 @@ pub fn netlists(cases: usize, seed: u64) -> Check {
     let mut counts = [0usize; 22];
     let mut by_pins = [0usize; 5];
     let mut timed = 0;
+    let mut kinds = [0usize; 8];
     for _ in 0..cases {
         let case = gen::case(&mut rng);
         let (answer, netlist) = run(&case);
@@ -225,6 +231,9 @@ pub fn netlists(cases: usize, seed: u64) -> Check {
             for gate in blif::read(&netlist)?.gates {
                 by_pins[gate.pins.len()] += 1;
             }
+            for (count, has) in kinds.iter_mut().zip(kinds_of_outputs(&case.graph)) {
+                *count += usize::from(has);
+            }
         }
         let words = case.words.of(reference::words_needed(&case.graph).unwrap_or(64));
         let judged = judge::judge(&case.cells, &case.graph, words).map(|(number, place)| (number, place as u32));
@@ -232,7 +241,28 @@ pub fn netlists(cases: usize, seed: u64) -> Check {
         let read = in_texts.then_some((answer.number, answer.value));
         ensure!(judged == read, "{}: judged {judged:?}, answered {answer:?}", case.what);
     }
-    Ok(format!("{cases} cases, by number {counts:?}; {timed} arrive after 0; gates by pins {by_pins:?}"))
+    let told = format!("{cases} cases, by number {counts:?}; {timed} arrive after 0; gates by pins {by_pins:?}");
+    let told = format!("{told}; netlists by kind of output {kinds:?}");
+    ensure!(kinds.iter().all(|&count| count > cases / 200), "a kind of output hardly comes: {told}");
+    Ok(told)
+}
+
+/// Whether a good graph text has no output, outputs that repeat a literal, that
+/// are each other's complements, an input, an input's complement, constants, and
+/// more than 10 outputs and more than 100.
+fn kinds_of_outputs(text: &[u8]) -> [bool; 8] {
+    let Graph { inputs, outputs, .. } = Graph::from_text(&good_part(text));
+    let different: BTreeSet<usize> = outputs.iter().copied().collect();
+    [
+        outputs.is_empty(),
+        different.len() < outputs.len(),
+        different.iter().any(|literal| different.contains(&(literal ^ 1))),
+        different.iter().any(|literal| inputs.contains(&(literal / 2)) && literal % 2 == 0),
+        different.iter().any(|literal| inputs.contains(&(literal / 2)) && literal % 2 == 1),
+        different.contains(&0) || different.contains(&1),
+        outputs.len() > 10,
+        outputs.len() > 100,
+    ]
 }
 
 /// The case's graph with its variables in sequence, in both forms, if its text
@@ -367,6 +397,10 @@ fn against_all_covers(cells: &[gen::Cell], mut graph: Graph, gone: &mut Gone) ->
         let read = blif::read(&netlist)?;
         let ordered = read.ordered(&kinds).map_err(|wrong| format!("{wrong}\n{}", told()))?;
         let arrivals = read.arrivals(&kinds, &ordered);
+        for (index, phase) in wanted.iter().enumerate() {
+            let arrival = arrivals.get(&format!("o{index}"));
+            ensure!(arrival == Some(&least[phase]), "o{index} arrives at {arrival:?}\n{}", told());
+        }
         for gate in &read.gates {
             let (letter, variable) = gate.net.split_at(1);
             let phase = (variable.parse().unwrap_or(0), letter == "m");

@@ -156,9 +156,11 @@ pub fn library_size(rng: &mut Rng) -> usize {
 pub const LISTING: &str = "\
 .model top
 .inputs p1 p2
-.outputs p3
+.outputs o0
 .gate inv A=m3 O=p3
 .gate nand2 A=p1 B=p2 O=m3
+.names p3 o0
+1 1
 .end
 # gates 2 area 3 arrival 30
 ";
@@ -599,16 +601,29 @@ pub fn every_small_graph() -> Vec<Graph> {
     graphs
 }
 
-/// Some outputs: mostly late nodes, sometimes anything, constants and inputs.
+/// Some outputs: mostly late nodes, often inputs, constants, and what an earlier
+/// output is or its complement; sometimes so many that their names have two or
+/// three digits.
 pub fn outputs(rng: &mut Rng, shape: &Shape) -> Vec<End> {
     let nodes = shape.nodes();
-    let count = if rng.one_in(12) { 0 } else { rng.between(1, 5) };
+    let count = match rng.below(48) {
+        0..=3 => 0,
+        4 => rng.between(9, 12),
+        5 | 6 => rng.between(99, 104),
+        _ => rng.between(1, 5),
+    };
     let mut ends: Vec<End> = Vec::new();
-    for _ in 0..count {
-        let node = if rng.one_in(3) { rng.below(nodes) } else { nodes - 1 - rng.below(nodes.min(4)) };
+    while ends.len() < count {
+        let node = match rng.below(24) {
+            0 => 0,
+            1..=4 if shape.inputs > 0 => rng.between(1, shape.inputs),
+            5..=9 => rng.below(nodes),
+            _ => nodes - 1 - rng.below(nodes.min(4)),
+        };
         ends.push((node, rng.one_in(2)));
-        if rng.one_in(8) {
-            ends.push((node, rng.one_in(2)));
+        if rng.one_in(4) {
+            let (node, negative) = rng.pick(&ends);
+            ends.push((node, negative ^ rng.one_in(3)));
         }
     }
     ends
@@ -1509,6 +1524,39 @@ fn ascii_limits() -> Vec<Case> {
         add(case.expect(number, if number == 18 { small_length } else { 0 }));
     }
     add(Case::new("full graph, text one short", rich.clone(), full.text()).text(Lent::OneShort));
+
+    // "the figure in 18": without a gate the lines `.model top`, `.inputs p1`,
+    // `.outputs`, `.end` and the figures take 63 bytes; an output whose name has
+    // d digits takes 2 + d in `.outputs` and 12 + d with 4 more in its own lines,
+    // and with net p10 one more. Of 2,603 outputs 10 have one digit, 90 two, 900
+    // three and 1,603 four: 65,521 bytes on p1 alone. ` p10` in `.inputs` and 11
+    // outputs on it make what the program lends, 65,536.
+    for (on_p10, outputs, length) in [(0, 1, 63 + 20), (0, 2_603, 65_521), (11, 2_603, 65_536), (12, 2_603, 65_537)] {
+        let inputs = if on_p10 == 0 { "1 1" } else { "10 2" };
+        let head = format!("aag {inputs} 0 {outputs} 0\n2\n") + if on_p10 == 0 { "" } else { "20\n" };
+        let graph = head + &"20\n".repeat(on_p10) + &"2\n".repeat(outputs - on_p10);
+        for lent in [length, length - 1, 65_536] {
+            let case =
+                Case::new(format!("{length} bytes of netlist, {lent} lent"), cells.clone(), graph.clone().into());
+            let case = case.words(Lent::This(32_768)).text(Lent::This(lent));
+            add(if length > lent { case.expect(18, length) } else { case.expect(0, 0) });
+        }
+    }
+    // 4,096 outputs without a gate, on an input: 10, 90, 900 and 3,096 names.
+    let most = "aag 1 1 0 4096 0\n2\n".to_string() + &"2\n".repeat(4_096);
+    let length = 63 + 10 * 20 + 90 * 22 + 900 * 24 + 3_096 * 26;
+    for (lent, number) in [(65_536, 18), (length - 1, 18), (length, 0)] {
+        let case = Case::new(format!("4,096 outputs, {lent} bytes lent"), cells.clone(), most.clone().into_bytes());
+        let case = case.words(Lent::This(32_768)).text(Lent::This(lent));
+        add(case.expect(number, if number == 18 { length } else { 0 }));
+    }
+    // Outputs that repeat, that are inputs, constants and complements of each.
+    let outputs = Graph { outputs: vec![6, 6, 7, 2, 2, 3, 0, 1, 0, 5, 6, 7], ..small.clone() };
+    for text in [Lent::Exact, Lent::OneShort] {
+        let case = Case::new(format!("outputs of all kinds, text {text:?}"), rich.clone(), outputs.text()).text(text);
+        add(if text == Lent::OneShort { case } else { case.expect(0, 0) });
+    }
+    add(Case::new("a constant output without a tie cell", cells.clone(), outputs.text()).expect(17, 6));
 
     // What the program lends is exactly what M of 203 with 128 outputs needs.
     for outputs in [128, 129] {

@@ -17,7 +17,7 @@ pub fn is_on(mutant: u32) -> bool {
 }
 
 /// Number and what is wrong.
-pub const LIST: [(u32, &str); 27] = [
+pub const LIST: [(u32, &str); 31] = [
     (1, "an AND with a cut too many is accepted"),
     (2, "a tie between cell and inverter goes to the inverter"),
     (3, "a cut's function walks on below a leaf whose operands are leaves too"),
@@ -45,4 +45,8 @@ pub const LIST: [(u32, &str); 27] = [
     (25, "a second difference of 0 is refused"),
     (26, "the groups of a difference are taken highest first"),
     (27, "a difference padded with a group of zeros is refused"),
+    (28, "an output's `.names` line has the next output's net"),
+    (29, "the names of outputs count from 1"),
+    (30, "`1 0` stands for `1 1`"),
+    (31, "outputs on one net share a name"),
 ];

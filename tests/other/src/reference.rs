@@ -1,5 +1,6 @@
 //! Another mapper, plain and slow. Quoted sentences are document 01's and, for
-//! binary graph texts, those of request N1 in document 02.
+//! binary graph texts and for the names of outputs, those of requests N1 and N3
+//! in document 02.
 
 use crate::{CUT_LIMIT, WORDS_EACH};
 use std::collections::{BTreeMap, BTreeSet};
@@ -680,9 +681,17 @@ fn netlist(cells: &[Cell], graph: &Graph, cuts: &[Vec<Vec<u16>>], mapped: &Mappe
     for &variable in &inputs {
         text += &format!(" {}", net_name((variable, false)));
     }
+    let phases: Vec<Phase> = graph.outputs.iter().map(|&literal| phase_of(literal)).collect();
+    // "The list becomes `o0`, `o1` and so on, in file order."
+    let names: Vec<String> = (0..phases.len())
+        .map(|index| {
+            let own = plain_or!(31, index, phases.iter().take_while(|&&phase| phase != phases[index]).count());
+            format!("o{}", own + plain_or!(29, 0, 1))
+        })
+        .collect();
     text += "\n.outputs";
-    for &literal in &graph.outputs {
-        text += &format!(" {}", net_name(phase_of(literal)));
+    for name in &names {
+        text += &format!(" {name}");
     }
     text += "\n";
     let (mut gates, mut area) = (0, 0);
@@ -705,7 +714,13 @@ fn netlist(cells: &[Cell], graph: &Graph, cuts: &[Vec<Vec<u16>>], mapped: &Mappe
         gates += 1;
         area += plain_or!(10, cell.area, if cell.pins == 1 { 0 } else { cell.area });
     }
-    let outputs = graph.outputs.iter().map(|&literal| mapped[&phase_of(literal)].arrival);
+    // "Before `.end`, each gets `.names` with its net and its own name, then
+    // `1 1`. These lines aren't gates and add no delay."
+    for (index, name) in names.iter().enumerate() {
+        let net = net_name(phases[plain_or!(28, index, (index + 1) % phases.len())]);
+        text += &format!(".names {net} {name}\n{}\n", plain_or!(30, "1 1", "1 0"));
+    }
+    let outputs = phases.iter().map(|phase| mapped[phase].arrival);
     let latest = plain_or!(9, outputs.max(), mapped.values().map(|net| net.arrival).max());
     let arrival = latest.unwrap_or(0);
     text += &format!(".end\n# gates {gates} area {area} arrival {arrival}\n");

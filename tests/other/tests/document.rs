@@ -1,7 +1,7 @@
 //! The reference against the document, the brute force and its own netlists.
 
 use other::reference::{self, Answer};
-use other::{checks, gen, CUT_LIMIT, WORDS_EACH};
+use other::{blif, checks, gen, CUT_LIMIT, WORDS_EACH};
 
 fn passes(check: checks::Check) {
     match check {
@@ -117,7 +117,8 @@ fn variables_stand_in_sequence() {
     let ands: Vec<usize> = (0..=6).filter(|&variable| graph.operands[variable].is_some()).collect();
     assert_eq!(ands, [4, 5, 6]);
     let (_, netlist) = map(b"aig 3 2 0 3 1\n6\n4\n2\n\x02\x02");
-    assert!(netlist.starts_with(".model top\n.inputs p1 p2\n.outputs p3 p2 p1\n"), "{netlist}");
+    assert!(netlist.starts_with(".model top\n.inputs p1 p2\n.outputs o0 o1 o2\n"), "{netlist}");
+    assert!(netlist.contains("\n.names p3 o0\n1 1\n.names p2 o1\n1 1\n.names p1 o2\n1 1\n.end\n"), "{netlist}");
 }
 
 /// "Each AND is two differences, left minus first operand and first minus
@@ -263,4 +264,201 @@ fn in_the_place_given() {
     let short = |graph: &[u8]| reference::map(&cells, graph, 32_768, 0).0;
     assert_eq!(short(B), Answer { number: 18, value: gen::LISTING.len() as u32, ..Answer::default() });
     assert_eq!(short(&B[..17]), Answer { number: 20, value: 17, ..Answer::default() });
+}
+
+// ---------------------------------------------------------------- request N3
+
+/// What stands on the lines, ended by byte 10.
+fn text(lines: &[&str]) -> String {
+    lines.iter().map(|line| format!("{line}\n")).collect()
+}
+
+/// The netlist of these graph lines with the library of case B and these lines.
+fn printed(more_cells: &str, graph: &[&str]) -> String {
+    let cells = [&gen::library_text(&gen::small_library()), more_cells.as_bytes()].concat();
+    let (answer, netlist) = reference::map(&cells, text(graph).as_bytes(), 32_768, 65_536);
+    assert_eq!((answer.number, answer.value as usize), (0, netlist.len()), "{graph:?}");
+    String::from_utf8_lossy(&netlist).into_owned()
+}
+
+const TIE0: &str = "tie0 0 0000 1 0 0 0 0\n";
+
+/// "Case B and the figure in 18 change"
+#[test]
+fn case_b() {
+    let b = ["aag 3 2 0 1 1", "2", "4", "6", "6 2 4"];
+    let listing = [
+        ".model top",
+        ".inputs p1 p2",
+        ".outputs o0",
+        ".gate inv A=m3 O=p3",
+        ".gate nand2 A=p1 B=p2 O=m3",
+        ".names p3 o0",
+        "1 1",
+        ".end",
+        "# gates 2 area 3 arrival 30",
+    ];
+    assert_eq!(printed("", &b), text(&listing));
+    assert_eq!(gen::LISTING, text(&listing));
+    // Lines of 11, 14, 12, 20, 27, 13, 4, 5 and 28 bytes.
+    let short = |bytes| reference::map(&gen::library_text(&gen::small_library()), text(&b).as_bytes(), 32_768, bytes).0;
+    assert_eq!(short(134), Answer { number: 0, value: 134, gates: 2, area: 3, arrival: 30 });
+    assert_eq!(short(133), Answer { number: 18, value: 134, ..Answer::default() });
+}
+
+/// "Two outputs on one net repeat that net in `.outputs`, and the layout tool
+/// refuses repeated names. The list becomes `o0`, `o1` and so on, in file order."
+#[test]
+fn outputs_on_one_net() {
+    let wanted = [
+        ".model top",
+        ".inputs p1 p2",
+        ".outputs o0 o1 o2 o3",
+        ".gate inv A=m3 O=p3",
+        ".gate nand2 A=p1 B=p2 O=m3",
+        ".names m3 o0",
+        "1 1",
+        ".names p3 o1",
+        "1 1",
+        ".names p3 o2",
+        "1 1",
+        ".names m3 o3",
+        "1 1",
+        ".end",
+        "# gates 2 area 3 arrival 30",
+    ];
+    assert_eq!(printed("", &["aag 3 2 0 4 1", "2", "4", "7", "6", "6", "7", "6 2 4"]), text(&wanted));
+}
+
+/// "Before `.end`, each gets `.names` with its net and its own name, then
+/// `1 1`.": inputs and their complements.
+#[test]
+fn outputs_that_are_inputs() {
+    let wanted = [
+        ".model top",
+        ".inputs p2 p1",
+        ".outputs o0 o1 o2",
+        ".gate inv A=p2 O=m2",
+        ".names p1 o0",
+        "1 1",
+        ".names m2 o1",
+        "1 1",
+        ".names p1 o2",
+        "1 1",
+        ".end",
+        "# gates 1 area 1 arrival 10",
+    ];
+    assert_eq!(printed("", &["aag 2 2 0 3 0", "4", "2", "2", "5", "2"]), text(&wanted));
+}
+
+/// The same for constants: case H with both.
+#[test]
+fn outputs_that_are_constants() {
+    let wanted = [
+        ".model top",
+        ".inputs",
+        ".outputs o0 o1 o2",
+        ".gate tie0 O=p0",
+        ".gate inv A=p0 O=m0",
+        ".names m0 o0",
+        "1 1",
+        ".names p0 o1",
+        "1 1",
+        ".names m0 o2",
+        "1 1",
+        ".end",
+        "# gates 2 area 2 arrival 10",
+    ];
+    assert_eq!(printed(TIE0, &["aag 0 0 0 3 0", "1", "0", "1"]), text(&wanted));
+}
+
+/// "With no names the second or third line is the keyword alone", and no
+/// `.names` line stands before `.end`.
+#[test]
+fn no_outputs() {
+    let wanted = [".model top", ".inputs p1", ".outputs", ".end", "# gates 0 area 0 arrival 0"];
+    assert_eq!(printed("", &["aag 1 1 0 0 0", "2"]), text(&wanted));
+}
+
+/// "`o0`, `o1` and so on": names of more digits, in file order.
+#[test]
+fn names_of_more_digits() {
+    let outputs: Vec<&str> = (0..102).map(|index| ["2", "3"][index % 2]).collect();
+    let netlist = printed("", &[&["aag 1 1 0 102 0", "2"], &outputs[..]].concat());
+    let lines: Vec<&str> = netlist.lines().collect();
+    assert!(lines[2].contains(" o8 o9 o10 o11 "), "{}", lines[2]);
+    assert!(lines[2].ends_with(" o98 o99 o100 o101"), "{}", lines[2]);
+    assert_eq!(lines[3], ".gate inv A=p1 O=m1");
+    assert_eq!(lines[4 + 2 * 9..4 + 2 * 11], [".names m1 o9", "1 1", ".names p1 o10", "1 1"]);
+    assert_eq!(lines[4 + 2 * 99..4 + 2 * 101], [".names m1 o99", "1 1", ".names p1 o100", "1 1"]);
+    assert_eq!(lines[4 + 2 * 102..], [".end", "# gates 1 area 1 arrival 10"]);
+}
+
+/// "These lines aren't gates and add no delay." "what an output's value and
+/// arrival mean is read at its `o` name."
+#[test]
+fn read_at_the_o_name() {
+    let cells = gen::library_text(&gen::small_library());
+    let kinds = blif::kinds(&cells).expect("a good library");
+    let netlist = blif::read(gen::LISTING.as_bytes()).expect("a good netlist");
+    let ordered = netlist.ordered(&kinds).expect("a good netlist");
+    assert_eq!(netlist.figures(&kinds, &ordered), [2, 3, 30]);
+    assert_eq!(netlist.arrivals(&kinds, &ordered)["o0"], 30);
+    for row in 0..4 {
+        let setting = [row % 2 == 1, row / 2 == 1];
+        assert_eq!(netlist.values(&kinds, &ordered, &setting), [row == 3]);
+    }
+    // Taken from the other net, the same name has its value and arrival.
+    let other = gen::LISTING.replace(".names p3", ".names m3").replace("arrival 30", "arrival 20");
+    let netlist = blif::read(other.as_bytes()).expect("a good netlist");
+    let ordered = netlist.ordered(&kinds).expect("a good netlist");
+    assert_eq!(netlist.figures(&kinds, &ordered), [2, 3, 20]);
+    assert_eq!(netlist.values(&kinds, &ordered, &[true, true]), [false]);
+}
+
+/// The reader of netlists turns back what isn't in this form.
+#[test]
+fn broken_names() {
+    let kinds = blif::kinds(&gen::library_text(&gen::small_library())).expect("a good library");
+    let good = |listing: &str| blif::read(listing.as_bytes()).and_then(|read| read.ordered(&kinds).map(drop));
+    assert_eq!(good(gen::LISTING), Ok(()));
+    for (from, to) in [
+        ("1 1\n", "1 0\n"),
+        ("1 1\n", ""),
+        ("1 1\n", "11 1\n"),
+        (".names p3 o0\n1 1\n", ""),
+        (".names p3 o0\n1 1\n", ".names p3 o0\n1 1\n.names p3 o0\n1 1\n"),
+        (".names p3 o0\n1 1\n", ".names p3 o0\n1 1\n.names p3 o1\n1 1\n"),
+        (".names p3 o0", ".names p3 o1"),
+        (".names p3 o0", ".names p4 o0"),
+        (".names p3 o0", ".names o0 o0"),
+        (".names p3 o0", ".names p1 p3 o0"),
+        (".names p3 o0", ".names o0"),
+        (".outputs o0", ".outputs o0 o0"),
+        (".outputs o0", ".outputs o0 o1"),
+        (".outputs o0", ".outputs p3"),
+        (".outputs o0", ".outputs"),
+        ("O=p3", "O=o0"),
+        ("A=m3", "A=o0"),
+        (".gate inv", ".names p1 o1\n1 1\n.gate inv"),
+    ] {
+        let broken = gen::LISTING.replacen(from, to, 1);
+        assert!(broken != gen::LISTING && good(&broken).is_err(), "{broken}");
+    }
+}
+
+/// "the figure in 18": the largest netlist of no gates that `map` prints, and
+/// the next one.
+#[test]
+fn eighteen_in_the_program() {
+    let cells = gen::library_text(&gen::small_library());
+    let number = |graph: String| {
+        let answer = reference::map(&cells, graph.as_bytes(), 32_768, 65_536).0;
+        (answer.number, answer.value)
+    };
+    let on_p1 = |outputs: usize| format!("aag 1 1 0 {outputs} 0\n2\n") + &"2\n".repeat(outputs);
+    // Every further output of four digits takes 26 bytes.
+    assert_eq!(number(on_p1(2_603)), (0, 65_521));
+    assert_eq!(number(on_p1(2_604)), (18, 65_547));
+    assert_eq!(number(on_p1(4_096)), (18, 65_547 + 26 * 1_492));
 }

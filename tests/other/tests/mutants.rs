@@ -1,4 +1,5 @@
 //! Every mutant of the reference is caught by a check of `tests/document.rs`.
+//! `MUTANTS=28,29` in the environment tries these alone.
 
 use other::{checks, mutants};
 use std::panic::catch_unwind;
@@ -19,9 +20,12 @@ const CHECKS: Checks = [
 #[test]
 fn every_mutant_is_caught() {
     std::panic::set_hook(Box::new(|_| {}));
+    let only = std::env::var("MUTANTS").ok();
+    let is_wanted =
+        |number: u32| only.as_ref().is_none_or(|only| only.split(',').any(|word| word == number.to_string()));
     let mut missed = Vec::new();
     println!("| mutant | what is wrong | caught by |\n|---|---|---|");
-    for (number, what) in [(0, "nothing")].into_iter().chain(mutants::LIST) {
+    for (number, what) in [(0, "nothing")].into_iter().chain(mutants::LIST).filter(|&(number, _)| is_wanted(number)) {
         mutants::switch(number);
         let caught: Vec<&str> = CHECKS
             .iter()

@@ -3,7 +3,6 @@
 use mathlib.Core.Path.{ap, _∙_}
 use Rattle.model.specs.declared.Phase.{Phase}
 use Rattle.words.specs.Phases.{phaseAt}
-use Rattle.netlist.specs.Lines.{netAt}
 use borrow.Author.Needs.{needs}
 use Rattle.netlist.proofs.output_arrival.Statement.{statement}
 use Rattle.netlist.proofs.output_arrival.Tie as tie
@@ -15,7 +14,6 @@ phase-requires : tie.Need-phase-requires
 phase-requires c κs = search needs
 
 returns : tie.Need-returns
-unfolding netAt
 returns c = ap (λ (p : Phase). p .arrival) (c .phase .ensures ∙ ap (phaseAt (c .before .before .before .args .work .now) (c .before .before .before .args .m)) (c .before .output .ensures))
 
 pub output-arrival-spec : {M : Type 1} → statement M

@@ -1,12 +1,12 @@
 -- `netlist::put_frame` meets its contract.
 -- Assumes nothing.
 use mathlib.Core.Path.{refl}
-use mathlib.Core.Bool.{true, false}
 use mathlib.Core.List.{List, _∷_, [], _++_}
 use Prim.Native.Nat.{ℕ, _+_, _≤_}
 use native.Mathlib.Omega.{arith}
 use lib.ListN.{length}
-use Rattle.netlist.specs.Lines.{netsFrom, spaced, frameText}
+use Rattle.words.proofs.Columns.{room-need}
+use Rattle.netlist.specs.Lines.{inputNamesFrom, outputNamesFrom, spaced, frameText}
 use Rattle.netlist.proofs.Counting.{modelBytes, outputsBytes, frame-is}
 use Rattle.netlist.proofs.Progress.{Partly, begin, step, room, finish}
 use borrow.Author.Needs.{needs}
@@ -15,10 +15,10 @@ use Rattle.netlist.proofs.put_frame.Tie as tie
 
 -- what stands behind the inputs, and behind the first keywords
 abbrev afterInputs : (c : tie.Start) → List ℕ
-afterInputs c = outputsBytes ++ (spaced (netsFrom (c .args .work .now) (c .args .m) true 0 (c .args .outputs)) ++ (10 ∷ []))
+afterInputs c = outputsBytes ++ (spaced (outputNamesFrom 0 (c .args .outputs)) ++ (10 ∷ []))
 
 abbrev afterModel : (c : tie.Start) → List ℕ
-afterModel c = spaced (netsFrom (c .args .work .now) (c .args .m) false 0 (c .args .inputs)) ++ afterInputs c
+afterModel c = spaced (inputNamesFrom (c .args .work .now) (c .args .m) 0 (c .args .inputs)) ++ afterInputs c
 
 fits : (c : tie.Start) → 0 + length (frameText (c .args .work .now) (c .args .m) (c .args .inputs) (c .args .outputs)) ≤ length (c .args .out .now)
 fits c = omega (arith, c .pre .1)
@@ -31,16 +31,16 @@ model : (c : tie.After-put-bytes) → Partly (c .before .before .before .before 
 model c = step (fits (c .before .before .before .before .before)) (none (c .before .before .before .before .before)) (c .put-bytes .last .0) (c .put-bytes .result) (modelBytes) (afterModel (c .before .before .before .before .before)) refl (c .put-bytes .ensures)
 
 -- and their names
-inputs : (c : tie.After-put-names) → Partly (c .before .before .before .before .before .before .before .before .before .args .out .now) (c .put-names .last .1 .1 .1 .1 .1 .0) 0 (c .put-names .result) (frameText (c .before .before .before .before .before .before .before .before .before .args .work .now) (c .before .before .before .before .before .before .before .before .before .args .m) (c .before .before .before .before .before .before .before .before .before .args .inputs) (c .before .before .before .before .before .before .before .before .before .args .outputs)) (afterInputs (c .before .before .before .before .before .before .before .before .before))
-inputs c = step (fits (c .before .before .before .before .before .before .before .before .before)) (model (c .before .before .before .before)) (c .put-names .last .1 .1 .1 .1 .1 .0) (c .put-names .result) (spaced (netsFrom (c .before .before .before .before .before .before .before .before .before .args .work .now) (c .before .before .before .before .before .before .before .before .before .args .m) false 0 (c .before .before .before .before .before .before .before .before .before .args .inputs))) (afterInputs (c .before .before .before .before .before .before .before .before .before)) refl (c .put-names .ensures)
+inputs : (c : tie.After-put-inputs) → Partly (c .before .before .before .before .before .before .before .before .before .args .out .now) (c .put-inputs .last .1 .1 .1 .0) 0 (c .put-inputs .result) (frameText (c .before .before .before .before .before .before .before .before .before .args .work .now) (c .before .before .before .before .before .before .before .before .before .args .m) (c .before .before .before .before .before .before .before .before .before .args .inputs) (c .before .before .before .before .before .before .before .before .before .args .outputs)) (afterInputs (c .before .before .before .before .before .before .before .before .before))
+inputs c = step (fits (c .before .before .before .before .before .before .before .before .before)) (model (c .before .before .before .before)) (c .put-inputs .last .1 .1 .1 .0) (c .put-inputs .result) (spaced (inputNamesFrom (c .before .before .before .before .before .before .before .before .before .args .work .now) (c .before .before .before .before .before .before .before .before .before .args .m) 0 (c .before .before .before .before .before .before .before .before .before .args .inputs))) (afterInputs (c .before .before .before .before .before .before .before .before .before)) refl (c .put-inputs .ensures)
 
 -- and the keyword of the outputs
-keyword : (c : tie.After-put-bytes2) → Partly (c .before .before .before .before .before .before .before .before .before .before .before .before .before .before .args .out .now) (c .put-bytes2 .last .0) 0 (c .put-bytes2 .result) (frameText (c .before .before .before .before .before .before .before .before .before .before .before .before .before .before .args .work .now) (c .before .before .before .before .before .before .before .before .before .before .before .before .before .before .args .m) (c .before .before .before .before .before .before .before .before .before .before .before .before .before .before .args .inputs) (c .before .before .before .before .before .before .before .before .before .before .before .before .before .before .args .outputs)) (spaced (netsFrom (c .before .before .before .before .before .before .before .before .before .before .before .before .before .before .args .work .now) (c .before .before .before .before .before .before .before .before .before .before .before .before .before .before .args .m) true 0 (c .before .before .before .before .before .before .before .before .before .before .before .before .before .before .args .outputs)) ++ (10 ∷ []))
-keyword c = step (fits (c .before .before .before .before .before .before .before .before .before .before .before .before .before .before)) (inputs (c .before .before .before .before .before)) (c .put-bytes2 .last .0) (c .put-bytes2 .result) (outputsBytes) (spaced (netsFrom (c .before .before .before .before .before .before .before .before .before .before .before .before .before .before .args .work .now) (c .before .before .before .before .before .before .before .before .before .before .before .before .before .before .args .m) true 0 (c .before .before .before .before .before .before .before .before .before .before .before .before .before .before .args .outputs)) ++ (10 ∷ [])) refl (c .put-bytes2 .ensures)
+keyword : (c : tie.After-put-bytes2) → Partly (c .before .before .before .before .before .before .before .before .before .before .before .before .before .before .args .out .now) (c .put-bytes2 .last .0) 0 (c .put-bytes2 .result) (frameText (c .before .before .before .before .before .before .before .before .before .before .before .before .before .before .args .work .now) (c .before .before .before .before .before .before .before .before .before .before .before .before .before .before .args .m) (c .before .before .before .before .before .before .before .before .before .before .before .before .before .before .args .inputs) (c .before .before .before .before .before .before .before .before .before .before .before .before .before .before .args .outputs)) (spaced (outputNamesFrom 0 (c .before .before .before .before .before .before .before .before .before .before .before .before .before .before .args .outputs)) ++ (10 ∷ []))
+keyword c = step (fits (c .before .before .before .before .before .before .before .before .before .before .before .before .before .before)) (inputs (c .before .before .before .before .before)) (c .put-bytes2 .last .0) (c .put-bytes2 .result) (outputsBytes) (spaced (outputNamesFrom 0 (c .before .before .before .before .before .before .before .before .before .before .before .before .before .before .args .outputs)) ++ (10 ∷ [])) refl (c .put-bytes2 .ensures)
 
 -- and their names
-outputs : (c : tie.After-put-names2) → Partly (c .before .before .before .before .before .before .before .before .before .before .before .before .before .before .before .before .before .before .args .out .now) (c .put-names2 .last .1 .1 .1 .1 .1 .0) 0 (c .put-names2 .result) (frameText (c .before .before .before .before .before .before .before .before .before .before .before .before .before .before .before .before .before .before .args .work .now) (c .before .before .before .before .before .before .before .before .before .before .before .before .before .before .before .before .before .before .args .m) (c .before .before .before .before .before .before .before .before .before .before .before .before .before .before .before .before .before .before .args .inputs) (c .before .before .before .before .before .before .before .before .before .before .before .before .before .before .before .before .before .before .args .outputs)) (10 ∷ [])
-outputs c = step (fits (c .before .before .before .before .before .before .before .before .before .before .before .before .before .before .before .before .before .before)) (keyword (c .before .before .before .before)) (c .put-names2 .last .1 .1 .1 .1 .1 .0) (c .put-names2 .result) (spaced (netsFrom (c .before .before .before .before .before .before .before .before .before .before .before .before .before .before .before .before .before .before .args .work .now) (c .before .before .before .before .before .before .before .before .before .before .before .before .before .before .before .before .before .before .args .m) true 0 (c .before .before .before .before .before .before .before .before .before .before .before .before .before .before .before .before .before .before .args .outputs))) (10 ∷ []) refl (c .put-names2 .ensures)
+outputs : (c : tie.After-put-outputs) → Partly (c .before .before .before .before .before .before .before .before .before .before .before .before .before .before .before .before .before .before .args .out .now) (c .put-outputs .last .1 .0) 0 (c .put-outputs .result) (frameText (c .before .before .before .before .before .before .before .before .before .before .before .before .before .before .before .before .before .before .args .work .now) (c .before .before .before .before .before .before .before .before .before .before .before .before .before .before .before .before .before .before .args .m) (c .before .before .before .before .before .before .before .before .before .before .before .before .before .before .before .before .before .before .args .inputs) (c .before .before .before .before .before .before .before .before .before .before .before .before .before .before .before .before .before .before .args .outputs)) (10 ∷ [])
+outputs c = step (fits (c .before .before .before .before .before .before .before .before .before .before .before .before .before .before .before .before .before .before)) (keyword (c .before .before .before .before)) (c .put-outputs .last .1 .0) (c .put-outputs .result) (spaced (outputNamesFrom 0 (c .before .before .before .before .before .before .before .before .before .before .before .before .before .before .before .before .before .before .args .outputs))) (10 ∷ []) refl (c .put-outputs .ensures)
 
 slice-aggregate-put-bytes : tie.Need-slice-aggregate-put-bytes
 slice-aggregate-put-bytes c = search needs
@@ -48,17 +48,17 @@ slice-aggregate-put-bytes c = search needs
 put-bytes-requires : tie.Need-put-bytes-requires
 put-bytes-requires c κs = room (fits (c .before .before .before .before)) (none (c .before .before .before .before)) modelBytes (afterModel (c .before .before .before .before)) refl
 
-put-names-requires : tie.Need-put-names-requires
-put-names-requires c κs = (c .before .before .before .before .before .before .before .before .pre .0 .room, c .before .before .before .before .before .before .before .before .pre .0 .fewInputs, room (fits (c .before .before .before .before .before .before .before .before)) (model (c .before .before .before)) (spaced (netsFrom (c .before .before .before .before .before .before .before .before .args .work .now) (c .before .before .before .before .before .before .before .before .args .m) false 0 (c .before .before .before .before .before .before .before .before .args .inputs))) (afterInputs (c .before .before .before .before .before .before .before .before)) refl)
+put-inputs-requires : tie.Need-put-inputs-requires
+put-inputs-requires c κs = (room-need (c .before .before .before .before .before .before .before .before .args .work .now) (c .before .before .before .before .before .before .before .before .args .m) (c .before .before .before .before .before .before .before .before .args .outputs) (c .before .before .before .before .before .before .before .before .pre .0 .room), c .before .before .before .before .before .before .before .before .pre .0 .fewInputs, room (fits (c .before .before .before .before .before .before .before .before)) (model (c .before .before .before)) (spaced (inputNamesFrom (c .before .before .before .before .before .before .before .before .args .work .now) (c .before .before .before .before .before .before .before .before .args .m) 0 (c .before .before .before .before .before .before .before .before .args .inputs))) (afterInputs (c .before .before .before .before .before .before .before .before)) refl)
 
 slice-aggregate-put-bytes-2 : tie.Need-slice-aggregate-put-bytes-2
 slice-aggregate-put-bytes-2 c = search needs
 
 put-bytes-requires-2 : tie.Need-put-bytes-requires-2
-put-bytes-requires-2 c κs = room (fits (c .before .before .before .before .before .before .before .before .before .before .before .before .before)) (inputs (c .before .before .before .before)) outputsBytes (spaced (netsFrom (c .before .before .before .before .before .before .before .before .before .before .before .before .before .args .work .now) (c .before .before .before .before .before .before .before .before .before .before .before .before .before .args .m) true 0 (c .before .before .before .before .before .before .before .before .before .before .before .before .before .args .outputs)) ++ (10 ∷ [])) refl
+put-bytes-requires-2 c κs = room (fits (c .before .before .before .before .before .before .before .before .before .before .before .before .before)) (inputs (c .before .before .before .before)) outputsBytes (spaced (outputNamesFrom 0 (c .before .before .before .before .before .before .before .before .before .before .before .before .before .args .outputs)) ++ (10 ∷ [])) refl
 
-put-names-requires-2 : tie.Need-put-names-requires-2
-put-names-requires-2 c κs = (c .before .before .before .before .before .before .before .before .before .before .before .before .before .before .before .before .before .pre .0 .room, omega arith, room (fits (c .before .before .before .before .before .before .before .before .before .before .before .before .before .before .before .before .before)) (keyword (c .before .before .before)) (spaced (netsFrom (c .before .before .before .before .before .before .before .before .before .before .before .before .before .before .before .before .before .args .work .now) (c .before .before .before .before .before .before .before .before .before .before .before .before .before .before .before .before .before .args .m) true 0 (c .before .before .before .before .before .before .before .before .before .before .before .before .before .before .before .before .before .args .outputs))) (10 ∷ []) refl)
+put-outputs-requires : tie.Need-put-outputs-requires
+put-outputs-requires c κs = (c .before .before .before .before .before .before .before .before .before .before .before .before .before .before .before .before .before .pre .0 .fewOutputs, room (fits (c .before .before .before .before .before .before .before .before .before .before .before .before .before .before .before .before .before)) (keyword (c .before .before .before)) (spaced (outputNamesFrom 0 (c .before .before .before .before .before .before .before .before .before .before .before .before .before .before .before .before .before .args .outputs))) (10 ∷ []) refl)
 
 put-byte-requires : tie.Need-put-byte-requires
 put-byte-requires c κs = omega (arith, room (fits (c .before .before .before .before .before .before .before .before .before .before .before .before .before .before .before .before .before .before .before .before .before)) (outputs (c .before .before .before)) (10 ∷ []) [] refl)
@@ -75,10 +75,10 @@ put-frame-spec =
     (tie.spec
     slice-aggregate-put-bytes
     put-bytes-requires
-    put-names-requires
+    put-inputs-requires
     slice-aggregate-put-bytes-2
     put-bytes-requires-2
-    put-names-requires-2
+    put-outputs-requires
     put-byte-requires
     same-length
     returns)

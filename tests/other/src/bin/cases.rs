@@ -65,7 +65,7 @@ fn main() {
     c.add(&cells(32), b, 32768, 65536);
     c.add(&cells(33), b, 32768, 65536);
     let need = WORDS_EACH * 4 + 1;
-    for (words, bytes) in [(need, 117), (need - 1, 117), (need, 116), (0, 0)] {
+    for (words, bytes) in [(need, 134), (need - 1, 134), (need, 133), (0, 0)] {
         c.add(&library, b, words, bytes);
     }
     c.add(&library, "aag 1 0 1 0 0\n2 2\n", 32768, 65536);
@@ -111,9 +111,9 @@ fn main() {
         c.add(&library, &graph[..graph.len() - 1], 32768, 65536);
     }
     c.add(&library, b"aig 0 0 0 0 0\n", 32768, 65536);
-    c.add(&library, b_in_binary, need, 117);
-    c.add(&library, b_in_binary, need - 1, 117);
-    c.add(&library, b_in_binary, need, 116);
+    c.add(&library, b_in_binary, need, 134);
+    c.add(&library, b_in_binary, need - 1, 134);
+    c.add(&library, b_in_binary, need, 133);
     c.add(&library, b"aig 4 2 0 1 1\n6\n\x02\x02", 0, 65536);
     c.add(&library, b"aig 2 2 0 1 1\n6\n\x02\x02", 32768, 65536);
     c.add(&library, b"aig 65 64 0 1 1\n130\n\x80\x01\x01", 32768, 65536);
@@ -136,6 +136,15 @@ fn main() {
         b"\x02\x85\x7f",
     ] {
         c.add(&library, [b"aig 3 2 0 1 1\n6\n", bytes].concat(), 32768, 65536);
+    }
+    // outputs that repeat, that are inputs, constants and complements; names of one to three digits; 18 in what the program lends
+    c.add(&library, "aag 3 2 0 4 1\n2\n4\n7\n6\n6\n7\n6 2 4\n", 32768, 65536);
+    c.add(&library, "aag 2 2 0 3 0\n4\n2\n2\n5\n2\n", 32768, 65536);
+    c.add(&with("tie0 0 0000 1 0 0 0 0"), "aag 0 0 0 3 0\n1\n0\n1\n", 32768, 65536);
+    c.add(&with("tie0 0 0000 1 0 0 0 0"), "aag 3 2 0 6 1\n2\n4\n0\n6\n3\n6\n1\n2\n6 2 4\n", 32768, 65536);
+    c.add(&library, "aag 1 1 0 0 0\n2\n", 32768, 65536);
+    for outputs in [9, 10, 11, 99, 100, 101, 2604, 4096] {
+        c.add(&library, format!("aag 1 1 0 {outputs} 0\n2\n") + &"2\n".repeat(outputs), 32768, 65536);
     }
     // real graphs
     for name in [

@@ -1,12 +1,19 @@
 //! The program of the document over the reference: reads `cells.txt` and
 //! `graph.aag` in the folder given (or here), prints the netlist or refusal.
+//! With two files, CELLS and GRAPH, memory enough for any graph is lent.
 
 use std::{env, fs, io::Write, path::PathBuf};
 
 fn main() {
-    let folder = PathBuf::from(env::args().nth(1).unwrap_or_else(|| ".".into()));
-    let read = |name: &str| fs::read(folder.join(name)).unwrap_or_default();
-    let (answer, netlist) = other::reference::map(&read("cells.txt"), &read("graph.aag"), 32_768, 65_536);
+    let paths: Vec<PathBuf> = env::args().skip(1).map(PathBuf::from).collect();
+    let in_folder = |folder: PathBuf| ([folder.join("cells.txt"), folder.join("graph.aag")], 32_768, 65_536);
+    let (files, words, bytes) = match &paths[..] {
+        [] => in_folder(".".into()),
+        [folder] => in_folder(folder.clone()),
+        [cells, graph, ..] => ([cells.clone(), graph.clone()], 1 << 20, 1 << 20),
+    };
+    let [cells, graph] = files.map(|path| fs::read(path).unwrap_or_default());
+    let (answer, netlist) = other::reference::map(&cells, &graph, words, bytes);
     let printed = match answer.number {
         0 => netlist,
         number => format!("refused {number} {}\n", answer.value).into_bytes(),
