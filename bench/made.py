@@ -2,7 +2,7 @@
 """Writes the made graphs to target/bench (or the folder given): families of one structure at several sizes, to show how the cost grows.
 
 A family is an endless list of ANDs over a few shared inputs; a graph is its first ANDs, and its outputs are those that no other AND uses.
-So every size has the same structure, and the largest stays within M of 4,095 and a text of 65,536 bytes. Each family stays within 24 cuts
+So every size has the same structure, and the largest stays within M of 4,095 and a text of 65,536 bytes. Each family stays within 18 cuts
 an AND. Nothing is left to chance: the same files come out every time."""
 import itertools
 import pathlib
@@ -40,26 +40,29 @@ def source(k):
 
 
 def hold(ands):
-    """Side by side: a sample of 4 bits against the peak held, and the larger of the two. Depth stays as it is."""
+    """Side by side: a sample of 4 bits against the peak held, and the larger of the two. Depth stays as it is.
+    The larger's top bit is the OR of both: chosen as the others are, it would have more than 18 cuts."""
     for k in itertools.count():
         sample = [source(8 * k + k // 8 + j) for j in range(4)]
         peak = [source(8 * k + k // 8 + j + 4) for j in range(4)]
         higher = ands.both(sample[0], peak[0] ^ 1)
         for a, b in zip(sample[1:], peak[1:]):
             higher = ands.either(ands.both(a, b ^ 1), ands.both(ands.both(a ^ 1, b) ^ 1, higher))
-        for a, b in zip(sample, peak):
+        for a, b in zip(sample[:-1], peak[:-1]):
             ands.choose(higher, a, b)
+        ands.either(sample[-1], peak[-1])
         yield
 
 
 def carry(ands):
-    """One long ripple adder. Depth grows with the size."""
+    """One long ripple adder. Depth grows with the size. The carry meets b first and a last: were it a and b first, a sum
+    would have more than 18 cuts."""
     c = source(0)
     for k in itertools.count():
         a, b = source(2 * k + 1), source(2 * k + 2)
-        g, n = ands.both(a, b), ands.both(a ^ 1, b ^ 1)
-        ands.differ(ands.both(g ^ 1, n ^ 1), c)
-        c = ands.either(g, ands.both(n ^ 1, c))
+        g, n = ands.both(b, c), ands.both(b ^ 1, c ^ 1)
+        ands.differ(a, ands.both(g ^ 1, n ^ 1))
+        c = ands.either(g, ands.both(n ^ 1, a))
         yield
 
 

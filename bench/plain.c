@@ -1,4 +1,4 @@
-/* A mapper by document 01 and requests N1 and N3 in plain C, to compare with: nothing in it is proved.
+/* A mapper by document 01 and requests N1, N3 and N4 in plain C, to compare with: nothing in it is proved.
  * cuts: plain merge up to the fifth leaf, a sorted list of cut records by value
  * functions: walk with a memo stamped by the cut's own number
  * matching: chains of all variants (cell, each of 24 orders, mask) by table, built by the plain rule of 16 rows
@@ -14,7 +14,7 @@
 #endif
 typedef uint8_t u8; typedef uint16_t u16; typedef uint32_t u32; typedef uint64_t u64;
 
-#define L 24u                     /* cut limit */
+#define L 18u                     /* cut limit */
 #define EACH (16u + 6u * L)       /* words for each variable */
 #define LIMIT 65536u
 typedef struct { u8 name[8]; u8 len, pins; u16 table, area, d[4]; } Cell;

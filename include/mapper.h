@@ -6,7 +6,7 @@
  *             figures of its last line; every word of work is 0
  *   refusal   number and value are the refusal's number and place (docs/GUIDE.md), the figures are 0; text is unchanged; work is unchanged
  *             for numbers up to 10 and for 19, and every word of it is 0 for any other
- * A graph of M variables and O outputs wants 160(M+1) + O words. The stack needs about 1.5 MB. */
+ * A graph of M variables and O outputs wants 124(M+1) + O words. The stack needs about 1.5 MB. */
 #ifndef MAPPER_H
 #define MAPPER_H
 #include <stddef.h>

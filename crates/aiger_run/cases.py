@@ -4,7 +4,7 @@ usage: cases.py"""
 import pathlib, random, re
 HERE = pathlib.Path(__file__).resolve().parent
 WORDS = 80000
-CUT_LIMIT = 24
+CUT_LIMIT = 18
 WORDS_EACH = 16 + 6 * CUT_LIMIT  # of each variable
 
 def number(f):
@@ -125,7 +125,7 @@ def binary_texts():
     f_ = b"aig 6 3 0 1 3\n12\n\x04\x02\x02\x02\x02\x02"
     out = [b_, f_, b_ + b"\xff\xff", b_ + b"i0 x\nc\n"] + [b_[:n] for n in range(len(b_))] + [f_[:n] for n in range(17, len(f_))]
     # the header: 19 after 9 and before 10
-    out += [h + b"\n" for h in (b"aig 0 0 0 0 0", b"aig 1 0 0 0 0", b"aig 3 2 0 0 0", b"aig 3 2 0 0 2", b"aig 3 2 1 0 0", b"aig 499 0 0 0 0", b"aig 499 499 0 0 0", b"aig 498 498 0 0 0", b"aig 4095 4095 0 0 0",
+    out += [h + b"\n" for h in (b"aig 0 0 0 0 0", b"aig 1 0 0 0 0", b"aig 3 2 0 0 0", b"aig 3 2 0 0 2", b"aig 3 2 1 0 0", b"aig 645 0 0 0 0", b"aig 645 645 0 0 0", b"aig 644 644 0 0 0", b"aig 4095 4095 0 0 0",
                                  b"aig 4095 4094 0 0 0", b"aig 4096 4096 0 0 0", b"aig 4096 0 0 0 0", b"aig 0 0 0 4097 0", b"aig 1 0 0 4097 0", b"aigs 0 0 0 0 0", b"aig 0 0 0 0", b"aig 0 0 0 0 0 0", b"aig 00 0 0 0 0",
                                  b"aig 0 0 0 0 0\r", b"aig  0 0 0 0 0", b"aig")]
     # output lines keep 11 and 12, before any difference

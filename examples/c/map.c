@@ -4,7 +4,7 @@
 #include <stdio.h>
 
 static uint8_t cells[65537], graph[65537], text[1 << 20];
-static uint16_t work[160 * 4096 + 4096];
+static uint16_t work[124 * 4096 + 4096];
 
 static size_t load(const char *path, uint8_t *to)
 {

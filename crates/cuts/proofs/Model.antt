@@ -241,7 +241,7 @@ module _ (w : List ℕ) (m n : ℕ) (g : Graph) (rep : Represents w m n g) (ok :
           ap (λ (q : State). q .answer) (stays w m i k y a)
           ∙ sym (ap (λ (l : List ℕ). refusedAt 16 (firstOf l)) more ∙ refused-stays k y (keep wide (slots w m i)) (cond (wide x) (x ∷ []) []) (sym e ∙ a))
 
-  -- "An AND, used or not, has more than 24 cuts; place, the first such variable in placing order."
+  -- "An AND, used or not, has more than 18 cuts; place, the first such variable in placing order."
   pub verdict-model : listing w m n .answer ≡ cutsVerdict g
   unfolding cutsVerdict crowded wide
   verdict-model = verdict-so-far n (omega arith) ∙ ap (λ (vs : List ℕ). refusedAt 16 (firstOf (keep wide vs))) slots-all

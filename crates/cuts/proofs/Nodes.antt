@@ -1,6 +1,6 @@
 -- The keys of one node's cuts, and what storing them comes to:
 --     reads                       the operands' lists can be read
---     too-many, few-enough        what a list of 25 keys says, and a shorter one
+--     too-many, few-enough        what a list of 19 keys says, and a shorter one
 --     keys-small                  each key has a size of at most four
 -- Assumes nothing.
 use mathlib.Core.Path.{_≡_, sym, ap, _∙_, subst}

@@ -18,7 +18,7 @@ unfoldable pub cutsNow : List ℕ → ℕ → ℕ → List (List ℕ)
 unfolding nodeCuts cutsAt nodeAt
 cutsNow w m v = nodeCuts (cutsAt w m) v (nodeAt w m v)
 
--- "more than 24 cuts" is turned back
+-- "more than 18 cuts" is turned back
 unfoldable pub few : List ℕ → ℕ → ℕ → Bool
 unfolding cutsNow
 few w m v = leb (length (cutsNow w m v)) cutLimit
@@ -45,7 +45,7 @@ pub record State : Type 0 where
 abbrev pub begun : State
 begun = record { answer = Accepted; known = [] }
 
--- v's list joins those known, unless it has more cuts than the limit: "16. An AND, used or not, has more than 24 cuts"
+-- v's list joins those known, unless it has more cuts than the limit: "16. An AND, used or not, has more than 18 cuts"
 unfoldable pub join : ℕ → List (List ℕ) → Known → State
 join v cs known = cond (leb (length cs) cutLimit) (record { answer = Accepted; known = (v, cs) ∷ known }) (record { answer = Refused 16 v; known = known })
 

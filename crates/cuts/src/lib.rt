@@ -229,7 +229,7 @@ fn list_node(work: &mut [u16], m: usize, v: usize) -> bool
     true
 }
 
-// The cuts of each placed variable, in placing order. "16. An AND, used or not, has more than 24 cuts; place, the first such variable in placing order."
+// The cuts of each placed variable, in placing order. "16. An AND, used or not, has more than 18 cuts; place, the first such variable in placing order."
 pub fn lists(work: &mut [u16], m: usize, placed: usize) -> Verdict
     requires { ⌜ Ready (now work) m placed ⌝ }
     ensures { λ r. ⌜ r ≡ listing (now (work .entry)) m placed .answer ⌝ }

@@ -6,7 +6,7 @@ ghost use Rattle.words.specs.Layout.{placedOf};
 ghost use Rattle.cuts.specs.Listing.{listing};
 ghost use Rattle.cutting.specs.Enumerated.{Ready, enumerated};
 
-// "16. An AND, used or not, has more than 24 cuts; place, the first such variable in placing order."
+// "16. An AND, used or not, has more than 18 cuts; place, the first such variable in placing order."
 pub fn enumerate(work: &mut [u16], h: Header) -> Verdict
     requires { ⌜ Ready (now work) (h .size) (placedOf h) ⌝ }
     ensures { λ r. ⌜ r ≡ listing (now (work .entry)) (h .size) (placedOf h) .answer ⌝ }

@@ -77,7 +77,7 @@ fn map_case(
     }
 }
 
-// 16 a + b: one number is at most 65,535, and 659,456 words are lent.
+// 16 a + b: one number is at most 65,535, and 512,000 words are lent.
 fn sixteen(a: u16, b: u16) -> usize
     ensures { λ r. ⌜ r ≤ 1114110 ⌝ }
 {
@@ -125,7 +125,7 @@ fn each(s: &[u8], work: &mut [u16], text: &mut [u8]) {
 
 fn main() {
     let mut input = [0u8; 262144];
-    let mut work = [0u16; 659456];
+    let mut work = [0u16; 512000];
     let mut text = [0u8; 65536];
     let n = io::read_full(STDIN_FILENO, &mut input);
     each(&input[..n], &mut work, &mut text);

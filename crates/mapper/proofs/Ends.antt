@@ -46,7 +46,7 @@ module _ (lib : Library) (s : List ℕ) (work text : List ℕ) where
     unfolding headerFor next
     through = ap (λ (x : Read Header). mapDesign (length text) (next x (λ k. unless (leb (need (k .size) (k .outputs)) (length work)) 10 0 (designOf lib s k)))) d
 
-    -- "Work memory has fewer than 160(M+1) + O 16-bit words."
+    -- "Work memory has fewer than 124(M+1) + O 16-bit words."
     pub header-short : length work < need (h .size) (h .outputs) → Left (headerFor lib s (length work) (length text)) work text (Turned 10 0) work text
     unfolding unless mapDesign
     header-short l = left-as (through ∙ go (leb (need (h .size) (h .outputs)) (length work)) (leb→le (need (h .size) (h .outputs)) (length work))) (left-early 10 0 work text refl)

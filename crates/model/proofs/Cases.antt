@@ -206,24 +206,24 @@ unfoldable pub cellLines : ℕ → List ℕ
 unfolding text each below decimal
 cellLines n = text "cell pins table area d0 d1 d2 d3\n" ++ each (λ (k : ℕ). 99 ∷ decimal k ++ text " 0 0000 1 0 0 0 0\n") (below n)
 
--- "graphs with 24 and 25 cuts": of the two chains' last variable
-unfoldable pub graph24 : String
-graph24 = "aag 6 1 0 0 5\n2\n4 2 2\n6 4 4\n8 6 6\n10 8 8\n12 10 8\n"
+-- "The unmarked graphs are now of 18 and 19 cuts": of the two chains' last variable
+unfoldable pub graph18 : String
+graph18 = "aag 6 1 0 0 5\n2\n4 2 2\n6 4 2\n8 4 2\n10 8 6\n12 10 10\n"
 
-unfoldable pub graph25 : String
-graph25 = "aag 6 1 0 0 5\n2\n4 2 2\n6 4 4\n8 6 4\n10 6 8\n12 10 10\n"
+unfoldable pub graph19 : String
+graph19 = "aag 6 1 0 0 5\n2\n4 2 2\n6 4 2\n8 6 2\n10 8 8\n12 10 10\n"
 
 -- variable 6 has too many cuts as well, and is placed behind variable 7
 unfoldable pub graphLater : String
-graphLater = "aag 7 1 0 0 6\n2\n4 2 2\n6 4 4\n8 6 4\n10 6 8\n14 10 10\n12 14 14\n"
+graphLater = "aag 7 1 0 0 6\n2\n4 2 2\n6 4 2\n8 6 2\n10 8 8\n14 10 10\n12 14 14\n"
 
 -- both can be placed at once, and the line of variable 7 stands first
 unfoldable pub graphEither : String
-graphEither = "aag 7 1 0 0 6\n2\n4 2 2\n6 4 4\n8 6 4\n10 6 8\n14 10 10\n12 10 10\n"
+graphEither = "aag 7 1 0 0 6\n2\n4 2 2\n6 4 2\n8 6 2\n10 8 8\n14 10 10\n12 10 10\n"
 
 -- the edges of each refusal from 2 on
 unfoldable pub refusals : List Case
-unfolding library with graphB graph24 graph25 graphLater graphEither cellLines listing text
+unfolding library with graphB graph18 graph19 graphLater graphEither cellLines listing text
 refusals =
     -- 2
     refuses [] graphB 2 0
@@ -275,8 +275,8 @@ refusals =
     ∷ refuses library "aag 0 0 0 4097 0\n" 9 0
     ∷ refuses library "aag 1 1 0 0 1\n2\n2 0 0\n" 9 0
     -- 10
-    ∷ lacks library "aag 4095 0 0 0 0\n" 655359 0 10 0
-    ∷ lacks library graphB 640 65536 10 0
+    ∷ lacks library "aag 4095 0 0 0 0\n" 507903 0 10 0
+    ∷ lacks library graphB 496 65536 10 0
     -- 11
     ∷ refuses library "aag 3 2 0 1 1\n2\n4\n6\n" 11 20
     ∷ refuses library "aag 3 2 0 1 1\n2\n4\n6\n6 2 4" 11 20
@@ -298,16 +298,16 @@ refusals =
     ∷ refuses library "aag 3 0 0 0 3\n2 4 4\n4 6 6\n6 4 4\n" 15 1
     ∷ refuses library "aag 2 1 0 0 1\n2\n4 4 2\n" 15 2
     -- 16
-    ∷ gives library graph24 0 0
-    ∷ refuses library graph25 16 6
+    ∷ gives library graph18 0 0
+    ∷ refuses library graph19 16 6
     ∷ refuses library graphLater 16 7
     ∷ refuses library graphEither 16 6
     -- 17
     ∷ refuses library "aag 1 1 0 2 0\n2\n2\n0\n" 17 1
     ∷ refuses (text "cell pins table area d0 d1 d2 d3\n") "aag 1 1 0 2 0\n2\n3\n2\n" 17 0
     -- 18, and the words that are enough
-    ∷ suffices library graphB 641 134 2 30
-    ∷ lacks library graphB 641 133 18 134
+    ∷ suffices library graphB 497 134 2 30
+    ∷ lacks library graphB 497 133 18 134
     ∷ []
 
 -- each refusal is given where it is due
@@ -374,7 +374,7 @@ binaryRefusals =
     ∷ refusesBytes (text "aig 4 2 1 1 1\n") 0 8 0
     ∷ refusesBytes (text "aig 3 2 0 1 2\n") 0 9 0
     ∷ refusesBytes (text "aig 4 2 0 4097 1\n") 0 9 0
-    ∷ refusesBytes (headB ++ (2 ∷ 2 ∷ [])) 640 10 0
+    ∷ refusesBytes (headB ++ (2 ∷ 2 ∷ [])) 496 10 0
     -- 11 and 12 of an output line, before 20
     ∷ refusesBytes (text "aig 3 2 0 1 1\n") 32768 11 14
     ∷ refusesBytes (text "aig 3 2 0 1 1\n6") 32768 11 14
@@ -585,8 +585,8 @@ isReturned number value count area arrival r =
 pub returns-are : T (
     isReturned 0 134 2 3 30 (returned (answerOf (mapText library graphB)))
     && (isReturned 0 134 2 3 30 (returnedBy (mapText library graphB))
-    && (isReturned 18 134 0 0 0 (returned (answerOf (mapTexts (given library graphB 641 133))))
-    && isReturned 18 134 0 0 0 (returnedBy (mapTexts (given library graphB 641 133)))))
+    && (isReturned 18 134 0 0 0 (returned (answerOf (mapTexts (given library graphB 497 133))))
+    && isReturned 18 134 0 0 0 (returnedBy (mapTexts (given library graphB 497 133)))))
     )
 unfolding isReturned returned returnedBy answerOf mapText mapTexts library graphB text
 returns-are = tt
@@ -627,7 +627,7 @@ pub said-hold : T (all holds said)
 unfolding all holds said
 said-hold = tt
 
--- "160(M+1) + O 16-bit words"; the 32,768 of the program are those of M = 203 with 128 outputs
-pub need-is : T (eqb (need 0 0) 160 && (eqb (need 3 1) 641 && (eqb (need 203 128) 32768 && eqb (need 4095 4096) 659456)))
+-- "124(M+1) + O words", so that the 32,768 of the program are those of "260 variables with up to 404 outputs"
+pub need-is : T (eqb (need 0 0) 124 && (eqb (need 3 1) 497 && (eqb (need 260 404) 32768 && eqb (need 4095 4096) 512000)))
 unfolding need
 need-is = tt

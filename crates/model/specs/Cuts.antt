@@ -55,7 +55,7 @@ cutsOf g v = find [] v (cutLists g)
 unfoldable pub cutAt : (ℕ → List (List ℕ)) → ℕ → ℕ → List ℕ
 cutAt cuts v k = getD (cuts v) k []
 
--- "An AND, used or not, has more than 24 cuts": those that have, in placing order
+-- "An AND, used or not, has more than 18 cuts": those that have, in placing order
 unfoldable pub crowded : Graph → List ℕ
 unfolding keep find cutLists placingOrder
 crowded g = let cuts = cutLists g in keep (λ (v : ℕ). ltb cutLimit (length (find [] v cuts))) (placingOrder g)

@@ -126,7 +126,7 @@ OutputsNoEarlier cells g f n =
     → (at (outName k) ≡ at (netName (getD (g .outputs) k 0)))
     × ((c : Cover cells g (g .outputs)) (arrival : ℕ → ℕ) → CoverArrivals cells g (g .outputs) c arrival → at (outName k) ≤ arrival (getD (g .outputs) k 0))
 
--- "Where no refusal tried before 16 applies and no AND is over 24 cuts"
+-- "Where no refusal tried before 16 applies and no AND is over 18 cuts"
 pub record Mappable (c : Call) (d : Design) : Type 0 where
   pub design : readTexts c ≡ holds d
   pub placed : unplaced (d .graph) ≡ []

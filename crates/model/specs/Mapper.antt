@@ -30,7 +30,7 @@ pub record Design : Type 0 where
   pub cells : List Cell
   pub graph : Graph
 
--- refusals 1 to 14 and 19 to 21: "Work memory has fewer than 160(M+1) + O 16-bit words" stands between the header's and those of what follows it
+-- refusals 1 to 14 and 19 to 21: "Work memory has fewer than 124(M+1) + O 16-bit words" stands between the header's and those of what follows it
 unfoldable pub readTexts : Call → Read Design
 unfolding next unless readLibrary readHeader readGraph need
 readTexts c =

@@ -65,7 +65,7 @@ first-out p (x ∷ before) v behind t h =
 
 -- ---- refusal 16
 
--- "more than 24 cuts": so many different ones
+-- "more than 18 cuts": so many different ones
 pub record Many (g : Graph) (v : ℕ) : Type 0 where
   pub cuts : List (List ℕ)
   pub once : Distinct cuts

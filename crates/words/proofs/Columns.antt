@@ -17,7 +17,7 @@ use Rattle.words.specs.Layout.{Room, RoomFor, outputAddr}
 use Rattle.words.specs.Places.{Column, kinds, lefts, rights, order, places, counts, needs, free, positives, negatives, cuts, functions, outputs, columns, rank, edge, addressOf, sizeOf, Listed}
 use Rattle.words.proofs.Parts.{Apart}
 
--- "160(M+1) + O 16-bit words" are what the columns take
+-- "124(M+1) + O 16-bit words" are what the columns take
 pub whole : (m o : ℕ) → edge m o (length columns) ≡ need m o
 unfolding need
 whole m o = omega arith

@@ -110,7 +110,7 @@ listsTo m = (16 + block) * (m + 1)
 
 -- ---- enough words
 
--- for all but the outputs: "M exceeds 4,095" is turned back, and so is "Work memory has fewer than 160(M+1) + O 16-bit words"
+-- for all but the outputs: "M exceeds 4,095" is turned back, and so is "Work memory has fewer than 124(M+1) + O 16-bit words"
 pub record Room (w : List ℕ) (m : ℕ) : Type 0 where
   pub small : m ≤ 4095
   pub room : outputAddr m 0 ≤ length w

@@ -16,8 +16,8 @@ ghost use Rattle.words.specs.Layout.{placedOf, Room, RoomFor, kindAt, ki
 ghost use Rattle.words.specs.Record.{cutIn, cutOf, functionOf, putCut, putFunctions, putNode};
 ghost use Rattle.words.specs.Phases.{MatchFits, matchWord, PhaseFits, kindSource, phaseWords, phaseIn, positiveAt, negativeAt, phaseAt, makesGate, isNeeded, putNeeded};
 
-// "more than 24 cuts": the code's one constant for the cut limit, `cutLimit` of model.
-pub const LIMIT: usize = 24;
+// "more than 18 cuts": the code's one constant for the cut limit, `cutLimit` of model.
+pub const LIMIT: usize = 18;
 
 const BLOCK: usize = 5 * LIMIT;
 
@@ -34,7 +34,7 @@ pub const INPUT: usize = 2;
 
 pub const AND: usize = 3;
 
-// "160(M+1) + O 16-bit words".
+// "124(M+1) + O 16-bit words".
 pub fn need_words(m: usize, outputs: usize) -> usize
     requires { ⌜ (m ≤ 65535) × (outputs ≤ 65535) ⌝ }
     ensures { λ r. ⌜ r ≡ need m outputs ⌝ }

@@ -1130,12 +1130,10 @@ pub fn faults(rng: &mut Rng) -> Case {
         }
         found.push((7, 0));
     }
-    let mut case = Case::new("faults", cells_text, Vec::new())
-        .words(Lent::This(WORDS_EACH * (graph.top + 1) + outputs))
-        .text(Lent::Exact);
+    let need = WORDS_EACH * (graph.top + 1) + outputs;
+    let mut case = Case::new("faults", cells_text, Vec::new()).words(Lent::This(need)).text(Lent::Exact);
     if wanted(rng, 3 * rarity) {
-        case.words =
-            Lent::This(if rng.one_in(2) { WORDS_EACH * (graph.top + 1) + outputs - 1 } else { rng.below(900) });
+        case.words = Lent::This(if rng.one_in(2) { need - 1 } else { rng.below(need) });
         found.push((10, 0));
     }
     let offsets: Vec<usize> =
@@ -1230,7 +1228,7 @@ fn binary_faults(rng: &mut Rng) -> Case {
     };
     let mut words = Lent::This(graph.words());
     if wanted(rng, 4 * rarity) {
-        words = Lent::This(if rng.one_in(2) { graph.words() - 1 } else { rng.below(900) });
+        words = Lent::This(if rng.one_in(2) { graph.words() - 1 } else { rng.below(graph.words()) });
         found.push((10, 0));
     }
 
@@ -1558,11 +1556,12 @@ fn ascii_limits() -> Vec<Case> {
     }
     add(Case::new("a constant output without a tie cell", cells.clone(), outputs.text()).expect(17, 6));
 
-    // What the program lends is exactly what M of 203 with 128 outputs needs.
-    for outputs in [128, 129] {
-        let graph = format!("aag 203 1 0 {outputs} 0\n2\n") + &"3\n".repeat(outputs);
-        let case = Case::new(format!("M of 203, O of {outputs}"), cells.clone(), graph.into_bytes());
-        add(case.words(Lent::This(32_768)).expect(if outputs > 128 { 10 } else { 0 }, 0));
+    // "260 variables with up to 404 outputs": M of 260 with 404 outputs needs
+    // exactly what the program lends.
+    for outputs in [404, 405] {
+        let graph = format!("aag 260 1 0 {outputs} 0\n2\n") + &"3\n".repeat(outputs);
+        let case = Case::new(format!("M of 260, O of {outputs}"), cells.clone(), graph.into_bytes());
+        add(case.words(Lent::This(32_768)).expect(if outputs > 404 { 10 } else { 0 }, 0));
     }
 
     // Cuts.

@@ -22,10 +22,10 @@ macro_rules! plain_or {
     };
 }
 
-/// Refusal 16: "An AND, used or not, has more than 24 cuts".
-pub const CUT_LIMIT: usize = 24;
+/// Refusal 16: "An AND, used or not, has more than 18 cuts", the limit of N4.
+pub const CUT_LIMIT: usize = 18;
 
-/// Refusal 10: "fewer than 160(M+1) + O 16-bit words": 16 for each variable, and
+/// Refusal 10: "fewer than 124(M+1) + O 16-bit words": 16 for each variable, and
 /// 6 for each of its cuts.
 pub const WORDS_EACH: usize = 16 + 6 * CUT_LIMIT;
 

@@ -462,3 +462,39 @@ fn eighteen_in_the_program() {
     assert_eq!(number(on_p1(2_604)), (18, 65_547));
     assert_eq!(number(on_p1(4_096)), (18, 65_547 + 26 * 1_492));
 }
+
+// ---------------------------------------------------------------- request N4
+
+/// "Make 18 the limit", in 16: "The unmarked graphs are now of 18
+/// and 19 cuts", of chains over one input.
+#[test]
+fn eighteen_cuts() {
+    let cells = gen::library_text(&gen::small_library());
+    let of = |ands: &[&str]| {
+        let graph = text(&[&["aag 6 1 0 1 5", "2", "12"], ands].concat());
+        let answer = reference::map(&cells, graph.as_bytes(), 32_768, 65_536).0;
+        let read = reference::read_graph(graph.as_bytes(), 32_768).expect("a good graph");
+        let order = reference::placing_order(&read).expect("no circle");
+        let most = reference::cut_lists(&read, &order).map(|lists| lists[6].len());
+        (answer.number, most.ok())
+    };
+    assert_eq!(of(&["4 2 2", "6 4 2", "8 4 2", "10 8 6", "12 10 10"]), (0, Some(18)));
+    assert_eq!(of(&["4 2 2", "6 4 2", "8 6 2", "10 8 8", "12 10 10"]), (16, None));
+    let last = |wanted| gen::as_it_comes(gen::shape_with_cuts(wanted), &[]).text();
+    assert_eq!((refusal(&last(18)).0, refusal(&last(19)).0), (0, 16));
+}
+
+/// "Work memory drops to 124(M+1) + O words in 10, so the program takes graphs of
+/// 260 variables with up to 404 outputs."
+#[test]
+fn work_memory() {
+    let cells = gen::library_text(&gen::small_library());
+    let number = |top: usize, outputs: usize, words: usize| {
+        let graph = format!("aag {top} 1 0 {outputs} 0\n2\n") + &"2\n".repeat(outputs);
+        reference::map(&cells, graph.as_bytes(), words, 1 << 20).0.number
+    };
+    for (top, outputs, words) in [(1, 0, 248), (3, 1, 497), (260, 404, 32_768), (4_095, 4_096, 512_000)] {
+        assert_eq!((number(top, outputs, words), number(top, outputs, words - 1)), (0, 10), "{top} {outputs}");
+    }
+    assert_eq!((number(260, 405, 32_768), number(261, 0, 32_768), number(261, 281, 32_768)), (10, 0, 10));
+}

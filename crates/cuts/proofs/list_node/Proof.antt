@@ -1,4 +1,4 @@
--- `cuts::list_node` meets its contract: a list of 25 keys says that there are too many cuts, and a shorter one has them all.
+-- `cuts::list_node` meets its contract: a list of 19 keys says that there are too many cuts, and a shorter one has them all.
 -- Assumes nothing.
 use mathlib.Core.Path.{_≡_, _∙_}
 use mathlib.Core.List.{List}

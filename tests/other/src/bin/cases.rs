@@ -68,9 +68,12 @@ fn main() {
     for (words, bytes) in [(need, 134), (need - 1, 134), (need, 133), (0, 0)] {
         c.add(&library, b, words, bytes);
     }
+    for outputs in [404, 405] {
+        c.add(&library, format!("aag 260 1 0 {outputs} 0\n2\n") + &"2\n".repeat(outputs), 32768, 65536);
+    }
     c.add(&library, "aag 1 0 1 0 0\n2 2\n", 32768, 65536);
-    c.add(&library, "aag 6 1 0 1 5\n2\n12\n4 2 2\n6 4 4\n8 6 6\n10 8 8\n12 10 8\n", 32768, 65536);
-    c.add(&library, "aag 6 1 0 1 5\n2\n12\n4 2 2\n6 4 4\n8 6 4\n10 6 8\n12 10 10\n", 32768, 65536);
+    c.add(&library, "aag 6 1 0 1 5\n2\n12\n4 2 2\n6 4 2\n8 4 2\n10 8 6\n12 10 10\n", 32768, 65536);
+    c.add(&library, "aag 6 1 0 1 5\n2\n12\n4 2 2\n6 4 2\n8 6 2\n10 8 8\n12 10 10\n", 32768, 65536);
     // refusals 2 to 7 and 11 to 15, each where the one before it does not apply, and where two apply
     for line in [
         "inv 1 0001 1 10 0 0 0",
@@ -165,6 +168,8 @@ fn main() {
         "onehot16.st",
         "peak_n4_w4_b2.yosys",
         "local_peak_n6_w4.dc2",
+        "cmp3_w16.st",
+        "seg7_d4.st",
     ] {
         for library in ["tiny.txt", "array.txt", "full.txt"] {
             c.add(&read(library), &read(&format!("{name}.aag")), 65536, 65536);
