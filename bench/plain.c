@@ -1,4 +1,4 @@
-/* A mapper by document 01 and requests N1, N3 and N4 in plain C, to compare with: nothing in it is proved.
+/* A mapper by document 01 and requests N1, N3, N4 and N5 in plain C, to compare with: nothing in it is proved.
  * cuts: plain merge up to the fifth leaf, a sorted list of cut records by value
  * functions: walk with a memo stamped by the cut's own number
  * matching: chains of all variants (cell, each of 24 orders, mask) by table, built by the plain rule of 16 rows
@@ -45,6 +45,20 @@ static Num field(const u8 *t, u32 len, u32 at, u8 end)         /* a number and t
     return r;
 }
 
+static u32 line_end(const u8 *t, u32 len, u32 at, int either)  /* the next line, or 0: byte 10, or, in either way, 13 and 10 */
+{
+    if (either && at < len && t[at] == 13) at++;
+    return at < len && t[at] == 10 ? at + 1 : 0;
+}
+static Num last_field(const u8 *t, u32 len, u32 at, int either) /* a number and the line's end after it */
+{
+    Num r = number(t, len, at);
+    u32 next = r.ok ? line_end(t, len, r.at, either) : 0;
+    if (!next) { r.ok = 0; return r; }
+    r.at = next;
+    return r;
+}
+
 /* ---- library, 2 to 6 */
 static int letter(u8 b) { return (b >= 'a' && b <= 'z') || (b >= 'A' && b <= 'Z'); }
 static int word_byte(u8 b) { return letter(b) || (b >= '0' && b <= '9') || b == '_'; }
@@ -75,7 +89,7 @@ static u32 cell_line(const u8 *t, u32 len, u32 at, Cell *c)     /* next line, or
     if (!r.ok) return 0;
     c->area = r.v;
     for (u32 j = 0; j < 4; j++) {
-        r = field(t, len, r.at, j < 3 ? ' ' : 10);
+        r = j < 3 ? field(t, len, r.at, ' ') : last_field(t, len, r.at, 1);
         if (!r.ok) return 0;
         c->d[j] = r.v;
     }
@@ -89,11 +103,13 @@ static int excess(const Cell *c)
 }
 static NI Answer read_cells(const u8 *t, u32 len, Library *lib)
 {
-    static const char names[] = "cell pins table area d0 d1 d2 d3\n";
+    static const char names[] = "cell pins table area d0 d1 d2 d3";
     u32 at = sizeof names - 1;
     lib->n = 0;
     if (len < at) return refused(2, 0);
     for (u32 k = 0; k < at; k++) if (t[k] != (u8)names[k]) return refused(2, 0);
+    at = line_end(t, len, at, 1);
+    if (!at) return refused(2, 0);
     while (at < len) {
         if (lib->n == 32) return refused(3, at);
         Cell *c = &lib->c[lib->n];
@@ -155,7 +171,7 @@ static Answer read_header(const u8 *t, u32 len, u64 words, Header *h)
     u32 v[5];
     Num r = {1, 0, 4};
     for (u32 k = 0; k < 5; k++) {
-        r = field(t, len, r.at, k < 4 ? ' ' : 10);
+        r = k < 4 ? field(t, len, r.at, ' ') : last_field(t, len, r.at, t[1] == 'a');
         if (!r.ok) return refused(7, 0);
         v[k] = r.v;
     }
@@ -199,7 +215,7 @@ static NI Answer load_graph(u16 *w, const u8 *t, u32 len, Header h)
     KIND(0) = CONST; ORDER(0) = 0; PLACED(0) = 1;
     for (u32 k = 1; h.binary && k <= h.i; k++) { KIND(k) = INPUT; ORDER(k) = k; PLACED(k) = 1; }
     for (u32 k = 0; !h.binary && k < h.i; k++) {
-        Num r = field(t, len, at, 10);
+        Num r = last_field(t, len, at, 1);
         if (!r.ok) return refused(11, at);
         if (r.v > top || r.v % 2 || r.v == 0) return refused(12, at);
         u32 v = r.v / 2;
@@ -208,7 +224,7 @@ static NI Answer load_graph(u16 *w, const u8 *t, u32 len, Header h)
         at = r.at;
     }
     for (u32 k = 0; k < h.o; k++) {
-        Num r = field(t, len, at, 10);
+        Num r = last_field(t, len, at, !h.binary);
         if (!r.ok) return refused(11, at);
         if (r.v > top) return refused(12, at);
         OUTS(k) = r.v;
@@ -218,7 +234,7 @@ static NI Answer load_graph(u16 *w, const u8 *t, u32 len, Header h)
     for (u32 k = 0; k < h.a; k++) {
         Num x = field(t, len, at, ' '); if (!x.ok) return refused(11, at);
         Num y = field(t, len, x.at, ' '); if (!y.ok) return refused(11, at);
-        Num z = field(t, len, y.at, 10); if (!z.ok) return refused(11, at);
+        Num z = last_field(t, len, y.at, 1); if (!z.ok) return refused(11, at);
         if (x.v > top || y.v > top || z.v > top || x.v % 2 || x.v == 0) return refused(12, at);
         u32 v = x.v / 2;
         if (KIND(v) != UNDEF) return refused(13, at);

@@ -11,12 +11,13 @@ def number(f):
     """0 to 65,535 in decimal without leading zeros, or None"""
     return int(f) if re.fullmatch(rb"0|[1-9][0-9]{0,4}", f) and int(f) <= 65535 else None
 
-def line_at(t, at, count):
+def line_at(t, at, count, binary):
     """the numbers of the line at a place, if it has so many, and the next place"""
     end = t.find(b"\n", at)
     if end < 0:
         return None, 0
-    ns = [number(f) for f in t[at:end].split(b" ")]
+    stop = end - 1 if not binary and t[at:end][-1:] == b"\r" else end  # in the ASCII form bytes 13 and 10 end a line too
+    ns = [number(f) for f in t[at:stop].split(b" ")]
     return (None if len(ns) != count or None in ns else ns), end + 1
 
 def difference(t, at):
@@ -28,7 +29,7 @@ def read(t):
     if not t.startswith((b"aag ", b"aig ")):
         return "refused 7 0"
     binary = t.startswith(b"aig ")
-    head, at = line_at(t, 4, 5)
+    head, at = line_at(t, 4, 5, binary)
     if head is None:
         return "refused 7 0"
     m, i, l, o, a = head
@@ -48,7 +49,7 @@ def read(t):
     for kind in "o" * o if binary else "i" * i + "o" * o + "a" * a:
         if at >= len(t):
             return f"refused 11 {len(t)}"
-        ns, end = line_at(t, at, 3 if kind == "a" else 1)
+        ns, end = line_at(t, at, 3 if kind == "a" else 1, binary)
         if ns is None:
             return f"refused 11 {at}"
         if max(ns) > 2 * m + 1 or (kind != "o" and (ns[0] % 2 or ns[0] == 0)):
@@ -102,6 +103,10 @@ def graph(r):
     outs = [b"%d\n" % (2 * r.choice(ops if r.random() < 0.97 else range(m + 1)) + r.randrange(2)) for _ in range(o)]
     return b"aag %d %d 0 %d %d\n" % (m, i, o, a) + b"".join(b"%d\n" % (2 * v) for v in names[:i]) + b"".join(outs) + b"".join(ands)
 
+def ends(r, t):
+    """some of the lines ended in two bytes"""
+    return b"".join(x + r.choice([b"\n", b"\r\n"]) for x in t.split(b"\n")[:-1])
+
 def groups(d):
     """a difference in groups of seven bits, lowest first"""
     return bytes([d]) if d < 128 else bytes([128 + d % 128, d // 128])
@@ -130,6 +135,9 @@ def binary_texts():
                                  b"aig 0 0 0 0 0\r", b"aig  0 0 0 0 0", b"aig")]
     # output lines keep 11 and 12, before any difference
     out += [b"aig 3 2 0 1 1\n" + l for l in (b"7\n\x02\x02", b"8\n\x07", b"06\n\x07", b"6\r\n\x02\x02", b"6 2 4\n\x02\x02", b"\n\x02\x02", b"65536\n\x02\x02", b"0\n\x02\x02", b"6")]
+    # byte 10 alone ends the header and an output line: a byte 13 before each byte; bytes 13 and 10 for the first byte 10, and for the first two
+    out += [b_[:n] + b"\r" + b_[n:] for n in range(len(b_) + 1)] + [t.replace(b"\n", b"\r\n", k) for t in (b_, f_) for k in (1, 2)]
+    out += [b"aig 2 2 0 2 0\n" + l for l in (b"2\r\n4\n", b"2\n4\r\n", b"2\n4\r", b"2\r\r\n4\n", b"2\n\r\n", b"\r\n2\n4\n")]
     # 20 and 21 at each of their places, one before the other
     out += [b"aig 3 2 0 1 1\n6\n" + d for d in (b"\x82\x80", b"\x82\x80\x01\x02", b"\xff\xff", b"\x80\x80", b"\x02\x82", b"\x02\x82\x80", b"\x02\xff\xff\x01", b"\x07", b"\x07\x02", b"\x07\xff\xff",
                                                 b"\x86\x01\x02", b"\xff\x7f\x02", b"\x02\x05", b"\x02\x04", b"\x02\xff\x7f", b"\x06\x01", b"\x01\x05", b"\x01\x06", b"\x05\x01")]
@@ -183,6 +191,16 @@ def texts():
         out.append(t)
         n = r.randrange(len(t))
         out.append(t[:n] + bytes([r.choice(b"0123456789 \n")]) + t[n + 1:])
+    # lines that end in bytes 13 and 10, all or some; a byte 13 elsewhere, doubled, or as the last byte
+    r = random.Random(3)
+    for t in marked:
+        out += [t.replace(b"\n", b"\r\n"), ends(r, t), ends(r, t), t.replace(b"\n", b"\r\r\n"), t[:-1] + b"\r"]
+    out += [b_[:n] + b"\r" + b_[n:] for n in range(len(b_) + 1)]
+    for _ in range(60):
+        t = ends(r, graph(r))
+        out.append(t)
+        n = r.randrange(len(t))
+        out.append(t[:n] + bytes([r.choice(b"0123456789 \n\r\r\r")]) + t[n + r.randrange(2):])
     return out + binary_texts()
 
 def main():

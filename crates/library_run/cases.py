@@ -10,7 +10,10 @@ def read(t):
     lines, at = [], 0
     while at < len(t):
         end = t.find(b"\n", at)
-        lines.append((at, t[at:] if end < 0 else t[at:end], end >= 0))
+        line = t[at:] if end < 0 else t[at:end]
+        if end >= 0 and line[-1:] == b"\r":  # bytes 13 and 10 end a line too
+            line = line[:-1]
+        lines.append((at, line, end >= 0))
         at = len(t) if end < 0 else end + 1
     if not lines or not lines[0][2] or lines[0][1] != NAMES:
         return "refused 2 0"
@@ -35,6 +38,10 @@ def cell(r, name):
     table = r.randrange(1 << (1 << p))
     d = [r.choice([0, 1, 9, 10, 65535, r.randrange(65536)]) if j < p else 0 for j in range(4)]
     return b"%s %d %04x %d %d %d %d %d\n" % (name, p, table, r.choice([0, 7, 65535]), *d)
+
+def ends(r, t):
+    """some of the lines ended in two bytes"""
+    return b"".join(x + (r.choice([b"\n", b"\r\n"])) for x in t.split(b"\n")[:-1])
 
 def texts():
     r = random.Random(1)
@@ -67,12 +74,25 @@ def texts():
                 i = min(i, len(t) - 1)
                 t[i:i + r.randrange(2)] = bytes([r.choice(b"0123456789af gAz_\n\n ")])
         out.append(bytes(t))
+    # lines that end in bytes 13 and 10, all or some; a byte 13 elsewhere, doubled, or as the last byte
+    r = random.Random(2)
+    small = head + good + b"nand2 2 0007 2 20 20 0 0\n"
+    for n in range(len(small) + 1):
+        out.append(small[:n] + b"\r" + small[n:])
+    out += [(head + b"".join(many[:n])).replace(b"\n", b"\r\n") for n in (32, 33)]
+    for _ in range(60):
+        t = head + b"".join(cell(r, r.choice([b"a", b"b", b"nand2", b"x%d" % r.randrange(9)])) for _ in range(r.randrange(4)))
+        t = ends(r, t)
+        if r.random() < 0.5:
+            n = r.randrange(len(t))
+            t = t[:n] + bytes([r.choice(b"019af Z_\n\r\r\r")]) + t[n + r.randrange(2):]
+        out.append(t)
     return out
 
 
 ts = texts()
 assert all(0 not in t for t in ts)
 inputs = b"".join(t + b"\0" for t in ts)
-assert len(inputs) <= 65536
+assert len(inputs) <= 131072, len(inputs)
 (HERE / "stdin").write_bytes(inputs)
 (HERE / "stdout").write_text("".join(read(t) + "\n" for t in ts))

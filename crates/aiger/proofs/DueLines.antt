@@ -14,15 +14,15 @@ use lib.ListN.{length, drop, getD, replicate, length-append, length-replicate, g
 use lib.Seq.{drop-cons, getD-append-add}
 use borrow.Author.Tests.{ltb-true, ltb-false}
 use Rattle.model.specs.Base.{andThen}
-use Rattle.model.specs.Text.{ended, number}
+use Rattle.model.specs.Text.{ended}
 use Rattle.model.specs.GraphText.{Kind, anInput, anOutput, anAnd, closed, howMany, due, itemLiterals}
 use Rattle.model.specs.declared.Header.{Header}
 use Rattle.text.specs.declared.Cursor.{Cursor}
 use Rattle.text.specs.declared.Number.{Number}
 use Rattle.text.specs.declared.Number.the-variants.{Value as Found, Broken as NoNumber}
-use Rattle.text.specs.Fields.{onNumber, numberOf, numberThen}
+use Rattle.text.specs.Fields.{onNumber, numberOf, numberThen, numberEnd}
 use Rattle.text.specs.Lines.{lineAt, pastLine, afterAt, numbersAt}
-use Rattle.text.proofs.Found.{past, found, number-is}
+use Rattle.text.proofs.Found.{pastEnd, foundEnd, number-end-is}
 use Rattle.text.proofs.Numbers.{numbers-ended}
 use Rattle.words.specs.Layout.{undefinedKind, inputKind, andKind}
 use Rattle.loading.specs.declared.Literals.{Literals}
@@ -89,29 +89,29 @@ pub data LineView (s : List ℕ) (at : ℕ) (k : Kind) : Type 0 where
   whole : (l : Literals) → lineRead s at (code k) ≡ ALine l → itemLiterals (closed false) k (lineAt s at) ≡ some (itemList k l) → Short k l
       → ended (lineAt s at) ≡ true → l .next ≡ pastLine s at → LineView s at k
 
-one-is : (s : List ℕ) (at : ℕ) (o : Option ℕ) → found number s at 10 ≡ o
-    → (oneLine s at ≡ onNumber (numberOf o (past s at)) (λ a c. ALine (literals a 0 0 (c .at))) NoLine) × (numbersAt 0 s at ≡ onNumber (numberOf o (past s at)) (λ n c. some (n ∷ [])) none)
+one-is : (s : List ℕ) (at : ℕ) (o : Option ℕ) → foundEnd s at ≡ o
+    → (oneLine s at ≡ onNumber (numberOf o (pastEnd s at)) (λ a c. ALine (literals a 0 0 (c .at))) NoLine) × (numbersAt 0 s at ≡ onNumber (numberOf o (pastEnd s at)) (λ n c. some (n ∷ [])) none)
 unfolding oneLine numbersAt
-one-is s at o e = (rw (number-is s at 10, e), rw (number-is s at 10, e))
+one-is s at o e = (rw (number-end-is s at, e), rw (number-end-is s at, e))
 
-after-one : (s : List ℕ) (at : ℕ) → afterAt 0 s at ≡ past s at
+after-one : (s : List ℕ) (at : ℕ) → afterAt 0 s at ≡ pastEnd s at
 unfolding afterAt
 after-one s at = refl
 
 view-one : (k : Kind) (s : List ℕ) (at : ℕ) → howMany k ≡ 1 → lineRead s at (code k) ≡ oneLine s at → ((l : Literals) → l .left ≡ 0 → l .right ≡ 0 → (itemList k l ≡ l .first ∷ []) × Short k l) → LineView s at k
-view-one k s at e r short = go (found number s at 10) refl
+view-one k s at e r short = go (foundEnd s at) refl
   where
-    go : (o : Option ℕ) → found number s at 10 ≡ o → LineView s at k
-    go none f = let t = one-is s at none f in broken (r ∙ t .0) (item-numbers false k s at 0 e ∙ t .1)
+    go : (o : Option ℕ) → foundEnd s at ≡ o → LineView s at k
+    go none f = let t = one-is s at none f in broken (r ∙ t .0) (item-numbers k s at 0 e ∙ t .1)
     go (some n) f =
         let t = one-is s at (some n) f in
-        let l : Literals = literals n 0 0 (past s at) in
+        let l : Literals = literals n 0 0 (pastEnd s at) in
         let ends = numbers-ended 0 s at (n ∷ []) (t .1) in
-        whole l (r ∙ t .0) (item-numbers false k s at 0 e ∙ t .1 ∙ ap some (sym (short l refl refl .0))) (short l refl refl .1) (ends .0) (sym (after-one s at) ∙ ends .1)
+        whole l (r ∙ t .0) (item-numbers k s at 0 e ∙ t .1 ∙ ap some (sym (short l refl refl .0))) (short l refl refl .1) (ends .0) (sym (after-one s at) ∙ ends .1)
 
 numbers-long : (k : ℕ) (s : List ℕ) (at : ℕ) (ns : List ℕ) → numbersAt k s at ≡ some ns → length ns ≡ suc k
 unfolding numbersAt andThen
-numbers-long zero s at ns e = go (numberThen s at 10) e
+numbers-long zero s at ns e = go (numberEnd s at) e
   where
     go : (x : Number) → onNumber x (λ n c. some (n ∷ [])) none ≡ some ns → length ns ≡ 1
     go NoNumber q = let z : _≡_ {A = ℕ} 0 1 = cc in absurd (omega arith)
@@ -142,11 +142,11 @@ unfolding andLine lineRead howMany
 view-three s at = go (numbersAt 2 s at) refl
   where
     go : (o : Option (List ℕ)) → numbersAt 2 s at ≡ o → LineView s at anAnd
-    go none e = broken (rw (three-is s at, e)) (item-numbers false anAnd s at 2 refl ∙ e)
+    go none e = broken (rw (three-is s at, e)) (item-numbers anAnd s at 2 refl ∙ e)
     go (some ns) e =
         let l : Literals = literals (getD ns 0 0) (getD ns 1 0) (getD ns 2 0) (afterAt 2 s at) in
         let ends = numbers-ended 2 s at ns e in
-        whole l (rw (three-is s at, e)) (item-numbers false anAnd s at 2 refl ∙ e ∙ ap some (three-long s at ns e)) tt (ends .0) (ends .1)
+        whole l (rw (three-is s at, e)) (item-numbers anAnd s at 2 refl ∙ e ∙ ap some (three-long s at ns e)) tt (ends .0) (ends .1)
 
 read-one : (s : List ℕ) (at kind : ℕ) → eqb kind andKind ≡ false → lineRead s at kind ≡ oneLine s at
 unfolding lineRead

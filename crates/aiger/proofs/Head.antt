@@ -1,5 +1,6 @@
 -- The header line, as the crate model says it:
 --     three-is         three numbers behind each other are the line's last three fields
+--     first-from, first-ten  where the first line stops and the next begins, and that byte 10 alone ends it
 --     header-means     the header of the text's first line is what `formAt` finds
 --     header-..        and so 7, 8, 9 and 19 apply just where `header` refuses
 --     limits-..        the tests of 9, one by one
@@ -10,31 +11,33 @@ use mathlib.Core.Path.{_≡_, refl, sym, ap, _∙_}
 use mathlib.Core.Bool.{Bool, true, false, cond, _&&_, _||_}
 use mathlib.Core.Option.{Option, none, some}
 use mathlib.Core.List.{List, [], _∷_}
-use lib.Dec.{eqb, leb}
+use lib.Dec.{eqb, ltb, leb}
 use lib.ListN.{length, drop, getD}
-use borrow.Author.Tests.{le-leb, lt-leb, leb-true, leb-false}
+use borrow.Author.Tests.{le-leb, lt-leb, leb-true, leb-false, eqb-true, lt-ltb}
 use Rattle.model.specs.Base.{andThen, only, same}
 use Rattle.model.specs.Text.{Line, ended, nextOf, text, linesFrom, fields, number, numbers}
 use Rattle.model.specs.Reading.{Read, holds, fault, next, unless, from?, rulingOf}
-use Rattle.model.specs.GraphText.{headerOfNumbers, headerOf, inLimits, inSequence, readHeader, headerAnswer, headerRuling, headerValues, headerNumbers}
+use Rattle.model.specs.GraphText.{closed, headerOfNumbers, headerOf, inLimits, inSequence, readHeader, headerAnswer, headerRuling, headerValues, headerNumbers}
 use Rattle.model.specs.declared.Header.{Header}
 use Rattle.model.specs.declared.HeaderAnswer.{HeaderAnswer}
 use Rattle.model.specs.declared.HeaderAnswer.the-variants.{Read as WasRead}
 use Rattle.model.proofs.Answers.{header-ruled}
-use Rattle.text.proofs.Bytes.{and-left, and-right}
+use Rattle.text.proofs.Bytes.{and-left, and-right, and-false, and-true}
 use Rattle.text.specs.declared.Cursor.{Cursor}
-use Rattle.text.specs.Fields.{wordAt, endAt, isByte, onNumber, onStep, numberOf, stepOf, byteAt, numberThen}
-use Rattle.text.specs.Lines.{lineAt, pastLine, wordsAt, sepsAt, afterAt, numbersAt}
-use Rattle.text.proofs.Found.{past, found, number-is}
+use Rattle.text.specs.declared.Span.{Span}
+use Rattle.text.specs.Fields.{wordAt, endAt, isByte, onNumber, onStep, numberOf, stepOf, byteAt, numberThen, numberEnd}
+use Rattle.text.specs.Lines.{lineAt, pastLine, spanAt, wordsAt, sepsAt, afterAt, numbersAt}
+use Rattle.text.proofs.Found.{past, pastEnd, found, foundEnd, number-is, number-end-is}
 use Rattle.text.proofs.Bridge.{lines-at, past-at}
-use Rattle.text.proofs.Numbers.{closed-is, line-words, numbers-at}
+use Rattle.text.proofs.Spans.{span-long}
+use Rattle.text.proofs.Numbers.{line-words, numbers-at}
 use Rattle.aiger.specs.declared.Tagged.{Tagged}
 use Rattle.aiger.specs.declared.Tagged.the-variants.{Word, Broken as NoTag}
 use Rattle.aiger.specs.declared.Three.{Three}
 use Rattle.aiger.specs.declared.Three.the-variants.{Numbers, Broken as NoThree}
 use Rattle.aiger.specs.declared.HeaderForm.{HeaderForm}
 use Rattle.aiger.specs.declared.HeaderForm.the-variants.{Is, Broken as NoForm}
-use Rattle.aiger.specs.Lines.{threeAt, onThree, onTag, pickTag, aag, aig, tagBehind, tagAt, headerRecord, numbersForm, formAt}
+use Rattle.aiger.specs.Lines.{threeAt, onThree, onTag, pickTag, aag, aig, tagBehind, tagAt, headerRecord, numbersForm, headerEnds, pickForm, formAt}
 
 -- ---- the limits
 
@@ -80,14 +83,14 @@ three-is s at = rw (number-is s at 32) (go (found number s at 32))
     last a b r (some d) = refl
 
     second : (a r : ℕ) (o : Option ℕ)
-        → onNumber (numberOf o r) (λ b c1. onNumber (numberThen s (c1 .at) 10) (λ d c2. Numbers a b d c2) NoThree) NoThree
-        ≡ threeOf (andThen (onNumber (numberOf o r) (λ n c. andThen (onNumber (numberThen s (c .at) 10) (λ m d. some (m ∷ [])) none) (λ ns. some (n ∷ ns))) none) (λ ns. some (a ∷ ns))) (past s r)
+        → onNumber (numberOf o r) (λ b c1. onNumber (numberEnd s (c1 .at)) (λ d c2. Numbers a b d c2) NoThree) NoThree
+        ≡ threeOf (andThen (onNumber (numberOf o r) (λ n c. andThen (onNumber (numberEnd s (c .at)) (λ m d. some (m ∷ [])) none) (λ ns. some (n ∷ ns))) none) (λ ns. some (a ∷ ns))) (pastEnd s r)
     second a r none = refl
-    second a r (some b) = rw (number-is s r 10) (last a b (past s r) (found number s r 10))
+    second a r (some b) = rw (number-end-is s r) (last a b (pastEnd s r) (foundEnd s r))
 
     go : (o : Option ℕ)
-        → onNumber (numberOf o (past s at)) (λ a c0. onNumber (numberThen s (c0 .at) 32) (λ b c1. onNumber (numberThen s (c1 .at) 10) (λ d c2. Numbers a b d c2) NoThree) NoThree) NoThree
-        ≡ threeOf (onNumber (numberOf o (past s at)) (λ n c. andThen (onNumber (numberThen s (c .at) 32) (λ n₁ c₁. andThen (onNumber (numberThen s (c₁ .at) 10) (λ m d. some (m ∷ [])) none) (λ ns. some (n₁ ∷ ns))) none) (λ ns. some (n ∷ ns))) none) (past s (past s (past s at)))
+        → onNumber (numberOf o (past s at)) (λ a c0. onNumber (numberThen s (c0 .at) 32) (λ b c1. onNumber (numberEnd s (c1 .at)) (λ d c2. Numbers a b d c2) NoThree) NoThree) NoThree
+        ≡ threeOf (onNumber (numberOf o (past s at)) (λ n c. andThen (onNumber (numberThen s (c .at) 32) (λ n₁ c₁. andThen (onNumber (numberEnd s (c₁ .at)) (λ m d. some (m ∷ [])) none) (λ ns. some (n₁ ∷ ns))) none) (λ ns. some (n ∷ ns))) none) (pastEnd s (past s (past s at)))
     go none = refl
     go (some a) = rw (number-is s (past s at) 32) (second a (past s (past s at)) (found number s (past s at) 32))
 
@@ -122,26 +125,37 @@ unfoldable pub formMeans : HeaderForm → Option Header
 formMeans NoForm = none
 formMeans (Is h) = some h
 
--- what the model makes of the fields of a line that ends before a place
-abbrev ofFields : ℕ → List (List ℕ) → Option Header
-ofFields end vs =
-    andThen (only (same (getD vs 0 []) aig || same (getD vs 0 []) aag) (drop 1 vs)) (λ us. andThen (numbers us) (λ ns. some (headerOfNumbers (same (getD vs 0 []) aig) end ns)))
+-- what the model makes of the fields of a line that ends before a place, as a form may where `ok` says so
+abbrev ofFields : (Bool → Bool) → ℕ → List (List ℕ) → Option Header
+ofFields ok end vs =
+    andThen (only (ok (same (getD vs 0 []) aig) && (same (getD vs 0 []) aig || same (getD vs 0 []) aag)) (drop 1 vs)) (λ us.
+    andThen (numbers us) (λ ns. some (headerOfNumbers (same (getD vs 0 []) aig) end ns)))
 
--- the test of the first word among the others
-tests : (e n t : Bool) (ws : List (List ℕ)) (f : List (List ℕ) → Option Header) → andThen (only (e && (n && t)) (drop 1 ws)) f ≡ andThen (only (e && n) ws) (λ vs. andThen (only t (drop 1 ws)) f)
+-- the tests of the first word and of the line's end among the others
+tests : (e k n t : Bool) (ws : List (List ℕ)) (f : List (List ℕ) → Option Header) → andThen (only ((e && k) && (n && t)) (drop 1 ws)) f ≡ andThen (only (e && n) ws) (λ vs. andThen (only (k && t) (drop 1 ws)) f)
 unfolding only andThen
-tests true true t ws f = refl
-tests true false t ws f = refl
-tests false n t ws f = refl
+tests true true true t ws f = refl
+tests true true false t ws f = refl
+tests true false true t ws f = refl
+tests true false false t ws f = refl
+tests false k n t ws f = refl
 
 -- the test does not ask which fields it is of
-same-fields : (t : Bool) (ws : List (List ℕ)) (end : ℕ) → andThen (only t ws) (λ vs. ofFields end ws) ≡ andThen (only t ws) (ofFields end)
+same-fields : (ok : Bool → Bool) (t : Bool) (ws : List (List ℕ)) (end : ℕ) → andThen (only t ws) (λ vs. ofFields ok end ws) ≡ andThen (only t ws) (ofFields ok end)
 unfolding only andThen
-same-fields true ws end = refl
-same-fields false ws end = refl
+same-fields ok true ws end = refl
+same-fields ok false ws end = refl
+
+-- five numbers of a line that ends as its form may
+ended-form : (b t x : Bool) (ws : List (List ℕ)) (r : ℕ) → pickForm t (formOf b (andThen (only x ws) numbers) r) NoForm ≡ formOf b (andThen (only (x && t) ws) numbers) r
+unfolding only andThen
+ended-form b true true ws r = refl
+ended-form b true false ws r = refl
+ended-form b false true ws r = refl
+ended-form b false false ws r = refl
 
 -- the first word, its space, and five numbers
-module _ (w : List ℕ) (ws : List (List ℕ)) (end behind q : ℕ) (on : Bool → Cursor → HeaderForm) where
+module _ (w : List ℕ) (ws : List (List ℕ)) (end behind q : ℕ) (ok : Bool → Bool) (on : Bool → Cursor → HeaderForm) where
   abbrev tagOf : Bool → Bool → Tagged
   tagOf x binary = onStep (stepOf x q) (λ c. Word binary c) NoTag
 
@@ -150,8 +164,13 @@ module _ (w : List ℕ) (ws : List (List ℕ)) (end behind q : ℕ) (on : Bool �
   made f none = refl
   made f (some ns) = refl
 
-  first-line : (u v b x : Bool) → same w aig ≡ u → same w aag ≡ v → ((b && x) ≡ true → end ≡ behind) → ((f : Bool) → on f (record { at = q }) ≡ formOf f (andThen (only x ws) numbers) behind)
-      → andThen (only (b && x) (w ∷ ws)) (ofFields end) ≡ formMeans (onTag (pickTag u (tagOf b true) (pickTag v (tagOf b false) NoTag)) on NoForm)
+  made-if : (f t : Bool) → andThen (only (t && true) ws) (λ us. andThen (numbers us) (λ ns. some (headerOfNumbers f behind ns))) ≡ formMeans (formOf f (andThen (only t ws) numbers) behind)
+  unfolding andThen only formMeans
+  made-if f true = made f (numbers ws)
+  made-if f false = refl
+
+  first-line : (u v b x : Bool) → same w aig ≡ u → same w aag ≡ v → ((b && x) ≡ true → end ≡ behind) → ((f : Bool) → on f (record { at = q }) ≡ formOf f (andThen (only (x && ok f) ws) numbers) behind)
+      → andThen (only (b && x) (w ∷ ws)) (ofFields ok end) ≡ formMeans (onTag (pickTag u (tagOf b true) (pickTag v (tagOf b false) NoTag)) on NoForm)
   unfolding andThen only formMeans
   first-line true v false x d e h k = refl
   first-line false true false x d e h k = refl
@@ -159,9 +178,33 @@ module _ (w : List ℕ) (ws : List (List ℕ)) (end behind q : ℕ) (on : Bool �
   first-line true v true false d e h k = sym (ap formMeans (k true))
   first-line false true true false d e h k = sym (ap formMeans (k false))
   first-line false false true false d e h k = refl
-  first-line true v true true d e h k = rw (d, k true, h refl) (made true (numbers ws))
-  first-line false true true true d e h k = rw (d, e, k false, h refl) (made false (numbers ws))
-  first-line false false true true d e h k = rw (d, e)
+  first-line true v true true d e h k = rw (d, k true, h refl) (made-if true (ok true))
+  first-line false true true true d e h k = rw (d, e, k false, h refl) (made-if false (ok false))
+  first-line false false true true d e h k = rw (d, e, and-false (ok false))
+
+-- the first line, as it is handed back
+module _ (s : List ℕ) (l : Span) (is : l ≡ spanAt s 0) where
+  first-long : l .next ≡ l .stop + lineAt s 0 .ending
+  first-long = ap (λ (x : Span). x .next) is ∙ span-long s 0 ∙ ap (λ (x : Span). x .stop + lineAt s 0 .ending) (sym is)
+
+  pub first-from : l .stop ≤ l .next
+  first-from = omega (arith, first-long)
+
+  pub first-ten : eqb (l .next - l .stop) 1 ≡ headerEnds s true
+  unfolding headerEnds
+  first-ten = let e : l .next - l .stop ≡ lineAt s 0 .ending = omega (arith, first-long) in ap (λ (n : ℕ). eqb n 1) e
+
+pub either-end : (s : List ℕ) → headerEnds s false ≡ true
+unfolding headerEnds
+either-end s = refl
+
+-- an end of one byte is an end
+ten-ends : (n : ℕ) → eqb n 1 ≡ (ltb 0 n && eqb n 1)
+ten-ends n = go (eqb n 1) refl
+  where
+    go : (t : Bool) → eqb n 1 ≡ t → t ≡ (ltb 0 n && t)
+    go true e = let l : 0 < n = omega (arith, eqb-true n 1 e) in sym (ap (λ (x : Bool). x && true) (lt-ltb 0 n l))
+    go false e = sym (and-false (ltb 0 n))
 
 -- the line at 0, of a text that is not empty
 module _ (s : List ℕ) where
@@ -169,23 +212,29 @@ module _ (s : List ℕ) where
   unfolding sepsAt afterAt pastLine
   line-end e = sym (past-at 5 s 0 e .1)
 
-  fields-is : (ls : List Line) → headerOf (lineAt s 0 ∷ ls) ≡ andThen (only (ended (lineAt s 0) && eqb (length (fields (lineAt s 0 .bytes))) 6) (fields (lineAt s 0 .bytes))) (ofFields (nextOf (lineAt s 0)))
+  closed-is : (b : Bool) → closed b (lineAt s 0) ≡ (ended (lineAt s 0) && headerEnds s b)
+  unfolding headerEnds
+  closed-is true = ten-ends (lineAt s 0 .ending)
+  closed-is false = sym (and-true (ended (lineAt s 0)))
+
+  fields-is : (ls : List Line) → headerOf (lineAt s 0 ∷ ls) ≡ andThen (only (ended (lineAt s 0) && eqb (length (fields (lineAt s 0 .bytes))) 6) (fields (lineAt s 0 .bytes))) (ofFields (headerEnds s) (nextOf (lineAt s 0)))
   unfolding headerOf aag aig
   fields-is ls =
       let ws = fields (lineAt s 0 .bytes) in
       let first : List ℕ = getD ws 0 [] in
-      ap (λ (e : Bool). andThen (only (e && (eqb (length ws) 6 && (same first aig || same first aag))) (drop 1 ws)) (λ vs. andThen (numbers vs) (λ ns. some (headerOfNumbers (same first aig) (nextOf (lineAt s 0)) ns)))) (closed-is (same first aig) s 0)
-      ∙ tests (ended (lineAt s 0)) (eqb (length ws) 6) (same first aig || same first aag) ws (λ vs. andThen (numbers vs) (λ ns. some (headerOfNumbers (same first aig) (nextOf (lineAt s 0)) ns)))
-      ∙ same-fields (ended (lineAt s 0) && eqb (length ws) 6) ws (nextOf (lineAt s 0))
+      ap (λ (e : Bool). andThen (only (e && (eqb (length ws) 6 && (same first aig || same first aag))) (drop 1 ws)) (λ vs. andThen (numbers vs) (λ ns. some (headerOfNumbers (same first aig) (nextOf (lineAt s 0)) ns)))) (closed-is (same first aig))
+      ∙ tests (ended (lineAt s 0)) (headerEnds s (same first aig)) (eqb (length ws) 6) (same first aig || same first aag) ws (λ vs. andThen (numbers vs) (λ ns. some (headerOfNumbers (same first aig) (nextOf (lineAt s 0)) ns)))
+      ∙ same-fields (headerEnds s) (ended (lineAt s 0) && eqb (length ws) 6) ws (nextOf (lineAt s 0))
 
   first-is : (ls : List Line) → headerOf (lineAt s 0 ∷ ls) ≡ formMeans (formAt s)
   unfolding formAt tagAt tagBehind byteAt wordsAt sepsAt
   first-is ls =
       fields-is ls
-      ∙ ap (λ (o : Option (List (List ℕ))). andThen o (ofFields (nextOf (lineAt s 0)))) (line-words 5 s 0)
-      ∙ first-line (wordAt s 0) (wordsAt 4 s (past s 0)) (nextOf (lineAt s 0)) (afterAt 4 s (past s 0)) (past s 0) (λ b c. numbersForm s (c .at) b)
+      ∙ ap (λ (o : Option (List (List ℕ))). andThen o (ofFields (headerEnds s) (nextOf (lineAt s 0)))) (line-words 5 s 0)
+      ∙ first-line (wordAt s 0) (wordsAt 4 s (past s 0)) (nextOf (lineAt s 0)) (afterAt 4 s (past s 0)) (past s 0) (headerEnds s) (λ b c. pickForm (headerEnds s b) (numbersForm s (c .at) b) NoForm)
       (same (wordAt s 0) aig) (same (wordAt s 0) aag) (isByte s (endAt s 0) 32) (sepsAt 4 s (past s 0)) refl refl line-end
-      (λ b. five-is s (past s 0) b ∙ ap (λ (o : Option (List ℕ)). formOf b o (afterAt 4 s (past s 0))) (sym (numbers-at 4 s (past s 0))))
+      (λ b. ap (λ (x : HeaderForm). pickForm (headerEnds s b) x NoForm) (five-is s (past s 0) b ∙ ap (λ (o : Option (List ℕ)). formOf b o (afterAt 4 s (past s 0))) (sym (numbers-at 4 s (past s 0))))
+      ∙ ended-form b (headerEnds s b) (sepsAt 4 s (past s 0)) (wordsAt 4 s (past s 0)) (afterAt 4 s (past s 0)))
 
 none-is : headerOf (linesFrom 0 [] []) ≡ formMeans (formAt [])
 unfolding headerOf linesFrom formAt tagAt wordAt aag aig text same formMeans

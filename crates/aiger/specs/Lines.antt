@@ -4,11 +4,11 @@ use mathlib.Core.Bool.{Bool, true, false, not, _&&_}
 use mathlib.Core.List.{List}
 use lib.Dec.{eqb}
 use Rattle.model.specs.Base.{same}
-use Rattle.model.specs.Text.{text}
+use Rattle.model.specs.Text.{text, endedByTen}
 use Rattle.model.specs.declared.Header.{Header}
 use Rattle.text.specs.declared.Cursor.{Cursor}
-use Rattle.text.specs.Fields.{wordAt, endAt, onNumber, onStep, numberThen, byteAt}
-use Rattle.text.specs.Lines.{pickBool}
+use Rattle.text.specs.Fields.{wordAt, endAt, onNumber, onStep, numberThen, numberEnd, byteAt}
+use Rattle.text.specs.Lines.{pickBool, lineAt}
 use Rattle.words.specs.Layout.{undefinedKind, andKind, kindAt}
 use Rattle.loading.specs.declared.Literals.{Literals}
 use Rattle.loading.specs.Tests.{literals, literalsFit, mayDefine, isTaken}
@@ -30,7 +30,7 @@ unfoldable pub threeAt : List ℕ → ℕ → Three
 threeAt s at =
     onNumber (numberThen s at 32) (λ a c0.
     onNumber (numberThen s (c0 .at) 32) (λ b c1.
-    onNumber (numberThen s (c1 .at) 10) (λ d c2. Numbers a b d c2) NoThree) NoThree) NoThree
+    onNumber (numberEnd s (c1 .at)) (λ d c2. Numbers a b d c2) NoThree) NoThree) NoThree
 
 abbrev pub onThree : {A : Type 0} → Three → (ℕ → ℕ → ℕ → Cursor → A) → A → A
 onThree (Numbers a b d c) f e = f a b d c
@@ -69,13 +69,21 @@ numbersForm s at binary =
     onNumber (numberThen s (c0 .at) 32) (λ i c1.
     onThree (threeAt s (c1 .at)) (λ l o a c2. Is (headerRecord m i l o a (c2 .at) binary)) NoForm) NoForm) NoForm
 
+-- the first line ends as a header of the form may: in the binary form byte 10 alone is a line's end
+unfoldable pub headerEnds : List ℕ → Bool → Bool
+headerEnds s binary = pickBool binary (endedByTen (lineAt s 0)) true
+
+abbrev pub pickForm : Bool → HeaderForm → HeaderForm → HeaderForm
+pickForm true a b = a
+pickForm false a b = b
+
 unfoldable pub formAt : List ℕ → HeaderForm
-formAt s = onTag (tagAt s) (λ binary c. numbersForm s (c .at) binary) NoForm
+formAt s = onTag (tagAt s) (λ binary c. pickForm (headerEnds s binary) (numbersForm s (c .at) binary) NoForm) NoForm
 
 -- ---- the due lines
 
 unfoldable pub oneLine : List ℕ → ℕ → LineRead
-oneLine s at = onNumber (numberThen s at 10) (λ a c. ALine (literals a 0 0 (c .at))) NoLine
+oneLine s at = onNumber (numberEnd s at) (λ a c. ALine (literals a 0 0 (c .at))) NoLine
 
 unfoldable pub andLine : List ℕ → ℕ → LineRead
 andLine s at = onThree (threeAt s at) (λ a l r c. ALine (literals a l r (c .at))) NoLine

@@ -10,7 +10,7 @@ ghost use Rattle.model.specs.GraphText.{readHeader, headerAnswer, headerRuling,
 ghost use Rattle.words.specs.Layout.{Room};
 ghost use Rattle.placing.specs.Loaded.{Fit};
 ghost use Rattle.loading.specs.Tests.{dueCount, LiteralsFit};
-ghost use Rattle.aiger.specs.Lines.{threeAt, tagBehind, tagAt, headerRecord, numbersForm, formAt, oneLine, andLine, lineRead, judgedAt, isKnown, usesKnown};
+ghost use Rattle.aiger.specs.Lines.{threeAt, tagBehind, tagAt, headerRecord, numbersForm, headerEnds, formAt, oneLine, andLine, lineRead, judgedAt, isKnown, usesKnown};
 ghost use Rattle.aiger.specs.Passes.{turnAt, turnWords, linesVerdict, linesWords, checkAt, checkVerdict, asciiWords, loadedWords};
 use loading::Literals;
 use loading::Turn;
@@ -41,13 +41,13 @@ pub enum HeaderForm {
 
 // ---- the header
 
-// The last three numbers of a line: "one space between, byte 10 after each line".
+// The last three numbers of a line: "one space between", and the line's end behind them.
 fn read_three(c: Cursor, s: &[u8]) -> Three
     ensures { λ r. ⌜ r ≡ threeAt (now (s .entry)) (c .at) ⌝ }
 {
     match c.number_then(s, 32) {
         Number::Value(a, c0) => match c0.number_then(s, 32) {
-            Number::Value(b, c1) => match c1.number_then(s, 10) {
+            Number::Value(b, c1) => match c1.number_end(s) {
                 Number::Value(d, c2) => Three::Numbers(a, b, d, c2),
                 Number::Broken => Three::Broken,
             },
@@ -132,11 +132,29 @@ fn header_numbers(c: Cursor, s: &[u8], binary: bool) -> HeaderForm
     }
 }
 
+// "Accept either ending, line by line, in library and ASCII graph": the first line of a binary one ends in byte 10 alone.
+fn header_ends(s: &[u8], binary: bool) -> bool
+    ensures { λ r. ⌜ r ≡ headerEnds (now (s .entry)) binary ⌝ }
+{
+    if binary {
+        let first = text::line(s, 0);
+        first.next - first.stop == 1
+    } else {
+        true
+    }
+}
+
 fn header_form(s: &[u8]) -> HeaderForm
     ensures { λ r. ⌜ r ≡ formAt (now (s .entry)) ⌝ }
 {
     match tag(s) {
-        Tagged::Word(binary, c) => header_numbers(c, s, binary),
+        Tagged::Word(binary, c) => {
+            if header_ends(s, binary) {
+                header_numbers(c, s, binary)
+            } else {
+                HeaderForm::Broken
+            }
+        }
         Tagged::Broken => HeaderForm::Broken,
     }
 }
@@ -210,7 +228,7 @@ fn read_one(s: &[u8], at: usize) -> LineRead
     ensures { λ r. ⌜ r ≡ oneLine (now (s .entry)) at ⌝ }
 {
     let c = Cursor { at };
-    match c.number_then(s, 10) {
+    match c.number_end(s) {
         Number::Value(first, d) => {
             let l = Literals {
                 first: first as usize,

@@ -1,36 +1,35 @@
 -- The output lines of the binary form, which are the crate model's due lines:
---     item-numbers     a line's literals are the numbers at its place
+--     output-view      the line at a place is missing, broken, or a number with byte 10 behind it
 --     output-step      the line at a place is refused by both, or read by both
 --     output-behind    and the pass ends where the model's lines do
 -- Assumes nothing.
 use mathlib.Core.Path.{_≡_, refl, sym, ap, _∙_}
 use mathlib.Core.Bool.{Bool, true, false, _&&_}
-use mathlib.Core.Option.{Option, none, some}
+use mathlib.Core.Option.{none, some}
 use mathlib.Core.List.{List, [], _∷_}
 use Prim.Native.Nat.{ℕ, zero, suc, _+_, _≤_, _<_}
 use native.Mathlib.Omega.{arith}
 use lib.Dec.{ltb}
 use lib.ListN.{length, replicate}
 use borrow.Author.Tests.{ltb-true, ltb-false}
-use Rattle.model.specs.Text.{ended, number}
+use Rattle.model.specs.Text.{ended}
 use Rattle.model.specs.Reading.{Read, holds, fault, next, unless}
 use Rattle.model.specs.Graph.{Graph}
-use Rattle.model.specs.GraphText.{closed, anOutput, defines, howMany, Item, itemLiterals, readDue, behindLines}
+use Rattle.model.specs.GraphText.{closed, anOutput, defines, Item, itemLiterals, readDue, behindLines}
 use Rattle.model.specs.declared.Header.{Header}
 use Rattle.text.specs.declared.Cursor.{Cursor}
 use Rattle.text.specs.declared.Number.{Number}
 use Rattle.text.specs.declared.Number.the-variants.{Value as Found, Broken as NoNumber}
-use Rattle.text.specs.Fields.{numberOf, numberThen}
-use Rattle.text.specs.Lines.{lineAt, pastLine, afterAt, numbersAt}
-use Rattle.text.proofs.Found.{past, found, number-is}
+use Rattle.text.specs.Fields.{numberThen}
+use Rattle.text.specs.Lines.{lineAt, pastLine}
 use Rattle.text.proofs.Bridge.{lines-at, lines-none}
-use Rattle.text.proofs.Numbers.{numbers-ended}
+use Rattle.text.proofs.Numbers.{ten-ended}
 use Rattle.placing.specs.Loaded.{Fit}
 use Rattle.loading.specs.declared.Turn.{Turn}
 use Rattle.loading.specs.declared.Turn.the-variants.{To, Refused as Stop}
 use Rattle.loading.specs.Tests.{literals, literalsFit, mayDefine}
 use Rattle.loading.proofs.Tests.{due-output, itemOf}
-use Rattle.loading.proofs.Lines.{linesOf, item-numbers}
+use Rattle.loading.proofs.Lines.{linesOf, output-number}
 use Rattle.loading.proofs.Items.{due-missing, due-none, due-whole}
 use Rattle.binary.specs.Passes.{outputTurn, outputLeft, passTurn}
 use Rattle.binary.proofs.Passes.{turn-missing, turn-broken, turn-over, turn-output, pass-on, pass-stop, pass-end}
@@ -45,38 +44,14 @@ data OutputView (s : List ℕ) (at : ℕ) : Type 0 where
       → ended (lineAt s at) ≡ true → pastLine s at ≡ c .at → OutputView s at
 
 module _ (s : List ℕ) (at : ℕ) where
-  found-past : (a : ℕ) (c : Cursor) → numberThen s at 10 ≡ Found a c → c .at ≡ past s at
-  found-past a c e = go (found number s at 10) (sym (number-is s at 10) ∙ e)
-    where
-      go : (o : Option ℕ) → numberOf o (past s at) ≡ Found a c → c .at ≡ past s at
-      go none q = let z : _≡_ {A = ℕ} 0 1 = cc in absurd (omega arith)
-      go (some n) q = let i : record { at = past s at } ≡ c = cc in ap (λ (x : Cursor). x .at) (sym i)
-
-  one-number : (a : ℕ) (c : Cursor) → numberThen s at 10 ≡ Found a c → numbersAt 0 s at ≡ some (a ∷ [])
-  unfolding numbersAt
-  one-number a c e = rw e
-
-  no-number : numberThen s at 10 ≡ NoNumber → numbersAt 0 s at ≡ none
-  unfolding numbersAt
-  no-number e = rw e
-
-  after-one : afterAt 0 s at ≡ past s at
-  unfolding afterAt
-  after-one = refl
-
-  literals-at : itemLiterals (closed true) anOutput (lineAt s at) ≡ numbersAt 0 s at
-  unfolding howMany
-  literals-at = item-numbers true anOutput s at 0 refl
-
   output-view : OutputView s at
   output-view = go (ltb at (length s)) refl
     where
       on : at < length s → (x : Number) → numberThen s at 10 ≡ x → OutputView s at
-      on b NoNumber e = broken b e (literals-at ∙ no-number e)
+      on b NoNumber e = broken b e (output-number s at ∙ rw e)
       on b (Found a c) e =
-          let q = one-number a c e in
-          let ends = numbers-ended 0 s at (a ∷ []) q in
-          whole b a c e (literals-at ∙ q) (ends .0) (sym (ends .1) ∙ after-one ∙ sym (found-past a c e))
+          let ends = ten-ended s at a c e in
+          whole b a c e (output-number s at ∙ rw e) (ends .0) (ends .1)
 
       go : (t : Bool) → ltb at (length s) ≡ t → OutputView s at
       go true e = on (ltb-true at (length s) e) (numberThen s at 10) refl

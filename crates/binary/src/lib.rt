@@ -104,7 +104,8 @@ fn store_inputs(work: &mut [u16], h: Header)
 
 // ---- "Output lines are text as before and keep 11 and 12"
 
-// Due line k, an output line, at a place of the text. A missing line's place is the text's length.
+// Due line k, an output line, at a place of the text: either ending is for "library and ASCII graph", so byte 10 alone ends it. A missing line's place is
+// the text's length.
 fn output_turn(s: &[u8], at: usize, work: &mut [u16], h: Header, k: usize) -> Turn
     requires { ⌜ Fit h (now work) × (k < dueCount h) ⌝ }
     ensures answer { λ r. ⌜ r ≡ outputTurn (now (s .entry)) h k at (now (work .entry)) ⌝ }

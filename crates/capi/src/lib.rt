@@ -2,7 +2,7 @@
 use model::Answer;
 ghost use mathlib.Core.Path.{_≡_};
 ghost use Rattle.model.specs.Mapper.{callOf, mapTexts, returned, returnedBy, textAfter, workAfter};
-ghost use Rattle.model.specs.Demands.{Values, Earliest, Twins, Sequenced};
+ghost use Rattle.model.specs.Demands.{Values, Earliest, Twins, Sequenced, EitherEnd};
 ghost use Rattle.capi.specs.Answers.{answered};
 
 // "Success returns number 0, the netlist's length and the three figures of its `# gates` line; a refusal its number, its place and zero figures".
@@ -51,6 +51,7 @@ pub extern "C" fn mapper_map(
     ensures earliest { λ _. ⌜ Earliest (callOf (now (cells .entry)) (now (graph .entry)) (now (work .entry)) (now (text .entry))) ⌝ }
     ensures twins { λ _. ⌜ Twins (callOf (now (cells .entry)) (now (graph .entry)) (now (work .entry)) (now (text .entry))) ⌝ }
     ensures sequenced { λ _. ⌜ Sequenced (callOf (now (cells .entry)) (now (graph .entry)) (now (work .entry)) (now (text .entry))) ⌝ }
+    ensures ends { λ _. ⌜ EitherEnd (callOf (now (cells .entry)) (now (graph .entry)) (now (work .entry)) (now (text .entry))) ⌝ }
 {
     answer(mapper::map_texts(cells, graph, work, text))
 }

@@ -2,7 +2,7 @@
 --     form-means     the cell that `formAt` finds is `cellOfLine` of the line at the place
 --     form-cell      and then its name ends where the field does, its pins are at most 4, and the next line is behind this one
 -- Assumes nothing.
-use Prim.Native.Nat.{ℕ, _+_, _≤_}
+use Prim.Native.Nat.{ℕ, suc, _+_, _≤_}
 use native.Mathlib.Omega.{arith}
 use mathlib.Core.Path.{_≡_, refl, sym, ap, _∙_}
 use mathlib.Core.Bool.{Bool, true, false, _&&_}
@@ -16,10 +16,11 @@ use Rattle.model.specs.Text.{number, numbers, hexTable, isName}
 use Rattle.model.specs.LibraryText.{nameBytes, cellOfFields, cellOfLine}
 use Rattle.model.specs.declared.Cell.{Cell}
 use Rattle.text.specs.declared.Cursor.{Cursor}
-use Rattle.text.specs.Fields.{wordAt, endAt, isByte, onNumber, onStep, numberOf, stepOf, nameAt, byteAt, numberThen, tableThen}
-use Rattle.text.specs.Lines.{lineAt, wordsAt, sepsAt, afterAt}
-use Rattle.text.proofs.Found.{past, nth, thenO, found, number-is, table-is}
+use Rattle.text.specs.Fields.{wordAt, endAt, isByte, onNumber, onStep, numberOf, stepOf, nameAt, byteAt, numberThen, numberEnd, tableThen}
+use Rattle.text.specs.Lines.{lineAt, wordsAt, sepsAt, afterAt, numbersAt}
+use Rattle.text.proofs.Found.{past, pastEnd, nth, thenO, found, foundEnd, number-is, number-end-is, table-is}
 use Rattle.text.proofs.Bridge.{lineFields, ofLength, fields-at}
+use Rattle.text.proofs.Numbers.{numbers-at}
 use Rattle.library.specs.declared.Figures.{Figures}
 use Rattle.library.specs.declared.Delays.{Delays}
 use Rattle.library.specs.declared.Delays.the-variants.{Four, Broken as NoDelays}
@@ -32,12 +33,9 @@ use Rattle.library.specs.Reading.{delaysAt, headAt, figuresAt, formAt, l
 
 -- ---- the readers, by what is found at places that do not hang on it
 
-abbrev delaysOf : Option ℕ → Option ℕ → Option ℕ → Option ℕ → ℕ → Delays
-delaysOf none o2 o3 o4 q = NoDelays
-delaysOf (some d0) none o3 o4 q = NoDelays
-delaysOf (some d0) (some d1) none o4 q = NoDelays
-delaysOf (some d0) (some d1) (some d2) none q = NoDelays
-delaysOf (some d0) (some d1) (some d2) (some d3) q = Four d0 d1 d2 d3 (record { at = q })
+abbrev delaysOf : Option (List ℕ) → ℕ → Delays
+delaysOf none q = NoDelays
+delaysOf (some ns) q = Four (getD ns 0 0) (getD ns 1 0) (getD ns 2 0) (getD ns 3 0) (record { at = q })
 
 abbrev headOf : Option ℕ → Option ℕ → Option ℕ → ℕ → Head
 headOf none o2 o3 q = NoHead
@@ -46,31 +44,33 @@ headOf (some p) (some t) none q = NoHead
 headOf (some p) (some t) (some a) q = Three p t a (record { at = q })
 
 module _ (s : List ℕ) where
-  delays-is : (q : ℕ) → delaysAt s q ≡ delaysOf (found number s q 32) (found number s (past s q) 32) (found number s (nth s q 2) 32) (found number s (nth s q 3) 10) (nth s q 4)
-  unfolding delaysAt
+  delays-is : (q : ℕ) → delaysAt s q ≡ delaysOf (numbersAt 3 s q) (afterAt 3 s q)
+  unfolding delaysAt numbersAt afterAt andThen
   delays-is q = rw (number-is s q 32) (go (found number s q 32))
     where
-      last : (d0 d1 d2 r : ℕ) (o : Option ℕ) → onNumber (numberOf o r) (λ d3 c3. Four d0 d1 d2 d3 c3) NoDelays ≡ delaysOf (some d0) (some d1) (some d2) o r
-      last d0 d1 d2 r none = refl
-      last d0 d1 d2 r (some d3) = refl
+      last : (a b d r : ℕ) (o : Option ℕ)
+          → onNumber (numberOf o r) (λ d3 c3. Four a b d d3 c3) NoDelays
+          ≡ delaysOf (andThen (andThen (andThen (onNumber (numberOf o r) (λ n c. some (n ∷ [])) none) (λ ns. some (d ∷ ns))) (λ ns. some (b ∷ ns))) (λ ns. some (a ∷ ns))) r
+      last a b d r none = refl
+      last a b d r (some x) = refl
 
-      third : (d0 d1 r : ℕ) (o : Option ℕ)
-          → onNumber (numberOf o r) (λ d2 c2. onNumber (numberThen s (c2 .at) 10) (λ d3 c3. Four d0 d1 d2 d3 c3) NoDelays) NoDelays
-          ≡ delaysOf (some d0) (some d1) o (found number s r 10) (past s r)
-      third d0 d1 r none = refl
-      third d0 d1 r (some d2) = rw (number-is s r 10) (last d0 d1 d2 (past s r) (found number s r 10))
+      third : (a b r : ℕ) (o : Option ℕ)
+          → onNumber (numberOf o r) (λ d2 c2. onNumber (numberEnd s (c2 .at)) (λ d3 c3. Four a b d2 d3 c3) NoDelays) NoDelays
+          ≡ delaysOf (andThen (andThen (onNumber (numberOf o r) (λ n c. andThen (numbersAt 0 s (c .at)) (λ ns. some (n ∷ ns))) none) (λ ns. some (b ∷ ns))) (λ ns. some (a ∷ ns))) (pastEnd s r)
+      third a b r none = refl
+      third a b r (some d) = rw (number-end-is s r) (last a b d (pastEnd s r) (foundEnd s r))
 
-      second : (d0 r : ℕ) (o : Option ℕ)
-          → onNumber (numberOf o r) (λ d1 c1. onNumber (numberThen s (c1 .at) 32) (λ d2 c2. onNumber (numberThen s (c2 .at) 10) (λ d3 c3. Four d0 d1 d2 d3 c3) NoDelays) NoDelays) NoDelays
-          ≡ delaysOf (some d0) o (found number s r 32) (found number s (past s r) 10) (nth s r 2)
-      second d0 r none = refl
-      second d0 r (some d1) = rw (number-is s r 32) (third d0 d1 (past s r) (found number s r 32))
+      second : (a r : ℕ) (o : Option ℕ)
+          → onNumber (numberOf o r) (λ d1 c1. onNumber (numberThen s (c1 .at) 32) (λ d2 c2. onNumber (numberEnd s (c2 .at)) (λ d3 c3. Four a d1 d2 d3 c3) NoDelays) NoDelays) NoDelays
+          ≡ delaysOf (andThen (onNumber (numberOf o r) (λ n c. andThen (numbersAt 1 s (c .at)) (λ ns. some (n ∷ ns))) none) (λ ns. some (a ∷ ns))) (pastEnd s (past s r))
+      second a r none = refl
+      second a r (some b) = rw (number-is s r 32) (third a b (past s r) (found number s r 32))
 
       go : (o : Option ℕ)
-          → onNumber (numberOf o (past s q)) (λ d0 c0. onNumber (numberThen s (c0 .at) 32) (λ d1 c1. onNumber (numberThen s (c1 .at) 32) (λ d2 c2. onNumber (numberThen s (c2 .at) 10) (λ d3 c3. Four d0 d1 d2 d3 c3) NoDelays) NoDelays) NoDelays) NoDelays
-          ≡ delaysOf o (found number s (past s q) 32) (found number s (nth s q 2) 32) (found number s (nth s q 3) 10) (nth s q 4)
+          → onNumber (numberOf o (past s q)) (λ d0 c0. onNumber (numberThen s (c0 .at) 32) (λ d1 c1. onNumber (numberThen s (c1 .at) 32) (λ d2 c2. onNumber (numberEnd s (c2 .at)) (λ d3 c3. Four d0 d1 d2 d3 c3) NoDelays) NoDelays) NoDelays) NoDelays
+          ≡ delaysOf (onNumber (numberOf o (past s q)) (λ n c. andThen (numbersAt 2 s (c .at)) (λ ns. some (n ∷ ns))) none) (pastEnd s (nth s q 3))
       go none = refl
-      go (some d0) = rw (number-is s (past s q) 32) (second d0 (nth s q 2) (found number s (past s q) 32))
+      go (some a) = rw (number-is s (past s q) 32) (second a (nth s q 2) (found number s (past s q) 32))
 
   head-is : (q : ℕ) → headAt s q ≡ headOf (found number s q 32) (found hexTable s (past s q) 32) (found number s (nth s q 2) 32) (nth s q 3)
   unfolding headAt
@@ -94,18 +94,19 @@ abbrev pickForm : Bool → Form → Form → Form
 pickForm true a b = a
 pickForm false a b = b
 
--- the whole form: the name, its space, and seven figures
-abbrev formOf : Bool → Bool → Option ℕ → Option ℕ → Option ℕ → Option ℕ → Option ℕ → Option ℕ → Option ℕ → ℕ → ℕ → Form
-formOf false u o1 o2 o3 o4 o5 o6 o7 e q = NoForm
-formOf true false o1 o2 o3 o4 o5 o6 o7 e q = NoForm
-formOf true true none o2 o3 o4 o5 o6 o7 e q = NoForm
-formOf true true (some p) none o3 o4 o5 o6 o7 e q = NoForm
-formOf true true (some p) (some t) none o4 o5 o6 o7 e q = NoForm
-formOf true true (some p) (some t) (some a) none o5 o6 o7 e q = NoForm
-formOf true true (some p) (some t) (some a) (some d0) none o6 o7 e q = NoForm
-formOf true true (some p) (some t) (some a) (some d0) (some d1) none o7 e q = NoForm
-formOf true true (some p) (some t) (some a) (some d0) (some d1) (some d2) none e q = NoForm
-formOf true true (some p) (some t) (some a) (some d0) (some d1) (some d2) (some d3) e q = pickForm (leb p 4) (ACell e (record { pins = p; table = t; area = a; d0 = d0; d1 = d1; d2 = d2; d3 = d3 }) (record { at = q })) NoForm
+-- the figures of a line, by its delays
+abbrev figuresOf : ℕ → ℕ → ℕ → List ℕ → Figures
+figuresOf p t a ns = record { pins = p; table = t; area = a; d0 = getD ns 0 0; d1 = getD ns 1 0; d2 = getD ns 2 0; d3 = getD ns 3 0 }
+
+-- the whole form: the name, its space, three figures, and the delays
+abbrev formOf : Bool → Bool → Option ℕ → Option ℕ → Option ℕ → Option (List ℕ) → ℕ → ℕ → Form
+formOf false u o1 o2 o3 o4 e q = NoForm
+formOf true false o1 o2 o3 o4 e q = NoForm
+formOf true true none o2 o3 o4 e q = NoForm
+formOf true true (some p) none o3 o4 e q = NoForm
+formOf true true (some p) (some t) none o4 e q = NoForm
+formOf true true (some p) (some t) (some a) none e q = NoForm
+formOf true true (some p) (some t) (some a) (some ns) e q = pickForm (leb p 4) (ACell e (figuresOf p t a ns) (record { at = q })) NoForm
 
 -- the seven figures and what is done with them, by the head and the delays
 afterHead : List ℕ → ℕ → Head → Form
@@ -127,32 +128,26 @@ figures-form p t a e (Four d0 d1 d2 d3 d) = go (leb p 4)
     go false = refl
 figures-form p t a e NoDelays = refl
 
-delays-form : (p t a e q : ℕ) (o4 o5 o6 o7 : Option ℕ) → afterDelays p t a e (delaysOf o4 o5 o6 o7 q) ≡ formOf true true (some p) (some t) (some a) o4 o5 o6 o7 e q
-delays-form p t a e q none o5 o6 o7 = refl
-delays-form p t a e q (some d0) none o6 o7 = refl
-delays-form p t a e q (some d0) (some d1) none o7 = refl
-delays-form p t a e q (some d0) (some d1) (some d2) none = refl
-delays-form p t a e q (some d0) (some d1) (some d2) (some d3) = refl
+delays-form : (p t a e q : ℕ) (o : Option (List ℕ)) → afterDelays p t a e (delaysOf o q) ≡ formOf true true (some p) (some t) (some a) o e q
+delays-form p t a e q none = refl
+delays-form p t a e q (some ns) = refl
 
-head-form : (s : List ℕ) (e r : ℕ) (o1 o2 o3 : Option ℕ)
-    → afterHead s e (headOf o1 o2 o3 r)
-    ≡ formOf true true o1 o2 o3 (found number s r 32) (found number s (past s r) 32) (found number s (nth s r 2) 32) (found number s (nth s r 3) 10) e (nth s r 4)
+head-form : (s : List ℕ) (e r : ℕ) (o1 o2 o3 : Option ℕ) → afterHead s e (headOf o1 o2 o3 r) ≡ formOf true true o1 o2 o3 (numbersAt 3 s r) e (afterAt 3 s r)
 unfolding afterHead
 head-form s e r none o2 o3 = refl
 head-form s e r (some p) none o3 = refl
 head-form s e r (some p) (some t) none = refl
 head-form s e r (some p) (some t) (some a) =
-    figures-form p t a e (delaysAt s r)
-    ∙ ap (afterDelays p t a e) (delays-is s r)
-    ∙ delays-form p t a e (nth s r 4) (found number s r 32) (found number s (past s r) 32) (found number s (nth s r 2) 32) (found number s (nth s r 3) 10)
+    figures-form p t a e (delaysAt s r) ∙ ap (afterDelays p t a e) (delays-is s r) ∙ delays-form p t a e (afterAt 3 s r) (numbersAt 3 s r)
 
-form-is : (s : List ℕ) (q : ℕ) → formAt s q ≡ formOf (isName (wordAt s q)) (isByte s (endAt s q) 32) (found number s (past s q) 32) (found hexTable s (nth s q 2) 32) (found number s (nth s q 3) 32) (found number s (nth s q 4) 32) (found number s (nth s q 5) 32) (found number s (nth s q 6) 32) (found number s (nth s q 7) 10) (endAt s q) (nth s q 8)
+form-is : (s : List ℕ) (q : ℕ) → formAt s q
+    ≡ formOf (isName (wordAt s q)) (isByte s (endAt s q) 32) (found number s (past s q) 32) (found hexTable s (nth s q 2) 32) (found number s (nth s q 3) 32) (numbersAt 3 s (nth s q 4)) (endAt s q) (afterAt 3 s (nth s q 4))
 unfolding formAt nameAt byteAt figuresAt afterHead
 form-is s q = go (isName (wordAt s q)) (isByte s (endAt s q) 32) refl
   where
     go : (t u : Bool) → isByte s (endAt s q) 32 ≡ u
         → onStep (stepOf t (endAt s q)) (λ n. onStep (stepOf (isByte s (n .at) 32) (n .at + 1)) (λ c. onFigures (figuresAt s (c .at)) (λ f d. ACell (n .at) f d) NoForm) NoForm) NoForm
-        ≡ formOf t u (found number s (past s q) 32) (found hexTable s (nth s q 2) 32) (found number s (nth s q 3) 32) (found number s (nth s q 4) 32) (found number s (nth s q 5) 32) (found number s (nth s q 6) 32) (found number s (nth s q 7) 10) (endAt s q) (nth s q 8)
+        ≡ formOf t u (found number s (past s q) 32) (found hexTable s (nth s q 2) 32) (found number s (nth s q 3) 32) (numbersAt 3 s (nth s q 4)) (endAt s q) (afterAt 3 s (nth s q 4))
     go false u h = refl
     go true false h = rw h
     go true true h =
@@ -170,21 +165,17 @@ formMeans w (ACell e f c) = some (lineCell w f)
 abbrev consO : Option ℕ → Option (List ℕ) → Option (List ℕ)
 consO v r = andThen v (λ n. andThen r (λ ns. some (n ∷ ns)))
 
-abbrev six : Option ℕ → Option ℕ → Option ℕ → Option ℕ → Option ℕ → Option ℕ → Option (List ℕ)
-six v1 v3 v4 v5 v6 v7 = consO v1 (consO v3 (consO v4 (consO v5 (consO v6 (consO v7 (some []))))))
-
-abbrev cellFrom : Bool → List (List ℕ) → List ℕ → Option ℕ → Option ℕ → Option ℕ → Option ℕ → Option ℕ → Option ℕ → Option ℕ → Option Cell
-cellFrom t W w v1 v2 v3 v4 v5 v6 v7 =
+abbrev cellFrom : Bool → List (List ℕ) → List ℕ → Option ℕ → Option ℕ → Option ℕ → Option (List ℕ) → Option Cell
+cellFrom t W w v1 v2 v3 v4 =
     andThen (only t W) (λ _.
-    andThen (six v1 v3 v4 v5 v6 v7) (λ ns.
+    andThen (consO v1 (consO v3 v4)) (λ ns.
     andThen v2 (λ table.
     only (leb (getD ns 0 0) 4) (record { name = nameBytes w; len = length w; pins = getD ns 0 0; table = table; area = getD ns 1 0; delays = drop 2 ns }))))
 
-cell-from : (w0 w1 w2 w3 w4 w5 w6 w7 : List ℕ)
-    → cellOfFields (w0 ∷ w1 ∷ w2 ∷ w3 ∷ w4 ∷ w5 ∷ w6 ∷ w7 ∷ [])
-    ≡ cellFrom (isName w0) (w0 ∷ w1 ∷ w2 ∷ w3 ∷ w4 ∷ w5 ∷ w6 ∷ w7 ∷ []) w0 (number w1) (hexTable w2) (number w3) (number w4) (number w5) (number w6) (number w7)
+cell-from : (w0 w1 w2 w3 : List ℕ) (ws : List (List ℕ)) → length ws ≡ 4
+    → cellOfFields (w0 ∷ w1 ∷ w2 ∷ w3 ∷ ws) ≡ cellFrom (isName w0) (w0 ∷ w1 ∷ w2 ∷ w3 ∷ ws) w0 (number w1) (hexTable w2) (number w3) (numbers ws)
 unfolding cellOfFields numbers
-cell-from w0 w1 w2 w3 w4 w5 w6 w7 = refl
+cell-from w0 w1 w2 w3 ws e = rw e
 
 dead : (b : Bool) (W : List (List ℕ)) (x : Option Cell) → x ≡ none → andThen (only b W) (λ _. x) ≡ none
 unfolding andThen only
@@ -199,61 +190,57 @@ none-after (some ns) = refl
 no-form : {e : ℕ} {f : Figures} {c : Cursor} → NoForm ≡ ACell e f c → ⊥
 no-form {e} {f} {c} h = let z : _≡_ {A = ℕ} 0 1 = cc in omega arith
 
+-- the delays, where the right bytes stand behind them
+abbrev onlyO : Bool → Option (List ℕ) → Option (List ℕ)
+onlyO true o = o
+onlyO false o = none
+
+-- they are four
+abbrev Fours : Option (List ℕ) → Type 0
+Fours o = (ns : List ℕ) → o ≡ some ns → ns ≡ getD ns 0 0 ∷ getD ns 1 0 ∷ getD ns 2 0 ∷ getD ns 3 0 ∷ []
+
 -- both sides fail at the first field or byte that is wrong, and else both are the cell
 module _ (W : List (List ℕ)) (w : List ℕ) (e q : ℕ) where
-  flat : (t b0 : Bool) (v1 : Option ℕ) (b1 : Bool) (v2 : Option ℕ) (b2 : Bool) (v3 : Option ℕ) (b3 : Bool) (v4 : Option ℕ) (b4 : Bool) (v5 : Option ℕ) (b5 : Bool) (v6 : Option ℕ) (b6 : Bool) (v7 : Option ℕ) (b7 : Bool)
-      → formMeans w (formOf t b0 (thenO v1 b1) (thenO v2 b2) (thenO v3 b3) (thenO v4 b4) (thenO v5 b5) (thenO v6 b6) (thenO v7 b7) e q) ≡ andThen (only (b0 && (b1 && (b2 && (b3 && (b4 && (b5 && (b6 && b7))))))) W) (λ _. cellFrom t W w v1 v2 v3 v4 v5 v6 v7)
+  flat : (t b0 : Bool) (v1 : Option ℕ) (b1 : Bool) (v2 : Option ℕ) (b2 : Bool) (v3 : Option ℕ) (b3 b4 : Bool) (v4 : Option (List ℕ)) → Fours v4
+      → formMeans w (formOf t b0 (thenO v1 b1) (thenO v2 b2) (thenO v3 b3) (onlyO b4 v4) e q) ≡ andThen (only (b0 && (b1 && (b2 && (b3 && b4)))) W) (λ _. cellFrom t W w v1 v2 v3 v4)
   unfolding formMeans andThen only lineCell
-  flat false b0 v1 b1 v2 b2 v3 b3 v4 b4 v5 b5 v6 b6 v7 b7 = sym (dead (b0 && (b1 && (b2 && (b3 && (b4 && (b5 && (b6 && b7))))))) W _ refl)
-  flat true false v1 b1 v2 b2 v3 b3 v4 b4 v5 b5 v6 b6 v7 b7 = refl
-  flat true true none b1 v2 b2 v3 b3 v4 b4 v5 b5 v6 b6 v7 b7 = sym (dead (true && (b1 && (b2 && (b3 && (b4 && (b5 && (b6 && b7))))))) W _ refl)
-  flat true true (some p) false v2 b2 v3 b3 v4 b4 v5 b5 v6 b6 v7 b7 = refl
-  flat true true (some p) true none b2 v3 b3 v4 b4 v5 b5 v6 b6 v7 b7 = sym (dead (true && (true && (b2 && (b3 && (b4 && (b5 && (b6 && b7))))))) W _ (none-after (six (some p) v3 v4 v5 v6 v7)))
-  flat true true (some p) true (some t) false v3 b3 v4 b4 v5 b5 v6 b6 v7 b7 = refl
-  flat true true (some p) true (some t) true none b3 v4 b4 v5 b5 v6 b6 v7 b7 = sym (dead (true && (true && (true && (b3 && (b4 && (b5 && (b6 && b7))))))) W _ refl)
-  flat true true (some p) true (some t) true (some a) false v4 b4 v5 b5 v6 b6 v7 b7 = refl
-  flat true true (some p) true (some t) true (some a) true none b4 v5 b5 v6 b6 v7 b7 = sym (dead (true && (true && (true && (true && (b4 && (b5 && (b6 && b7))))))) W _ refl)
-  flat true true (some p) true (some t) true (some a) true (some d0) false v5 b5 v6 b6 v7 b7 = refl
-  flat true true (some p) true (some t) true (some a) true (some d0) true none b5 v6 b6 v7 b7 = sym (dead (true && (true && (true && (true && (true && (b5 && (b6 && b7))))))) W _ refl)
-  flat true true (some p) true (some t) true (some a) true (some d0) true (some d1) false v6 b6 v7 b7 = refl
-  flat true true (some p) true (some t) true (some a) true (some d0) true (some d1) true none b6 v7 b7 = sym (dead (true && (true && (true && (true && (true && (true && (b6 && b7))))))) W _ refl)
-  flat true true (some p) true (some t) true (some a) true (some d0) true (some d1) true (some d2) false v7 b7 = refl
-  flat true true (some p) true (some t) true (some a) true (some d0) true (some d1) true (some d2) true none b7 = sym (dead (true && (true && (true && (true && (true && (true && (true && b7))))))) W _ refl)
-  flat true true (some p) true (some t) true (some a) true (some d0) true (some d1) true (some d2) true (some d3) false = refl
-  flat true true (some p) true (some t) true (some a) true (some d0) true (some d1) true (some d2) true (some d3) true = go (leb p 4)
+  flat false b0 v1 b1 v2 b2 v3 b3 b4 v4 l = sym (dead (b0 && (b1 && (b2 && (b3 && b4)))) W _ refl)
+  flat true false v1 b1 v2 b2 v3 b3 b4 v4 l = refl
+  flat true true none b1 v2 b2 v3 b3 b4 v4 l = sym (dead (true && (b1 && (b2 && (b3 && b4)))) W _ refl)
+  flat true true (some p) false v2 b2 v3 b3 b4 v4 l = refl
+  flat true true (some p) true none b2 v3 b3 b4 v4 l = sym (dead (true && (true && (b2 && (b3 && b4)))) W _ (none-after (consO (some p) (consO v3 v4))))
+  flat true true (some p) true (some t) false v3 b3 b4 v4 l = refl
+  flat true true (some p) true (some t) true none b3 b4 v4 l = sym (dead (true && (true && (true && (b3 && b4)))) W _ refl)
+  flat true true (some p) true (some t) true (some a) false b4 v4 l = refl
+  flat true true (some p) true (some t) true (some a) true false v4 l = refl
+  flat true true (some p) true (some t) true (some a) true true none l = refl
+  flat true true (some p) true (some t) true (some a) true true (some ns) l = go (leb p 4)
     where
-      go : (b : Bool) → formMeans w (pickForm b (ACell e (record { pins = p; table = t; area = a; d0 = d0; d1 = d1; d2 = d2; d3 = d3 }) (record { at = q })) NoForm)
-          ≡ only b (record { name = nameBytes w; len = length w; pins = p; table = t; area = a; delays = d0 ∷ d1 ∷ d2 ∷ d3 ∷ [] })
-      go true = refl
+      go : (b : Bool) → formMeans w (pickForm b (ACell e (figuresOf p t a ns) (record { at = q })) NoForm) ≡ only b (record { name = nameBytes w; len = length w; pins = p; table = t; area = a; delays = ns })
+      go true = ap (λ (ds : List ℕ). some (record { name = nameBytes w; len = length w; pins = p; table = t; area = a; delays = ds })) (sym (l ns refl))
       go false = refl
 
   -- and what is known of the cell
-  flat-cell : (t b0 : Bool) (v1 : Option ℕ) (b1 : Bool) (v2 : Option ℕ) (b2 : Bool) (v3 : Option ℕ) (b3 : Bool) (v4 : Option ℕ) (b4 : Bool) (v5 : Option ℕ) (b5 : Bool) (v6 : Option ℕ) (b6 : Bool) (v7 : Option ℕ) (b7 : Bool) (e₁ : ℕ) (f : Figures) (c : Cursor)
-      → formOf t b0 (thenO v1 b1) (thenO v2 b2) (thenO v3 b3) (thenO v4 b4) (thenO v5 b5) (thenO v6 b6) (thenO v7 b7) e q ≡ ACell e₁ f c
-      → (t ≡ true) × ((b0 && (b1 && (b2 && (b3 && (b4 && (b5 && (b6 && b7))))))) ≡ true) × (e₁ ≡ e) × (c .at ≡ q) × (f .pins ≤ 4)
-  flat-cell false b0 v1 b1 v2 b2 v3 b3 v4 b4 v5 b5 v6 b6 v7 b7 e₁ f c h = absurd (no-form h)
-  flat-cell true false v1 b1 v2 b2 v3 b3 v4 b4 v5 b5 v6 b6 v7 b7 e₁ f c h = absurd (no-form h)
-  flat-cell true true none b1 v2 b2 v3 b3 v4 b4 v5 b5 v6 b6 v7 b7 e₁ f c h = absurd (no-form h)
-  flat-cell true true (some p) false v2 b2 v3 b3 v4 b4 v5 b5 v6 b6 v7 b7 e₁ f c h = absurd (no-form h)
-  flat-cell true true (some p) true none b2 v3 b3 v4 b4 v5 b5 v6 b6 v7 b7 e₁ f c h = absurd (no-form h)
-  flat-cell true true (some p) true (some t) false v3 b3 v4 b4 v5 b5 v6 b6 v7 b7 e₁ f c h = absurd (no-form h)
-  flat-cell true true (some p) true (some t) true none b3 v4 b4 v5 b5 v6 b6 v7 b7 e₁ f c h = absurd (no-form h)
-  flat-cell true true (some p) true (some t) true (some a) false v4 b4 v5 b5 v6 b6 v7 b7 e₁ f c h = absurd (no-form h)
-  flat-cell true true (some p) true (some t) true (some a) true none b4 v5 b5 v6 b6 v7 b7 e₁ f c h = absurd (no-form h)
-  flat-cell true true (some p) true (some t) true (some a) true (some d0) false v5 b5 v6 b6 v7 b7 e₁ f c h = absurd (no-form h)
-  flat-cell true true (some p) true (some t) true (some a) true (some d0) true none b5 v6 b6 v7 b7 e₁ f c h = absurd (no-form h)
-  flat-cell true true (some p) true (some t) true (some a) true (some d0) true (some d1) false v6 b6 v7 b7 e₁ f c h = absurd (no-form h)
-  flat-cell true true (some p) true (some t) true (some a) true (some d0) true (some d1) true none b6 v7 b7 e₁ f c h = absurd (no-form h)
-  flat-cell true true (some p) true (some t) true (some a) true (some d0) true (some d1) true (some d2) false v7 b7 e₁ f c h = absurd (no-form h)
-  flat-cell true true (some p) true (some t) true (some a) true (some d0) true (some d1) true (some d2) true none b7 e₁ f c h = absurd (no-form h)
-  flat-cell true true (some p) true (some t) true (some a) true (some d0) true (some d1) true (some d2) true (some d3) false e₁ f c h = absurd (no-form h)
-  flat-cell true true (some p) true (some t) true (some a) true (some d0) true (some d1) true (some d2) true (some d3) true e₁ f c h = go (leb p 4) refl h
+  flat-cell : (t b0 : Bool) (v1 : Option ℕ) (b1 : Bool) (v2 : Option ℕ) (b2 : Bool) (v3 : Option ℕ) (b3 b4 : Bool) (v4 : Option (List ℕ)) (e₁ : ℕ) (f : Figures) (c : Cursor)
+      → formOf t b0 (thenO v1 b1) (thenO v2 b2) (thenO v3 b3) (onlyO b4 v4) e q ≡ ACell e₁ f c
+      → (t ≡ true) × ((b0 && (b1 && (b2 && (b3 && b4)))) ≡ true) × (e₁ ≡ e) × (c .at ≡ q) × (f .pins ≤ 4)
+  flat-cell false b0 v1 b1 v2 b2 v3 b3 b4 v4 e₁ f c h = absurd (no-form h)
+  flat-cell true false v1 b1 v2 b2 v3 b3 b4 v4 e₁ f c h = absurd (no-form h)
+  flat-cell true true none b1 v2 b2 v3 b3 b4 v4 e₁ f c h = absurd (no-form h)
+  flat-cell true true (some p) false v2 b2 v3 b3 b4 v4 e₁ f c h = absurd (no-form h)
+  flat-cell true true (some p) true none b2 v3 b3 b4 v4 e₁ f c h = absurd (no-form h)
+  flat-cell true true (some p) true (some t) false v3 b3 b4 v4 e₁ f c h = absurd (no-form h)
+  flat-cell true true (some p) true (some t) true none b3 b4 v4 e₁ f c h = absurd (no-form h)
+  flat-cell true true (some p) true (some t) true (some a) false b4 v4 e₁ f c h = absurd (no-form h)
+  flat-cell true true (some p) true (some t) true (some a) true false v4 e₁ f c h = absurd (no-form h)
+  flat-cell true true (some p) true (some t) true (some a) true true none e₁ f c h = absurd (no-form h)
+  flat-cell true true (some p) true (some t) true (some a) true true (some ns) e₁ f c h = go (leb p 4) refl h
     where
-      go : (b : Bool) → leb p 4 ≡ b → pickForm b (ACell e (record { pins = p; table = t; area = a; d0 = d0; d1 = d1; d2 = d2; d3 = d3 }) (record { at = q })) NoForm ≡ ACell e₁ f c
+      go : (b : Bool) → leb p 4 ≡ b → pickForm b (ACell e (figuresOf p t a ns) (record { at = q })) NoForm ≡ ACell e₁ f c
           → (true ≡ true) × (true ≡ true) × (e₁ ≡ e) × (c .at ≡ q) × (f .pins ≤ 4)
       go true k r =
           let x : e ≡ e₁ = cc in
-          let y : _≡_ {A = Figures} (record { pins = p; table = t; area = a; d0 = d0; d1 = d1; d2 = d2; d3 = d3 }) f = cc in
+          let y : _≡_ {A = Figures} (figuresOf p t a ns) f = cc in
           let z : _≡_ {A = Cursor} (record { at = q }) c = cc in
           (refl, refl, sym x, sym (ap (λ (d : Cursor). d .at) z), omega (arith, leb-true p 4 k, ap (λ (g : Figures). g .pins) y))
       go false k r = absurd (no-form r)
@@ -285,24 +272,71 @@ figure s q k = number (wordAt s (nth s q k))
 abbrev behind : List ℕ → ℕ → ℕ → ℕ → Bool
 behind s q k b = isByte s (endAt s (nth s q k)) b
 
+-- as many numbers as fields
+numbers-long : (ws : List (List ℕ)) (ns : List ℕ) → numbers ws ≡ some ns → length ns ≡ length ws
+unfolding numbers andThen
+numbers-long [] ns e = let q : _≡_ {A = List ℕ} [] ns = cc in ap length (sym q)
+numbers-long (w ∷ ws) ns e = go (number w) (numbers ws) (numbers-long ws) e
+  where
+    go : (o : Option ℕ) (r : Option (List ℕ)) → ((ms : List ℕ) → r ≡ some ms → length ms ≡ length ws) → consO o r ≡ some ns → length ns ≡ suc (length ws)
+    go none r more q = let z : _≡_ {A = ℕ} 0 1 = cc in absurd (omega arith)
+    go (some n) none more q = let z : _≡_ {A = ℕ} 0 1 = cc in absurd (omega arith)
+    go (some n) (some ms) more q = let i : n ∷ ms ≡ ns = cc in ap length (sym i) ∙ ap suc (more ms refl)
+
+-- the delays as the model reads them
+then-numbers : (b : Bool) (ws : List (List ℕ)) → andThen (only b ws) numbers ≡ onlyO b (numbers ws)
+unfolding andThen only
+then-numbers true ws = refl
+then-numbers false ws = refl
+
+four-list : (ns : List ℕ) → length ns ≡ 4 → ns ≡ getD ns 0 0 ∷ getD ns 1 0 ∷ getD ns 2 0 ∷ getD ns 3 0 ∷ []
+four-list [] e = absurd (omega arith)
+four-list (a ∷ []) e = absurd (omega arith)
+four-list (a ∷ b ∷ []) e = absurd (omega arith)
+four-list (a ∷ b ∷ c ∷ []) e = absurd (omega arith)
+four-list (a ∷ b ∷ c ∷ d ∷ []) e = refl
+four-list (a ∷ b ∷ c ∷ d ∷ x ∷ ns) e = absurd (omega arith)
+
 module _ (s : List ℕ) (q : ℕ) where
-  from-fields : cellOfLine (lineAt s q) ≡ andThen (only (sepsAt 7 s q) (wordsAt 7 s q)) (λ _. cellFrom (isName (wordAt s q)) (wordsAt 7 s q) (wordAt s q) (figure s q 1) (hexTable (wordAt s (nth s q 2))) (figure s q 3) (figure s q 4) (figure s q 5) (figure s q 6) (figure s q 7))
-  unfolding cellOfLine lineFields wordsAt
+  -- the four fields behind the area
+  last-words : List (List ℕ)
+  last-words = wordsAt 3 s (nth s q 4)
+
+  words-four : length last-words ≡ 4
+  unfolding last-words wordsAt
+  words-four = refl
+
+  delays-four : Fours (numbers last-words)
+  delays-four ns e = four-list ns (numbers-long last-words ns e ∙ words-four)
+
+  delays-read : numbersAt 3 s (nth s q 4) ≡ onlyO (sepsAt 3 s (nth s q 4)) (numbers last-words)
+  unfolding last-words
+  delays-read = sym (numbers-at 3 s (nth s q 4)) ∙ then-numbers (sepsAt 3 s (nth s q 4)) (wordsAt 3 s (nth s q 4))
+
+  from-fields : cellOfLine (lineAt s q)
+      ≡ andThen (only (sepsAt 7 s q) (wordsAt 7 s q)) (λ _. cellFrom (isName (wordAt s q)) (wordsAt 7 s q) (wordAt s q) (figure s q 1) (hexTable (wordAt s (nth s q 2))) (figure s q 3) (numbers last-words))
+  unfolding cellOfLine lineFields wordsAt last-words
   from-fields =
       eight-then (lineFields s q)
       ∙ ap (λ (o : Option (List (List ℕ))). andThen o cellOfFields) (fields-at 7 s q)
       ∙ then-const (sepsAt 7 s q) (wordsAt 7 s q)
-      ∙ ap (λ (x : Option Cell). andThen (only (sepsAt 7 s q) (wordsAt 7 s q)) (λ _. x)) (cell-from (wordAt s q) (wordAt s (nth s q 1)) (wordAt s (nth s q 2)) (wordAt s (nth s q 3)) (wordAt s (nth s q 4)) (wordAt s (nth s q 5)) (wordAt s (nth s q 6)) (wordAt s (nth s q 7)))
+      ∙ ap (λ (x : Option Cell). andThen (only (sepsAt 7 s q) (wordsAt 7 s q)) (λ _. x)) (cell-from (wordAt s q) (wordAt s (nth s q 1)) (wordAt s (nth s q 2)) (wordAt s (nth s q 3)) (wordsAt 3 s (nth s q 4)) words-four)
+
+  form-found : formAt s q
+      ≡ formOf (isName (wordAt s q)) (isByte s (endAt s q) 32) (thenO (figure s q 1) (behind s q 1 32)) (thenO (hexTable (wordAt s (nth s q 2))) (behind s q 2 32)) (thenO (figure s q 3) (behind s q 3 32)) (onlyO (sepsAt 3 s (nth s q 4)) (numbers last-words)) (endAt s q) (afterAt 3 s (nth s q 4))
+  form-found =
+      form-is s q
+      ∙ ap (λ (o : Option (List ℕ)). formOf (isName (wordAt s q)) (isByte s (endAt s q) 32) (thenO (figure s q 1) (behind s q 1 32)) (thenO (hexTable (wordAt s (nth s q 2))) (behind s q 2 32)) (thenO (figure s q 3) (behind s q 3 32)) o (endAt s q) (afterAt 3 s (nth s q 4))) delays-read
 
   pub form-means : cellOfLine (lineAt s q) ≡ formMeans (wordAt s q) (formAt s q)
-  unfolding sepsAt wordsAt
+  unfolding sepsAt
   form-means =
       from-fields
-      ∙ sym (flat (wordsAt 7 s q) (wordAt s q) (endAt s q) (nth s q 8) (isName (wordAt s q)) (isByte s (endAt s q) 32) (figure s q 1) (behind s q 1 32) (hexTable (wordAt s (nth s q 2))) (behind s q 2 32) (figure s q 3) (behind s q 3 32) (figure s q 4) (behind s q 4 32) (figure s q 5) (behind s q 5 32) (figure s q 6) (behind s q 6 32) (figure s q 7) (behind s q 7 10))
-      ∙ ap (formMeans (wordAt s q)) (sym (form-is s q))
+      ∙ sym (flat (wordsAt 7 s q) (wordAt s q) (endAt s q) (afterAt 3 s (nth s q 4)) (isName (wordAt s q)) (isByte s (endAt s q) 32) (figure s q 1) (behind s q 1 32) (hexTable (wordAt s (nth s q 2))) (behind s q 2 32) (figure s q 3) (behind s q 3 32) (sepsAt 3 s (nth s q 4)) (numbers last-words) delays-four)
+      ∙ ap (formMeans (wordAt s q)) (sym form-found)
 
   pub form-cell : (e : ℕ) (f : Figures) (c : Cursor) → formAt s q ≡ ACell e f c
       → (isName (wordAt s q) ≡ true) × (sepsAt 7 s q ≡ true) × (e ≡ endAt s q) × (c .at ≡ afterAt 7 s q) × (f .pins ≤ 4)
   unfolding sepsAt afterAt
   form-cell e f c h =
-      flat-cell (wordsAt 7 s q) (wordAt s q) (endAt s q) (nth s q 8) (isName (wordAt s q)) (isByte s (endAt s q) 32) (figure s q 1) (behind s q 1 32) (hexTable (wordAt s (nth s q 2))) (behind s q 2 32) (figure s q 3) (behind s q 3 32) (figure s q 4) (behind s q 4 32) (figure s q 5) (behind s q 5 32) (figure s q 6) (behind s q 6 32) (figure s q 7) (behind s q 7 10) e f c (sym (form-is s q) ∙ h)
+      flat-cell (wordsAt 7 s q) (wordAt s q) (endAt s q) (afterAt 3 s (nth s q 4)) (isName (wordAt s q)) (isByte s (endAt s q) 32) (figure s q 1) (behind s q 1 32) (hexTable (wordAt s (nth s q 2))) (behind s q 2 32) (figure s q 3) (behind s q 3 32) (sepsAt 3 s (nth s q 4)) (numbers last-words) e f c (sym form-found ∙ h)

@@ -7,17 +7,16 @@ use mathlib.Core.Path.{_≡_, refl, sym, ap, _∙_, subst}
 use mathlib.Core.Bool.{Bool, true, false, _&&_, _||_}
 use mathlib.Core.List.{List, [], _∷_}
 use lib.Dec.{eqb, ltb, eqb·zero-suc, eqb·suc-zero, lit<}
-use lib.ListN.{length, take, drop, getD, length-take}
+use lib.ListN.{length, take, drop, getD}
 use lib.Seq.{drop-nil, take-all}
 use borrow.Author.Tests.{lt-ltb, le-ltb, ltb-true, ltb-false, eqb-true, eqb-false}
 use Rattle.model.specs.Base.{all, any, same}
-use Rattle.model.specs.Text.{text}
 use Rattle.model.specs.Cells.{nameOf, noCell}
 use Rattle.model.specs.LibraryText.{isClean}
 use Rattle.model.specs.declared.Cell.{Cell}
-use Rattle.text.proofs.Bytes.{or-true, and-true, same-length}
+use Rattle.text.proofs.Bytes.{or-true, and-true}
 use Rattle.library.specs.declared.Figures.{Figures}
-use Rattle.library.specs.Reading.{delayOk, delaysOk, lineCell, clamped, pickN, before, isRepeated, namesLine}
+use Rattle.library.specs.Reading.{delayOk, delaysOk, lineCell, clamped, pickN, before, isRepeated}
 
 -- ---- the limit of a table of p pins
 
@@ -99,12 +98,3 @@ module _ (w : List ℕ) (cells : List Cell) where
           let ne : (i ≡ suc n) → ⊥ = eqb-false i (suc n) q in
           let r : isRepeated w cells n ≡ true = more (omega arith) e in
           ap (isRepeated w cells) (sym (add-one n)) ∙ repeated-step n ∙ rw (r, or-true)
-
--- ---- the names line
-
-pub names-length : length namesLine ≡ 33
-unfolding namesLine text
-names-length = refl
-
-pub names-short : (s : List ℕ) → length s < 33 → same (take 33 s) namesLine ≡ false
-names-short s h = same-length (take 33 s) namesLine (λ e. omega (arith, names-length, length-take 33 s))

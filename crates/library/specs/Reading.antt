@@ -10,8 +10,9 @@ use Rattle.model.specs.Cells.{nameOf, noCell}
 use Rattle.model.specs.LibraryText.{nameBytes, isClean}
 use Rattle.model.specs.declared.Cell.{Cell}
 use Rattle.model.specs.declared.Library.{Library}
-use Rattle.text.specs.Fields.{onNumber, onStep, numberThen, tableThen, nameAt, byteAt}
+use Rattle.text.specs.Fields.{onNumber, onStep, numberThen, numberEnd, tableThen, nameAt, byteAt}
 use Rattle.text.specs.declared.Cursor.{Cursor}
+use Rattle.text.specs.declared.Span.{Span}
 use Rattle.library.specs.declared.Figures.{Figures}
 use Rattle.library.specs.declared.Delays.{Delays}
 use Rattle.library.specs.declared.Delays.the-variants.{Four, Broken as NoDelays}
@@ -31,7 +32,7 @@ delaysAt s at =
     onNumber (numberThen s at 32) (λ d0 c0.
     onNumber (numberThen s (c0 .at) 32) (λ d1 c1.
     onNumber (numberThen s (c1 .at) 32) (λ d2 c2.
-    onNumber (numberThen s (c2 .at) 10) (λ d3 c3. Four d0 d1 d2 d3 c3) NoDelays) NoDelays) NoDelays) NoDelays
+    onNumber (numberEnd s (c2 .at)) (λ d3 c3. Four d0 d1 d2 d3 c3) NoDelays) NoDelays) NoDelays) NoDelays
 
 unfoldable pub headAt : List ℕ → ℕ → Head
 headAt s at =
@@ -125,7 +126,11 @@ judgedAt l s at =
     (pickJudged (isClean (lineCell [] f)) (Good e f c) (Bad 6))) (Bad 4))
     (Bad 3)
 
--- the names line, with its byte 10
+-- the names line's contents
 unfoldable pub namesLine : List ℕ
 unfolding text
-namesLine = text "cell pins table area d0 d1 d2 d3\n"
+namesLine = text "cell pins table area d0 d1 d2 d3"
+
+-- a line has its end, and its contents are those
+unfoldable pub isNames : List ℕ → Span → Bool
+isNames s l = ltb (l .stop) (l .next) && same (take (l .stop) s) namesLine

@@ -10,13 +10,14 @@ ghost use Rattle.model.specs.Text.{linesFrom};
 ghost use Rattle.model.specs.Reading.{fault, rulingOf, verdictRuling};
 ghost use Rattle.model.specs.Cells.{noCell, libraryOf, libraryAnswer};
 ghost use Rattle.model.specs.LibraryText.{isClean, readCells, readLibrary};
-ghost use Rattle.library.specs.Reading.{delaysAt, headAt, figuresAt, formAt, judgedAt, lineCell, added, isRepeated, delayOk, delaysOk, clamped, namesLine};
+ghost use Rattle.library.specs.Reading.{delaysAt, headAt, figuresAt, formAt, judgedAt, lineCell, added, isRepeated, delayOk, delaysOk, clamped, isNames};
 use model::Cell;
 use model::Library;
 use model::LibraryAnswer;
 use model::Verdict;
 use text::Cursor;
 use text::Number;
+use text::Span;
 use text::Step;
 
 // What stands behind a cell's name.
@@ -66,7 +67,7 @@ fn read_delays(c: Cursor, s: &[u8]) -> Delays
     match c.number_then(s, 32) {
         Number::Value(d0, c0) => match c0.number_then(s, 32) {
             Number::Value(d1, c1) => match c1.number_then(s, 32) {
-                Number::Value(d2, c2) => match c2.number_then(s, 10) {
+                Number::Value(d2, c2) => match c2.number_end(s) {
                     Number::Value(d3, c3) => Delays::Four(d0, d1, d2, d3, c3),
                     Number::Broken => Delays::Broken,
                 },
@@ -321,13 +322,15 @@ fn cells(s: &[u8], from: usize) -> LibraryAnswer
 }
 
 // "The library's first line isn't the names line; place 0."
-fn names_line(s: &[u8]) -> bool
-    ensures { λ r. ⌜ r ≡ same (take 33 (now (s .entry))) namesLine ⌝ }
+fn names_line(s: &[u8], first: Span) -> bool
+    requires { ⌜ first .stop ≤ length (now s) ⌝ }
+    ensures { λ r. ⌜ r ≡ isNames (now (s .entry)) first ⌝ }
 {
-    if s.len() < 33 {
+    let stop = first.stop;
+    if first.next <= stop {
         return false;
     }
-    text::same_bytes(&s[..33], b"cell pins table area d0 d1 d2 d3\n")
+    text::same_bytes(&s[..stop], b"cell pins table area d0 d1 d2 d3")
 }
 
 // The cells of a library's text, or the first refusal of 2 to 6.
@@ -335,8 +338,9 @@ pub fn read(s: &[u8]) -> LibraryAnswer
     ensures answer { λ r. ⌜ r ≡ libraryAnswer (readLibrary (now (s .entry))) ⌝ }
     ensures ruling { λ r. ⌜ verdictRuling (r .verdict) ≡ rulingOf (readLibrary (now (s .entry))) ⌝ }
 {
-    if names_line(s) {
-        cells(s, 33)
+    let first = text::line(s, 0);
+    if names_line(s, first) {
+        cells(s, first.next)
     } else {
         refused(2, 0)
     }

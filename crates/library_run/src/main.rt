@@ -80,7 +80,7 @@ fn each(s: &[u8]) {
 }
 
 fn main() {
-    let mut buf = [0u8; 65536];
+    let mut buf = [0u8; 131072];
     let n = io::read_full(STDIN_FILENO, &mut buf);
     each(&buf[..n]);
 }

@@ -12,7 +12,7 @@ ghost use Rattle.model.specs.Reading.{holds};
 ghost use Rattle.model.specs.Graph.{Graph};
 ghost use Rattle.model.specs.GraphText.{readHeader};
 ghost use Rattle.model.specs.Mapper.{callOf};
-ghost use Rattle.model.specs.Demands.{Memory, Values, Earliest, Twins, Sequenced};
+ghost use Rattle.model.specs.Demands.{Memory, Values, Earliest, Twins, Sequenced, EitherEnd};
 ghost use Rattle.netlist.specs.Mapped.{Mapped};
 ghost use Rattle.mapper.specs.Stages.{Fits, Told, Left, LibraryOk, Loaded, Placed, Cut, printedFor, cutFor, placedFor, loadedFor, graphFor, headerFor};
 
@@ -99,7 +99,7 @@ fn map_header(graph: &[u8], lib: Library, work: &mut [u16], text: &mut [u8]) -> 
 
 // A library text and a graph text in either form mapped: the netlist at the start of text memory, or the first refusal that applies. The clauses
 // carry the names of the demands; `fits` says that the netlist's length is within text memory, `twins` that texts which mean the same graph have
-// the same outcome, `sequenced` that 13 to 15 refuse no binary text.
+// the same outcome, `sequenced` that 13 to 15 refuse no binary text, `ends` that "texts alike but for line ends" have the same.
 pub fn map_texts(cells: &[u8], graph: &[u8], work: &mut [u16], text: &mut [u8]) -> Answer
     ensures memory { λ r. ⌜ Memory (callOf (now (cells .entry)) (now (graph .entry)) (now (work .entry)) (now (text .entry))) (now (work .entry)) (now (text .entry)) r (now (work .exit)) (now (text .exit)) ⌝ }
     ensures values { λ _. ⌜ Values (callOf (now (cells .entry)) (now (graph .entry)) (now (work .entry)) (now (text .entry))) ⌝ }
@@ -107,6 +107,7 @@ pub fn map_texts(cells: &[u8], graph: &[u8], work: &mut [u16], text: &mut [u8]) 
     ensures fits { λ r. ⌜ Fits r (length (now (text .entry))) ⌝ }
     ensures twins { λ _. ⌜ Twins (callOf (now (cells .entry)) (now (graph .entry)) (now (work .entry)) (now (text .entry))) ⌝ }
     ensures sequenced { λ _. ⌜ Sequenced (callOf (now (cells .entry)) (now (graph .entry)) (now (work .entry)) (now (text .entry))) ⌝ }
+    ensures ends { λ _. ⌜ EitherEnd (callOf (now (cells .entry)) (now (graph .entry)) (now (work .entry)) (now (text .entry))) ⌝ }
 {
     if cells.len() > 65536 {
         return Answer::Refused(1, 0);

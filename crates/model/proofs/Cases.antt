@@ -1,9 +1,9 @@
--- The marked cases A to K of the document, from the texts on, a case for each refusal, the binary form, matches and ties, outputs' names, and what a call
--- leaves and returns, checked against the definitions by computing.
+-- The marked cases A to K of the document, from the texts on, a case for each refusal, the binary form, either line end, matches and ties, outputs'
+-- names, and what a call leaves and returns, checked against the definitions by computing.
 -- Assumes nothing.
-use Prim.Native.Nat.{ℕ, _+_}
+use Prim.Native.Nat.{ℕ}
 use Prim.Native.String.{String}
-use mathlib.Core.Bool.{Bool, true, false, _&&_}
+use mathlib.Core.Bool.{Bool, true, false, not, _&&_}
 use mathlib.Core.Option.{Option, none, some}
 use mathlib.Core.List.{List, [], _∷_, _++_}
 use lib.Dec.{T, eqb}
@@ -20,6 +20,7 @@ use Rattle.model.specs.Reading.{holds as reads}
 use Rattle.model.specs.GraphText.{readHeader, readGraph, asciiText, headerAnswer, headerRuling, headerValues}
 use Rattle.model.specs.Mapper.{Call, mapTexts, answerOf, Returned, returned, returnedBy, textAfter, workAfter}
 use Rattle.model.specs.Blif.{Wire, Blif, readBlif, readFigures}
+use Rattle.model.specs.Demands.{isBinaryText, lineStart}
 use Rattle.model.specs.declared.Figures.{Figures}
 use Rattle.model.specs.declared.Verdict.the-variants.{Accepted, Refused}
 
@@ -410,6 +411,106 @@ binaryRefusals =
 pub binary-refusals-hold : T (all holds binaryRefusals)
 unfolding all holds binaryRefusals
 binary-refusals-hold = tt
+
+-- ---- either line end
+
+-- the library with every line ended in 13 and 10, and with only its second
+unfoldable pub longLibrary : List ℕ
+unfolding text
+longLibrary = text "cell pins table area d0 d1 d2 d3\r\ninv 1 0001 1 10 0 0 0\r\nnand2 2 0007 2 20 20 0 0\r\n"
+
+unfoldable pub mixedLibrary : List ℕ
+unfolding text
+mixedLibrary = text "cell pins table area d0 d1 d2 d3\ninv 1 0001 1 10 0 0 0\r\nnand2 2 0007 2 20 20 0 0\n"
+
+-- the first of them, of 83 bytes, with a line added
+unfoldable pub longWith : String → List ℕ
+unfolding longLibrary text
+longWith line = longLibrary ++ text line
+
+-- 32 cells without pins, their lines ended in 13 and 10: 728 bytes
+unfoldable pub longLines : List ℕ
+unfolding text each below decimal
+longLines = text "cell pins table area d0 d1 d2 d3\r\n" ++ each (λ (k : ℕ). 99 ∷ decimal k ++ text " 0 0000 1 0 0 0 0\r\n") (below 32)
+
+-- "Accept either ending, line by line": the marked texts again; "Offsets still count every byte. A lone 13 is still a fault of form."
+unfoldable pub ends : List Case
+unfolding library with listing longLibrary mixedLibrary longWith longLines graphB graphC headB text
+ends =
+    -- A to K, all lines long, or some
+    gives longLibrary "aag 0 0 0 0 0\r\n" 0 0
+    ∷ prints longLibrary "aag 3 2 0 1 1\r\n2\r\n4\r\n6\r\n6 2 4\r\n" listing 2 3 30
+    ∷ prints mixedLibrary "aag 3 2 0 1 1\n2\r\n4\n6\r\n6 2 4\n" listing 2 3 30
+    ∷ prints library "aag 3 2 0 1 1\r\n2\n4\r\n6\n6 2 4\r\n" listing 2 3 30
+    ∷ prints longLibrary graphB listing 2 3 30
+    ∷ gives (longWith "nor2 2 0001 2 35 35 0 0\r\n") graphC 1 35
+    ∷ gives (longWith "nor2 2 0001 2 40 40 0 0\n") graphC 1 40
+    ∷ gives (with "nor2 2 0001 2 41 41 0 0\r\n") "aag 3 2 0 1 1\r\n2\r\n4\r\n6\r\n6 3 5\r\n" 4 40
+    ∷ lists "aag 6 3 0 0 3\r\n2\r\n4\r\n6\r\n8 2 4\r\n10 8 6\r\n12 8 10\r\n" 6 ((6 ∷ []) ∷ (3 ∷ 4 ∷ []) ∷ (4 ∷ 5 ∷ []) ∷ (1 ∷ 2 ∷ 3 ∷ []) ∷ (1 ∷ 2 ∷ 5 ∷ []) ∷ (1 ∷ 2 ∷ 3 ∷ 4 ∷ []) ∷ [])
+    ∷ gives (longWith "tie0 0 0000 1 0 0 0 0\r\n") "aag 0 0 0 1 0\r\n1\r\n" 2 10
+    ∷ refuses longLibrary "aag 0 0 0 1 0\r\n1\r\n" 17 0
+    ∷ refuses longLibrary "aag 2 0 0 0 2\r\n2 4 4\r\n4 2 2\r\n" 15 1
+    ∷ gives longLibrary "aag 3 1 0 1 2\r\n2\r\n4\r\n4 6 6\r\n6 2 2\r\n" 2 20
+    -- 16 of 19 cuts; B with one word and with one byte too few
+    ∷ refuses longLibrary "aag 6 1 0 0 5\r\n2\r\n4 2 2\r\n6 4 2\r\n8 6 2\r\n10 8 8\r\n12 10 10\r\n" 16 6
+    ∷ lacks longLibrary "aag 3 2 0 1 1\r\n2\r\n4\r\n6\r\n6 2 4\r\n" 496 65536 10 0
+    ∷ lacks longLibrary "aag 3 2 0 1 1\r\n2\r\n4\r\n6\r\n6 2 4\r\n" 497 133 18 134
+    -- a lone 13: in the names line, in a cell line's first, inner and last field, in the header and the due lines
+    ∷ refuses (text "cell pins table area d0 d1 d2 d3\r") graphB 2 0
+    ∷ refuses (text "cell\r pins table area d0 d1 d2 d3\n") graphB 2 0
+    ∷ refuses (text "cell pins table area d0 d1 d2 d3\r\r\n") graphB 2 0
+    ∷ refuses (text "\r\n") graphB 2 0
+    ∷ refuses (longWith "x\r 0 0000 1 0 0 0 0\n") graphB 4 83
+    ∷ refuses (longWith "x 0 0000\r 1 0 0 0 0\n") graphB 4 83
+    ∷ refuses (longWith "x 0 0000 1 0 0 0 0\r") graphB 4 83
+    ∷ refuses (longWith "x 0 0000 1 0 0 0 0\r\r\n") graphB 4 83
+    ∷ refuses (longWith "x 0 0000 1 0 0 0 0\rx 0 0000 1 0 0 0 0\n") graphB 4 83
+    ∷ refuses (longWith "\r\n") graphB 4 83
+    ∷ refuses library "aag 3 2 0 1 1\r2\n" 7 0
+    ∷ refuses library "aag 0 0 0 0 0\r" 7 0
+    ∷ refuses library "aag 0 0 0 0 0\r\r\n" 7 0
+    ∷ refuses library "aag\r 0 0 0 0 0\n" 7 0
+    ∷ refuses library "aag 3 2 0 1 1\r\n2\r4\n6\n6 2 4\n" 11 15
+    ∷ refuses library "aag 3 2 0 1 1\r\n2\r\n4\r\r\n6\n6 2 4\n" 11 18
+    ∷ refuses library "aag 3 2 0 1 1\r\n2\r\n4\r\n6\r\n6 2 4\r" 11 24
+    ∷ refuses library "aag 3 2 0 1 1\r\n2\r\n4\r\n6\r\n" 11 24
+    -- what stands behind the last AND line isn't read, a lone 13 neither
+    ∷ gives library "aag 0 0 0 0 0\r\n\r" 0 0
+    -- places behind long ends: 3, 5, 6, 12, 13, 14
+    ∷ gives longLines "aag 0 0 0 0 0\n" 0 0
+    ∷ refuses (longLines ++ text "\r\n") graphB 3 728
+    ∷ refuses (longWith "inv 0 0002 1 0 0 0 0\n") graphB 5 83
+    ∷ refuses (longWith "x 0 0002 1 0 0 0 0\r\n") graphB 6 83
+    ∷ refuses longLibrary "aag 3 2 0 1 1\r\n2\r\n4\r\n8\n6 2 4\n" 12 21
+    ∷ refuses longLibrary "aag 3 2 0 1 1\r\n2\n2\r\n6\n6 2 4\n" 13 17
+    ∷ refuses longLibrary "aag 4 2 0 1 1\r\n2\r\n4\r\n6\r\n6 2 8\r\n" 14 24
+    -- "in library and ASCII graph": in the binary form byte 10 alone ends the header and an output line, and differences may be 13 and 10
+    ∷ printsBytes longLibrary (headB ++ (2 ∷ 2 ∷ [])) listing 2 3 30
+    ∷ refusesBytes (text "aig 3 2 0 1 1\r\n6\n" ++ (2 ∷ 2 ∷ [])) 32768 7 0
+    ∷ refusesBytes (text "aig 3 2 0 2 1\n6\n6\r\n" ++ (2 ∷ 2 ∷ [])) 32768 11 16
+    ∷ hasAnd (text "aig 13 12 0 0 1\n" ++ (13 ∷ 10 ∷ [])) 13 13 3
+    ∷ []
+
+-- both ends are read, and nothing else is one
+pub ends-hold : T (all holds ends)
+unfolding all holds ends
+ends-hold = tt
+
+-- where lines begin, and behind the last where the text ends; and which graphs are in the `aig` form by their first word
+pub starts-are : T (
+    eqb (lineStart (text "2\r\n4\n6") 0) 0
+    && (eqb (lineStart (text "2\r\n4\n6") 1) 3
+    && (eqb (lineStart (text "2\r\n4\n6") 2) 5
+    && (eqb (lineStart (text "2\r\n4\n6") 3) 6
+    && (eqb (lineStart (text "2\r\r\n") 1) 4
+    && (eqb (lineStart [] 0) 0
+    && (isBinaryText (text "aig 0 0 0 0 0\r\n")
+    && (isBinaryText (text "aig\n")
+    && (not (isBinaryText (text "aag 0 0 0 0 0\n"))
+    && (not (isBinaryText (text "aig\r 0 0 0 0 0\n"))
+    && not (isBinaryText [])))))))))))
+unfolding lineStart isBinaryText text
+starts-are = tt
 
 -- ---- matches of more than two pins, and ties
 

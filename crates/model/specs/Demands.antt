@@ -1,15 +1,17 @@
 -- The three demands as types, for every call: library text, graph text in either form, number of lent words and number of lent bytes; and what is
--- promised of two texts that mean the same graph. Assumes nothing.
+-- promised of two texts that mean the same graph, and of texts alike but for line ends. Assumes nothing.
 use Prim.Native.Nat.{ℕ, suc, _*_, _≤_, _<_}
 use mathlib.Core.Path.{_≡_}
-use mathlib.Core.Bool.{Bool, true, false}
+use mathlib.Core.Bool.{Bool, true, false, cond}
 use mathlib.Core.Option.{some}
 use mathlib.Core.List.{List, [], _∷_, _++_, map, List·Memᴰ}
 use mathlib.Core.Logic.{_⊎_, _↔_}
 use Prim.Native.Nat.{Ordering·gt}
+use lib.Dec.{leb}
 use lib.ListN.{length, getD}
-use Rattle.model.specs.Base.{each, below}
-use Rattle.model.specs.Reading.{holds}
+use Rattle.model.specs.Base.{each, below, same}
+use Rattle.model.specs.Text.{Line, text, linesFrom, shown, fields}
+use Rattle.model.specs.Reading.{holds, fault}
 use Rattle.model.specs.Cells.{nameOf}
 use Rattle.model.specs.Graph.{Graph, literal, varOf, negated, unplaced, placingOrder, literalValue, GraphValues}
 use Rattle.model.specs.GraphText.{readHeader, readGraph, asciiText}
@@ -232,3 +234,63 @@ abbrev pub Sequenced : Call → Type 0
 Sequenced c =
     (h : Header) → readHeader (c .graph) ≡ holds h → h .binary ≡ true
     → (n k : ℕ) → mapTexts c ≡ refused n k → (¬ (n ≡ 13)) × (¬ (n ≡ 14)) × (¬ (n ≡ 15))
+
+-- ---- either ending: "Texts alike but for line ends, each within the length in 1, give the same netlist."
+
+-- two texts have the same lines, in the same order, of the same contents, each with its end in both or in neither: so they differ in no more than
+-- which of the two ends a line has
+abbrev pub Alike : List ℕ → List ℕ → Type 0
+Alike s t = map shown (linesFrom 0 [] s) ≡ map shown (linesFrom 0 [] t)
+
+-- the first word of a text's first line
+unfoldable pub firstWord : List Line → List ℕ
+unfolding fields
+firstWord [] = []
+firstWord (l ∷ ls) = getD (fields (l .bytes)) 0 []
+
+-- a graph's text in the `aig` form, "known by the header's first word"
+unfoldable pub isBinaryText : List ℕ → Bool
+unfolding firstWord linesFrom same text
+isBinaryText s = same (firstWord (linesFrom 0 [] s)) (text "aig")
+
+-- both texts are "within the length in 1"
+pub record Short (c : Call) : Type 0 where
+  pub library : length (c .library) ≤ 65536
+  pub graph : length (c .graph) ≤ 65536
+
+-- two calls that differ in no more than the ends of their texts' lines. Either ending is accepted "in library and ASCII graph", so a graph in the
+-- binary form is the same in both
+pub record AlikeTexts (c d : Call) : Type 0 where
+  pub libraries : Alike (c .library) (d .library)
+  pub graphs : Alike (c .graph) (d .graph)
+  pub binary : isBinaryText (c .graph) ≡ true → c .graph ≡ d .graph
+  pub words : c .words ≡ d .words
+  pub bytes : c .bytes ≡ d .bytes
+  pub short : Short c
+  pub shortToo : Short d
+
+-- where a text's line begins, by its number from 0; behind the last line, where the text ends
+unfoldable pub lineStart : List ℕ → ℕ → ℕ
+unfolding linesFrom
+lineStart s i = getD (map (λ (l : Line). l .offset) (linesFrom 0 [] s)) i (length s)
+
+-- "Offsets still count every byte": the places k of one text and j of the other are those of the same line; or it is one text and one place
+abbrev pub SamePlace : List ℕ → List ℕ → ℕ → ℕ → Type 0
+SamePlace s t k j = ((i : ℕ) × (lineStart s i ≡ k) × (lineStart t i ≡ j)) ⊎ ((s ≡ t) × (k ≡ j))
+
+-- the text that a refusal's place is in: 2 to 6 are the library's, the others tried up to 14 the graph's
+unfoldable pub atFault : ℕ → Call → List ℕ
+atFault n c = cond (leb n 6) (c .library) (c .graph)
+
+-- what the one call's texts hold the other's hold, and whatever comes of that comes of both, 15 to 18 at the same place too: the same netlist is
+-- printed, with the same figures. A refusal of the one is a refusal of the other and of the same number; where it is one of the texts, at the same line
+pub record SameButEnds (c d : Call) : Type 0 where
+  pub design : (x : Design) → readTexts c ≡ holds x → readTexts d ≡ holds x
+  pub outcome : (x : Design) → readTexts c ≡ holds x → mapTexts c ≡ mapTexts d
+  pub printed : (t : List ℕ) (f : Figures) → mapTexts c ≡ mapped t f → mapTexts d ≡ mapped t f
+  pub refusal : (n k : ℕ) → mapTexts c ≡ refused n k → (j : ℕ) × (mapTexts d ≡ refused n j)
+  pub place : (n k : ℕ) → readTexts c ≡ fault n k → (j : ℕ) × (readTexts d ≡ fault n j) × SamePlace (atFault n c) (atFault n d) k j
+
+-- so with every call that is alike this one
+abbrev pub EitherEnd : Call → Type 0
+EitherEnd c = (d : Call) → AlikeTexts c d → SameButEnds c d

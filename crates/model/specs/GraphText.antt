@@ -105,7 +105,7 @@ pub record Item : Type 0 where
   pub offset : ℕ
   pub literals : List ℕ
 
--- the literals of a due line: "one space between, byte 10 after each line"; `isClosed` is the test of the line's end
+-- the literals of a due line: "one space between", and the line's end behind them; `isClosed` is the test of this end
 unfoldable pub itemLiterals : (Line → Bool) → Kind → Line → Option (List ℕ)
 unfolding andThen only numbers fields howMany
 itemLiterals isClosed k l = let ws = fields (l .bytes) in andThen (only (isClosed l && eqb (length ws) (howMany k)) ws) numbers

@@ -25,7 +25,7 @@ cellOfFields ws =
     only (leb (getD ns 0 0) 4)
     (record { name = nameBytes (getD ws 0 []); len = length (getD ws 0 []); pins = getD ns 0 0; table = table; area = getD ns 1 0; delays = drop 2 ns }))))
 
--- "byte 10 ends every line"
+-- "Accept either ending, line by line": a line without its end is no cell's
 unfoldable pub cellOfLine : Line → Option Cell
 unfolding andThen only cellOfFields fields
 cellOfLine l = andThen (only (ended l) (fields (l .bytes))) cellOfFields

@@ -43,7 +43,7 @@ unfolding split
 parts sep [] = []
 parts sep (b ∷ bs) = split (eqb b sep) b (parts sep bs)
 
--- a line: its first byte's offset, its contents, and how many bytes end it: none where the text ends first, else byte 10
+-- a line: its first byte's offset, its contents, and how many bytes end it: 0 where the text ends first, 1 for byte 10, 2 for bytes 13 and 10
 pub record Line : Type 0 where
   pub offset : ℕ
   pub bytes : List ℕ
@@ -61,14 +61,24 @@ endedByTen l = eqb (l .ending) 1
 abbrev pub nextOf : Line → ℕ
 nextOf l = l .offset + (length (l .bytes) + l .ending)
 
+-- a line that byte 10 ends, the bytes before it the last first: a byte 13 right before it is part of the end
+unfoldable pub closing : ℕ → List ℕ → Line
+closing at [] = record { offset = at; bytes = []; ending = 1 }
+closing at (h ∷ hs) = cond (eqb h 13) (record { offset = at; bytes = reverse hs; ending = 2 }) (record { offset = at; bytes = reverse (h ∷ hs); ending = 1 })
+
 -- the lines of a text that begins at an offset; `held` are the line's bytes so far, the last first
 unfoldable pub linesFrom : ℕ → List ℕ → List ℕ → List Line
+unfolding closing
 linesFrom at [] [] = []
 linesFrom at (h ∷ hs) [] = record { offset = at; bytes = reverse (h ∷ hs); ending = 0 } ∷ []
 linesFrom at held (b ∷ bs) = elim (eqb b 10) [
-  | true ↦ record { offset = at; bytes = reverse held; ending = 1 } ∷ linesFrom (at + suc (length held)) [] bs
+  | true ↦ closing at held ∷ linesFrom (at + suc (length held)) [] bs
   | false ↦ linesFrom at (b ∷ held) bs
 ]
+
+-- what is seen of a line apart from its place and its kind of end: its contents, and whether it has its end
+unfoldable pub shown : Line → List ℕ × Bool
+shown l = (l .bytes, ended l)
 
 -- "One space separates fields": one field more than there are spaces
 unfoldable pub fields : List ℕ → List (List ℕ)

@@ -6,8 +6,9 @@ use mathlib.Core.Path.{_≡_, refl}
 use mathlib.Core.Bool.{Bool, true, false}
 use mathlib.Core.Option.{Option, none, some}
 use mathlib.Core.List.{List}
+use lib.ListN.{drop}
 use Rattle.model.specs.Text.{number, hexTable}
-use Rattle.text.specs.Fields.{wordAt, endAt, isByte, byteAt, numberOf, numberAt, tableAt, thenByte, numberThen, tableThen}
+use Rattle.text.specs.Fields.{endOf, stops, wordAt, endAt, isByte, byteAt, lineEndAt, numberOf, numberAt, tableAt, thenByte, thenEnd, numberThen, numberEnd, tableThen}
 
 -- the place of the next field
 abbrev pub past : List ℕ → ℕ → ℕ
@@ -28,6 +29,13 @@ thenO (some n) false = none
 abbrev pub found : (List ℕ → Option ℕ) → List ℕ → ℕ → ℕ → Option ℕ
 found j s q b = thenO (j (wordAt s q)) (isByte s (endAt s q) b)
 
+-- the number in the field at q, where the line ends behind it, and the place of the next line
+abbrev pub foundEnd : List ℕ → ℕ → Option ℕ
+foundEnd s q = thenO (number (wordAt s q)) (stops (drop (endAt s q) s))
+
+abbrev pub pastEnd : List ℕ → ℕ → ℕ
+pastEnd s q = endAt s q + endOf (drop (endAt s q) s)
+
 -- whatever the judge
 then-is : (j : List ℕ → Option ℕ) (s : List ℕ) (q b : ℕ)
     → thenByte s (numberOf (j (wordAt s q)) (endAt s q)) b ≡ numberOf (found j s q b) (past s q)
@@ -43,6 +51,16 @@ then-is j s q b = go (j (wordAt s q)) (isByte s (endAt s q) b) refl
 pub number-is : (s : List ℕ) (q b : ℕ) → numberThen s q b ≡ numberOf (found number s q b) (past s q)
 unfolding numberThen numberAt
 number-is s q b = then-is number s q b
+
+pub number-end-is : (s : List ℕ) (q : ℕ) → numberEnd s q ≡ numberOf (foundEnd s q) (pastEnd s q)
+unfolding numberEnd numberAt thenEnd lineEndAt
+number-end-is s q = go (number (wordAt s q)) (stops (drop (endAt s q) s)) refl
+  where
+    go : (o : Option ℕ) (t : Bool) → stops (drop (endAt s q) s) ≡ t
+        → thenEnd s (numberOf o (endAt s q)) ≡ numberOf (thenO o t) (pastEnd s q)
+    go none t e = refl
+    go (some n) true e = rw e
+    go (some n) false e = rw e
 
 pub table-is : (s : List ℕ) (q b : ℕ) → tableThen s q b ≡ numberOf (found hexTable s q b) (past s q)
 unfolding tableThen tableAt

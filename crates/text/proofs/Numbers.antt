@@ -1,8 +1,8 @@
 -- A line of numbers, read from number to number, is the line's fields read as numbers:
---     closed-is      a line's end is the end of a line of either form of a graph's text
 --     line-words     a line with k + 1 fields, as the crate model says it, is one with the right bytes behind each field
 --     numbers-at     its fields are numbers just where each number is found with the right byte behind it
 --     numbers-ended  and then the place past them is the place past the line
+--     ten-number, ten-ended  the same for a line of one number that byte 10 alone ends
 -- Assumes nothing.
 use Prim.Native.Nat.{ℕ, zero, suc, _+_}
 use native.Mathlib.Omega.{arith}
@@ -11,30 +11,18 @@ use mathlib.Core.Bool.{Bool, true, false, _&&_}
 use mathlib.Core.Option.{Option, none, some}
 use mathlib.Core.List.{List, [], _∷_}
 use lib.Dec.{eqb, ltb}
-use lib.ListN.{length, drop}
+use lib.ListN.{length, drop, getD}
+use borrow.Author.Tests.{eqb-true, ltb-true}
 use Rattle.model.specs.Base.{andThen, only}
-use Rattle.model.specs.Text.{ended, fields, number, numbers}
-use Rattle.model.specs.GraphText.{closed}
+use Rattle.model.specs.Text.{ended, endedByTen, fields, number, numbers}
 use Rattle.text.specs.declared.Cursor.{Cursor}
-use Rattle.text.specs.Fields.{wordAt, endAt, isByte, onNumber, numberOf, numberThen}
-use Rattle.text.specs.Lines.{pickN, endingOf, lineAt, pastLine, wordsAt, sepsAt, afterAt, numbersAt}
-use Rattle.text.proofs.Found.{past, thenO, found, number-is}
-use Rattle.text.proofs.Bridge.{lineFields, ofLength, fields-at, past-at}
-
--- byte 10 alone ends a line, and so ends it in either form
-one-byte : (l : List ℕ) → eqb (endingOf l) 1 ≡ ltb 0 (endingOf l)
-unfolding endingOf
-one-byte [] = refl
-one-byte (b ∷ bs) = go (eqb b 10) (one-byte bs)
-  where
-    go : (t : Bool) → eqb (endingOf bs) 1 ≡ ltb 0 (endingOf bs) → eqb (pickN t 1 (endingOf bs)) 1 ≡ ltb 0 (pickN t 1 (endingOf bs))
-    go true e = refl
-    go false e = e
-
-pub closed-is : (binary : Bool) (s : List ℕ) (at : ℕ) → closed binary (lineAt s at) ≡ ended (lineAt s at)
-unfolding lineAt
-closed-is true s at = one-byte (drop at s)
-closed-is false s at = refl
+use Rattle.text.specs.declared.Number.the-variants.{Value as Found}
+use Rattle.text.specs.Fields.{endOf, stops, wordAt, endAt, isByte, onNumber, numberOf, numberThen}
+use Rattle.text.specs.Lines.{lineAt, pastLine, wordsAt, sepsAt, afterAt, numbersAt}
+use Rattle.text.proofs.Found.{past, pastEnd, thenO, found, number-is, number-end-is}
+use Rattle.text.proofs.Bridge.{lineFields, ofLength, fields-at, past-at, field-ten}
+use Rattle.text.proofs.Bytes.{and-left, and-right}
+use Rattle.text.proofs.Words.{end-ten}
 
 -- the two tests of a line's fields as one
 both : (e : Bool) (ws : List (List ℕ)) (n : ℕ) → only (e && eqb (length ws) n) ws ≡ andThen (only e ws) (ofLength n)
@@ -70,7 +58,7 @@ module _ (w : List ℕ) (ws : List (List ℕ)) (p : ℕ) (rest : ℕ → Option 
 
 pub numbers-at : (k : ℕ) (s : List ℕ) (at : ℕ) → andThen (only (sepsAt k s at) (wordsAt k s at)) numbers ≡ numbersAt k s at
 unfolding sepsAt wordsAt numbersAt
-numbers-at zero s at = rw (number-is s at 10) (last-number (number (wordAt s at)) (isByte s (endAt s at) 10) (wordAt s at) (past s at) refl)
+numbers-at zero s at = rw (number-end-is s at) (last-number (number (wordAt s at)) (stops (drop (endAt s at) s)) (wordAt s at) (pastEnd s at) refl)
 numbers-at (suc k) s at =
     rw (number-is s at 32)
     (one-more (wordAt s at) (wordsAt k s (past s at)) (past s at) (numbersAt k s) (number (wordAt s at)) (isByte s (endAt s at) 32) (sepsAt k s (past s at)) refl (numbers-at k s (past s at)))
@@ -82,3 +70,35 @@ some-only false ws ns e = let z : _≡_ {A = ℕ} 0 1 = cc in absurd (omega arit
 
 pub numbers-ended : (k : ℕ) (s : List ℕ) (at : ℕ) (ns : List ℕ) → numbersAt k s at ≡ some ns → (ended (lineAt s at) ≡ true) × (afterAt k s at ≡ pastLine s at)
 numbers-ended k s at ns e = past-at k s at (some-only (sepsAt k s at) (wordsAt k s at) ns (numbers-at k s at ∙ e))
+
+-- a line of one number that byte 10 alone ends
+module _ (s : List ℕ) (at : ℕ) where
+  pub ten-number : andThen (only (endedByTen (lineAt s at) && eqb (length (fields (lineAt s at .bytes))) 1) (fields (lineAt s at .bytes))) numbers
+      ≡ onNumber (numberThen s at 10) (λ n c. some (n ∷ [])) none
+  unfolding wordsAt
+  ten-number =
+      ap (λ (o : Option (List (List ℕ))). andThen o numbers) (both (endedByTen (lineAt s at)) (fields (lineAt s at .bytes)) 1 ∙ field-ten s at)
+      ∙ rw (number-is s at 10) (last-number (number (wordAt s at)) (isByte s (endAt s at) 10) (wordAt s at) (past s at) refl)
+
+  one-byte : isByte s (endAt s at) 10 ≡ true → endOf (drop (endAt s at) s) ≡ 1
+  one-byte b =
+      let i = and-left (ltb (endAt s at) (length s)) (eqb (getD s (endAt s at) 0) 10) b in
+      let t = and-right (ltb (endAt s at) (length s)) (eqb (getD s (endAt s at) 0) 10) b in
+      end-ten s (endAt s at) (ltb-true (endAt s at) (length s) i) (eqb-true (getD s (endAt s at) 0) 10 t)
+
+  past-ten : isByte s (endAt s at) 10 ≡ true → (ended (lineAt s at) ≡ true) × (pastLine s at ≡ past s at)
+  unfolding sepsAt afterAt
+  past-ten b =
+      let ends = past-at 0 s at (ap (ltb 0) (one-byte b)) in
+      (ends .0, sym (ends .1) ∙ ap (λ (k : ℕ). endAt s at + k) (one-byte b))
+
+  pub ten-ended : (a : ℕ) (c : Cursor) → numberThen s at 10 ≡ Found a c → (ended (lineAt s at) ≡ true) × (pastLine s at ≡ c .at)
+  ten-ended a c e = go (number (wordAt s at)) (isByte s (endAt s at) 10) refl (sym (number-is s at 10) ∙ e)
+    where
+      go : (o : Option ℕ) (t : Bool) → isByte s (endAt s at) 10 ≡ t → numberOf (thenO o t) (past s at) ≡ Found a c → (ended (lineAt s at) ≡ true) × (pastLine s at ≡ c .at)
+      go none t b q = let z : _≡_ {A = ℕ} 0 1 = cc in absurd (omega arith)
+      go (some n) false b q = let z : _≡_ {A = ℕ} 0 1 = cc in absurd (omega arith)
+      go (some n) true b q =
+          let i : record { at = past s at } ≡ c = cc in
+          let ends = past-ten b in
+          (ends .0, ends .1 ∙ ap (λ (x : Cursor). x .at) i)

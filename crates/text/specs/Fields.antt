@@ -20,10 +20,32 @@ abbrev pub pickBytes : Bool → List ℕ → List ℕ → List ℕ
 pickBytes true a b = a
 pickBytes false a b = b
 
--- the field that a text begins with: its bytes before the first space or byte 10
+abbrev pub pickN : Bool → ℕ → ℕ → ℕ
+pickN true a b = a
+pickN false a b = b
+
+-- the byte b stands at a place
+abbrev pub isByte : List ℕ → ℕ → ℕ → Bool
+isByte s at b = ltb at (length s) && eqb (getD s at 0) b
+
+-- a text begins with the byte b
+abbrev pub headIs : List ℕ → ℕ → Bool
+headIs [] b = false
+headIs (x ∷ xs) b = eqb x b
+
+-- how many bytes of a line's end a text begins with: 1 for byte 10, 2 for bytes 13 and 10, else none
+unfoldable pub endOf : List ℕ → ℕ
+endOf [] = 0
+endOf (b ∷ bs) = pickN (eqb b 10) 1 (pickN (eqb b 13 && headIs bs 10) 2 0)
+
+-- a line's end stands there
+abbrev pub stops : List ℕ → Bool
+stops l = ltb 0 (endOf l)
+
+-- the field that a text begins with: its bytes before the first space or line's end
 unfoldable pub wordOf : List ℕ → List ℕ
 wordOf [] = []
-wordOf (b ∷ bs) = pickBytes (eqb b 32) [] (pickBytes (eqb b 10) [] (b ∷ wordOf bs))
+wordOf (b ∷ bs) = pickBytes (eqb b 32) [] (pickBytes (stops (b ∷ bs)) [] (b ∷ wordOf bs))
 
 -- the field at a place, and the place past it
 unfoldable pub wordAt : List ℕ → ℕ → List ℕ
@@ -46,12 +68,12 @@ abbrev pub stepOf : Bool → ℕ → Step
 stepOf false p = NoStep
 stepOf true p = To (record { at = p })
 
--- the byte b stands at a place
-abbrev pub isByte : List ℕ → ℕ → ℕ → Bool
-isByte s at b = ltb at (length s) && eqb (getD s at 0) b
-
 unfoldable pub byteAt : List ℕ → ℕ → ℕ → Step
 byteAt s at b = stepOf (isByte s at b) (at + 1)
+
+-- a line's end at a place: the next line begins behind it
+unfoldable pub lineEndAt : List ℕ → ℕ → Step
+lineEndAt s at = stepOf (stops (drop at s)) (at + endOf (drop at s))
 
 unfoldable pub numberAt : List ℕ → ℕ → Number
 unfolding endAt
@@ -79,6 +101,11 @@ unfoldable pub thenByte : List ℕ → Number → ℕ → Number
 unfolding byteAt
 thenByte s found b = onNumber found (λ n c. onStep (byteAt s (c .at) b) (λ d. Found n d) NoNumber) NoNumber
 
+-- the same for a line's end
+unfoldable pub thenEnd : List ℕ → Number → Number
+unfolding lineEndAt
+thenEnd s found = onNumber found (λ n c. onStep (lineEndAt s (c .at)) (λ d. Found n d) NoNumber) NoNumber
+
 -- a field and the byte that must stand behind it
 unfoldable pub numberThen : List ℕ → ℕ → ℕ → Number
 unfolding numberAt thenByte
@@ -87,6 +114,11 @@ numberThen s at b = thenByte s (numberAt s at) b
 unfoldable pub tableThen : List ℕ → ℕ → ℕ → Number
 unfolding tableAt thenByte
 tableThen s at b = thenByte s (tableAt s at) b
+
+-- a number's field that ends its line
+unfoldable pub numberEnd : List ℕ → ℕ → Number
+unfolding numberAt thenEnd
+numberEnd s at = thenEnd s (numberAt s at)
 
 -- a number that was passed, or a refusal of it
 abbrev pub passedOf : Read Passed → Number

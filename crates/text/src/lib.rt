@@ -1,6 +1,6 @@
 // Fields, numbers and names in a text of bytes, and numbers written into one.
-// "One space separates fields; byte 10 ends every line." "Every reader is a cursor that hands itself on after each number."
-// A field is what stands up to the next space, byte 10 or end of text; each field is judged whole, by the definition of the crate `model`.
+// "One space separates fields"; byte 10, or bytes 13 and 10, end a line. "Every reader is a cursor that hands itself on after each number."
+// A field is what stands up to the next space, line's end or end of text; each field is judged whole, by the definition of the crate `model`.
 ghost use mathlib.Core.Path.{_≡_};
 ghost use mathlib.Core.List.{_∷_, []};
 ghost use Prim.Native.Nat.{_+_, _≤_, _<_};
@@ -9,7 +9,8 @@ ghost use Rattle.model.specs.Base.{all, same};
 ghost use Rattle.model.specs.Text.{decimal, number, hexDigit, hexFrom, hexTable, isLetter, isNameByte, isName};
 ghost use Rattle.model.specs.LibraryText.{nameBytes};
 ghost use Rattle.words.specs.Put.{putAt};
-ghost use Rattle.text.specs.Fields.{endAt, valueOf, byteAt, numberAt, tableAt, nameAt, thenByte, numberThen, tableThen, differenceAt};
+ghost use Rattle.text.specs.Fields.{endOf, endAt, valueOf, byteAt, lineEndAt, numberAt, tableAt, nameAt, thenByte, thenEnd, numberThen, numberEnd, tableThen, differenceAt};
+ghost use Rattle.text.specs.Lines.{spanAt};
 
 // A position in a text. The text itself is a parameter of each method.
 pub struct Cursor {
@@ -28,25 +29,68 @@ pub enum Number {
     Broken,
 }
 
+// A line: "where the contents stop and where the next line begins"; both are one place where the text ends first.
+pub struct Span {
+    pub stop: usize,
+    pub next: usize,
+}
+
 // The cursor past what was read.
 pub enum Step {
     To(Cursor),
     Broken,
 }
 
-// ---- fields
+// ---- lines and fields
 
-// Where the field at `from` ends: at the next space, byte 10 or end of text.
+// How many bytes of a line's end stand at a place: 1 for byte 10, 2 for bytes 13 and 10, else none. A lone 13 ends no line.
+pub fn ends_at(s: &[u8], at: usize) -> usize
+    ensures { λ r. ⌜ r ≡ endOf (drop at (now (s .entry))) ⌝ }
+{
+    if s.len() <= at {
+        return 0;
+    }
+    let b = s[at];
+    if b == 10 {
+        return 1;
+    }
+    if b != 13 {
+        return 0;
+    }
+    if s.len() - at < 2 {
+        return 0;
+    }
+    if s[at + 1] == 10 { 2 } else { 0 }
+}
+
+// The line that begins at `from`.
+pub fn line(s: &[u8], from: usize) -> Span
+    ensures { λ r. ⌜ r ≡ spanAt (now (s .entry)) from ⌝ }
+{
+    let mut at = from;
+    while at < s.len() {
+        let n = ends_at(s, at);
+        if n != 0 {
+            return Span {
+                stop: at,
+                next: at + n,
+            };
+        }
+        at += 1;
+    }
+    Span { stop: at, next: at }
+}
+
+// Where the field at `from` ends: at the next space, line's end or end of text.
 pub fn field_end(s: &[u8], from: usize) -> usize
     ensures { λ r. ⌜ r ≡ endAt (now (s .entry)) from ⌝ }
 {
     let mut at = from;
     while at < s.len() {
-        let b = s[at];
-        if b == 32 {
+        if s[at] == 32 {
             return at;
         }
-        if b == 10 {
+        if ends_at(s, at) != 0 {
             return at;
         }
         at += 1;
@@ -225,11 +269,17 @@ impl Cursor {
         }
     }
 
-    // The end of a line: "byte 10 ends every line".
+    // The end of a line: the cursor is where the next line begins.
     pub fn line_end(self, s: &[u8]) -> Step
-        ensures { λ r. ⌜ r ≡ byteAt (now (s .entry)) (self .at) 10 ⌝ }
+        ensures { λ r. ⌜ r ≡ lineEndAt (now (s .entry)) (self .at) ⌝ }
     {
-        self.byte(s, 10)
+        let at = self.at;
+        let n = ends_at(s, at);
+        if n == 0 {
+            Step::Broken
+        } else {
+            Step::To(Cursor { at: at + n })
+        }
     }
 
     // A number's field.
@@ -308,7 +358,14 @@ impl Cursor {
         then_byte(self.number(s), s, b)
     }
 
-    // The same for a table's.
+    // A number's field that ends its line.
+    pub fn number_end(self, s: &[u8]) -> Number
+        ensures { λ r. ⌜ r ≡ numberEnd (now (s .entry)) (self .at) ⌝ }
+    {
+        then_end(self.number(s), s)
+    }
+
+    // A table's field, and the byte behind it.
     pub fn table_then(self, s: &[u8], b: u8) -> Number
         ensures { λ r. ⌜ r ≡ tableThen (now (s .entry)) (self .at) b ⌝ }
     {
@@ -322,6 +379,19 @@ fn then_byte(found: Number, s: &[u8], b: u8) -> Number
 {
     match found {
         Number::Value(n, c) => match c.byte(s, b) {
+            Step::To(d) => Number::Value(n, d),
+            Step::Broken => Number::Broken,
+        },
+        Number::Broken => Number::Broken,
+    }
+}
+
+// What was found counts only if the line ends behind it.
+fn then_end(found: Number, s: &[u8]) -> Number
+    ensures { λ r. ⌜ r ≡ thenEnd (now (s .entry)) found ⌝ }
+{
+    match found {
+        Number::Value(n, c) => match c.line_end(s) {
             Step::To(d) => Number::Value(n, d),
             Step::Broken => Number::Broken,
         },

@@ -1,6 +1,6 @@
 -- Due lines that are written read back: a line of numbers gives its numbers, and lines that define nothing twice give their items.
 -- Assumes nothing.
-use Prim.Native.Nat.{ℕ, suc, _+_, _*_, _%_, _≤_}
+use Prim.Native.Nat.{ℕ, suc, _+_, _*_, _%_, _≤_, _<_}
 use native.Mathlib.Omega.{arith}
 use mathlib.Core.Path.{_≡_, refl, sym, _∙_, ap, subst}
 use mathlib.Core.Bool.{Bool, true, false, not, cond, _&&_, _||_}
@@ -16,7 +16,7 @@ use Rattle.model.specs.Graph.{varOf}
 use Rattle.model.specs.GraphText.{closed, Kind, howMany, defines, Item, itemLiterals, readDue, uses, definedBy, isKind, sameKind, numbersLine}
 use Rattle.model.specs.Demands.{Distinct}
 use Rattle.theory_graph.proofs.Lists.{is-true, same-refl, all-of, all-in, elem-out}
-use Rattle.theory_text.proofs.Plain.{Free, free-append, decimal-free}
+use Rattle.theory_text.proofs.Plain.{Free, above, free-append, decimal-free}
 use Rattle.theory_text.proofs.LineLaws.{lineOfBytes, line-first, fields-word, fields-last}
 use Rattle.theory_text.proofs.Names.{decimal-value}
 use Rattle.theory_text.proofs.Items.{head, kindsOf, defined-cons}
@@ -52,13 +52,14 @@ fields-numbers w f [] = ap fields (append-nil w) ∙ fields-last w f
 fields-numbers w f (n ∷ ns) =
     fields-word w (decimal n ++ spaced ns) f ∙ ap (λ (ws : List (List ℕ)). w ∷ ws) (fields-numbers (decimal n) (decimal-free 32 n (lit< tt)) ns)
 
-spaced-free : (ns : List ℕ) → Free 10 (spaced ns)
+spaced-free : (s : ℕ) → s < 32 → (ns : List ℕ) → Free s (spaced ns)
 unfolding each
-spaced-free [] = tt
-spaced-free (n ∷ ns) = (refl, free-append 10 (decimal n) (spaced ns) (decimal-free 10 n (lit< tt)) (spaced-free ns))
+spaced-free s h [] = tt
+spaced-free s h (n ∷ ns) = (above s 32 h, free-append s (decimal n) (spaced ns) (decimal-free s n (omega arith)) (spaced-free s h ns))
 
-pub words-free : (n : ℕ) (ns : List ℕ) → Free 10 (words n ns)
-words-free n ns = free-append 10 (decimal n) (spaced ns) (decimal-free 10 n (lit< tt)) (spaced-free ns)
+-- no byte below a space stands in it
+pub words-free : (s : ℕ) → s < 32 → (n : ℕ) (ns : List ℕ) → Free s (words n ns)
+words-free s h n ns = free-append s (decimal n) (spaced ns) (decimal-free s n (omega arith)) (spaced-free s h ns)
 
 pub line-ends : (n : ℕ) (ns rest : List ℕ) → numbersLine n ns ++ rest ≡ words n ns ++ (10 ∷ rest)
 unfolding numbersLine
@@ -68,7 +69,7 @@ line-ends n ns rest =
     ∙ sym (append-assoc (decimal n) (spaced ns) (10 ∷ rest))
 
 numbers-first : (at n : ℕ) (ns rest : List ℕ) → linesFrom at [] (numbersLine n ns ++ rest) ≡ lineOfBytes at (words n ns) ∷ linesFrom (at + suc (length (words n ns))) [] rest
-numbers-first at n ns rest = ap (linesFrom at []) (line-ends n ns rest) ∙ line-first at (words n ns) rest (words-free n ns)
+numbers-first at n ns rest = ap (linesFrom at []) (line-ends n ns rest) ∙ line-first at (words n ns) rest (words-free 10 (lit< tt) n ns) (words-free 13 (lit< tt) n ns)
 
 -- ---- due lines that are written read back
 

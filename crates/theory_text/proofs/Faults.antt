@@ -8,7 +8,7 @@ use mathlib.Core.List.{List, [], _∷_, _++_, reverse, List·Memᴰ, List·Mem�
 use lib.Dec.{eqb, ltb, leb}
 use lib.ListN.{length, getD, drop, replicate, length-drop, length-reverse}
 use Rattle.model.specs.Base.{all, any, elem, same, only}
-use Rattle.model.specs.Text.{Line, ended, nextOf, text, linesFrom, fields, numbers}
+use Rattle.model.specs.Text.{Line, ended, nextOf, text, closing, linesFrom, fields, numbers}
 use Rattle.model.specs.Reading.{Read, holds, fault, next, unless, from?}
 use Rattle.model.specs.Cells.{nameOf}
 use Rattle.model.specs.Graph.{varOf}
@@ -17,6 +17,7 @@ use Rattle.model.specs.GraphText.{closed, headerOfNumbers, headerOf, inLimits, 
 use Rattle.model.specs.declared.Cell.{Cell}
 use Rattle.model.specs.declared.Header.{Header}
 use Rattle.theory_text.proofs.Steps.{holds-once, fault-never, unless-out, from-out, next-out, then-out}
+use Rattle.theory_text.proofs.LineLaws.{lines-step, closing-next}
 
 -- the number and the place of a refusal, if there is one
 pub record Faults {A : Type 0} (P : ℕ → ℕ → Type 0) (r : Read A) : Type 0 where
@@ -91,18 +92,16 @@ lines-inside at [] [] l m = absurd (List·Memᴰ·not-nil m)
 lines-inside at (h ∷ hs) [] l (List·Memᴰ·head e) =
     subst (λ (x : Line). nextOf x ≤ at + (length (h ∷ hs) + 0)) (sym e) (let q : length (reverse (h ∷ hs)) ≡ length (h ∷ hs) = length-reverse (h ∷ hs) in omega arith)
 lines-inside at (h ∷ hs) [] l (List·Memᴰ·tail m) = absurd (List·Memᴰ·not-nil m)
-lines-inside at held (b ∷ bs) l m = go (eqb b 10) m (lines-inside (at + suc (length held)) [] bs l) (lines-inside at (b ∷ held) bs l)
+lines-inside at held (b ∷ bs) l m =
+    go (eqb b 10) (subst (λ (ls : List Line). List·Memᴰ l ls) (lines-step at held b bs) m) (lines-inside (at + suc (length held)) [] bs l) (lines-inside at (b ∷ held) bs l)
   where
-    first : Line
-    first = record { offset = at; bytes = reverse held; ending = 1 }
-
-    head-or : List·Memᴰ l (first ∷ linesFrom (at + suc (length held)) [] bs)
+    head-or : List·Memᴰ l (closing at held ∷ linesFrom (at + suc (length held)) [] bs)
         → (List·Memᴰ l (linesFrom (at + suc (length held)) [] bs) → nextOf l ≤ at + suc (length held) + (0 + length bs)) → nextOf l ≤ at + (length held + suc (length bs))
     head-or (List·Memᴰ·head e) y =
-        subst (λ (x : Line). nextOf x ≤ at + (length held + suc (length bs))) (sym e) (let q : length (reverse held) ≡ length held = length-reverse held in omega arith)
+        subst (λ (x : Line). nextOf x ≤ at + (length held + suc (length bs))) (sym e) (let q : nextOf (closing at held) ≡ at + suc (length held) = closing-next at held in omega arith)
     head-or (List·Memᴰ·tail n) y = omega (arith, y n)
 
-    go : (t : Bool) → List·Memᴰ l (elim t [ true ↦ first ∷ linesFrom (at + suc (length held)) [] bs | false ↦ linesFrom at (b ∷ held) bs ])
+    go : (t : Bool) → List·Memᴰ l (cond t (closing at held ∷ linesFrom (at + suc (length held)) [] bs) (linesFrom at (b ∷ held) bs))
         → (List·Memᴰ l (linesFrom (at + suc (length held)) [] bs) → nextOf l ≤ at + suc (length held) + (0 + length bs))
         → (List·Memᴰ l (linesFrom at (b ∷ held) bs) → nextOf l ≤ at + (suc (length held) + length bs)) → nextOf l ≤ at + (length held + suc (length bs))
     go true n y z = head-or n y

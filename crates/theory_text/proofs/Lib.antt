@@ -1,7 +1,7 @@
 pub mod Steps
-pub mod Faults
 pub mod Plain
 pub mod LineLaws
+pub mod Faults
 pub mod ReadBack
 pub mod ReadFigures
 pub mod Names
@@ -14,3 +14,5 @@ pub mod DueBack
 pub mod Sequence
 pub mod Twins
 pub mod ReadTexts
+pub mod Ends
+pub mod Written

@@ -276,7 +276,7 @@ module _ (g : Graph) (fits : GraphFits g) (known : Known g) where
 
   -- the header's line, and those behind it
   head-line : linesFrom 0 [] (asciiText g) ≡ lineOfBytes 0 headBytes ∷ linesFrom (0 + suc (length headBytes)) [] (each itemLine rows)
-  head-line = ap (linesFrom 0 []) text-is ∙ line-first 0 headBytes (each itemLine rows) (refl, (refl, (refl, (refl, words-free (g .size) counts))))
+  head-line = ap (linesFrom 0 []) text-is ∙ line-first 0 headBytes (each itemLine rows) (refl, (refl, (refl, (refl, words-free 10 (lit< tt) (g .size) counts)))) (refl, (refl, (refl, (refl, words-free 13 (lit< tt) (g .size) counts))))
 
   few : T (all (λ (n : ℕ). leb n 65535) (g .size ∷ counts))
   unfolding all

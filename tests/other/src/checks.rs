@@ -134,7 +134,11 @@ pub fn damage() -> Check {
     let cells = gen::library_text(&gen::small_library());
     let graph = text(&["aag 5 2 0 2 2", "4", "2", "10", "7", "10 3 4", "6 10 3", "c"]);
     let mut counts = [0usize; 22];
-    let all = [(true, gen::all_damage(&cells)), (false, gen::all_damage(&graph)), (false, gen::all_binary_damage())];
+    let all = [
+        (true, gen::all_damage_of_ends(&cells)),
+        (false, gen::all_damage_of_ends(&graph)),
+        (false, gen::all_binary_damage()),
+    ];
     for (on_cells, texts) in all {
         for damaged in texts {
             let (cells, graph) = if on_cells { (&damaged, &graph) } else { (&cells, &damaged) };
@@ -312,6 +316,52 @@ fn sorted_operands(text: &[u8]) -> Vec<u8> {
         (*a, *b) = ((*a).max(*b), (*a).min(*b));
     }
     graph.text()
+}
+
+/// "Texts alike but for line ends, each within the length in 1, give the same
+/// netlist": the same answer in success and for 15 to 18, and for 2 to 14 the same
+/// number at the same line. A binary graph "keeps byte 10 alone": 13 before it is
+/// 7 in the header and 11 in an output line.
+pub fn line_ends(cases: usize, seed: u64) -> Check {
+    let mut rng = Rng::new(seed);
+    let (mut counts, mut binary) = ([0usize; 22], [0usize; 2]);
+    let some = (0..cases).map(|_| gen::case(&mut rng)).collect::<Vec<_>>();
+    let faults = (0..cases).map(|_| gen::faults(&mut rng)).collect::<Vec<_>>();
+    for case in some.into_iter().chain(faults).chain(gen::limits()) {
+        let (answer, netlist) = run(&case);
+        let cells = gen::mixed(&mut rng, &case.cells);
+        let is_binary = case.graph.starts_with(b"aig");
+        let graph = if is_binary { gen::with_ends(&[], || false) } else { gen::mixed(&mut rng, &case.graph) };
+        let graph_text = if is_binary { &case.graph } else { &graph.text };
+        if case.cells.len().max(case.graph.len()).max(cells.text.len()).max(graph_text.len()) > 65_536 {
+            continue;
+        }
+        let alike = Case { cells: cells.text.clone(), graph: graph_text.clone(), ..case.clone() };
+        let (other, other_netlist) = run(&alike);
+        let place = answer.value as usize;
+        let value = match answer.number {
+            2..=6 => cells.place(place),
+            7..=14 if !is_binary => graph.place(place),
+            _ => place,
+        };
+        let wanted = reference::Answer { value: value as u32, ..answer };
+        ensure!(other == wanted, "{}: {answer:?}, with other line ends {other:?}", case.what);
+        ensure!(other_netlist == netlist, "{}: another netlist", case.what);
+        counts[answer.number as usize] += 1;
+        if is_binary && answer.number == 0 && case.graph.len() < 65_536 {
+            let ends = gen::binary_ends(&case.graph);
+            for (line, &end) in ends.iter().enumerate().take(5) {
+                let text = [&case.graph[..end], b"\r", &case.graph[end..]].concat();
+                let (answer, _) = run(&Case { graph: text, ..case.clone() });
+                let wanted = if line == 0 { (7, 0) } else { (11, ends[line - 1] + 1) };
+                ensure!((answer.number, answer.value as usize) == wanted, "{}: line {line}, {answer:?}", case.what);
+                binary[line.min(1)] += 1;
+            }
+        }
+    }
+    let often = |number: usize| counts[number] > 0;
+    ensure!((2..=21).all(often) && counts[0] > cases / 4 && binary[0].min(binary[1]) > 0, "{counts:?} {binary:?}");
+    Ok(format!("{} pairs, by number {counts:?}; binary lines {binary:?}", counts.iter().sum::<usize>()))
 }
 
 /// What the brute force has gone through.

@@ -764,8 +764,18 @@ fn lent(rng: &mut Rng) -> Lent {
     }
 }
 
-/// A random case of the long comparison.
+/// A random case of the long comparison; of half of them the lines end in 13 and
+/// 10 here and there, all through, or nowhere.
 pub fn case(rng: &mut Rng) -> Case {
+    let case = case_of_tens(rng);
+    if rng.one_in(2) {
+        alike_but_for_ends(rng, &case)
+    } else {
+        case
+    }
+}
+
+fn case_of_tens(rng: &mut Rng) -> Case {
     let kind = rng.below(125);
     let count = library_size(rng);
     let cells = library_text(&library(rng, count));
@@ -791,8 +801,10 @@ pub fn case(rng: &mut Rng) -> Case {
         71..=80 => return faults(rng),
         81..=94 => {
             let graph = graph(rng, 4, 6, CUT_LIMIT).text();
+            let [cells, graph] = [cells, graph].map(|text| if rng.one_in(2) { mixed(rng, &text).text } else { text });
+            let damage = if rng.one_in(3) { damaged_end } else { damaged };
             let (cells, graph) =
-                if rng.one_in(2) { (damaged(rng, &cells), graph) } else { (cells, damaged(rng, &graph)) };
+                if rng.one_in(2) { (damage(rng, &cells), graph) } else { (cells, damage(rng, &graph)) };
             Case::new("damage", cells, graph)
         }
         95 => {
@@ -827,6 +839,8 @@ pub fn case(rng: &mut Rng) -> Case {
                 text.extend(trailing);
             }
             match kind {
+                123.. => two_bytes_in_binary(rng, cells, &text),
+                122 => Case::new("damaged end in binary", cells, damaged_end(rng, &text)),
                 117.. => Case::new("damaged binary", cells, damaged(rng, &text)),
                 _ => Case::new("binary", cells, text),
             }
@@ -859,6 +873,236 @@ fn make_circle(rng: &mut Rng, graph: &mut Graph) {
             graph.ands[from].2 = literal;
         }
     }
+}
+
+// ---------------------------------------------------------------- line ends
+
+/// A text alike to another but for line ends: the same lines, "each ending in 10
+/// or in 13 10 as it likes".
+pub struct Alike {
+    pub text: Vec<u8>,
+    /// Where each line began and begins, and the lengths of both texts.
+    starts: Vec<[usize; 2]>,
+}
+
+impl Alike {
+    /// The offset of the line that began at this one, or, for the other text's
+    /// length, this text's.
+    pub fn place(&self, place: usize) -> usize {
+        let start = self.starts.iter().find(|start| start[0] == place);
+        start.unwrap_or_else(|| panic!("no line began at {place}"))[1]
+    }
+}
+
+/// The same lines, each ending in 13 and 10 where it is told so and else in 10.
+/// Contents that end in 13 have 13 and 10 after them in any case: before 10
+/// alone, that 13 would be part of the end.
+pub fn with_ends(text: &[u8], mut in_two: impl FnMut() -> bool) -> Alike {
+    let mut alike = Alike { text: Vec::new(), starts: Vec::new() };
+    let mut offset = 0;
+    for line in text.split_inclusive(|&byte| byte == b'\n') {
+        alike.starts.push([offset, alike.text.len()]);
+        offset += line.len();
+        let Some(before) = line.strip_suffix(b"\n") else {
+            alike.text.extend(line);
+            continue;
+        };
+        let contents = before.strip_suffix(b"\r").unwrap_or(before);
+        alike.text.extend(contents);
+        let in_two = in_two() || contents.ends_with(b"\r");
+        alike.text.extend_from_slice(if in_two { b"\r\n" } else { b"\n" });
+    }
+    alike.starts.push([text.len(), alike.text.len()]);
+    alike
+}
+
+/// The same lines with ends by chance, or all of one kind.
+pub fn mixed(rng: &mut Rng, text: &[u8]) -> Alike {
+    let many = rng.pick(&[1, 1, 2, 2, 3, 8, 40, 100_000]);
+    with_ends(text, || rng.one_in(many))
+}
+
+/// The same case with other line ends in its library and its ASCII graph; a
+/// binary graph's stay.
+pub fn alike_but_for_ends(rng: &mut Rng, case: &Case) -> Case {
+    let cells = mixed(rng, &case.cells);
+    let is_binary = case.graph.starts_with(b"aig");
+    let graph = if is_binary { with_ends(&[], || false) } else { mixed(rng, &case.graph) };
+    let too_long = cells.text.len().max(graph.text.len()) > 65_536;
+    let expected = case.expected.map(|(number, place)| match number {
+        2..=6 => (number, cells.place(place)),
+        7..=14 if !is_binary => (number, graph.place(place)),
+        _ => (number, place),
+    });
+    let expected = if too_long { Some((1, 0)) } else { expected };
+    let graph = if is_binary { case.graph.clone() } else { graph.text };
+    let what = format!("{}, ends mixed", case.what);
+    Case { what, cells: cells.text, graph, expected, ..case.clone() }
+}
+
+/// The offsets of the bytes 10 that end a good binary text's header and its
+/// output lines.
+pub fn binary_ends(text: &[u8]) -> Vec<usize> {
+    let outputs = Graph::from_text(text).outputs.len();
+    let tens = text.iter().enumerate().filter(|(_, &byte)| byte == b'\n');
+    tens.map(|(at, _)| at).take(1 + outputs).collect()
+}
+
+/// A good binary text with 13 before the byte 10 of its header or of an output
+/// line, which "keep byte 10 alone".
+fn two_bytes_in_binary(rng: &mut Rng, cells: Vec<u8>, text: &[u8]) -> Case {
+    let ends = binary_ends(text);
+    let line = if rng.one_in(2) { 0 } else { rng.below(ends.len()) };
+    let broken = [&text[..ends[line]], b"\r", &text[ends[line]..]].concat();
+    let case = Case::new("13 and 10 in binary", cells, broken);
+    match line {
+        0 => case.expect(7, 0),
+        _ => case.expect(11, ends[line - 1] + 1),
+    }
+}
+
+/// A text with one line end damaged, or with a 13 where none belongs.
+pub fn damaged_end(rng: &mut Rng, text: &[u8]) -> Vec<u8> {
+    let ends: Vec<usize> = (0..text.len()).filter(|&at| text[at] == b'\n').collect();
+    let any = rng.below(text.len() + 1);
+    let (at, last) = if ends.is_empty() { (any, any) } else { (rng.pick(&ends), ends[ends.len() - 1]) };
+    let with = |at: usize, bytes: &[u8], from: usize| [&text[..at], bytes, &text[from.min(text.len())..]].concat();
+    match rng.below(12) {
+        0 => with(at, b"\r\r", at),
+        1 => with(at, b"\r", at),
+        2 => with(at, b"\r", at + 1),
+        3 => with(at, b"", at + 1),
+        4 => with(any, b"\r", any),
+        5 => with(any, b"\r\n", any),
+        6 => with(text.len(), b"\r", text.len()),
+        7 => with(last, b"", text.len()),
+        8 => with(last, b"\r", text.len()),
+        9 => with(at, b"\n\r", at + 1),
+        10 => with(at, b"\n\r\n", at + 1),
+        _ => with(at, b" \r\n", at + 1),
+    }
+}
+
+/// Line ends in every line of a small library and graph: each kind with what it
+/// brings.
+fn end_limits() -> Vec<Case> {
+    let cells = library_text(&small_library());
+    let small = Graph { top: 3, inputs: vec![1, 2], outputs: vec![6], ands: vec![(3, 2, 4)] };
+    let graph = small.text();
+    let mut cases = Vec::new();
+    let mut add = |case: Case| cases.push(case);
+
+    let all = |text: &[u8]| with_ends(text, || true).text;
+    add(Case::new("13 and 10 in both texts", all(&cells), all(&graph)).expect(0, 0));
+    add(Case::new("13 and 10 in the library", all(&cells), graph.clone()).expect(0, 0));
+    add(Case::new("13 and 10 in the graph", cells.clone(), all(&graph)).expect(0, 0));
+    let binary = Graph { ands: vec![(3, 4, 2)], ..small.clone() }.binary().expect("in sequence");
+    add(Case::new("13 and 10 in the library, binary graph", all(&cells), binary).expect(0, 0));
+
+    // Each line in turn ends so, the others in either way. What a fault in the
+    // line brings, and what one in the next line brings, come from the text.
+    for in_cells in [true, false] {
+        let text = if in_cells { &cells } else { &graph };
+        for others in [false, true] {
+            let alike = with_ends(text, || others);
+            let lines: Vec<&[u8]> = alike.text.split_inclusive(|&byte| byte == b'\n').collect();
+            for (number, line) in lines.iter().enumerate() {
+                let [before, after] = [lines[..number].concat(), lines[number + 1..].concat()];
+                let contents = line.trim_ascii_end();
+                let is_last = number + 1 == lines.len();
+                let here = match (in_cells, number) {
+                    (true, 0) => 2,
+                    (true, _) => 4,
+                    (false, 0) => 7,
+                    (false, _) => 11,
+                };
+                let next = if in_cells { 4 } else { 11 };
+                let ends: [(&[u8], u32); 15] = [
+                    (b"\n", 0),
+                    (b"\r\n", 0),
+                    (b"\r\r\n", here),
+                    (b"\r\r\r\n", here),
+                    (b"\r", here),
+                    (b"\r\r", here),
+                    (b"\t\n", here),
+                    (b" \n", here),
+                    (b" \r\n", here),
+                    (b"\r \n", here),
+                    (b"\r\0\n", here),
+                    (b"\n\r", next),
+                    (b"\r\n\r", next),
+                    (b"\n\n", next),
+                    (b"\r\n\r\n", next),
+                ];
+                for (end, brings) in ends {
+                    let whole = [&before, contents, end, &after].concat();
+                    let next_at =
+                        before.len() + contents.len() + end.iter().position(|&byte| byte == b'\n').unwrap_or(0) + 1;
+                    // Behind the graph's last line nothing is read.
+                    let brings_later = end.ends_with(b"\n\r") || end.ends_with(b"\n\n") || end.ends_with(b"\n\r\n");
+                    let expected = match () {
+                        _ if brings == 0 || brings_later && is_last && !in_cells => (0, 0),
+                        _ if brings_later => (brings, next_at),
+                        _ => (brings, if here == 2 || here == 7 { 0 } else { before.len() }),
+                    };
+                    let what =
+                        format!("line {number} of the {} ends in {end:?}", if in_cells { "library" } else { "graph" });
+                    let (cells, graph) = if in_cells { (whole, graph.clone()) } else { (cells.clone(), whole) };
+                    add(Case::new(what, cells, graph).expect(expected.0, expected.1));
+                }
+                // Without its end the last line breaks its form.
+                if is_last {
+                    let whole = [&before, contents].concat();
+                    let (cells, graph) = if in_cells { (whole, graph.clone()) } else { (cells.clone(), whole) };
+                    add(Case::new("the last end missing", cells, graph).expect(here, before.len()));
+                }
+                // A 13 before each byte of the line but its end.
+                for at in 0..contents.len() {
+                    let whole = [&before, &contents[..at], b"\r", &contents[at..], b"\r\n", &after].concat();
+                    let place = if here == 2 || here == 7 { 0 } else { before.len() };
+                    let (cells, graph) = if in_cells { (whole, graph.clone()) } else { (cells.clone(), whole) };
+                    add(Case::new("13 within a line", cells, graph).expect(here, place));
+                }
+            }
+        }
+    }
+
+    // "A thirty-third cell line begins", at an offset that counts every 13.
+    let mut many = small_library();
+    while many.len() < 32 {
+        let twin = Cell { name: format!("n{}", many.len()), ..many[1].clone() };
+        many.push(twin);
+    }
+    let full = all(&library_text(&many));
+    add(Case::new("32 cells, 13 and 10", full.clone(), graph.clone()).expect(0, 0));
+    for more in [&b"\r"[..], b"\n", b"\r\n", b"\r\r\n", b"x\r\n", b"x 0 0000 0 0 0 0 0\r\n"] {
+        let case = Case::new("33 cells, 13 and 10", [&full, more].concat(), graph.clone());
+        add(case.expect(3, full.len()));
+    }
+
+    // Line ends alone make the graph's length 65,536, and one 13 more is too
+    // many. Without its last line, that line's place is 65,536.
+    let wide = Graph {
+        top: 4_095,
+        inputs: (4_001..=4_095).collect(),
+        outputs: (0..1_000).map(|index| 8_002 + index % 94).collect(),
+        ands: (1..=4_000).map(|left| (left, 8_190, 8_188)).collect(),
+    };
+    let tens = wide.text();
+    let in_two = |text: &[u8], length: usize| {
+        let mut more = 0..length - text.len();
+        let alike = with_ends(text, || more.next().is_some()).text;
+        assert_eq!(alike.len(), length, "line ends make the length");
+        alike
+    };
+    for length in [65_535, 65_536, 65_537] {
+        let case = Case::new(format!("{length} bytes by line ends"), cells.clone(), in_two(&tens, length));
+        add(if length > 65_536 { case.expect(1, 0) } else { case.expect(0, 0) });
+    }
+    let last = tens.len() - wide.lines().last().map_or(0, String::len);
+    let case = Case::new("last line missing after 65,536 bytes", cells.clone(), in_two(&tens[..last], 65_536));
+    add(case.expect(11, 65_536));
+    cases
 }
 
 // ---------------------------------------------------------------- damage
@@ -923,6 +1167,18 @@ pub fn all_binary_damage() -> Vec<Vec<u8>> {
     all_damage_by(text, &every)
 }
 
+/// Every damage of a text with lines that end in 10, in 13 and 10, and in turn in
+/// one and the other.
+pub fn all_damage_of_ends(text: &[u8]) -> Vec<Vec<u8>> {
+    let mut number = 0;
+    let mut in_turn = || {
+        number += 1;
+        number % 2 == 1
+    };
+    let texts = [text.to_vec(), with_ends(text, || true).text, with_ends(text, &mut in_turn).text];
+    texts.iter().flat_map(|text| all_damage(text)).collect()
+}
+
 // ---------------------------------------------------------------- faults
 
 /// A case with any number of faults at once; the answer is known from the
@@ -953,6 +1209,7 @@ pub fn faults(rng: &mut Rng) -> Case {
                 "cell pins table area d0 d1 d2 d3",
                 "cell pins table area d0 d1 d2\n",
                 "cell pins table area d0 d1 d2 d3 \n",
+                "cell pins table area d0 d1 d2 d3\r\r\n",
                 "Cell pins table area d0 d1 d2 d3\n",
             ])
             .to_string();
@@ -994,6 +1251,7 @@ pub fn faults(rng: &mut Rng) -> Case {
                 5 => format!("{name}_23456789 {rest}\n"),
                 6 => line.replace(&format!(" {table} "), " 000A "),
                 7 => line.replace(&format!(" {table} "), &format!(" 0{table} ")),
+                8 if rng.one_in(2) => line.replace('\n', rng.pick(&["\r\r\n", " \r\n", "\r \n"])),
                 8 => line.trim_end().rsplit_once(' ').map_or(String::new(), |(front, _)| format!("{front} 00\n")),
                 9 => line.trim_end().rsplit_once(' ').map_or(String::new(), |(front, _)| format!("{front} 65536\n")),
                 10 => format!("{name} 0{rest}\n"),
@@ -1080,7 +1338,7 @@ pub fn faults(rng: &mut Rng) -> Case {
                 3 => number_then("02"),
                 4 => number_then("65536"),
                 5 => String::from("\n"),
-                6 => line.replace('\n', "\r\n"),
+                6 => line.replace('\n', rng.pick(&["\r\r\n", " \r\n", "\r \n", "\r\t\r\n"])),
                 _ => number_then("x"),
             },
             12 => match rng.below(4) {
@@ -1121,7 +1379,7 @@ pub fn faults(rng: &mut Rng) -> Case {
             3 => format!("aag  {m} {i} {l} {o} {a}\n"),
             4 => format!("aag 0{m} {i} {l} {o} {a}\n"),
             5 => format!("aag {m} {i} {l} {o} 65536\n"),
-            6 => format!("aag {m} {i} {l} {o} {a}\r\n"),
+            6 => format!("aag {m} {i} {l} {o} {a}\r\r\n"),
             _ => String::new(),
         };
         if head.is_empty() {
@@ -1172,7 +1430,11 @@ pub fn faults(rng: &mut Rng) -> Case {
     }
     case.graph = graph_text;
     case.expected = first;
-    case
+    if rng.one_in(2) {
+        alike_but_for_ends(rng, &case)
+    } else {
+        case
+    }
 }
 
 /// The same for a binary text: what is due stands in one row, output lines and
@@ -1309,6 +1571,7 @@ fn binary_faults(rng: &mut Rng) -> Case {
 pub fn limits() -> Vec<Case> {
     let mut cases = ascii_limits();
     cases.extend(binary_limits());
+    cases.extend(end_limits());
     cases
 }
 

@@ -14,6 +14,12 @@ fn lines(text: &[u8]) -> impl Iterator<Item = (usize, &[u8])> {
     })
 }
 
+/// Whether a line has these contents and an end that its text allows.
+fn reads_again(contents: &str, line: &[u8], either_end: bool) -> bool {
+    let ends: &[&str] = if either_end { &["\n", "\r\n"] } else { &["\n"] };
+    ends.iter().any(|end| format!("{contents}{end}").as_bytes() == line)
+}
+
 fn loosely(line: &[u8]) -> Option<Vec<&str>> {
     Some(std::str::from_utf8(line).ok()?.split_whitespace().collect())
 }
@@ -36,15 +42,15 @@ fn cell(line: &[u8]) -> Option<Cell> {
         *delay = word.parse().ok()?;
     }
     let [d0, d1, d2, d3] = delays;
-    let again = format!("{name} {pins} {table:04x} {area} {d0} {d1} {d2} {d3}\n");
+    let again = format!("{name} {pins} {table:04x} {area} {d0} {d1} {d2} {d3}");
     let letters =
         name.chars().all(|c| c == '_' || c.is_ascii_digit() || c.is_ascii_lowercase() || c.is_ascii_uppercase());
     let starts_well = !name.starts_with(|c: char| c == '_' || c.is_ascii_digit());
-    let good = again.as_bytes() == line && pins < 5 && name.len() < 9 && letters && starts_well;
+    let good = reads_again(&again, line, true) && pins < 5 && name.len() < 9 && letters && starts_well;
     good.then(|| Cell { name: name.to_string(), pins, table, delays })
 }
 
-fn figures(line: &[u8], head: &str, wanted: usize) -> Option<Vec<u16>> {
+fn figures(line: &[u8], head: &str, wanted: usize, either_end: bool) -> Option<Vec<u16>> {
     let mut words = loosely(line)?;
     if !head.is_empty() && (words.is_empty() || words.remove(0) != head) {
         return None;
@@ -54,8 +60,7 @@ fn figures(line: &[u8], head: &str, wanted: usize) -> Option<Vec<u16>> {
     if !head.is_empty() {
         again.insert(0, head.to_string());
     }
-    let again = again.join(" ") + "\n";
-    (figures.len() == wanted && again.as_bytes() == line).then_some(figures)
+    (figures.len() == wanted && reads_again(&again.join(" "), line, either_end)).then_some(figures)
 }
 
 /// The refusal among 1 to 14 and 19 to 21 that the texts bring, if one does.
@@ -63,11 +68,13 @@ pub fn judge(cells: &[u8], graph: &[u8], words: usize) -> Option<(u32, usize)> {
     if cells.len().max(graph.len()) > 65_536 {
         return Some((1, 0));
     }
-    if !cells.starts_with(b"cell pins table area d0 d1 d2 d3\n") {
+    let mut listed = lines(cells);
+    let names = listed.next().map_or(&cells[..0], |(_, line)| line);
+    if !reads_again("cell pins table area d0 d1 d2 d3", names, true) {
         return Some((2, 0));
     }
     let mut seen: BTreeSet<String> = BTreeSet::new();
-    for (offset, line) in lines(cells).skip(1) {
+    for (offset, line) in listed {
         if seen.len() == 32 {
             return Some((3, offset));
         }
@@ -83,7 +90,7 @@ pub fn judge(cells: &[u8], graph: &[u8], words: usize) -> Option<(u32, usize)> {
     let mut due = lines(graph);
     let first = due.next().map_or(&graph[..0], |(_, line)| line);
     let is_binary = first.starts_with(b"aig");
-    let Some(header) = figures(first, if is_binary { "aig" } else { "aag" }, 5) else {
+    let Some(header) = figures(first, if is_binary { "aig" } else { "aag" }, 5, !is_binary) else {
         return Some((7, 0));
     };
     let [m, i, l, o, a] = [0, 1, 2, 3, 4].map(|index: usize| usize::from(header[index]));
@@ -108,7 +115,7 @@ pub fn judge(cells: &[u8], graph: &[u8], words: usize) -> Option<(u32, usize)> {
     for (sort, (count, wanted)) in sorts.into_iter().enumerate() {
         for _ in 0..count {
             let Some((offset, line)) = due.next() else { return Some((11, graph.len())) };
-            let Some(literals) = figures(line, "", wanted) else { return Some((11, offset)) };
+            let Some(literals) = figures(line, "", wanted, !is_binary) else { return Some((11, offset)) };
             end = offset + line.len();
             let literals: Vec<usize> = literals.into_iter().map(usize::from).collect();
             if literals.iter().any(|literal| literal / 2 > m) {

@@ -17,7 +17,7 @@ pub fn is_on(mutant: u32) -> bool {
 }
 
 /// Number and what is wrong.
-pub const LIST: [(u32, &str); 31] = [
+pub const LIST: [(u32, &str); 39] = [
     (1, "an AND with a cut too many is accepted"),
     (2, "a tie between cell and inverter goes to the inverter"),
     (3, "a cut's function walks on below a leaf whose operands are leaves too"),
@@ -49,4 +49,12 @@ pub const LIST: [(u32, &str); 31] = [
     (29, "the names of outputs count from 1"),
     (30, "`1 0` stands for `1 1`"),
     (31, "outputs on one net share a name"),
+    (32, "the 13 of a line's end stays in its last field"),
+    (33, "bytes 13, 13 and 10 end a line"),
+    (34, "after 13 and 10 the next line begins at the 10"),
+    (35, "places leave out the 13s before them"),
+    (36, "a binary header may end in 13 and 10"),
+    (37, "a binary text's output lines may end in 13 and 10"),
+    (38, "a lone 13 ends a line"),
+    (39, "the names line must end in 10 alone"),
 ];

@@ -1,6 +1,6 @@
 //! Another mapper, plain and slow. Quoted sentences are document 01's and, for
-//! binary graph texts and for the names of outputs, those of requests N1 and N3
-//! in document 02.
+//! binary graph texts, the names of outputs and line ends, those of requests N1,
+//! N3 and N5 in document 02.
 
 use crate::{CUT_LIMIT, WORDS_EACH};
 use std::collections::{BTreeMap, BTreeSet};
@@ -62,8 +62,8 @@ pub fn print_all(cells: &[u8], graph: &[u8], words: usize) -> Result<Printed, Re
     if cells.len() > 65_536 || graph.len() > 65_536 {
         return refuse(1, 0);
     }
-    let library = read_library(cells)?;
-    let graph = read_graph(graph, words)?;
+    let library = read_library(cells).map_err(|refusal| plain_or!(35, refusal, uncounted(cells, refusal)))?;
+    let graph = read_graph(graph, words).map_err(|refusal| plain_or!(35, refusal, uncounted(graph, refusal)))?;
     let order = placing_order(&graph)?;
     let cuts = cut_lists(&graph, &order)?;
     let mapped = cover(&library, &graph, &order, &cuts);
@@ -77,10 +77,49 @@ pub fn print_all(cells: &[u8], graph: &[u8], words: usize) -> Result<Printed, Re
 
 // ---------------------------------------------------------------- texts
 
-/// The bytes from `offset` up to the next byte 10, or none without one.
-fn line_at(text: &[u8], offset: usize) -> Option<&[u8]> {
+/// "Accept either ending, line by line, in library and ASCII graph."
+#[derive(Clone, Copy, Debug, PartialEq, Eq)]
+enum Ends {
+    /// Byte 10, or bytes 13 and 10.
+    Either,
+    /// Byte 10.
+    TenAlone,
+}
+
+/// "where the contents stop and where the next line begins"
+#[derive(Clone, Copy, Debug)]
+struct Line<'a> {
+    contents: &'a [u8],
+    next: usize,
+}
+
+/// The line that begins at `offset`, or none where no byte 10 ends it. A 13 that
+/// isn't part of its end stays in its contents, where no form allows it.
+fn line_at(text: &[u8], offset: usize, ends: Ends) -> Option<Line<'_>> {
     let rest = &text[offset..];
-    rest.iter().position(|&byte| byte == b'\n').map(|end| &rest[..end])
+    let is_end = |&byte: &u8| plain_or!(38, byte == b'\n', byte == b'\n' || byte == b'\r' && ends == Ends::Either);
+    let stop = rest.iter().position(is_end)?;
+    let contents = match rest[..stop].split_last() {
+        Some((b'\r', before)) if ends == Ends::Either => {
+            plain_or!(32, plain_or!(33, before, without_last_13s(before)), &rest[..stop])
+        }
+        _ => &rest[..stop],
+    };
+    let end = plain_or!(38, stop, if rest[stop..].starts_with(b"\r\n") { stop + 1 } else { stop });
+    Some(Line { contents, next: offset + plain_or!(34, end, contents.len()) + 1 })
+}
+
+#[cfg(feature = "mutants")]
+fn without_last_13s(contents: &[u8]) -> &[u8] {
+    let kept = contents.iter().rposition(|&byte| byte != b'\r').map_or(0, |last| last + 1);
+    &contents[..kept]
+}
+
+/// A refusal whose place leaves out the 13s before it.
+#[cfg(feature = "mutants")]
+fn uncounted(text: &[u8], Refusal { number, place }: Refusal) -> Refusal {
+    let before = text[..place as usize].windows(2).filter(|pair| pair == b"\r\n").count();
+    Refusal { number, place: place - before as u32 }
 }
 
 /// The fields of a line if there are as many as wanted; two spaces in a row
@@ -120,17 +159,18 @@ const NAMES: &[u8] = b"cell pins table area d0 d1 d2 d3";
 
 /// Refusals 2 to 6.
 pub fn read_library(text: &[u8]) -> Result<Vec<Cell>, Refusal> {
-    if line_at(text, 0) != Some(NAMES) {
+    let names = line_at(text, 0, plain_or!(39, Ends::Either, Ends::TenAlone));
+    let Some(names) = names.filter(|line| line.contents == NAMES) else {
         return refuse(2, 0);
-    }
-    let mut offset = NAMES.len() + 1;
+    };
+    let mut offset = names.next;
     let mut cells: Vec<Cell> = Vec::new();
     while offset < text.len() {
         if cells.len() == 32 {
             return refuse(3, offset);
         }
-        let line = line_at(text, offset);
-        let Some(cell) = line.and_then(read_cell) else {
+        let line = line_at(text, offset, Ends::Either);
+        let Some((line, cell)) = line.and_then(|line| Some((line, read_cell(line.contents)?))) else {
             return refuse(4, offset);
         };
         let repeated = cells.iter().any(|earlier| earlier.name == cell.name);
@@ -140,7 +180,7 @@ pub fn read_library(text: &[u8]) -> Result<Vec<Cell>, Refusal> {
         if !absent_pins_are_zero(&cell) {
             return refuse(6, offset);
         }
-        offset += line.map_or(0, <[u8]>::len) + 1;
+        offset = line.next;
         cells.push(cell);
     }
     Ok(cells)
@@ -193,21 +233,31 @@ enum Form {
     Binary,
 }
 
-/// The form, then M, I, L, O, A.
-fn read_header(line: &[u8]) -> Option<(Form, [usize; 5])> {
-    let fields = fields(line, 6)?;
-    let figures = numbers(&fields[1..])?;
-    let form = match fields[0] {
-        b"aag" => Form::Ascii,
-        b"aig" => Form::Binary,
+impl Form {
+    /// Either ending "in library and ASCII graph": a binary text keeps byte 10.
+    fn ends(self) -> Ends {
+        match self {
+            Form::Ascii => Ends::Either,
+            Form::Binary => Ends::TenAlone,
+        }
+    }
+}
+
+/// The form, then M, I, L, O, A, and where the next line begins.
+fn read_header(text: &[u8]) -> Option<(Form, [usize; 5], usize)> {
+    let form = match text.split(|&byte| byte == b' ').next() {
+        Some(b"aag") => Form::Ascii,
+        Some(b"aig") => Form::Binary,
         _ => return None,
     };
-    Some((form, [0, 1, 2, 3, 4].map(|index: usize| figures[index] as usize)))
+    let line = line_at(text, 0, plain_or!(36, form.ends(), Ends::Either))?;
+    let figures = numbers(&fields(line.contents, 6)?[1..])?;
+    Some((form, [0, 1, 2, 3, 4].map(|index: usize| figures[index] as usize), line.next))
 }
 
 /// The words of work memory that a graph text asks for, if its header reads.
 pub fn words_needed(text: &[u8]) -> Option<usize> {
-    let (_, [m, _, _, o, _]) = line_at(text, 0).and_then(read_header)?;
+    let (_, [m, _, _, o, _], _) = read_header(text)?;
     Some(WORDS_EACH * (m + 1) + o)
 }
 
@@ -219,8 +269,7 @@ pub fn leaves_work_memory(number: u32) -> bool {
 
 /// Refusals 7 to 14 and 19 to 21.
 pub fn read_graph(text: &[u8], words: usize) -> Result<Graph, Refusal> {
-    let header = line_at(text, 0);
-    let Some((form, [m, i, l, o, a])) = header.and_then(read_header) else {
+    let Some((form, [m, i, l, o, a], offset)) = read_header(text) else {
         return refuse(7, 0);
     };
     if l != 0 {
@@ -237,7 +286,6 @@ pub fn read_graph(text: &[u8], words: usize) -> Result<Graph, Refusal> {
     if words < WORDS_EACH * (m + 1) + o {
         return refuse(10, 0);
     }
-    let offset = header.map_or(0, <[u8]>::len) + 1;
     match form {
         Form::Ascii => read_lines(text, offset, m, [i, o, a]),
         Form::Binary => read_binary(text, offset, m, [i, o, a]),
@@ -246,16 +294,15 @@ pub fn read_graph(text: &[u8], words: usize) -> Result<Graph, Refusal> {
 
 /// The numbers of a due line and the offset of the next: refusal 11, and 12 for
 /// "A literal exceeds 2M+1".
-fn due_line(text: &[u8], offset: usize, wanted: usize, m: usize) -> Result<(Vec<u32>, usize), Refusal> {
-    let line = line_at(text, offset);
-    let literals = line.and_then(|line| numbers(&fields(line, wanted)?));
-    let Some(literals) = literals else {
+fn due_line(text: &[u8], offset: usize, ends: Ends, wanted: usize, m: usize) -> Result<(Vec<u32>, usize), Refusal> {
+    let line = line_at(text, offset, ends);
+    let Some((line, literals)) = line.and_then(|line| Some((line, numbers(&fields(line.contents, wanted)?)?))) else {
         return refuse(11, offset);
     };
     if literals.iter().any(|&literal| literal as usize > 2 * m + 1) {
         return refuse(12, offset);
     }
-    Ok((literals, offset + line.map_or(0, <[u8]>::len) + 1))
+    Ok((literals, line.next))
 }
 
 /// "then I input lines, O output lines and A lines `left right right`":
@@ -267,7 +314,7 @@ fn read_lines(text: &[u8], first_line: usize, m: usize, [i, o, a]: [usize; 3]) -
     let mut offset = first_line;
     for due in 0..i + o + a {
         let (is_output, is_and) = (due >= i && due < i + o, due >= i + o);
-        let (literals, next) = due_line(text, offset, if is_and { 3 } else { 1 }, m)?;
+        let (literals, next) = due_line(text, offset, Form::Ascii.ends(), if is_and { 3 } else { 1 }, m)?;
         let first = literals[0];
         let variable = (first / 2) as u16;
         if !is_output && (first % 2 == 1 || first == 0) {
@@ -305,7 +352,7 @@ fn read_binary(text: &[u8], first_line: usize, m: usize, [i, o, a]: [usize; 3]) 
     let mut graph = Graph { top: m, inputs, outputs: Vec::new(), operands: vec![None; m + 1] };
     let mut offset = first_line;
     for _ in 0..o {
-        let (literals, next) = due_line(text, offset, 1, m)?;
+        let (literals, next) = due_line(text, offset, plain_or!(37, Form::Binary.ends(), Ends::Either), 1, m)?;
         graph.outputs.push(literals[0]);
         offset = next;
     }

@@ -36,6 +36,11 @@ fn twins() {
 }
 
 #[test]
+fn line_ends() {
+    passes(checks::line_ends(4_000, 1));
+}
+
+#[test]
 fn netlists() {
     passes(checks::netlists(4_000, 1));
 }
@@ -57,6 +62,7 @@ fn longer() {
     passes(checks::netlists(40_000, 2));
     passes(checks::all_covers(20_000, 2));
     passes(checks::twins(40_000, 2));
+    passes(checks::line_ends(40_000, 2));
 }
 
 /// Runs where GRAPHS_DIR names a folder of graphs with its `graphs.tsv`.
@@ -264,6 +270,120 @@ fn in_the_place_given() {
     let short = |graph: &[u8]| reference::map(&cells, graph, 32_768, 0).0;
     assert_eq!(short(B), Answer { number: 18, value: gen::LISTING.len() as u32, ..Answer::default() });
     assert_eq!(short(&B[..17]), Answer { number: 20, value: 17, ..Answer::default() });
+}
+
+// ---------------------------------------------------------------- request N5
+
+/// With this library and the memories of the program: number and place, or 0 and
+/// the netlist's length.
+fn with_library(cells: &str, graph: &str) -> (u32, u32) {
+    let (answer, _) = reference::map(cells.as_bytes(), graph.as_bytes(), 32_768, 65_536);
+    (answer.number, answer.value)
+}
+
+const CELLS: [&str; 3] = ["cell pins table area d0 d1 d2 d3", "inv 1 0001 1 10 0 0 0", "nand2 2 0007 2 20 20 0 0"];
+const GRAPH: [&str; 5] = ["aag 3 2 0 1 1", "2", "4", "6", "6 2 4"];
+const LENGTH: u32 = gen::LISTING.len() as u32;
+
+/// "Accept either ending, line by line, in library and ASCII graph.": each line of
+/// case B in either way.
+#[test]
+fn either_ending_line_by_line() {
+    for ends in 0..256 {
+        let end = |line: usize| ["\n", "\r\n"][ends >> line & 1];
+        let cells: String = (0..3).map(|line| format!("{}{}", CELLS[line], end(line))).collect();
+        let graph: String = (0..5).map(|line| format!("{}{}", GRAPH[line], end(3 + line))).collect();
+        let (answer, netlist) = reference::map(cells.as_bytes(), graph.as_bytes(), 32_768, 65_536);
+        assert_eq!((answer.number, answer.value), (0, LENGTH), "{cells:?} {graph:?}");
+        assert_eq!(netlist, gen::LISTING.as_bytes(), "byte 10 ends each line printed");
+    }
+    // A names line or a header alone.
+    assert_eq!(with_library("cell pins table area d0 d1 d2 d3\r\n", "aag 0 0 0 0 0\r\n").0, 0);
+}
+
+/// The binary form is no ASCII graph: its header and its output lines end in 10.
+#[test]
+fn binary_texts_keep_byte_10() {
+    assert_eq!(refusal(b"aig 3 2 0 1 1\r\n6\n\x02\x02"), (7, 0));
+    assert_eq!(refusal(b"aig 3 2 0 1 1\r\n6\r\n\x02\x02"), (7, 0));
+    assert_eq!(refusal(b"aig 3 2 0 1 1\n6\r\n\x02\x02"), (11, 14));
+    assert_eq!(refusal(b"aig 3 2 0 2 1\n6\n6\r\n\x02\x02"), (11, 16));
+    // 13 and 10 as differences.
+    assert_eq!(operands(20, &[13, 10]), Some((29, 19)));
+    // The library of a binary graph takes either.
+    let cells = CELLS.join("\r\n") + "\r\n";
+    assert_eq!(
+        reference::map(cells.as_bytes(), B, 32_768, 65_536),
+        reference::map(&gen::library_text(&gen::small_library()), B, 32_768, 65_536)
+    );
+}
+
+/// "Offsets still count every byte."
+#[test]
+fn offsets_count_every_byte() {
+    let [names, inv, nand2] = CELLS.map(|line| format!("{line}\r\n"));
+    let graph = GRAPH.map(|line| format!("{line}\r\n")).concat();
+    assert_eq!((names.len(), inv.len(), nand2.len()), (34, 23, 26));
+    let library = |lines: &[&String]| lines.iter().map(|line| line.as_str()).collect::<String>();
+    assert_eq!(with_library(&(library(&[&names, &inv]) + "x\r\n"), &graph), (4, 57));
+    assert_eq!(with_library(&library(&[&names, &inv, &nand2, &inv]), &graph), (5, 83));
+    assert_eq!(with_library(&(library(&[&names, &inv]) + "x 0 0002 1 0 0 0 0\r\n"), &graph), (6, 57));
+    let cells = library(&[&names, &inv, &nand2]);
+    for (lines, wanted) in [
+        ("aag 3 2 0 1 1\r\n2\r\n04\r\n", (11, 18)),
+        ("aag 3 2 0 1 1\r\n2\r\n4\r\n", (11, 21)),
+        ("aag 3 2 0 1 1\r\n2\r\n5\r\n", (12, 18)),
+        ("aag 3 2 0 1 1\r\n2\n2\r\n", (13, 17)),
+        ("aag 4 2 0 1 1\r\n2\n4\r\n6\r\n6 2 8\r\n", (14, 23)),
+        ("aag 4 2 0 1 1\n2\n4\n6\n6 2 8\n", (14, 20)),
+    ] {
+        assert_eq!(with_library(&cells, lines), wanted, "{lines:?}");
+    }
+}
+
+/// "A lone 13 is still a fault of form.", and `13 13 10` is one.
+#[test]
+fn a_lone_13() {
+    let cells = CELLS.join("\n") + "\n";
+    let graph = GRAPH.join("\n") + "\n";
+    let broken = |text: &str, line: usize, end: &str| {
+        let lines: Vec<&str> = text.split_inclusive('\n').collect();
+        let contents = lines[line].trim_end();
+        [&lines[..line].concat(), contents, end, &lines[line + 1..].concat()].concat()
+    };
+    for end in ["\r", "\r\r\n", "\r\r", "\r \n", " \r\n", "\r\t\n", "\r\r\r\n"] {
+        assert_eq!(with_library(&broken(&cells, 0, end), &graph), (2, 0), "{end:?}");
+        assert_eq!(with_library(&broken(&cells, 1, end), &graph), (4, 33), "{end:?}");
+        assert_eq!(with_library(&broken(&cells, 2, end), &graph), (4, 55), "{end:?}");
+        assert_eq!(with_library(&cells, &broken(&graph, 0, end)), (7, 0), "{end:?}");
+        for (line, offset) in [(1, 14), (2, 16), (3, 18), (4, 20)] {
+            assert_eq!(with_library(&cells, &broken(&graph, line, end)), (11, offset), "{end:?}");
+        }
+    }
+    // Before a line's first byte, and an empty line.
+    for more in ["\r", "\r\n", "\n"] {
+        let after = |text: &str, line: usize| broken(text, line, &format!("\n{more}"));
+        assert_eq!(with_library(&after(&cells, 0), &graph), (4, 33), "{more:?}");
+        assert_eq!(with_library(&after(&cells, 2), &graph), (4, 80), "{more:?}");
+        assert_eq!(with_library(&cells, &after(&graph, 0)), (11, 14), "{more:?}");
+        assert_eq!(with_library(&cells, &after(&graph, 4)), (0, LENGTH), "isn't read");
+    }
+    assert_eq!(with_library("\r\n", &graph), (2, 0));
+    assert_eq!(with_library(&cells, "\r\n"), (7, 0));
+    assert_eq!(with_library(&cells, "aag 3 2 0 1\r1\n2\n4\n6\n6 2 4\n"), (7, 0));
+    assert_eq!(with_library(&cells, "aag\r\n3 2 0 1 1\n2\n4\n6\n6 2 4\n"), (7, 0));
+}
+
+/// "Texts alike but for line ends, each within the length in 1, give the same
+/// netlist.": one 13 more may be what exceeds it.
+#[test]
+fn within_the_length() {
+    let (cells, graph) = (CELLS.join("\n") + "\n", GRAPH.join("\n") + "\n");
+    let to_full = "x".repeat(65_536 - graph.len());
+    assert_eq!(with_library(&cells, &(graph.clone() + &to_full)), (0, LENGTH));
+    let longer = graph.replacen('\n', "\r\n", 1);
+    assert_eq!(with_library(&cells, &(longer.clone() + &to_full[1..])), (0, LENGTH));
+    assert_eq!(with_library(&cells, &(longer + &to_full)), (1, 0));
 }
 
 // ---------------------------------------------------------------- request N3

@@ -4,7 +4,7 @@
 use other::{checks, mutants};
 use std::panic::catch_unwind;
 
-type Checks = [(&'static str, fn() -> checks::Check); 8];
+type Checks = [(&'static str, fn() -> checks::Check); 9];
 
 const CHECKS: Checks = [
     ("marked_cases", checks::marked),
@@ -12,6 +12,7 @@ const CHECKS: Checks = [
     ("faults", || checks::faults(8_000, 1)),
     ("damage", checks::damage),
     ("twins", || checks::twins(1_500, 1)),
+    ("line_ends", || checks::line_ends(1_500, 1)),
     ("netlists", || checks::netlists(1_500, 1)),
     ("every_small_graph", checks::every_small_graph),
     ("all_covers", || checks::all_covers(1_500, 1)),

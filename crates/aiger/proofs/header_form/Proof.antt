@@ -12,6 +12,9 @@ tag-requires c κs = search needs
 enum-known-binary : tie.Need-enum-known-binary
 enum-known-binary c = search needs
 
+header-ends-requires : tie.Need-header-ends-requires
+header-ends-requires c κs = search needs
+
 header-numbers-requires : tie.Need-header-numbers-requires
 header-numbers-requires c κs = search needs
 
@@ -21,14 +24,22 @@ enum-told c = search needs
 returns : tie.Need-returns
 unfolding formAt
 returns c =
-    let at-binary = c .before .before in
-    rw (sym (at-binary .before .before .tag .ensures) ∙ at-binary .binary .given .1) (c .header-numbers .ensures)
+    let at-ends = c .before .before in
+    let at-binary = at-ends .before .before in
+    rw (sym (at-binary .before .before .tag .ensures) ∙ at-binary .binary .given .1, sym (at-ends .header-ends .ensures) ∙ c .before .if1 .taken) (c .header-numbers .ensures)
 
 returns-2 : tie.Need-returns-2
 unfolding formAt
-returns-2 c = rw (sym (c .before .before .tag .ensures) ∙ c .enum-told .given .1)
+returns-2 c =
+    let at-ends = c .before in
+    let at-binary = at-ends .before .before in
+    rw (sym (at-binary .before .before .tag .ensures) ∙ at-binary .binary .given .1, sym (at-ends .header-ends .ensures) ∙ c .if1 .left)
+
+returns-3 : tie.Need-returns-3
+unfolding formAt
+returns-3 c = rw (sym (c .before .before .tag .ensures) ∙ c .enum-told .given .1)
 
 pub header-form-spec : {M : Type 1} → statement M
 header-form-spec =
     tie.close
-    (tie.spec tag-requires enum-known-binary header-numbers-requires enum-told returns returns-2)
+    (tie.spec tag-requires enum-known-binary header-ends-requires header-numbers-requires enum-told returns returns-2 returns-3)

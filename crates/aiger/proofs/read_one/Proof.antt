@@ -6,8 +6,8 @@ use borrow.Author.Needs.{needs}
 use Rattle.aiger.proofs.read_one.Statement.{statement}
 use Rattle.aiger.proofs.read_one.Tie as tie
 
-number-then-requires : tie.Need-number-then-requires
-number-then-requires c κs = search needs
+number-end-requires : tie.Need-number-end-requires
+number-end-requires c κs = search needs
 
 enum-known-first : tie.Need-enum-known-first
 enum-known-first c = search needs
@@ -20,12 +20,12 @@ enum-told c = search needs
 
 returns : tie.Need-returns
 unfolding oneLine
-returns c = rw (sym (c .before .before .before .number-then .ensures) ∙ c .before .first .given .1)
+returns c = rw (sym (c .before .before .before .number-end .ensures) ∙ c .before .first .given .1)
 
 returns-2 : tie.Need-returns-2
 unfolding oneLine
-returns-2 c = rw (sym (c .before .before .number-then .ensures) ∙ c .enum-told .given .1)
+returns-2 c = rw (sym (c .before .before .number-end .ensures) ∙ c .enum-told .given .1)
 
 pub read-one-spec : {M : Type 1} → statement M
 read-one-spec =
-    tie.close (tie.spec number-then-requires enum-known-first cast-t9 enum-told returns returns-2)
+    tie.close (tie.spec number-end-requires enum-known-first cast-t9 enum-told returns returns-2)

@@ -18,8 +18,8 @@ number-then-requires-2 c κs = search needs
 enum-known-b : tie.Need-enum-known-b
 enum-known-b c = search needs
 
-number-then-requires-3 : tie.Need-number-then-requires-3
-number-then-requires-3 c κs = search needs
+number-end-requires : tie.Need-number-end-requires
+number-end-requires c κs = search needs
 
 enum-known-d : tie.Need-enum-known-d
 enum-known-d c = search needs
@@ -36,22 +36,22 @@ enum-told-3 c = search needs
 returns : tie.Need-returns
 unfolding threeAt
 returns c =
-    let at-number-then3 = c .before .before .before in
-    let at-b = at-number-then3 .before .before in
+    let at-number-end = c .before .before .before in
+    let at-b = at-number-end .before .before in
     let at-number-then2 = at-b .before .before in
     let at-a = at-number-then2 .before .before in
     let at-number-then = at-a .before .before in
-    rw (sym (at-number-then .number-then .ensures) ∙ at-a .a .given .1, sym (at-number-then2 .number-then2 .ensures) ∙ at-b .b .given .1, sym (at-number-then3 .number-then3 .ensures) ∙ c .before .d .given .1)
+    rw (sym (at-number-then .number-then .ensures) ∙ at-a .a .given .1, sym (at-number-then2 .number-then2 .ensures) ∙ at-b .b .given .1, sym (at-number-end .number-end .ensures) ∙ c .before .d .given .1)
 
 returns-2 : tie.Need-returns-2
 unfolding threeAt
 returns-2 c =
-    let at-number-then3 = c .before .before in
-    let at-b = at-number-then3 .before .before in
+    let at-number-end = c .before .before in
+    let at-b = at-number-end .before .before in
     let at-number-then2 = at-b .before .before in
     let at-a = at-number-then2 .before .before in
     let at-number-then = at-a .before .before in
-    rw (sym (at-number-then .number-then .ensures) ∙ at-a .a .given .1, sym (at-number-then2 .number-then2 .ensures) ∙ at-b .b .given .1, sym (at-number-then3 .number-then3 .ensures) ∙ c .enum-told .given .1)
+    rw (sym (at-number-then .number-then .ensures) ∙ at-a .a .given .1, sym (at-number-then2 .number-then2 .ensures) ∙ at-b .b .given .1, sym (at-number-end .number-end .ensures) ∙ c .enum-told .given .1)
 
 returns-3 : tie.Need-returns-3
 unfolding threeAt
@@ -73,7 +73,7 @@ read-three-spec =
     enum-known-a
     number-then-requires-2
     enum-known-b
-    number-then-requires-3
+    number-end-requires
     enum-known-d
     enum-told
     enum-told-2

@@ -2,9 +2,10 @@
 -- Assumes nothing.
 use native.Mathlib.Omega.{arith}
 use Rattle.model.specs.Mapper.{Call, callOf}
-use Rattle.model.specs.Demands.{Values, Earliest, Twins, Sequenced}
+use Rattle.model.specs.Demands.{Values, Earliest, Twins, Sequenced, EitherEnd}
 use Rattle.theory.proofs.Demanded.{demand-values, demand-earliest, demand-twins}
 use Rattle.theory.proofs.Sequence.{demand-sequenced}
+use Rattle.theory_text.proofs.Ends.{demand-ends}
 use Rattle.mapper.proofs.Ends.{left-as}
 use Rattle.mapper.proofs.Whole.{memory-of, memory-fits, long-library, long-graph, library-stops, library-read}
 use borrow.Author.Needs.{needs}
@@ -12,8 +13,8 @@ use Rattle.mapper.proofs.map_texts.Statement.{statement}
 use Rattle.mapper.proofs.map_texts.Tie as tie
 
 -- the clauses behind demand 1, which hold of every call
-abbrev demanded : (c : Call) {A : Type 0} → A → Values c × (Earliest c × (A × (Twins c × Sequenced c)))
-demanded c fits = (demand-values c, (demand-earliest c, (fits, (demand-twins c, demand-sequenced c))))
+abbrev demanded : (c : Call) {A : Type 0} → A → Values c × (Earliest c × (A × (Twins c × (Sequenced c × EitherEnd c))))
+demanded c fits = (demand-values c, (demand-earliest c, (fits, (demand-twins c, (demand-sequenced c, demand-ends c)))))
 
 returns : tie.Need-returns
 returns c =

@@ -140,6 +140,31 @@ fn main() {
     ] {
         c.add(&library, [b"aig 3 2 0 1 1\n6\n", bytes].concat(), 32768, 65536);
     }
+    // line ends: 13 and 10 in all lines, in some, doubled, alone, missing; and in binary texts
+    let in_two = |text: &str| text.replace('\n', "\r\n");
+    c.add(&in_two(&library), in_two(b), 32768, 65536);
+    c.add(&in_two(&library), b, 32768, 65536);
+    c.add(&library, in_two(b), 32768, 65536);
+    c.add(&library, "aag 3 2 0 1 1\r\n2\n4\r\n6\n6 2 4\r\n", need, 134);
+    c.add(&in_two(&library), "aag 4 2 0 1 1\r\n2\r\n4\r\n6\r\n6 2 8\r\n", 32768, 65536);
+    c.add(&in_two(&with("inv 1 0001 1 10 0 0 0")), b, 32768, 65536);
+    c.add(&in_two(&with("x 1 0004 1 10 0 0 0")), b, 32768, 65536);
+    c.add(&in_two(&cells(33)), b, 32768, 65536);
+    c.add(&in_two(&library), b_in_binary, 32768, 65536);
+    for graph in [
+        "aag 3 2 0 1 1\r\r\n2\n4\n6\n6 2 4\n",
+        "aag 3 2 0 1 1\n2\r4\n6\n6 2 4\n",
+        "aag 3 2 0 1 1\n2\r\r\n4\n6\n6 2 4\n",
+        "aag 3 2 0 1 1\r\n2\r\n\r\n4\n6\n6 2 4\n",
+        "aag 3 2 0 1 1\r\n2\r\n4\r\n6\r\n6 2 4\r",
+        "aag 3 2 0 1 1\r\n2\r\n4\r\n6\r\n",
+        "aag 3 2 0 1 1\n2\n4\n6\n\r6 2 4\n",
+        "aag 3 2 0 1 1\n2\n4\n6\n6 2 4\n\r",
+        "aig 3 2 0 1 1\r\n6\n\x02\x02",
+        "aig 3 2 0 1 1\n6\r\n\x02\x02",
+    ] {
+        c.add(&library, graph, 32768, 65536);
+    }
     // outputs that repeat, that are inputs, constants and complements; names of one to three digits; 18 in what the program lends
     c.add(&library, "aag 3 2 0 4 1\n2\n4\n7\n6\n6\n7\n6 2 4\n", 32768, 65536);
     c.add(&library, "aag 2 2 0 3 0\n4\n2\n2\n5\n2\n", 32768, 65536);

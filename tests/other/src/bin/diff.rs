@@ -186,7 +186,7 @@ fn fixed() -> Vec<Case> {
     cases.push(Case::new("I", plain.clone(), h).expect(17, 0));
     cases.push(Case::new("J", plain.clone(), graph(&["aag 2 0 0 0 2", "2 4 4", "4 2 2"])).expect(15, 1));
     cases.push(Case::new("K", plain.clone(), graph(&["aag 3 1 0 1 2", "2", "4", "4 6 6", "6 2 2"])).expect(0, 0));
-    for damaged in gen::all_damage(&plain) {
+    for damaged in gen::all_damage_of_ends(&plain) {
         cases.push(Case::new("damaged library", damaged, b.clone()));
     }
     let mut rng = Rng::new(4);
@@ -197,7 +197,7 @@ fn fixed() -> Vec<Case> {
         cases.push(Case::new("small binary graph", cells, graph.binary().expect("in sequence")));
     }
     let longer = graph(&["aag 5 2 0 2 2", "4", "2", "10", "7", "10 3 4", "6 10 3", "c"]);
-    for damaged in gen::all_damage(&longer) {
+    for damaged in gen::all_damage_of_ends(&longer) {
         cases.push(Case::new("damaged graph", plain.clone(), damaged));
     }
     for damaged in gen::all_binary_damage() {

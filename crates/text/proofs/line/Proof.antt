@@ -1,0 +1,66 @@
+-- `text::line` meets its contract. The invariant: the line from here on stops where that from the start does; the measure is what is left of the text.
+-- Assumes nothing.
+use borrow.Author.Needs.{needs}
+use mathlib.Core.Path.{_≡_, refl, sym, ap, _∙_}
+use Prim.Native.Nat.{ℕ, _+_, _-_}
+use native.Mathlib.Omega.{arith}
+use lib.ListN.{length}
+use Rattle.text.specs.Lines.{spanAt}
+use Rattle.text.proofs.Words.{end-fits}
+use Rattle.text.proofs.Spans.{span-stop, span-out, span-step}
+use Rattle.text.proofs.line.Statement.{statement}
+use Rattle.text.proofs.line.Tie as tie
+
+abbrev Inv-loop : tie.InvT-loop
+Inv-loop s from at₀ at = spanAt s from ≡ spanAt s at
+
+abbrev μ-loop : tie.MeasureT-loop
+μ-loop s from at₀ at = length s - at
+
+loop-holds : tie.Need-loop-holds Inv-loop μ-loop
+loop-holds c = refl
+
+ends-at-requires : tie.Need-ends-at-requires Inv-loop μ-loop
+ends-at-requires c κs = search needs
+
+add-t7 : tie.Need-add-t7 Inv-loop μ-loop
+add-t7 c =
+    let l = c .before .before .before in
+    omega (arith, c .before .ends-at .ensures, end-fits (l .before .before .args .s .now) (l .loop .at) (λ e. c .if1 .taken (c .before .ends-at .ensures ∙ e)))
+
+returns : tie.Need-returns Inv-loop μ-loop
+returns c =
+    let l = c .before .before .before in
+    let e = c .before .ends-at .ensures in
+    sym (l .loop .inv
+    ∙ span-stop (l .before .before .args .s .now) (l .loop .at) (λ z. c .if1 .taken (e ∙ z))
+    ∙ ap (λ (k : ℕ). record { stop = l .loop .at; next = l .loop .at + k }) (sym e))
+
+add-at : tie.Need-add-at Inv-loop μ-loop
+add-at c = search needs
+
+loop-less : tie.Need-loop-less Inv-loop μ-loop
+loop-less c = search needs
+
+loop-again : tie.Need-loop-again Inv-loop μ-loop
+loop-again c =
+    let l = c .before .before .before in
+    l .loop .inv ∙ span-step (l .before .before .args .s .now) (l .loop .at) (c .before .before .loop-test .taken) (sym (c .before .ends-at .ensures) ∙ c .if1 .left)
+
+returns-2 : tie.Need-returns-2 Inv-loop μ-loop
+returns-2 c = sym (c .before .loop .inv ∙ span-out _ _ (c .loop-test .left))
+
+pub line-spec : {M : Type 1} → statement M
+line-spec =
+    tie.close
+    (tie.spec
+    Inv-loop
+    μ-loop
+    loop-holds
+    ends-at-requires
+    add-t7
+    returns
+    add-at
+    loop-less
+    loop-again
+    returns-2)

@@ -1,0 +1,47 @@
+-- `text::then_end` meets its contract: each return knows what was found before it.
+-- Assumes nothing.
+use borrow.Author.Needs.{needs}
+use mathlib.Core.Path.{sym, _∙_}
+use Rattle.text.specs.Fields.{thenEnd}
+use Rattle.text.proofs.then_end.Statement.{statement}
+use Rattle.text.proofs.then_end.Tie as tie
+
+enum-known-found : tie.Need-enum-known-found
+enum-known-found c = search needs
+
+line-end-requires : tie.Need-line-end-requires
+line-end-requires c κs = search needs
+
+enum-known-d : tie.Need-enum-known-d
+enum-known-d c = search needs
+
+enum-told : tie.Need-enum-told
+enum-told c = search needs
+
+enum-told-2 : tie.Need-enum-told-2
+enum-told-2 c = search needs
+
+returns : tie.Need-returns
+unfolding thenEnd
+returns c = rw (c .before .before .before .before .before .found .given .1, sym (c .before .before .before .line-end .ensures) ∙ c .before .d .given .1)
+
+returns-2 : tie.Need-returns-2
+unfolding thenEnd
+returns-2 c = rw (c .before .before .before .before .found .given .1, sym (c .before .before .line-end .ensures) ∙ c .enum-told .given .1)
+
+returns-3 : tie.Need-returns-3
+unfolding thenEnd
+returns-3 c = rw (c .enum-told2 .given .1)
+
+pub then-end-spec : {M : Type 1} → statement M
+then-end-spec =
+    tie.close
+    (tie.spec
+    enum-known-found
+    line-end-requires
+    enum-known-d
+    enum-told
+    enum-told-2
+    returns
+    returns-2
+    returns-3)

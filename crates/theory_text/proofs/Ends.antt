@@ -1,0 +1,521 @@
+-- Texts alike but for line ends are read alike, and so give the same:
+--     lines-behind   the lines behind the first are those of the text from where the next line begins
+--     same-library   alike libraries hold the same cells, or have the same fault at the same line
+--     same-header    so with the headers of alike graph texts in the ASCII form
+--     same-graph     and with their graphs
+--     same-texts     so with the texts of two calls
+--     demand-ends    which is what is promised of them
+-- Assumes nothing.
+use Prim.Native.Nat.{ℕ, suc, _+_, _*_, _%_}
+use native.Mathlib.Omega.{arith}
+use mathlib.Core.Path.{_≡_, refl, sym, _∙_, ap, subst}
+use mathlib.Core.Logic.{inl, inr}
+use mathlib.Core.Bool.{Bool, true, false, not, cond, _&&_, _||_}
+use mathlib.Core.Option.{Option, none, some}
+use mathlib.Core.List.{List, [], _∷_, map, reverse, cons≢nil, nil≢cons, head-eq-of-cons-eq, tail-eq-of-cons-eq}
+use lib.Dec.{eqb, ltb, leb}
+use lib.ListN.{length, getD, drop, length-reverse}
+use borrow.Author.Tests.{le-leb}
+use Rattle.model.specs.Base.{all, any, elem, keep, same, andThen, only}
+use Rattle.model.specs.Text.{Line, ended, nextOf, closing, linesFrom, shown, fields, numbers, text}
+use Rattle.model.specs.Reading.{Read, holds, fault, next, unless, from?}
+use Rattle.model.specs.Limits.{need}
+use Rattle.model.specs.Cells.{nameOf}
+use Rattle.model.specs.LibraryText.{cellOfFields, cellOfLine, isClean, readCells, readLibraryLines, readLibrary}
+use Rattle.model.specs.Graph.{And, Graph, varOf}
+use Rattle.model.specs.GraphText.{closed, headerOfNumbers, headerOf, inLimits, inSequence, readHeader, Kind, anInput, anOutput, anAnd, howMany, defines, due, Item, itemLiterals, readDue, readItems, uses, definedBy, checkUses, sameKind, isKind, graphOf, readGraph}
+use Rattle.model.specs.Netlist.{Outcome, refused, mapped}
+use Rattle.model.specs.Mapper.{Call, Design, readTexts, mapDesign, mapTexts, returnedBy}
+use Rattle.model.specs.Demands.{Alike, firstWord, isBinaryText, AlikeTexts, lineStart, SamePlace, atFault, SameButEnds, EitherEnd}
+use Rattle.model.specs.declared.Cell.{Cell}
+use Rattle.model.specs.declared.Header.{Header}
+use Rattle.model.specs.declared.Figures.{Figures}
+use Rattle.theory_text.proofs.Steps.{fault-never}
+use Rattle.theory_text.proofs.LineLaws.{lines-step, closing-next}
+use Rattle.theory_text.proofs.Faults.{Faults, in-holds, in-fault, in-unless, in-next, header-faults, graph-faults}
+
+-- ---- lines
+
+-- the lines behind the first, by the bytes that are left
+record Behind (at : ℕ) (held s : List ℕ) (l : Line) (ls : List Line) : Type 0 where
+  long : ℕ
+  isNext : nextOf l ≡ at + length held + long
+  isRest : linesFrom (nextOf l) [] (drop long s) ≡ ls
+
+no-lines : (at : ℕ) (l : Line) (ls : List Line) → linesFrom at [] [] ≡ l ∷ ls → ⊥
+unfolding linesFrom
+no-lines at l ls e = nil≢cons e
+
+last-line : (at h : ℕ) (hs : List ℕ) (l : Line) (ls : List Line) → linesFrom at (h ∷ hs) [] ≡ l ∷ ls → Behind at (h ∷ hs) [] l ls
+unfolding linesFrom
+last-line at h hs l ls e =
+    let n : at + (length (reverse (h ∷ hs)) + 0) ≡ nextOf l = ap nextOf (head-eq-of-cons-eq e) in
+    let r : length (reverse (h ∷ hs)) ≡ suc (length hs) = length-reverse (h ∷ hs) in
+    record { long = 0; isNext = omega (arith, n, r); isRest = tail-eq-of-cons-eq e }
+
+behind : (at : ℕ) (held s : List ℕ) (l : Line) (ls : List Line) → linesFrom at held s ≡ l ∷ ls → Behind at held s l ls
+behind at [] [] l ls e = absurd (no-lines at l ls e)
+behind at (h ∷ hs) [] l ls e = last-line at h hs l ls e
+behind at held (b ∷ s) l ls e = go (eqb b 10) (sym (lines-step at held b s) ∙ e) (λ f. behind at (b ∷ held) s l ls f)
+  where
+    go : (t : Bool) → cond t (closing at held ∷ linesFrom (at + suc (length held)) [] s) (linesFrom at (b ∷ held) s) ≡ l ∷ ls
+        → (linesFrom at (b ∷ held) s ≡ l ∷ ls → Behind at (b ∷ held) s l ls) → Behind at held (b ∷ s) l ls
+    go true f more =
+        let n : nextOf l ≡ at + suc (length held) = ap nextOf (sym (head-eq-of-cons-eq f)) ∙ closing-next at held in
+        record { long = 1; isNext = omega (arith, n); isRest = ap (λ (k : ℕ). linesFrom k [] s) n ∙ tail-eq-of-cons-eq f }
+    go false f more =
+        let r = more f in
+        record { long = suc (r .long); isNext = omega (arith, r .isNext); isRest = r .isRest }
+
+lines-behind : (s : List ℕ) (l : Line) (ls : List Line) → linesFrom 0 [] s ≡ l ∷ ls → linesFrom (nextOf l) [] (drop (nextOf l) s) ≡ ls
+lines-behind s l ls e =
+    let r = behind 0 [] s l ls e in
+    let n : nextOf l ≡ r .long = omega (arith, r .isNext) in
+    ap (λ (k : ℕ). linesFrom (nextOf l) [] (drop k s)) n ∙ r .isRest
+
+abbrev starts : List Line → List ℕ
+starts ls = map (λ (l : Line). l .offset) ls
+
+closing-start : (at : ℕ) (held : List ℕ) → closing at held .offset ≡ at
+unfolding closing
+closing-start at [] = refl
+closing-start at (h ∷ hs) = go (eqb h 13)
+  where
+    go : (t : Bool) → cond {A = Line} t (record { offset = at; bytes = reverse hs; ending = 2 }) (record { offset = at; bytes = reverse (h ∷ hs); ending = 1 }) .offset ≡ at
+    go true = refl
+    go false = refl
+
+-- the first line begins where the text does, or the text ends there
+first-start : (at end : ℕ) (held s : List ℕ) → (held ≡ [] → s ≡ [] → end ≡ at) → getD (starts (linesFrom at held s)) 0 end ≡ at
+unfolding linesFrom
+first-start at end [] [] e = e refl refl
+first-start at end (h ∷ hs) [] e = refl
+first-start at end held (b ∷ s) e =
+    ap (λ (ls : List Line). getD (starts ls) 0 end) (lines-step at held b s) ∙ go (eqb b 10) (first-start at end (b ∷ held) s (λ x. absurd (cons≢nil x)))
+  where
+    go : (t : Bool) → getD (starts (linesFrom at (b ∷ held) s)) 0 end ≡ at
+        → getD (starts (cond t (closing at held ∷ linesFrom (at + suc (length held)) [] s) (linesFrom at (b ∷ held) s))) 0 end ≡ at
+    go true more = closing-start at held
+    go false more = more
+
+start-zero : (s : List ℕ) → lineStart s 0 ≡ 0
+unfolding lineStart
+start-zero s = first-start 0 (length s) [] s (λ x e. ap length e)
+
+-- lines of two texts that are alike, and at places that go together; so do the places where the texts end
+data Paired (At : ℕ → ℕ → Type 0) (end bound : ℕ) : List Line → List Line → Type 0 where
+  noLines : At end bound → Paired At end bound [] []
+  aLine : {l m : Line} {ls ms : List Line} → shown l ≡ shown m → At (l .offset) (m .offset) → Paired At end bound ls ms → Paired At end bound (l ∷ ls) (m ∷ ms)
+
+pair-from : (s t : List ℕ) (n : ℕ) (ls ms : List Line) → map shown ls ≡ map shown ms
+    → ((i : ℕ) → getD (starts ls) i (length s) ≡ lineStart s (n + i)) → ((i : ℕ) → getD (starts ms) i (length t) ≡ lineStart t (n + i))
+    → Paired (SamePlace s t) (length s) (length t) ls ms
+pair-from s t n [] [] e f g = noLines (inl (n + 0, sym (f 0), sym (g 0)))
+pair-from s t n [] (m ∷ ms) e f g = absurd (nil≢cons e)
+pair-from s t n (l ∷ ls) [] e f g = absurd (cons≢nil e)
+pair-from s t n (l ∷ ls) (m ∷ ms) e f g =
+    aLine (head-eq-of-cons-eq e) (inl (n + 0, sym (f 0), sym (g 0)))
+    (pair-from s t (suc n) ls ms (tail-eq-of-cons-eq e) (λ i. f (suc i) ∙ ap (lineStart s) (on i)) (λ i. g (suc i) ∙ ap (lineStart t) (on i)))
+  where
+    on : (i : ℕ) → n + suc i ≡ suc n + i
+    on i = omega arith
+
+pair-lines : (s t : List ℕ) → Alike s t → Paired (SamePlace s t) (length s) (length t) (linesFrom 0 [] s) (linesFrom 0 [] t)
+unfolding lineStart
+pair-lines s t e = pair-from s t 0 (linesFrom 0 [] s) (linesFrom 0 [] t) e (λ i. ap (lineStart s) (none i)) (λ i. ap (lineStart t) (none i))
+  where
+    none : (i : ℕ) → i ≡ 0 + i
+    none i = omega arith
+
+-- ---- readings that fare alike
+
+-- both hold something and these go together, or both have a fault, of the same number and at places that go together
+data Fares {A B : Type 0} (R : A → B → Type 0) (P : ℕ → ℕ → ℕ → Type 0) : Read A → Read B → Type 0 where
+  bothHold : {a : A} {b : B} → R a b → Fares R P (holds a) (holds b)
+  bothFault : {n k j : ℕ} → P n k j → Fares R P (fault n k) (fault n j)
+
+module _ (P : ℕ → ℕ → ℕ → Type 0) where
+  fares-unless : {A B : Type 0} (R : A → B → Type 0) (t u : Bool) (n k j : ℕ) (r : Read A) (q : Read B) → t ≡ u → P n k j → Fares R P r q
+      → Fares R P (unless t n k r) (unless u n j q)
+  unfolding unless
+  fares-unless R t u n k j r q e p f = subst (λ (v : Bool). Fares R P (unless t n k r) (unless v n j q)) e (go t)
+    where
+      go : (v : Bool) → Fares R P (unless v n k r) (unless v n j q)
+      go true = f
+      go false = bothFault p
+
+  fares-from : {A : Type 0} (o p : Option A) (n k j : ℕ) → o ≡ p → P n k j → Fares _≡_ P (from? o n k) (from? p n j)
+  unfolding from?
+  fares-from {A} o p n k j e q = subst (λ (x : Option A). Fares _≡_ P (from? o n k) (from? x n j)) e (go o)
+    where
+      go : (x : Option A) → Fares _≡_ P (from? x n k) (from? x n j)
+      go none = bothFault q
+      go (some a) = bothHold refl
+
+  fares-next : {A B C D : Type 0} (R : A → B → Type 0) (S : C → D → Type 0) (r : Read A) (q : Read B) (f : A → Read C) (g : B → Read D)
+      → Fares R P r q → ((a : A) (b : B) → R a b → Fares S P (f a) (g b)) → Fares S P (next r f) (next q g)
+  unfolding next
+  fares-next R S (holds a) (holds b) f g (bothHold h) k = k a b h
+  fares-next R S (fault n k₁) (fault m j) f g (bothFault p) k = bothFault p
+
+  -- one reading fares alike with itself
+  fares-self : {A : Type 0} (r : Read A) → Faults (λ n k. P n k k) r → Fares _≡_ P r r
+  fares-self (holds a) f = bothHold refl
+  fares-self (fault n k) f = bothFault (f .has n k refl)
+
+  fares-holds : {A : Type 0} (r q : Read A) → Fares _≡_ P r q → (a : A) → r ≡ holds a → q ≡ holds a
+  fares-holds (holds x) (holds y) (bothHold h) a e = ap holds (sym h) ∙ e
+  fares-holds (fault n k) (fault m j) (bothFault p) a e = absurd (fault-never e)
+
+  fares-fault : {A : Type 0} (r q : Read A) → Fares _≡_ P r q → (n k : ℕ) → r ≡ fault n k → (j : ℕ) × (q ≡ fault n j) × P n k j
+  fares-fault (holds x) (holds y) (bothHold h) n k e = in-holds (λ m i. (j : ℕ) × (holds y ≡ fault m j) × P m i j) x .has n k e
+  fares-fault {A} (fault m i) (fault m₂ j) (bothFault p) n k e =
+      in-fault {A = A} (λ m₁ i₁. (j₁ : ℕ) × (_≡_ {A = Read A} (fault m j) (fault m₁ j₁)) × P m₁ i₁ j₁) m i (j, refl, p) .has n k e
+
+-- ---- the library
+
+-- a line's cell, by what is shown of the line
+cell-shown : (l m : Line) → shown l ≡ shown m → cellOfLine l ≡ cellOfLine m
+unfolding cellOfLine shown
+cell-shown l m e = ap (λ (p : List ℕ × Bool). andThen (only (p .1) (fields (p .0))) cellOfFields) e
+
+-- places of lines are places of refusals 2 to 6
+module _ (At : ℕ → ℕ → Type 0) (P : ℕ → ℕ → ℕ → Type 0) (put : (n : ℕ) → leb n 6 ≡ true → (k j : ℕ) → At k j → P n k j) where
+  same-cells : (end bound k : ℕ) (before : List Cell) (ls ms : List Line) → Paired At end bound ls ms → Fares _≡_ P (readCells k before ls) (readCells k before ms)
+  unfolding readCells
+  same-cells end bound k before [] [] (noLines a) = bothHold refl
+  same-cells end bound k before (l ∷ ls) (m ∷ ms) (aLine e a more) =
+      fares-unless P _≡_ (ltb k 32) (ltb k 32) 3 (l .offset) (m .offset) _ _ refl (put 3 refl (l .offset) (m .offset) a)
+      (fares-next P _≡_ _≡_ (from? (cellOfLine l) 4 (l .offset)) (from? (cellOfLine m) 4 (m .offset)) (read ls (l .offset)) (read ms (m .offset))
+      (fares-from P (cellOfLine l) (cellOfLine m) 4 (l .offset) (m .offset) (cell-shown l m e) (put 4 refl (l .offset) (m .offset) a))
+      (λ c d q. subst (λ (x : Cell). Fares _≡_ P (read ls (l .offset) c) (read ms (m .offset) x)) q (of c (same-cells end bound (suc k) (c ∷ before) ls ms more))))
+    where
+      rest : List Line → Cell → Read (List Cell)
+      rest xs c = next (readCells (suc k) (c ∷ before) xs) (λ cs. holds (c ∷ cs))
+
+      read : List Line → ℕ → Cell → Read (List Cell)
+      read xs at c = unless (not (any (λ (b : Cell). same (nameOf c) (nameOf b)) before)) 5 at (unless (isClean c) 6 at (rest xs c))
+
+      of : (c : Cell) → Fares _≡_ P (readCells (suc k) (c ∷ before) ls) (readCells (suc k) (c ∷ before) ms) → Fares _≡_ P (read ls (l .offset) c) (read ms (m .offset) c)
+      of c f =
+          fares-unless P _≡_ (not (any (λ (b : Cell). same (nameOf c) (nameOf b)) before)) (not (any (λ (b : Cell). same (nameOf c) (nameOf b)) before)) 5 (l .offset) (m .offset) _ _ refl
+          (put 5 refl (l .offset) (m .offset) a)
+          (fares-unless P _≡_ (isClean c) (isClean c) 6 (l .offset) (m .offset) _ _ refl (put 6 refl (l .offset) (m .offset) a)
+          (fares-next P _≡_ _≡_ (readCells (suc k) (c ∷ before) ls) (readCells (suc k) (c ∷ before) ms) (λ cs. holds (c ∷ cs)) (λ cs. holds (c ∷ cs)) f
+          (λ cs ds r. bothHold (ap (λ (xs : List Cell). c ∷ xs) r))))
+
+  same-lines : At 0 0 → (end bound : ℕ) (ls ms : List Line) → Paired At end bound ls ms → Fares _≡_ P (readLibraryLines ls) (readLibraryLines ms)
+  unfolding readLibraryLines shown
+  same-lines z end bound [] [] (noLines a) = bothFault (put 2 refl 0 0 z)
+  same-lines z end bound (l ∷ ls) (m ∷ ms) (aLine e a more) =
+      fares-unless P _≡_ (ended l && same (l .bytes) (text "cell pins table area d0 d1 d2 d3")) (ended m && same (m .bytes) (text "cell pins table area d0 d1 d2 d3")) 2 0 0 _ _
+      (ap (λ (p : List ℕ × Bool). p .1 && same (p .0) (text "cell pins table area d0 d1 d2 d3")) e) (put 2 refl 0 0 z) (same-cells end bound 0 [] ls ms more)
+
+same-library : (s t : List ℕ) (P : ℕ → ℕ → ℕ → Type 0) → ((n : ℕ) → leb n 6 ≡ true → (k j : ℕ) → SamePlace s t k j → P n k j) → Alike s t → Fares _≡_ P (readLibrary s) (readLibrary t)
+unfolding readLibrary
+same-library s t P put e =
+    same-lines (SamePlace s t) P put (inl (0, start-zero s, start-zero t)) (length s) (length t) (linesFrom 0 [] s) (linesFrom 0 [] t) (pair-lines s t e)
+
+-- ---- the due lines
+
+-- the same lines but for their places
+data SameItems (At : ℕ → ℕ → Type 0) : List Item → List Item → Type 0 where
+  nothing : SameItems At [] []
+  another : (k : Kind) (o p : ℕ) (ns : List ℕ) {is js : List Item} → At o p → SameItems At is js
+      → SameItems At (record { kind = k; offset = o; literals = ns } ∷ is) (record { kind = k; offset = p; literals = ns } ∷ js)
+
+literals-shown : (k : Kind) (l m : Line) → shown l ≡ shown m → itemLiterals (closed false) k l ≡ itemLiterals (closed false) k m
+unfolding itemLiterals shown
+literals-shown k l m e = ap (λ (p : List ℕ × Bool). andThen (only (p .1 && eqb (length (fields (p .0))) (howMany k)) (fields (p .0))) numbers) e
+
+same-defined : (At : ℕ → ℕ → Type 0) {is js : List Item} → SameItems At is js → definedBy is ≡ definedBy js
+unfolding definedBy
+same-defined At nothing = refl
+same-defined At (another k o p ns a r) = ap (λ (xs : List ℕ). cond (defines k) (varOf (getD ns 0 0) ∷ xs) xs) (same-defined At r)
+
+-- what does not look at the places is the same of each kind
+same-kept : {A : Type 0} (At : ℕ → ℕ → Type 0) (f : Kind → List ℕ → A) (j : Kind) {is js : List Item} → SameItems At is js
+    → map (λ (i : Item). f (i .kind) (i .literals)) (keep (isKind j) is) ≡ map (λ (i : Item). f (i .kind) (i .literals)) (keep (isKind j) js)
+unfolding keep isKind
+same-kept At f j nothing = refl
+same-kept {A} At f j (another k o p ns {is} {js} a r) = go (sameKind j k) (same-kept At f j r)
+  where
+    the : List Item → List A
+    the xs = map (λ (i : Item). f (i .kind) (i .literals)) xs
+
+    go : (t : Bool) → the (keep (isKind j) is) ≡ the (keep (isKind j) js)
+        → the (cond t (record { kind = k; offset = o; literals = ns } ∷ keep (isKind j) is) (keep (isKind j) is))
+        ≡ the (cond t (record { kind = k; offset = p; literals = ns } ∷ keep (isKind j) js) (keep (isKind j) js))
+    go true e = ap (λ (xs : List A). f k ns ∷ xs) e
+    go false e = e
+
+same-graphs : (At : ℕ → ℕ → Type 0) (size : ℕ) {is js : List Item} → SameItems At is js → graphOf size is ≡ graphOf size js
+unfolding graphOf
+same-graphs At size r =
+    let a = same-kept At (λ k ns. varOf (getD ns 0 0)) anInput r in
+    let b = same-kept At (λ k ns. getD ns 0 0) anOutput r in
+    let c = same-kept {A = And} At (λ k ns. record { var = varOf (getD ns 0 0); left = getD ns 1 0; right = getD ns 2 0 }) anAnd r in
+    rw (a, b, c)
+
+-- places of lines are places of the refusals from 7 on
+module _ (At : ℕ → ℕ → Type 0) (P : ℕ → ℕ → ℕ → Type 0) (put : (n : ℕ) → leb n 6 ≡ false → (k j : ℕ) → At k j → P n k j) where
+  same-due : (end bound size : ℕ) (before : List ℕ) (ks : List Kind) (ls ms : List Line) → Paired At end bound ls ms
+      → Fares (SameItems At) P (readDue (closed false) end size before ks ls) (readDue (closed false) bound size before ks ms)
+  unfolding readDue
+  same-due end bound size before [] ls ms e = bothHold nothing
+  same-due end bound size before (k ∷ ks) [] [] (noLines a) = bothFault (put 11 refl end bound a)
+  same-due end bound size before (k ∷ ks) (l ∷ ls) (m ∷ ms) (aLine e a more) =
+      fares-next P _≡_ (SameItems At) (from? (itemLiterals (closed false) k l) 11 (l .offset)) (from? (itemLiterals (closed false) k m) 11 (m .offset)) (after end ls (l .offset)) (after bound ms (m .offset))
+      (fares-from P (itemLiterals (closed false) k l) (itemLiterals (closed false) k m) 11 (l .offset) (m .offset) (literals-shown k l m e) (put 11 refl (l .offset) (m .offset) a))
+      (λ ns ms₁ q. subst (λ (xs : List ℕ). Fares (SameItems At) P (after end ls (l .offset) ns) (after bound ms (m .offset) xs)) q (of ns (same-due end bound size (known ns) ks ls ms more)))
+    where
+      known : List ℕ → List ℕ
+      known ns = cond (defines k) (varOf (getD ns 0 0) ∷ before) before
+
+      inRange : List ℕ → Bool
+      inRange ns = all (λ (n : ℕ). leb n (2 * size + 1)) ns && (not (defines k) || (eqb (getD ns 0 0 % 2) 0 && not (eqb (getD ns 0 0) 0)))
+
+      isNew : List ℕ → Bool
+      isNew ns = not (defines k && elem (varOf (getD ns 0 0)) before)
+
+      after : ℕ → List Line → ℕ → List ℕ → Read (List Item)
+      after limit rest at ns =
+          unless (inRange ns) 12 at
+          (unless (isNew ns) 13 at
+          (next (readDue (closed false) limit size (known ns) ks rest) (λ is. holds (record { kind = k; offset = at; literals = ns } ∷ is))))
+
+      of : (ns : List ℕ) → Fares (SameItems At) P (readDue (closed false) end size (known ns) ks ls) (readDue (closed false) bound size (known ns) ks ms)
+          → Fares (SameItems At) P (after end ls (l .offset) ns) (after bound ms (m .offset) ns)
+      of ns f =
+          fares-unless P (SameItems At) (inRange ns) (inRange ns) 12 (l .offset) (m .offset) _ _ refl (put 12 refl (l .offset) (m .offset) a)
+          (fares-unless P (SameItems At) (isNew ns) (isNew ns) 13 (l .offset) (m .offset) _ _ refl (put 13 refl (l .offset) (m .offset) a)
+          (fares-next P (SameItems At) (SameItems At) (readDue (closed false) end size (known ns) ks ls) (readDue (closed false) bound size (known ns) ks ms) _ _ f
+          (λ is js r. bothHold (another k (l .offset) (m .offset) ns a r))))
+
+  same-uses : (known : List ℕ) {is js : List Item} → SameItems At is js → Fares (SameItems At) P (checkUses known is) (checkUses known js)
+  unfolding checkUses uses
+  same-uses known nothing = bothHold nothing
+  same-uses known (another k o p ns {is} {js} a r) =
+      fares-unless P (SameItems At) (all (λ (l : ℕ). elem (varOf l) (0 ∷ known)) (cond (defines k) (drop 1 ns) ns)) (all (λ (l : ℕ). elem (varOf l) (0 ∷ known)) (cond (defines k) (drop 1 ns) ns)) 14 o p _ _ refl
+      (put 14 refl o p a)
+      (fares-next P (SameItems At) (SameItems At) (checkUses known is) (checkUses known js) _ _ (same-uses known r) (λ xs ys q. bothHold (another k o p ns a q)))
+
+  -- the graph of items that are the same
+  then-graph : (size : ℕ) (is js : List Item) → SameItems At is js
+      → Fares _≡_ P (next (checkUses (definedBy is) is) (λ xs. holds (graphOf size xs))) (next (checkUses (definedBy js) js) (λ xs. holds (graphOf size xs)))
+  then-graph size is js q =
+      subst (λ (ds : List ℕ). Fares _≡_ P (next (checkUses (definedBy is) is) (λ xs. holds (graphOf size xs))) (next (checkUses ds js) (λ xs. holds (graphOf size xs)))) (same-defined At q)
+      (fares-next P (SameItems At) _≡_ (checkUses (definedBy is) is) (checkUses (definedBy is) js) (λ xs. holds (graphOf size xs)) (λ xs. holds (graphOf size xs)) (same-uses (definedBy is) q)
+      (λ xs ys p. bothHold (same-graphs At size p)))
+
+-- ---- the header
+
+-- two headers of the same numbers in the ASCII form, and the lines behind them
+data Headers (At : ℕ → ℕ → Type 0) (s t : List ℕ) : Header → Header → Type 0 where
+  headers : (n q : ℕ) (ns : List ℕ) → Paired At (length s) (length t) (linesFrom n [] (drop n s)) (linesFrom q [] (drop q t))
+      → Headers At s t (headerOfNumbers false n ns) (headerOfNumbers false q ns)
+
+-- the header of the ASCII form by what is shown of the first line, and where the next begins
+headerBy : List ℕ × Bool → ℕ → Option Header
+headerBy p n =
+    andThen (only (p .1 && (eqb (length (fields (p .0))) 6 && same (getD (fields (p .0)) 0 []) (text "aag"))) (drop 1 (fields (p .0)))) (λ vs.
+    andThen (numbers vs) (λ ns. some (headerOfNumbers false n ns)))
+
+header-by : (l : Line) (ls : List Line) → same (firstWord (l ∷ ls)) (text "aig") ≡ false → headerOf (l ∷ ls) ≡ headerBy (shown l) (nextOf l)
+unfolding headerOf headerBy shown firstWord
+header-by l ls e =
+    ap (λ (b : Bool).
+    andThen (only (closed b l && (eqb (length (fields (l .bytes))) 6 && (b || same (getD (fields (l .bytes)) 0 []) (text "aag")))) (drop 1 (fields (l .bytes)))) (λ vs.
+    andThen (numbers vs) (λ ns. some (headerOfNumbers b (nextOf l) ns)))) e
+
+module _ (At : ℕ → ℕ → Type 0) (P : ℕ → ℕ → ℕ → Type 0) (put : (n : ℕ) → leb n 6 ≡ false → (k j : ℕ) → At k j → P n k j) (s t : List ℕ) (z : At 0 0) where
+  same-first : (p : List ℕ × Bool) (n q : ℕ) → Paired At (length s) (length t) (linesFrom n [] (drop n s)) (linesFrom q [] (drop q t))
+      → Fares (Headers At s t) P (from? (headerBy p n) 7 0) (from? (headerBy p q) 7 0)
+  unfolding headerBy andThen from?
+  same-first p n q b = go (only (p .1 && (eqb (length (fields (p .0))) 6 && same (getD (fields (p .0)) 0 []) (text "aag"))) (drop 1 (fields (p .0))))
+    where
+      made : ℕ → Option (List ℕ) → Option Header
+      made i o = andThen o (λ ns. some (headerOfNumbers false i ns))
+
+      of : (o : Option (List ℕ)) → Fares (Headers At s t) P (from? (made n o) 7 0) (from? (made q o) 7 0)
+      of none = bothFault (put 7 refl 0 0 z)
+      of (some ns) = bothHold (headers n q ns b)
+
+      go : (o : Option (List (List ℕ))) → Fares (Headers At s t) P (from? (andThen o (λ vs. made n (numbers vs))) 7 0) (from? (andThen o (λ vs. made q (numbers vs))) 7 0)
+      go none = bothFault (put 7 refl 0 0 z)
+      go (some vs) = of (numbers vs)
+
+  same-tests : (h k : Header) → Headers At s t h k
+      → Fares (Headers At s t) P (unless (eqb (h .latches) 0) 8 0 (unless (inLimits h) 9 0 (unless (inSequence h) 19 0 (holds h))))
+      (unless (eqb (k .latches) 0) 8 0 (unless (inLimits k) 9 0 (unless (inSequence k) 19 0 (holds k))))
+  unfolding headerOfNumbers inLimits inSequence
+  same-tests h k r =
+      fares-unless P (Headers At s t) (eqb (h .latches) 0) (eqb (k .latches) 0) 8 0 0 _ _ (latches r) (put 8 refl 0 0 z)
+      (fares-unless P (Headers At s t) (inLimits h) (inLimits k) 9 0 0 _ _ (limits r) (put 9 refl 0 0 z)
+      (fares-unless P (Headers At s t) (inSequence h) (inSequence k) 19 0 0 _ _ (sequence r) (put 19 refl 0 0 z) (bothHold r)))
+    where
+      latches : {h₁ k₁ : Header} → Headers At s t h₁ k₁ → eqb (h₁ .latches) 0 ≡ eqb (k₁ .latches) 0
+      latches (headers n q ns b) = refl
+
+      limits : {h₁ k₁ : Header} → Headers At s t h₁ k₁ → inLimits h₁ ≡ inLimits k₁
+      limits (headers n q ns b) = refl
+
+      sequence : {h₁ k₁ : Header} → Headers At s t h₁ k₁ → inSequence h₁ ≡ inSequence k₁
+      sequence (headers n q ns b) = refl
+
+  same-header : Paired At (length s) (length t) (linesFrom 0 [] s) (linesFrom 0 [] t) → isBinaryText s ≡ false → Fares (Headers At s t) P (readHeader s) (readHeader t)
+  unfolding readHeader isBinaryText
+  same-header b a =
+      fares-next P (Headers At s t) (Headers At s t) (from? (headerOf (linesFrom 0 [] s)) 7 0) (from? (headerOf (linesFrom 0 [] t)) 7 0) _ _
+      (go (linesFrom 0 [] s) refl (linesFrom 0 [] t) refl b a) same-tests
+    where
+      nowhere : Fares (Headers At s t) P (from? (headerOf []) 7 0) (from? (headerOf []) 7 0)
+      nowhere = unfold headerOf from? in bothFault (put 7 refl 0 0 z)
+
+      word : (l m : Line) (ls ms : List Line) → shown l ≡ shown m → firstWord (l ∷ ls) ≡ firstWord (m ∷ ms)
+      word l m ls ms e = unfold firstWord shown in ap (λ (p : List ℕ × Bool). getD (fields (p .0)) 0 []) e
+
+      go : (ls : List Line) → linesFrom 0 [] s ≡ ls → (ms : List Line) → linesFrom 0 [] t ≡ ms → Paired At (length s) (length t) ls ms
+          → same (firstWord ls) (text "aig") ≡ false → Fares (Headers At s t) P (from? (headerOf ls) 7 0) (from? (headerOf ms) 7 0)
+      go [] x [] y (noLines u) f = nowhere
+      go (l ∷ ls) x (m ∷ ms) y (aLine e u more) f =
+          let first : headerOf (l ∷ ls) ≡ headerBy (shown l) (nextOf l) = header-by l ls f in
+          let g : same (firstWord (m ∷ ms)) (text "aig") ≡ false = ap (λ (w : List ℕ). same w (text "aig")) (sym (word l m ls ms e)) ∙ f in
+          let second : headerOf (m ∷ ms) ≡ headerBy (shown l) (nextOf m) = header-by m ms g ∙ ap (λ (p : List ℕ × Bool). headerBy p (nextOf m)) (sym e) in
+          let rest : Paired At (length s) (length t) (linesFrom (nextOf l) [] (drop (nextOf l) s)) (linesFrom (nextOf m) [] (drop (nextOf m) t)) =
+          subst (λ (xs : List Line). Paired At (length s) (length t) xs (linesFrom (nextOf m) [] (drop (nextOf m) t))) (sym (lines-behind s l ls x))
+          (subst (λ (xs : List Line). Paired At (length s) (length t) ls xs) (sym (lines-behind t m ms y)) more) in
+          subst (λ (o : Option Header). Fares (Headers At s t) P (from? o 7 0) (from? (headerOf (m ∷ ms)) 7 0)) (sym first)
+          (subst (λ (o : Option Header). Fares (Headers At s t) P (from? (headerBy (shown l) (nextOf l)) 7 0) (from? o 7 0)) (sym second) (same-first (shown l) (nextOf l) (nextOf m) rest))
+
+  -- ---- the graph
+  same-graph : (h k : Header) → Headers At s t h k → Fares _≡_ P (readGraph s h) (readGraph t k)
+  same-graph h k r = of r
+    where
+      items : (n q : ℕ) (ns : List ℕ) → Paired At (length s) (length t) (linesFrom n [] (drop n s)) (linesFrom q [] (drop q t))
+          → Fares (SameItems At) P (readItems s (headerOfNumbers false n ns)) (readItems t (headerOfNumbers false q ns))
+      items n q ns b = unfold readItems headerOfNumbers due in same-due At P put (length s) (length t) (getD ns 0 0) [] (due (headerOfNumbers false n ns)) _ _ b
+
+      size : (n q : ℕ) (ns : List ℕ) → headerOfNumbers false n ns .size ≡ headerOfNumbers false q ns .size
+      size n q ns = unfold headerOfNumbers in refl
+
+      of : {h₁ k₁ : Header} → Headers At s t h₁ k₁ → Fares _≡_ P (readGraph s h₁) (readGraph t k₁)
+      of (headers n q ns b) = unfold readGraph in
+          fares-next P (SameItems At) _≡_ (readItems s (headerOfNumbers false n ns)) (readItems t (headerOfNumbers false q ns)) _ _ (items n q ns b)
+          (λ is js e. subst (λ (m : ℕ). Fares _≡_ P (next (checkUses (definedBy is) is) (λ xs. holds (graphOf (headerOfNumbers false n ns .size) xs))) (next (checkUses (definedBy js) js) (λ xs. holds (graphOf m xs))))
+          (size n q ns) (then-graph At P put (headerOfNumbers false n ns .size) is js e))
+
+-- ---- the texts of two calls
+
+module _ (c d : Call) (alike : AlikeTexts c d) where
+  -- where a refusal of the one and of the other has its places
+  Places : ℕ → ℕ → ℕ → Type 0
+  Places n k j = SamePlace (atFault n c) (atFault n d) k j
+
+  in-library : (n : ℕ) → leb n 6 ≡ true → (k j : ℕ) → SamePlace (c .library) (d .library) k j → Places n k j
+  unfolding atFault Places
+  in-library n e k j p = subst (λ (b : Bool). SamePlace (cond b (c .library) (c .graph)) (cond b (d .library) (d .graph)) k j) (sym e) p
+
+  in-graph : (n : ℕ) → leb n 6 ≡ false → (k j : ℕ) → SamePlace (c .graph) (d .graph) k j → Places n k j
+  unfolding atFault Places
+  in-graph n e k j p = subst (λ (b : Bool). SamePlace (cond b (c .library) (c .graph)) (cond b (d .library) (d .graph)) k j) (sym e) p
+
+  -- what is read behind the library
+  behindLibrary : List ℕ → ℕ → List Cell → Read Design
+  behindLibrary s words cells =
+      next (readHeader s) (λ h. unless (leb (need (h .size) (h .outputs)) words) 10 0 (next (readGraph s h) (λ g. holds (record { cells = cells; graph = g }))))
+
+  late : (s : List ℕ) (words : ℕ) (cells : List Cell) → Faults (λ n k. leb n 6 ≡ false) (behindLibrary s words cells)
+  unfolding behindLibrary
+  late s words cells =
+      in-next Late (readHeader s) _ (header-faults Late refl refl refl refl s)
+      (λ h e. in-unless Late (leb (need (h .size) (h .outputs)) words) 10 0 _ (λ f. refl)
+      (in-next Late (readGraph s h) _ (graph-faults Late (λ k. refl) (λ k. refl) (λ k. refl) (λ k. refl) (λ k. refl) (λ k. refl) s h) (λ g f. in-holds Late (record { cells = cells; graph = g }))))
+    where
+      Late : ℕ → ℕ → Type 0
+      Late n k = leb n 6 ≡ false
+
+  one-graph : c .graph ≡ d .graph → (cells : List Cell) → Fares _≡_ Places (behindLibrary (c .graph) (c .words) cells) (behindLibrary (d .graph) (c .words) cells)
+  one-graph e cells =
+      subst (λ (s : List ℕ). Fares _≡_ Places (behindLibrary (c .graph) (c .words) cells) (behindLibrary s (c .words) cells)) e
+      (fares-self Places (behindLibrary (c .graph) (c .words) cells) (record { has = λ n k f. in-graph n (late (c .graph) (c .words) cells .has n k f) k k (inr (e, refl)) }))
+
+  two-graphs : isBinaryText (c .graph) ≡ false → (cells : List Cell) → Fares _≡_ Places (behindLibrary (c .graph) (c .words) cells) (behindLibrary (d .graph) (c .words) cells)
+  unfolding behindLibrary
+  two-graphs a cells =
+      fares-next Places (Headers At (c .graph) (d .graph)) _≡_ (readHeader (c .graph)) (readHeader (d .graph)) _ _
+      (same-header At Places in-graph (c .graph) (d .graph) zero-place (pair-lines (c .graph) (d .graph) (alike .graphs)) a)
+      (λ h k r.
+      fares-unless Places _≡_ (leb (need (h .size) (h .outputs)) (c .words)) (leb (need (k .size) (k .outputs)) (c .words)) 10 0 0 _ _ (needs r) (in-graph 10 refl 0 0 zero-place)
+      (fares-next Places _≡_ _≡_ (readGraph (c .graph) h) (readGraph (d .graph) k) _ _ (same-graph At Places in-graph (c .graph) (d .graph) zero-place h k r)
+      (λ x y e. bothHold (ap (λ (g : Graph). record { cells = cells; graph = g }) e))))
+    where
+      At : ℕ → ℕ → Type 0
+      At = SamePlace (c .graph) (d .graph)
+
+      zero-place : SamePlace (c .graph) (d .graph) 0 0
+      zero-place = inl (0, start-zero (c .graph), start-zero (d .graph))
+
+      needs : {h k : Header} → Headers At (c .graph) (d .graph) h k → leb (need (h .size) (h .outputs)) (c .words) ≡ leb (need (k .size) (k .outputs)) (c .words)
+      needs (headers n q ns b) = unfold headerOfNumbers in refl
+
+  same-behind : (cells : List Cell) → Fares _≡_ Places (behindLibrary (c .graph) (c .words) cells) (behindLibrary (d .graph) (d .words) cells)
+  same-behind cells =
+      subst (λ (n : ℕ). Fares _≡_ Places (behindLibrary (c .graph) (c .words) cells) (behindLibrary (d .graph) n cells)) (alike .words) (go (isBinaryText (c .graph)) refl)
+    where
+      go : (b : Bool) → isBinaryText (c .graph) ≡ b → Fares _≡_ Places (behindLibrary (c .graph) (c .words) cells) (behindLibrary (d .graph) (c .words) cells)
+      go true e = one-graph (alike .binary e) cells
+      go false e = two-graphs e cells
+
+  same-texts : Fares _≡_ Places (readTexts c) (readTexts d)
+  unfolding readTexts behindLibrary unless
+  same-texts =
+      let a : leb (length (c .library)) 65536 ≡ true = le-leb (length (c .library)) 65536 (alike .short .library) in
+      let b : leb (length (c .graph)) 65536 ≡ true = le-leb (length (c .graph)) 65536 (alike .short .graph) in
+      let e : leb (length (d .library)) 65536 ≡ true = le-leb (length (d .library)) 65536 (alike .shortToo .library) in
+      let f : leb (length (d .graph)) 65536 ≡ true = le-leb (length (d .graph)) 65536 (alike .shortToo .graph) in
+      rw (a, b, e, f)
+      (fares-next Places _≡_ _≡_ (readLibrary (c .library)) (readLibrary (d .library)) (behindLibrary (c .graph) (c .words)) (behindLibrary (d .graph) (d .words))
+      (same-library (c .library) (d .library) Places in-library (alike .libraries))
+      (λ x y q. subst (λ (z : List Cell). Fares _≡_ Places (behindLibrary (c .graph) (c .words) x) (behindLibrary (d .graph) (d .words) z)) q (same-behind x)))
+
+  same-design : (x : Design) → readTexts c ≡ holds x → readTexts d ≡ holds x
+  same-design = fares-holds Places (readTexts c) (readTexts d) same-texts
+
+  same-outcome : (x : Design) → readTexts c ≡ holds x → mapTexts c ≡ mapTexts d
+  unfolding mapTexts
+  same-outcome x e = ap (mapDesign (c .bytes)) (e ∙ sym (same-design x e)) ∙ ap (λ (n : ℕ). mapDesign n (readTexts d)) (alike .bytes)
+
+  same-place : (n k : ℕ) → readTexts c ≡ fault n k → (j : ℕ) × (readTexts d ≡ fault n j) × Places n k j
+  same-place = fares-fault Places (readTexts c) (readTexts d) same-texts
+
+  never-mapped : {n k : ℕ} {t : List ℕ} {f : Figures} → refused n k ≡ mapped t f → ⊥
+  never-mapped {n} {k} {t} {f} e = let z : _≡_ {A = ℕ} 0 1 = cc in omega arith
+
+  same-printed : (t : List ℕ) (f : Figures) → mapTexts c ≡ mapped t f → mapTexts d ≡ mapped t f
+  unfolding mapTexts mapDesign
+  same-printed t f e = go (readTexts c) refl e
+    where
+      go : (r : Read Design) → readTexts c ≡ r → mapDesign (c .bytes) r ≡ mapped t f → mapTexts d ≡ mapped t f
+      go (holds x) q p = sym (same-outcome x q) ∙ e
+      go (fault n k) q p = absurd (never-mapped p)
+
+  same-refusal : (n k : ℕ) → mapTexts c ≡ refused n k → (j : ℕ) × (mapTexts d ≡ refused n j)
+  unfolding mapTexts mapDesign returnedBy
+  same-refusal n k e = go (readTexts c) refl e
+    where
+      go : (r : Read Design) → readTexts c ≡ r → mapDesign (c .bytes) r ≡ refused n k → (j : ℕ) × (mapTexts d ≡ refused n j)
+      go (holds x) q p = (k, sym (same-outcome x q) ∙ e)
+      go (fault m i) q p =
+          let o = same-place m i q in
+          let number : m ≡ n = ap (λ (x : Outcome). returnedBy x .number) p in (
+            o .0,
+            ap (mapDesign (d .bytes)) (o .1) ∙ ap (λ (x : ℕ). refused x (o .0)) number,
+          )
+
+  pub same-but-ends : SameButEnds c d
+  unfolding Places
+  same-but-ends = record { design = same-design; outcome = same-outcome; printed = same-printed; refusal = same-refusal; place = same-place }
+
+pub demand-ends : (c : Call) → EitherEnd c
+demand-ends c d alike = same-but-ends c d alike
