@@ -1,4 +1,4 @@
-/* The array mapper's one call. What it answers and leaves is proved (crates/capi); this page says it in words.
+/* The array mapper's calls. What they answer and leave is proved (crates/capi); this page says it in words.
  *
  * mapper_map maps a cell library text and an AIGER graph text, in the ASCII or the binary form. It never reads or writes outside the four arrays, always returns, and asks
  * nothing of what they hold; they may not overlap.
@@ -6,7 +6,13 @@
  *             figures of its last line; every word of work is 0
  *   refusal   number and value are the refusal's number and place (docs/GUIDE.md), the figures are 0; text is unchanged; work is unchanged
  *             for numbers up to 10 and for 19, and every word of it is 0 for any other
- * A graph of M variables and O outputs wants 124(M+1) + O words. The stack needs about 1.5 MB. */
+ * A graph of M variables and O outputs wants 124(M+1) + O words. The stack needs about 1.5 MB.
+ *
+ * mapper_cells writes the cell library text of a genlib text. It never reads or writes outside the two arrays, always returns, and asks nothing of
+ * what they hold; they may not overlap.
+ *   success   number 0, value the cell text's length; text begins with the cell text and keeps its other bytes
+ *   refusal   number and value are the refusal's number and place (docs/GUIDE.md); text is unchanged
+ * The figures are 0. */
 #ifndef MAPPER_H
 #define MAPPER_H
 #include <stddef.h>
@@ -26,6 +32,8 @@ typedef struct {
 
 MapperAnswer mapper_map(const uint8_t *cells, size_t cells_len, const uint8_t *graph, size_t graph_len, uint16_t *work, size_t work_len,
                         uint8_t *text, size_t text_len);
+
+MapperAnswer mapper_cells(const uint8_t *genlib, size_t genlib_len, uint8_t *text, size_t text_len);
 
 #ifdef __cplusplus
 }

@@ -1,6 +1,11 @@
--- The answer of the exported call, by the five values that document 01 names. Assumes nothing.
+-- The answers of the exported calls, by the five values that document 01 names. Assumes nothing.
+use Prim.Native.Nat.{ℕ}
 use Rattle.model.specs.Mapper.{Returned}
 use Rattle.capi.specs.declared.MapperAnswer.{MapperAnswer}
 
 abbrev pub answered : Returned → MapperAnswer
 answered r = record { number = r .number; value = r .value; gates = r .gates; area = r .area; arrival = r .arrival }
+
+-- a number and a value, without figures
+abbrev pub answeredText : ℕ × ℕ → MapperAnswer
+answeredText p = record { number = p .0; value = p .1; gates = 0; area = 0; arrival = 0 }

@@ -1,9 +1,13 @@
-// The call for C and Rust. A slice is a pointer and a number of elements; the answer is the five values that document 01 names.
+// The calls for C and Rust. A slice is a pointer and a number of elements; the answer is the five values that document 01 names.
 use model::Answer;
+use model::Written;
 ghost use mathlib.Core.Path.{_≡_};
+ghost use lib.ListN.{length};
 ghost use Rattle.model.specs.Mapper.{callOf, mapTexts, returned, returnedBy, textAfter, workAfter};
 ghost use Rattle.model.specs.Demands.{Values, Earliest, Twins, Sequenced, EitherEnd};
-ghost use Rattle.capi.specs.Answers.{answered};
+ghost use Rattle.model.specs.Genlib.{genlibText, writtenAnswer, writtenPair, writtenAfter};
+ghost use Rattle.model.specs.GenlibDemands.{GenlibDemand};
+ghost use Rattle.capi.specs.Answers.{answered, answeredText};
 
 // "Success returns number 0, the netlist's length and the three figures of its `# gates` line; a refusal its number, its place and zero figures".
 #[repr(C)]
@@ -13,6 +17,19 @@ pub struct MapperAnswer {
     pub gates: u32,
     pub area: u32,
     pub arrival: u32,
+}
+
+// A number and a value, with zero figures: a refusal's number and place, or 0 and the length of a text that is no netlist.
+fn plain(number: usize, value: usize) -> MapperAnswer
+    ensures { λ r. ⌜ r ≡ answeredText (number, value) ⌝ }
+{
+    MapperAnswer {
+        number: number as u64,
+        value: value as u64,
+        gates: 0,
+        area: 0,
+        arrival: 0,
+    }
 }
 
 fn answer(a: Answer) -> MapperAnswer
@@ -26,13 +43,17 @@ fn answer(a: Answer) -> MapperAnswer
             area: f.area,
             arrival: f.arrival,
         },
-        Answer::Refused(number, place) => MapperAnswer {
-            number: number as u64,
-            value: place as u64,
-            gates: 0,
-            area: 0,
-            arrival: 0,
-        },
+        Answer::Refused(number, place) => plain(number, place),
+    }
+}
+
+// "Success, here and for later written texts, returns 0 and the length".
+fn text_answer(a: Written) -> MapperAnswer
+    ensures { λ r. ⌜ r ≡ answeredText (writtenPair a) ⌝ }
+{
+    match a {
+        Written::Length(n) => plain(0, n),
+        Written::Refused(number, place) => plain(number, place),
     }
 }
 
@@ -54,4 +75,14 @@ pub extern "C" fn mapper_map(
     ensures ends { λ _. ⌜ EitherEnd (callOf (now (cells .entry)) (now (graph .entry)) (now (work .entry)) (now (text .entry))) ⌝ }
 {
     answer(mapper::map_texts(cells, graph, work, text))
+}
+
+// "Read GATE and PIN lines and write our cell text": the cell text of a genlib text, into lent bytes.
+#[no_mangle]
+pub extern "C" fn mapper_cells(genlib: &[u8], text: &mut [u8]) -> MapperAnswer
+    ensures answers { λ r. ⌜ r ≡ answeredText (writtenPair (writtenAnswer (genlibText (now (genlib .entry)) (length (now (text .entry)))))) ⌝ }
+    ensures bytes { λ _. ⌜ now (text .exit) ≡ writtenAfter (genlibText (now (genlib .entry)) (length (now (text .entry)))) (now (text .entry)) ⌝ }
+    ensures cells { λ _. ⌜ GenlibDemand (now (genlib .entry)) (length (now (text .entry))) ⌝ }
+{
+    text_answer(genlib::convert(genlib, text))
 }

@@ -15,3 +15,7 @@ pub mod LibraryText
 pub mod GraphText
 pub mod Mapper
 pub mod Demands
+pub mod GenlibWords
+pub mod GenlibFormula
+pub mod Genlib
+pub mod GenlibDemands

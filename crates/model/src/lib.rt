@@ -85,3 +85,17 @@ pub enum Answer {
     Mapped(usize, Figures),
     Refused(usize, usize),
 }
+
+// What a call that writes a text answers: the text's length, or a refusal's number and place.
+pub enum Written {
+    Length(usize),
+    Refused(usize, usize),
+}
+
+// The scan of a genlib expression: a factor is due, or one has ended, where so many brackets are open; or the `;` has ended it.
+pub enum Scan {
+    Due(usize),
+    After(usize),
+    Done,
+    Broken,
+}

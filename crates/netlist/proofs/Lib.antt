@@ -1,5 +1,4 @@
--- `Progress`: writers one after the other. `Counting`: lengths and figures of lines. `Walking`: the walk over the gates. `Carrying`: the walk as a local of a loop. `Again`: a slice lent again for a call. `Feeding`: the nets of a match. `Held`: what the words hold is what `model` defines.
-pub mod Progress
+-- `Counting`: lengths and figures of lines. `Walking`: the walk over the gates. `Carrying`: the walk as a local of a loop. `Again`: a slice lent again for a call. `Feeding`: the nets of a match. `Held`: what the words hold is what `model` defines.
 pub mod Counting
 pub mod Walking
 pub mod Carrying

@@ -18,7 +18,7 @@ ghost use Rattle.model.specs.Netlist.{netName, pinWords, gateLine, outName, wir
 ghost use Rattle.words.specs.Layout.{Room, RoomFor, outputAt};
 ghost use Rattle.words.specs.Phases.{phaseAt};
 ghost use Rattle.truth.specs.Variant.{placesOf};
-ghost use Rattle.netlist.specs.Writing.{Wrote};
+ghost use Rattle.text.specs.Writing.{Wrote};
 ghost use Rattle.netlist.specs.Lines.{lineOf, fourNets, MatchReady, SourceReady, Gated, matchedGate, invertedGate, gateBy, gateAt, isGateAt, gateFrom, gatesFrom, gatesOf, Drives, tallied, noTally, Bounded, Named, inputNet, inputNamesFrom, outputNamesFrom, spaced, wireLinesFrom, latestFrom, frameText, figuresText, textIn, measuredIn, Small};
 ghost use Rattle.netlist.specs.Mapped.{Mapped, textFor, measuredFor};
 
@@ -51,30 +51,13 @@ pub struct Measured {
     pub figures: Figures,
 }
 
-// ---- bytes, and names of nets
+// ---- names of nets
 
 // "Nets are `p` or `m` (negative) and the variable": how long such a name is.
 fn net_len(l: u32) -> usize
     ensures { λ r. ⌜ (r ≡ length (netName l)) × (r ≤ 11) ⌝ }
 {
     text::number_len(l / 2) + 1
-}
-
-// All of `from`, from byte `at` on; the answer is the place past them.
-fn put_bytes(out: &mut [u8], at: usize, from: &[u8]) -> usize
-    requires { ⌜ at + length (now from) ≤ length (now out) ⌝ }
-    ensures { λ r. ⌜ Wrote (now (out .entry)) (now (out .exit)) at r (now (from .entry)) ⌝ }
-{
-    text::put(out, at, from);
-    at + from.len()
-}
-
-fn put_byte(out: &mut [u8], at: usize, b: u8) -> usize
-    requires { ⌜ at < length (now out) ⌝ }
-    ensures { λ r. ⌜ Wrote (now (out .entry)) (now (out .exit)) at r (b ∷ []) ⌝ }
-{
-    out[at] = b;
-    at + 1
 }
 
 // The letter of a net's phase.
@@ -88,7 +71,7 @@ fn put_net(out: &mut [u8], at: usize, l: u32) -> usize
     requires { ⌜ at + length (netName l) ≤ length (now out) ⌝ }
     ensures { λ r. ⌜ Wrote (now (out .entry)) (now (out .exit)) at r (netName l) ⌝ }
 {
-    let next = put_byte(out, at, letter(l));
+    let next = text::put_byte(out, at, letter(l));
     text::put_number(out, next, l / 2)
 }
 
@@ -100,7 +83,7 @@ fn put_pin(out: &mut [u8], at: usize, b: u8, l: u32) -> usize
     ensures { λ r. ⌜ Wrote (now (out .entry)) (now (out .exit)) at r (pinWords b (l ∷ [])) ⌝ }
 {
     let head = [b' ', b, b'='];
-    let next = put_bytes(out, at, &head);
+    let next = text::put_bytes(out, at, &head);
     put_net(out, next, l)
 }
 
@@ -146,7 +129,7 @@ fn put_name(out: &mut [u8], at: usize, name: [u8; 8], len: usize) -> usize
     ensures { λ r. ⌜ Wrote (now (out .entry)) (now (out .exit)) at r (take len name) ⌝ }
 {
     let n = name_len(len);
-    put_bytes(out, at, &name[..n])
+    text::put_bytes(out, at, &name[..n])
 }
 
 // "a gate line is `.gate`, the cell's name, each pin in order with `=` and its net, then the output likewise": "pins A to D, output O".
@@ -155,11 +138,11 @@ fn put_gate(out: &mut [u8], at: usize, c: Cell, nets: [u32; 4], count: usize, ne
     ensures { λ r. ⌜ Wrote (now (out .entry)) (now (out .exit)) at r (lineOf c (take count nets) net) ⌝ }
 {
     let name = c.name;
-    let a = put_bytes(out, at, b".gate ");
+    let a = text::put_bytes(out, at, b".gate ");
     let b = put_name(out, a, name, c.len);
     let p = put_pins(out, b, nets, count);
     let o = put_pin(out, p, b'O', net);
-    put_byte(out, o, b'\n')
+    text::put_byte(out, o, b'\n')
 }
 
 // How long a gate line is.
@@ -410,7 +393,7 @@ fn put_inputs(work: &[u16], m: usize, n: usize, out: &mut [u8], at: usize) -> us
     let mut i: usize = 0;
     while i < n {
         let net = input_net(work, m, i);
-        let place = put_byte(out, next, b' ');
+        let place = text::put_byte(out, next, b' ');
         next = put_net(out, place, net);
         i += 1;
     }
@@ -435,7 +418,7 @@ fn put_out(out: &mut [u8], at: usize, k: u32) -> usize
     requires { ⌜ at + length (outName k) ≤ length (now out) ⌝ }
     ensures { λ r. ⌜ Wrote (now (out .entry)) (now (out .exit)) at r (outName k) ⌝ }
 {
-    let next = put_byte(out, at, b'o');
+    let next = text::put_byte(out, at, b'o');
     text::put_number(out, next, k)
 }
 
@@ -453,7 +436,7 @@ fn put_outputs(n: usize, out: &mut [u8], at: usize) -> usize
     let mut next = at;
     let mut i: usize = 0;
     while i < n {
-        let place = put_byte(out, next, b' ');
+        let place = text::put_byte(out, next, b' ');
         next = put_out(out, place, i as u32);
         i += 1;
     }
@@ -478,11 +461,11 @@ fn put_frame(work: &[u16], m: usize, inputs: usize, outputs: usize, out: &mut [u
     requires { ⌜ Named (now work) m inputs outputs × (length (frameText (now work) m inputs outputs) ≤ length (now out)) ⌝ }
     ensures { λ r. ⌜ Wrote (now (out .entry)) (now (out .exit)) 0 r (frameText (now (work .entry)) m inputs outputs) ⌝ }
 {
-    let a = put_bytes(out, 0, b".model top\n.inputs");
+    let a = text::put_bytes(out, 0, b".model top\n.inputs");
     let b = put_inputs(work, m, inputs, out, a);
-    let c = put_bytes(out, b, b"\n.outputs");
+    let c = text::put_bytes(out, b, b"\n.outputs");
     let d = put_outputs(outputs, out, c);
-    put_byte(out, d, b'\n')
+    text::put_byte(out, d, b'\n')
 }
 
 fn frame_len(work: &[u16], m: usize, inputs: usize, outputs: usize) -> usize
@@ -509,11 +492,11 @@ fn put_wire(out: &mut [u8], at: usize, k: u32, l: u32) -> usize
     requires { ⌜ at + length (wireLine k l) ≤ length (now out) ⌝ }
     ensures { λ r. ⌜ Wrote (now (out .entry)) (now (out .exit)) at r (wireLine k l) ⌝ }
 {
-    let a = put_bytes(out, at, b".names ");
+    let a = text::put_bytes(out, at, b".names ");
     let b = put_net(out, a, l);
-    let c = put_byte(out, b, b' ');
+    let c = text::put_byte(out, b, b' ');
     let d = put_out(out, c, k);
-    put_bytes(out, d, b"\n1 1\n")
+    text::put_bytes(out, d, b"\n1 1\n")
 }
 
 fn wire_len(k: u32, l: u32) -> usize
@@ -557,13 +540,13 @@ fn put_figures(out: &mut [u8], at: usize, f: Figures) -> usize
     requires { ⌜ at + length (figuresText f) ≤ length (now out) ⌝ }
     ensures { λ r. ⌜ Wrote (now (out .entry)) (now (out .exit)) at r (figuresText f) ⌝ }
 {
-    let a = put_bytes(out, at, b".end\n# gates ");
+    let a = text::put_bytes(out, at, b".end\n# gates ");
     let b = text::put_number(out, a, f.gates);
-    let c = put_bytes(out, b, b" area ");
+    let c = text::put_bytes(out, b, b" area ");
     let d = text::put_number(out, c, f.area);
-    let e = put_bytes(out, d, b" arrival ");
+    let e = text::put_bytes(out, d, b" arrival ");
     let g = text::put_number(out, e, f.arrival);
-    put_byte(out, g, b'\n')
+    text::put_byte(out, g, b'\n')
 }
 
 fn figures_len(f: Figures) -> usize

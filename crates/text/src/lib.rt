@@ -9,6 +9,7 @@ ghost use Rattle.model.specs.Base.{all, same};
 ghost use Rattle.model.specs.Text.{decimal, number, hexDigit, hexFrom, hexTable, isLetter, isNameByte, isName};
 ghost use Rattle.model.specs.LibraryText.{nameBytes};
 ghost use Rattle.words.specs.Put.{putAt};
+ghost use Rattle.text.specs.Writing.{Wrote};
 ghost use Rattle.text.specs.Fields.{endOf, endAt, valueOf, byteAt, lineEndAt, numberAt, tableAt, nameAt, thenByte, thenEnd, numberThen, numberEnd, tableThen, differenceAt};
 ghost use Rattle.text.specs.Lines.{spanAt};
 
@@ -210,7 +211,7 @@ fn is_letter(b: u8) -> bool
     }
 }
 
-fn is_name_byte(b: u8) -> bool
+pub fn is_name_byte(b: u8) -> bool
     ensures { λ r. ⌜ r ≡ isNameByte b ⌝ }
 {
     if is_letter(b) {
@@ -411,6 +412,23 @@ pub fn put(out: &mut [u8], at: usize, from: &[u8])
         out[at + i] = from[i];
         i += 1;
     }
+}
+
+// The same; the answer is the place past them.
+pub fn put_bytes(out: &mut [u8], at: usize, from: &[u8]) -> usize
+    requires { ⌜ at + length (now from) ≤ length (now out) ⌝ }
+    ensures { λ r. ⌜ Wrote (now (out .entry)) (now (out .exit)) at r (now (from .entry)) ⌝ }
+{
+    put(out, at, from);
+    at + from.len()
+}
+
+pub fn put_byte(out: &mut [u8], at: usize, b: u8) -> usize
+    requires { ⌜ at < length (now out) ⌝ }
+    ensures { λ r. ⌜ Wrote (now (out .entry)) (now (out .exit)) at r (b ∷ []) ⌝ }
+{
+    out[at] = b;
+    at + 1
 }
 
 // A name's bytes by value, with zeros behind them.

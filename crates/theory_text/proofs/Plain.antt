@@ -78,7 +78,7 @@ byte-high b t = go (or-yes (isLetter b) (between 48 57 b || eqb b 95) t)
     go (inl h) = letter-high b h
     go (inr h) = rest (or-yes (between 48 57 b) (eqb b 95) h)
 
-bytes-free : (s : ℕ) (bs : List ℕ) → s < 48 → T (all isNameByte bs) → Free s bs
+pub bytes-free : (s : ℕ) (bs : List ℕ) → s < 48 → T (all isNameByte bs) → Free s bs
 unfolding all
 bytes-free s [] h t = tt
 bytes-free s (b ∷ bs) h t =

@@ -33,6 +33,9 @@ pub mod blif;
 pub mod brute;
 pub mod checks;
 pub mod gen;
+pub mod genlib;
+pub mod genlib_checks;
+pub mod genlib_gen;
 pub mod judge;
 #[cfg(feature = "mutants")]
 pub mod mutants;

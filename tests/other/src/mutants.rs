@@ -16,6 +16,11 @@ pub fn is_on(mutant: u32) -> bool {
     MUTANT.with(|cell| cell.get() == mutant)
 }
 
+/// The one that is on.
+pub fn which() -> u32 {
+    MUTANT.with(Cell::get)
+}
+
 /// Number and what is wrong.
 pub const LIST: [(u32, &str); 39] = [
     (1, "an AND with a cut too many is accepted"),
@@ -57,4 +62,22 @@ pub const LIST: [(u32, &str); 39] = [
     (37, "a binary text's output lines may end in 13 and 10"),
     (38, "a lone 13 ends a line"),
     (39, "the names line must end in 10 alone"),
+];
+
+/// Those of the reader of genlib.
+pub const GENLIB: [(u32, &str); 14] = [
+    (40, "the `'` after a product's last factor stand after the product"),
+    (41, "the last PIN line that fits counts"),
+    (42, "a pin's delay is its rise block delay"),
+    (43, "the table repeats above the row 2^pins"),
+    (44, "23 is tried before 22"),
+    (45, "pins take the order of their names"),
+    (46, "the `!` before a product's first factor stand before the product"),
+    (47, "decimals after the last that isn't 0 don't count"),
+    (48, "the place is that of the line at fault"),
+    (49, "figures of PIN lines that count for no pin are used"),
+    (50, "brackets may be 17 deep"),
+    (51, "24 is tried after 22 and 23 of all gates"),
+    (52, "text memory of exactly the length is refused"),
+    (53, "empty lines are passed over"),
 ];

@@ -48,6 +48,28 @@ pub fn map(cells: &[u8], graph: &[u8], work: &mut [u16], text: &mut [u8]) -> Ans
     Answer { number: number as u32, value: value as u32, gates, area, arrival }
 }
 
+#[cfg(all(feature = "ours", feature = "cells"))]
+extern "C" {
+    fn mapper_cells(genlib: *const u8, genlib_len: usize, text: *mut u8, text_len: usize) -> Crossing;
+}
+
+/// The genlib reader under test.
+#[cfg(all(feature = "ours", feature = "cells"))]
+pub fn cells(genlib: &[u8], text: &mut [u8]) -> Answer {
+    // Each pointer comes with the length of its own slice, and they don't overlap.
+    let crossing = unsafe { mapper_cells(genlib.as_ptr(), genlib.len(), text.as_mut_ptr(), text.len()) };
+    let Crossing { number, value, gates, area, arrival } = crossing;
+    Answer { number: number as u32, value: value as u32, gates, area, arrival }
+}
+
+/// The other reader in its place.
+#[cfg(all(feature = "self", feature = "cells", not(feature = "ours")))]
+pub fn cells(genlib: &[u8], text: &mut [u8]) -> Answer {
+    let (answer, cells) = crate::genlib::cells(genlib, text.len());
+    text[..cells.len()].copy_from_slice(&cells);
+    answer
+}
+
 /// The reference with the memories that the document promises.
 #[cfg(all(feature = "self", not(feature = "ours")))]
 pub fn map(cells: &[u8], graph: &[u8], work: &mut [u16], text: &mut [u8]) -> Answer {

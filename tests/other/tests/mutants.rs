@@ -1,7 +1,7 @@
 //! Every mutant of the reference is caught by a check of `tests/document.rs`.
 //! `MUTANTS=28,29` in the environment tries these alone.
 
-use other::{checks, mutants};
+use other::{checks, genlib_checks, mutants};
 use std::panic::catch_unwind;
 
 type Checks = [(&'static str, fn() -> checks::Check); 9];
@@ -18,17 +18,35 @@ const CHECKS: Checks = [
     ("all_covers", || checks::all_covers(1_500, 1)),
 ];
 
+const GENLIB: [(&str, fn() -> checks::Check); 4] = [
+    ("edges", genlib_checks::edges),
+    ("good", || genlib_checks::good(1_500, 1)),
+    ("faults", || genlib_checks::faults(5_000, 1)),
+    ("damage", || genlib_checks::damage(5_000, 1)),
+];
+
 #[test]
 fn every_mutant_is_caught() {
+    caught(&mutants::LIST, &CHECKS);
+}
+
+#[test]
+fn every_mutant_of_genlib_is_caught() {
+    caught(&mutants::GENLIB, &GENLIB);
+}
+
+/// Prints a row for each mutant.
+fn caught(list: &[(u32, &str)], checks: &[(&str, fn() -> checks::Check)]) {
     std::panic::set_hook(Box::new(|_| {}));
     let only = std::env::var("MUTANTS").ok();
     let is_wanted =
         |number: u32| only.as_ref().is_none_or(|only| only.split(',').any(|word| word == number.to_string()));
     let mut missed = Vec::new();
     println!("| mutant | what is wrong | caught by |\n|---|---|---|");
-    for (number, what) in [(0, "nothing")].into_iter().chain(mutants::LIST).filter(|&(number, _)| is_wanted(number)) {
+    let all = [(0, "nothing")].into_iter().chain(list.iter().copied());
+    for (number, what) in all.filter(|&(number, _)| is_wanted(number)) {
         mutants::switch(number);
-        let caught: Vec<&str> = CHECKS
+        let caught: Vec<&str> = checks
             .iter()
             .filter(|(_, check)| !matches!(catch_unwind(check), Ok(Ok(_))))
             .map(|(name, _)| *name)

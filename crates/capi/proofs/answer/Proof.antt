@@ -1,5 +1,5 @@
 -- `capi::answer` meets its contract: the five values of each case of an answer. Assumes nothing.
-use mathlib.Core.Path.{sym, ap}
+use mathlib.Core.Path.{sym, ap, _∙_}
 use Rattle.model.specs.Mapper.{returned}
 use Rattle.model.specs.declared.Answer.{Answer}
 use Rattle.capi.specs.Answers.{answered}
@@ -13,13 +13,16 @@ enum-known-a c = search needs
 enum-known-a-2 : tie.Need-enum-known-a-2
 enum-known-a-2 c = search needs
 
+plain-requires : tie.Need-plain-requires
+plain-requires c κs = search needs
+
 returns : tie.Need-returns
 unfolding returned
 returns c = sym (ap (λ (x : Answer). answered (returned x)) (c .before .a .given .1))
 
 returns-2 : tie.Need-returns-2
 unfolding returned
-returns-2 c = sym (ap (λ (x : Answer). answered (returned x)) (c .before .a2 .given .1))
+returns-2 c = c .plain .ensures ∙ sym (ap (λ (x : Answer). answered (returned x)) (c .before .before .a2 .given .1))
 
 pub answer-spec : {M : Type 1} → statement M
-answer-spec = tie.close (tie.spec enum-known-a enum-known-a-2 returns returns-2)
+answer-spec = tie.close (tie.spec enum-known-a enum-known-a-2 plain-requires returns returns-2)

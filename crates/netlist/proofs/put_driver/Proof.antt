@@ -5,9 +5,9 @@ use mathlib.Core.List.{List}
 use Prim.Native.Nat.{ℕ}
 use native.Mathlib.Omega.{arith}
 use lib.ListN.{length}
-use Rattle.netlist.specs.Writing.{Wrote}
+use Rattle.text.specs.Writing.{Wrote}
 use Rattle.netlist.proofs.Counting.{lines-there, lines-absent}
-use Rattle.netlist.proofs.Progress.{idle}
+use Rattle.text.proofs.Progress.{idle}
 use borrow.Author.Needs.{needs}
 use Rattle.netlist.proofs.put_driver.Statement.{statement}
 use Rattle.netlist.proofs.put_driver.Tie as tie

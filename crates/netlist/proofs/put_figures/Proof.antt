@@ -8,7 +8,7 @@ use Rattle.model.specs.Text.{decimal}
 use Rattle.model.specs.declared.Figures.{Figures}
 use Rattle.netlist.specs.Lines.{figuresText}
 use Rattle.netlist.proofs.Counting.{endBytes, areaBytes, arrivalBytes, figures-are}
-use Rattle.netlist.proofs.Progress.{Partly, begin, step, room, finish, as-wrote}
+use Rattle.text.proofs.Progress.{Partly, begin, step, room, finish, as-wrote}
 use borrow.Author.Needs.{needs}
 use Rattle.netlist.proofs.put_figures.Statement.{statement}
 use Rattle.netlist.proofs.put_figures.Tie as tie

@@ -8,7 +8,7 @@ use lib.ListN.{length}
 use Rattle.words.proofs.Columns.{room-need}
 use Rattle.netlist.specs.Lines.{inputNamesFrom, outputNamesFrom, spaced, frameText}
 use Rattle.netlist.proofs.Counting.{modelBytes, outputsBytes, frame-is}
-use Rattle.netlist.proofs.Progress.{Partly, begin, step, room, finish}
+use Rattle.text.proofs.Progress.{Partly, begin, step, room, finish}
 use borrow.Author.Needs.{needs}
 use Rattle.netlist.proofs.put_frame.Statement.{statement}
 use Rattle.netlist.proofs.put_frame.Tie as tie

@@ -8,7 +8,7 @@ use lib.ListN.{take}
 use Rattle.model.specs.Netlist.{pinWords}
 use Rattle.netlist.specs.Lines.{lineOf}
 use Rattle.netlist.proofs.Counting.{line-is}
-use Rattle.netlist.proofs.Progress.{Partly, begin, step, room, finish}
+use Rattle.text.proofs.Progress.{Partly, begin, step, room, finish}
 use borrow.Author.Needs.{needs}
 use Rattle.netlist.proofs.put_gate.Statement.{statement}
 use Rattle.netlist.proofs.put_gate.Tie as tie

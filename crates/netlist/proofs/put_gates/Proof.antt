@@ -49,7 +49,7 @@ use Rattle.model.proofs.Library as U
 use Rattle.model.proofs.Library.Laws as U′
 use Rattle.model.specs.Base.{each}
 use Rattle.model.specs.Netlist.{Gate, gateLine}
-use Rattle.netlist.specs.Writing.{Wrote}
+use Rattle.text.specs.Writing.{Wrote}
 use Rattle.netlist.specs.Lines.{gateAt, gateFrom, gatesFrom, gatesOf, Gated, Drives}
 use Rattle.netlist.specs.declared.Driver.{Driver}
 use Rattle.netlist.specs.declared.Walk.{Walk}
@@ -58,7 +58,7 @@ use Rattle.netlist.proofs.Driver.Laws as Z′
 use Rattle.netlist.proofs.Walk.Laws as T′
 use Rattle.netlist.proofs.Again.{LentAgain, lends-again, comes-back}
 use Rattle.netlist.proofs.Counting.{lines-next, lines-none}
-use Rattle.netlist.proofs.Progress.{Partly, begin, step as goes-on, room as has-room, kept, end as ends}
+use Rattle.text.proofs.Progress.{Partly, begin, step as goes-on, room as has-room, kept, end as ends}
 use Rattle.netlist.proofs.Walking.{gate-from-low, gate-from-high, gates-skip}
 use Rattle.netlist.proofs.Carrying.{Over, StepC, DriverAt, B, v, Own, token, at-phase, lowered, typed, held-typed, lowered-is, to-over, over-goes, over-said, to-step, step-goes, step-said, vlib as lib-val, to-driver, driver-goes, driver-said}
 use Rattle.netlist.proofs.walk_over as walk-over

@@ -7,7 +7,7 @@ use native.Mathlib.Omega.{arith}
 use Rattle.model.specs.Netlist.{netName}
 use Rattle.netlist.specs.Lines.{inputNamesFrom, spaced}
 use Rattle.netlist.proofs.Counting.{inputs-next, inputs-none}
-use Rattle.netlist.proofs.Progress.{Partly, begin, step, room, kept, end}
+use Rattle.text.proofs.Progress.{Partly, begin, step, room, kept, end}
 use Rattle.netlist.proofs.put_inputs.Statement.{statement}
 use Rattle.netlist.proofs.put_inputs.Tie as tie
 

@@ -6,7 +6,7 @@ use Prim.Native.Nat.{ℕ}
 use native.Mathlib.Omega.{arith}
 use lib.ListN.{length}
 use lib.Seq.{length-take-le}
-use Rattle.netlist.specs.Writing.{Wrote}
+use Rattle.text.specs.Writing.{Wrote}
 use borrow.Author.Needs.{needs}
 use Rattle.netlist.proofs.put_name.Statement.{statement}
 use Rattle.netlist.proofs.put_name.Tie as tie

@@ -7,7 +7,7 @@ use native.Mathlib.Omega.{arith}
 use Rattle.model.specs.Text.{decimal}
 use Rattle.model.specs.Netlist.{netName}
 use Rattle.netlist.proofs.Counting.{net-length}
-use Rattle.netlist.proofs.Progress.{Partly, begin, step, room, finish, as-wrote}
+use Rattle.text.proofs.Progress.{Partly, begin, step, room, finish, as-wrote}
 use borrow.Author.Needs.{needs}
 use Rattle.netlist.proofs.put_net.Statement.{statement}
 use Rattle.netlist.proofs.put_net.Tie as tie

@@ -6,7 +6,7 @@ use native.Mathlib.Omega.{arith}
 use Rattle.model.specs.Text.{decimal}
 use Rattle.model.specs.Netlist.{outName}
 use Rattle.netlist.proofs.Counting.{out-is, out-length}
-use Rattle.netlist.proofs.Progress.{Partly, begin, step, room, finish, as-wrote}
+use Rattle.text.proofs.Progress.{Partly, begin, step, room, finish, as-wrote}
 use borrow.Author.Needs.{needs}
 use Rattle.netlist.proofs.put_out.Statement.{statement}
 use Rattle.netlist.proofs.put_out.Tie as tie

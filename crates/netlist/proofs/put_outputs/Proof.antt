@@ -7,7 +7,7 @@ use native.Mathlib.Omega.{arith}
 use Rattle.model.specs.Netlist.{outName}
 use Rattle.netlist.specs.Lines.{outputNamesFrom, spaced}
 use Rattle.netlist.proofs.Counting.{outputs-next, outputs-none}
-use Rattle.netlist.proofs.Progress.{Partly, begin, step, room, kept, end}
+use Rattle.text.proofs.Progress.{Partly, begin, step, room, kept, end}
 use Rattle.netlist.proofs.put_outputs.Statement.{statement}
 use Rattle.netlist.proofs.put_outputs.Tie as tie
 

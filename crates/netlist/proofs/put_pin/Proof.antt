@@ -5,7 +5,7 @@ use mathlib.Core.List.{_∷_, [], append-nil}
 use native.Mathlib.Omega.{arith}
 use Rattle.model.specs.Netlist.{netName, pinWords}
 use Rattle.netlist.proofs.Counting.{pin-one, pin-length}
-use Rattle.netlist.proofs.Progress.{Partly, begin, step, room, finish}
+use Rattle.text.proofs.Progress.{Partly, begin, step, room, finish}
 use borrow.Author.Needs.{needs}
 use Rattle.netlist.proofs.put_pin.Statement.{statement}
 use Rattle.netlist.proofs.put_pin.Tie as tie

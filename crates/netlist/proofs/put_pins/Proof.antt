@@ -8,7 +8,7 @@ use borrow.Author.Needs.{needs}
 use lib.ListN.{length, take, drop, getD}
 use Rattle.model.specs.Netlist.{pinWords}
 use Rattle.netlist.proofs.Counting.{pins-next, pins-none}
-use Rattle.netlist.proofs.Progress.{Partly, begin, step, room, kept, end}
+use Rattle.text.proofs.Progress.{Partly, begin, step, room, kept, end}
 use Rattle.netlist.proofs.put_pins.Statement.{statement}
 use Rattle.netlist.proofs.put_pins.Tie as tie
 

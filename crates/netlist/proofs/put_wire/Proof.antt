@@ -6,7 +6,7 @@ use Prim.Native.Nat.{ℕ}
 use native.Mathlib.Omega.{arith}
 use Rattle.model.specs.Netlist.{netName, outName, wireLine}
 use Rattle.netlist.proofs.Counting.{namesBytes, rowBytes, wire-is}
-use Rattle.netlist.proofs.Progress.{Partly, begin, step, room, finish}
+use Rattle.text.proofs.Progress.{Partly, begin, step, room, finish}
 use borrow.Author.Needs.{needs}
 use Rattle.netlist.proofs.put_wire.Statement.{statement}
 use Rattle.netlist.proofs.put_wire.Tie as tie

@@ -7,7 +7,7 @@ use native.Mathlib.Omega.{arith}
 use Rattle.model.specs.Netlist.{wireLine}
 use Rattle.netlist.specs.Lines.{wireLinesFrom}
 use Rattle.netlist.proofs.Counting.{wires-next, wires-none}
-use Rattle.netlist.proofs.Progress.{Partly, begin, step, room, kept, end}
+use Rattle.text.proofs.Progress.{Partly, begin, step, room, kept, end}
 use Rattle.netlist.proofs.put_wires.Statement.{statement}
 use Rattle.netlist.proofs.put_wires.Tie as tie
 

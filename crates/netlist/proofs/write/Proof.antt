@@ -6,7 +6,7 @@ use Prim.Native.Nat.{ℕ, _+_}
 use native.Mathlib.Omega.{arith}
 use lib.ListN.{length, drop}
 use Rattle.netlist.specs.Lines.{textIn}
-use Rattle.netlist.proofs.Progress.{put-front}
+use Rattle.text.proofs.Progress.{put-front}
 use Rattle.netlist.proofs.Held.{gated, named, text-held}
 use borrow.Author.Needs.{needs}
 use Rattle.netlist.proofs.write.Statement.{statement}

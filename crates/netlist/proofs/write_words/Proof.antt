@@ -9,7 +9,7 @@ use Rattle.model.specs.Base.{each}
 use Rattle.model.specs.Netlist.{gateLine}
 use Rattle.netlist.specs.Lines.{gatesFrom, frameText, wireLinesFrom, figuresText, textIn}
 use Rattle.netlist.proofs.Counting.{text-is}
-use Rattle.netlist.proofs.Progress.{Partly, begin, step, room, finish}
+use Rattle.text.proofs.Progress.{Partly, begin, step, room, finish}
 use borrow.Author.Needs.{needs}
 use Rattle.netlist.proofs.write_words.Statement.{statement}
 use Rattle.netlist.proofs.write_words.Tie as tie

@@ -1,10 +1,10 @@
--- `netlist::put_byte` meets its contract.
+-- `text::put_byte` meets its contract.
 -- Assumes nothing.
 use mathlib.Core.Path.{refl}
 use Rattle.words.proofs.Putting.{put-one}
 use borrow.Author.Needs.{needs}
-use Rattle.netlist.proofs.put_byte.Statement.{statement}
-use Rattle.netlist.proofs.put_byte.Tie as tie
+use Rattle.text.proofs.put_byte.Statement.{statement}
+use Rattle.text.proofs.put_byte.Tie as tie
 
 slice-write-out : tie.Need-slice-write-out
 slice-write-out c = search needs

@@ -10,7 +10,7 @@ use native.Mathlib.Omega.{arith}
 use lib.ListN.{length, drop, length-append}
 use Rattle.words.specs.Put.{putAt}
 use Rattle.words.proofs.Putting.{length-put, put-none, put-append}
-use Rattle.netlist.specs.Writing.{Wrote}
+use Rattle.text.specs.Writing.{Wrote}
 
 -- of `whole`, all but `rest` is written from `at` on, up to `next`
 pub record Partly (before now : List ℕ) (at next : ℕ) (whole rest : List ℕ) : Type 0 where

@@ -1,0 +1,2 @@
+-- `Counting`: the parts of a gate's line, and their lengths.
+pub mod Counting

@@ -1,0 +1,18 @@
+-- `celltext::field_len` meets its contract: a space and at most five digits. Assumes nothing.
+use native.Mathlib.Omega.{arith}
+use Rattle.celltext.proofs.Counting.{field-length, five-digits}
+use borrow.Author.Needs.{needs}
+use Rattle.celltext.proofs.field_len.Statement.{statement}
+use Rattle.celltext.proofs.field_len.Tie as tie
+
+number-len-requires : tie.Need-number-len-requires
+number-len-requires c κs = search needs
+
+add-result : tie.Need-add-result
+add-result c = omega (arith, five-digits (c .before .args .n) (omega arith))
+
+returns : tie.Need-returns
+returns c = let n = c .before .args .n in (omega (arith, field-length n), omega (arith, five-digits n (omega arith)))
+
+pub field-len-spec : {M : Type 1} → statement M
+field-len-spec = tie.close (tie.spec number-len-requires add-result returns)

@@ -1,0 +1,2 @@
+-- `Gates`: the gate that is written, as `model` has it.
+pub mod Gates

@@ -1,0 +1,50 @@
+-- `expression::nth` meets its contract, by counting. The invariant: the token at hand is token i; the measure is what is left to count. Assumes nothing.
+use mathlib.Core.Path.{subst}
+use Prim.Native.Nat.{ℕ, _-_, _≤_}
+use native.Mathlib.Omega.{arith}
+use Rattle.expression.specs.Places.{Nth}
+use Rattle.expression.proofs.Walk.{nth-first, nth-next}
+use borrow.Author.Needs.{needs}
+use Rattle.expression.proofs.nth.Statement.{statement}
+use Rattle.expression.proofs.nth.Tie as tie
+
+abbrev Inv-loop : tie.InvT-loop
+Inv-loop w k t₀ i₀ t i = (i ≤ k) × Nth w i t
+
+abbrev μ-loop : tie.MeasureT-loop
+μ-loop w k t₀ i₀ t i = k - i
+
+next-token-requires : tie.Need-next-token-requires Inv-loop μ-loop
+next-token-requires c κs = search needs
+
+loop-holds : tie.Need-loop-holds Inv-loop μ-loop
+loop-holds c = (omega arith, nth-first _ _ (c .next-token .ensures))
+
+next-token-requires-2 : tie.Need-next-token-requires-2 Inv-loop μ-loop
+next-token-requires-2 c κs = search needs
+
+add-i : tie.Need-add-i Inv-loop μ-loop
+add-i c = search needs
+
+loop-less : tie.Need-loop-less Inv-loop μ-loop
+loop-less c = search needs
+
+loop-again : tie.Need-loop-again Inv-loop μ-loop
+loop-again c = (omega arith, nth-next _ _ _ _ (c .before .before .loop .inv .1) (c .next-token2 .ensures))
+
+returns : tie.Need-returns Inv-loop μ-loop
+returns c = let l = c .before .loop in subst (λ (i : ℕ). Nth (c .before .before .before .before .args .w .now) i (l .t)) {x = l .i} (omega arith) (l .inv .1)
+
+pub nth-spec : {M : Type 1} → statement M
+nth-spec =
+    tie.close
+    (tie.spec
+    Inv-loop
+    μ-loop
+    next-token-requires
+    loop-holds
+    next-token-requires-2
+    add-i
+    loop-less
+    loop-again
+    returns)

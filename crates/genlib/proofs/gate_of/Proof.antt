@@ -1,0 +1,128 @@
+-- `genlib::gate_of` meets its contract: the figures, the delays and the table. Assumes nothing.
+use mathlib.Core.Path.{_≡_, refl, sym, ap, _∙_}
+use mathlib.Core.Option.{some}
+use mathlib.Core.List.{List, []}
+use Prim.Native.Nat.{ℕ, _+_}
+use native.Mathlib.Omega.{arith}
+use lib.ListN.{length, drop, getD}
+use Rattle.model.specs.GenlibWords.{tokens, thousandths}
+use Rattle.model.specs.GenlibFormula.{pinsOf}
+use Rattle.model.specs.Genlib.{delaysOf, tableOf}
+use Rattle.expression.specs.Places.{part, restAt, namesAt}
+use Rattle.expression.proofs.Pinning.{length-names}
+use Rattle.groups.specs.Lines.{linesBehind}
+use Rattle.groups.proofs.Grouping.{value-some, value-none}
+use Rattle.genlib.specs.Gates.{delaysIn}
+use Rattle.genlib.proofs.Judging.{gate-found, no-area, no-delays, table-is, part-part, same-gate}
+use borrow.Author.Needs.{needs}
+use Rattle.genlib.proofs.gate_of.Statement.{statement}
+use Rattle.genlib.proofs.gate_of.Tie as tie
+
+abbrev lines : tie.Start → List (List (List ℕ))
+lines c = linesBehind (c .args .s .now) (c .args .from)
+
+abbrev ts : tie.Start → List (List ℕ)
+ts c = tokens (c .args .w .now)
+
+abbrev begun : tie.After-figure-at → tie.Start
+begun c = c .before .before .before .before .before
+
+abbrev measured : tie.After-four-delays → tie.Start
+measured c = begun (c .before .before .before .before)
+
+-- the area is known
+area : (c : tie.After-four-delays) → thousandths (getD (ts (measured c)) 2 []) ≡ some (c .before .before .area .given .0 .0)
+area c = value-some _ _ (sym (c .before .before .area .given .1) ∙ c .before .before .before .before .figure-at .ensures)
+
+-- the delays are what was found
+delays : (c : tie.After-four-delays) → delaysOf (lines (measured c)) (pinsOf (drop 5 (ts (measured c)))) ≡ delaysIn (c .four-delays .result)
+delays c = ap (delaysOf (lines (measured c))) (sym (measured c .pre .2 .names)) ∙ sym (c .four-delays .ensures)
+
+nth-requires : tie.Need-nth-requires
+nth-requires c κs = search needs
+
+nth-requires-2 : tie.Need-nth-requires-2
+nth-requires-2 c κs = search needs
+
+figure-at-requires : tie.Need-figure-at-requires
+figure-at-requires c κs = search needs
+
+enum-known-area : tie.Need-enum-known-area
+enum-known-area c = search needs
+
+four-delays-requires : tie.Need-four-delays-requires
+four-delays-requires c κs = search needs
+
+enum-known-d0 : tie.Need-enum-known-d0
+enum-known-d0 c = search needs
+
+table-requires : tie.Need-table-requires
+table-requires c κs = search needs
+
+add-t18 : tie.Need-add-t18
+add-t18 c = search needs
+
+add-t19 : tie.Need-add-t19
+add-t19 c = search needs
+
+cast-t20 : tie.Need-cast-t20
+cast-t20 c = search needs
+
+enum-told : tie.Need-enum-told
+enum-told c = search needs
+
+enum-told-2 : tie.Need-enum-told-2
+enum-told-2 c = search needs
+
+returns : tie.Need-returns
+returns c =
+    let t = c .before .before .before in
+    let d = t .before .before .d0 .given in
+    let four = t .before .before .before .before in
+    let s = measured four in
+    let a = s .args in
+    let w = a .w .now in
+    let line = s .pre .1 in
+    let few = s .pre .2 in
+    let at-five = four .before .before .before .before .before in
+    let five = at-five .nth2 in
+    let n = at-five .before .nth in
+    let named : part (a .s .now) (a .at + n .result .from) (a .at + n .result .to) ≡ getD (ts s) 1 [] =
+    part-part (a .s .now) w (a .at) (n .result .from) (n .result .to) (line .fits) (line .same) (n .ensures .ordered) (n .ensures .within) ∙ n .ensures .bytes in
+    let pins : a .p .n ≡ length (pinsOf (drop 5 (ts s))) = sym (length-names w (a .p)) ∙ ap length (few .names) in
+    let table : t .table .result ≡ tableOf (drop 5 (ts s)) =
+    t .table .ensures ∙ table-is (namesAt w (a .p)) (a .p .n) (restAt w (five .result .to)) (drop 5 (ts s)) (few .names) (sym (length-names w (a .p))) (five .ensures .rest) in
+    let found = gate-found (lines s) (ts s) _ _ (area four) (delays four ∙ ap delaysIn (d .1)) in
+    ((omega (arith, n .ensures .ordered), omega (arith, n .ensures .within, line .fits)), ap some (same-gate _ _ named pins table) ∙ sym found, tt)
+
+returns-2 : tie.Need-returns-2
+returns-2 c =
+    let four = c .before .before in
+    let s = measured four in
+    (tt, sym (no-delays (lines s) (ts s) _ (area four) (delays four ∙ ap delaysIn (c .enum-told .given .1))), refl)
+
+returns-3 : tie.Need-returns-3
+returns-3 c =
+    let f = c .before .before in
+    let s = begun f in
+    (tt, sym (no-area (lines s) (ts s) (value-none _ (sym (c .enum-told2 .given .1) ∙ f .figure-at .ensures))), refl)
+
+pub gate-of-spec : {M : Type 1} → statement M
+gate-of-spec =
+    tie.close
+    (tie.spec
+    nth-requires
+    nth-requires-2
+    figure-at-requires
+    enum-known-area
+    four-delays-requires
+    enum-known-d0
+    table-requires
+    add-t18
+    add-t19
+    cast-t20
+    enum-told
+    enum-told-2
+    returns
+    returns-2
+    returns-3)

@@ -1,0 +1,54 @@
+-- `groups::delay_named` meets its contract, by the part of the line that is the word. Assumes nothing.
+use mathlib.Core.Path.{sym, ap, _∙_}
+use native.Mathlib.Omega.{arith}
+use Rattle.groups.specs.Lines.{valueIn}
+use Prim.Native.Nat.{ℕ, _-_}
+use mathlib.Core.List.{List}
+use lib.ListN.{take, drop}
+use Rattle.model.specs.GenlibWords.{isWordByte}
+use Rattle.groups.specs.Lines.{linesBehind, delayFor}
+use Rattle.expression.proofs.Spans.{span-from, span-part, span-past}
+use borrow.Author.Needs.{needs}
+use Rattle.groups.proofs.delay_named.Statement.{statement}
+use Rattle.groups.proofs.delay_named.Tie as tie
+
+word-end-requires : tie.Need-word-end-requires
+word-end-requires c κs = search needs
+
+sub-delay-for : tie.Need-sub-delay-for
+sub-delay-for c = omega (arith, c .before .word-end .ensures, span-from isWordByte (c .before .before .before .before .args .w .now) (c .before .before .before .before .args .at))
+
+part-delay-for-start : tie.Need-part-delay-for-start
+part-delay-for-start c = omega (arith, c .before .word-end .ensures, span-from isWordByte (c .before .before .before .before .args .w .now) (c .before .before .before .before .args .at))
+
+part-delay-for-end : tie.Need-part-delay-for-end
+part-delay-for-end c = search needs
+
+delay-for-requires : tie.Need-delay-for-requires
+delay-for-requires c κs = search needs
+
+slice-aggregate-delay-for : tie.Need-slice-aggregate-delay-for
+slice-aggregate-delay-for c = search needs
+
+delay-for-requires-2 : tie.Need-delay-for-requires-2
+delay-for-requires-2 c κs = search needs
+
+returns : tie.Need-returns
+returns c = let s = c .before .before .before .before .before .before .args in c .delay-for .ensures ∙ ap (λ (x : List ℕ). valueIn (delayFor (linesBehind (s .s .now) (s .from)) x)) (ap (λ (n : ℕ). take (n - s .at) (drop (s .at) (s .w .now))) (c .before .before .before .word-end .ensures) ∙ span-part isWordByte (s .w .now) (s .at))
+
+returns-2 : tie.Need-returns-2
+returns-2 c = let s = c .before .before .before .before .before .before .args in c .delay-for2 .ensures ∙ ap (λ (x : List ℕ). valueIn (delayFor (linesBehind (s .s .now) (s .from)) x)) (sym (span-past isWordByte (s .w .now) (s .at) _ (c .before .before .before .word-end .ensures) (c .before .before .if1 .left)))
+
+pub delay-named-spec : {M : Type 1} → statement M
+delay-named-spec =
+    tie.close
+    (tie.spec
+    word-end-requires
+    sub-delay-for
+    part-delay-for-start
+    part-delay-for-end
+    delay-for-requires
+    slice-aggregate-delay-for
+    delay-for-requires-2
+    returns
+    returns-2)

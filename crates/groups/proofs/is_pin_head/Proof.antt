@@ -1,0 +1,53 @@
+-- `groups::is_pin_head` meets its contract, by its tests. Assumes nothing.
+use mathlib.Core.Path.{sym, _∙_}
+use borrow.Author.Tests.{not-true, not-false}
+use Rattle.model.specs.Text.{text}
+use Rattle.model.specs.Genlib.{pinHead}
+use borrow.Author.Needs.{needs}
+use Rattle.groups.proofs.is_pin_head.Statement.{statement}
+use Rattle.groups.proofs.is_pin_head.Tie as tie
+
+slice-aggregate-is-text : tie.Need-slice-aggregate-is-text
+slice-aggregate-is-text c = search needs
+
+is-text-requires : tie.Need-is-text-requires
+is-text-requires c κs = search needs
+
+returns : tie.Need-returns
+unfolding pinHead text
+returns c = rw (sym (c .before .is-text .ensures) ∙ not-true _ (c .if1 .taken))
+
+is-name-requires : tie.Need-is-name-requires
+is-name-requires c κs = search needs
+
+returns-2 : tie.Need-returns-2
+unfolding pinHead text
+returns-2 c = rw (sym (c .before .before .before .is-text .ensures) ∙ not-false _ (c .before .before .if1 .left), sym (c .before .is-name .ensures) ∙ not-true _ (c .if2 .taken))
+
+is-sign-requires : tie.Need-is-sign-requires
+is-sign-requires c κs = search needs
+
+returns-3 : tie.Need-returns-3
+unfolding pinHead text
+returns-3 c = rw (sym (c .before .before .before .before .before .is-text .ensures) ∙ not-false _ (c .before .before .before .before .if1 .left), sym (c .before .before .before .is-name .ensures) ∙ not-false _ (c .before .before .if2 .left), sym (c .before .is-sign .ensures) ∙ c .if3 .taken)
+
+is-name-requires-2 : tie.Need-is-name-requires-2
+is-name-requires-2 c κs = search needs
+
+returns-4 : tie.Need-returns-4
+unfolding pinHead text
+returns-4 c = rw (sym (c .before .before .before .before .before .before .is-text .ensures) ∙ not-false _ (c .before .before .before .before .before .if1 .left), sym (c .before .before .before .before .is-name .ensures) ∙ not-false _ (c .before .before .before .if2 .left), sym (c .before .before .is-sign .ensures) ∙ c .before .if3 .left) (c .is-name2 .ensures)
+
+pub is-pin-head-spec : {M : Type 1} → statement M
+is-pin-head-spec =
+    tie.close
+    (tie.spec
+    slice-aggregate-is-text
+    is-text-requires
+    returns
+    is-name-requires
+    returns-2
+    is-sign-requires
+    returns-3
+    is-name-requires-2
+    returns-4)

@@ -1,0 +1,54 @@
+-- `groups::names_gate` meets its contract, by the line’s first word. Assumes nothing.
+use mathlib.Core.Path.{ap, _∙_}
+use native.Mathlib.Omega.{arith}
+use Rattle.groups.proofs.LineLaws.{gate-part, gate-bounds}
+use Rattle.model.specs.Base.{same}
+use Rattle.groups.specs.Lines.{gateWord}
+use Rattle.model.specs.Text.{text}
+use mathlib.Core.List.{List}
+use Prim.Native.Nat.{ℕ}
+use borrow.Author.Needs.{needs}
+use Rattle.groups.proofs.names_gate.Statement.{statement}
+use Rattle.groups.proofs.names_gate.Tie as tie
+
+skip-requires : tie.Need-skip-requires
+skip-requires c κs = search needs
+
+name-end-requires : tie.Need-name-end-requires
+name-end-requires c κs = search needs
+
+sub-same-bytes : tie.Need-sub-same-bytes
+sub-same-bytes c = gate-bounds _ _ _ (c .before .before .skip .ensures) (c .before .name-end .ensures) .0
+
+part-same-bytes-start : tie.Need-part-same-bytes-start
+part-same-bytes-start c = gate-bounds _ _ _ (c .before .before .skip .ensures) (c .before .name-end .ensures) .0
+
+part-same-bytes-end : tie.Need-part-same-bytes-end
+part-same-bytes-end c = search needs
+
+slice-aggregate-same-bytes : tie.Need-slice-aggregate-same-bytes
+slice-aggregate-same-bytes c = search needs
+
+same-bytes-requires : tie.Need-same-bytes-requires
+same-bytes-requires c κs = search needs
+
+returns : tie.Need-returns
+unfolding gateWord text
+returns c = c .same-bytes .ensures ∙ ap (λ (x : List ℕ). same x gateWord) (gate-part _ _ _ (c .before .before .before .before .before .skip .ensures) (c .before .before .before .before .name-end .ensures))
+
+returns-2 : tie.Need-returns-2
+returns-2 c = absurd (omega (arith, gate-bounds _ _ _ (c .before .before .skip .ensures) (c .before .name-end .ensures) .1))
+
+pub names-gate-spec : {M : Type 1} → statement M
+names-gate-spec =
+    tie.close
+    (tie.spec
+    skip-requires
+    name-end-requires
+    sub-same-bytes
+    part-same-bytes-start
+    part-same-bytes-end
+    slice-aggregate-same-bytes
+    same-bytes-requires
+    returns
+    returns-2)

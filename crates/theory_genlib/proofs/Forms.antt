@@ -1,0 +1,557 @@
+-- The flat scan of an expression and its grammar say the same form, at any depth of brackets.
+--     sum-passes          what the grammar takes, the scan passes over
+--     taken-formed        what it takes, with `;` alone behind it, is in form
+--     sum-takes           what the scan accepts, the grammar takes
+--     deep-taken          what is in form is taken whole, with `;` alone left
+--     formed-taken        and so it is with 16 brackets, where they are at most 16 deep
+-- Assumes nothing.
+use Prim.Native.Nat.{ℕ, zero, suc, _+_, _-_, _≤_, _<_}
+use native.Mathlib.Nat.{le-refl}
+use native.Mathlib.Omega.{arith}
+use mathlib.Core.Path.{_≡_, refl, sym, _∙_, ap, subst}
+use mathlib.Core.Bool.{Bool, true, false, not, cond, _&&_, _||_, true≢false, false≢true}
+use mathlib.Core.Option.{none, some}
+use mathlib.Core.List.{List, [], _∷_, List·Memᴰ, List·Memᴰ·head, List·Memᴰ·tail}
+use lib.Dec.{T, eqb, leb, leb→le, ltb, lt→ltb}
+use lib.ListN.{length, drop}
+use borrow.Author.Tests.{eqb-true}
+use mir.Facts.{no-eqb}
+use Rattle.theory_graph.proofs.Lists.{is-true, is-false}
+use Rattle.model.specs.Base.{andThen, all, flip}
+use Rattle.model.specs.Text.{isNameByte, isLetter, between}
+use Rattle.model.specs.GenlibWords.{lead, isSign, isWord, isEmpty}
+use Rattle.model.specs.GenlibFormula.{scanDue, scanAfter, scanToken, scan, isDone, formed, opened, shallow, Taken, turns, begins, chain, quoted, closeBracket, named, atom, factorOf, productOf, sumOf, within}
+use Rattle.model.specs.declared.Scan.{Scan}
+use Rattle.model.specs.declared.Scan.the-variants.{Due, After, Done, Broken}
+
+-- ---- one token
+
+pub sign-lead : (b : ℕ) (t : List ℕ) → isSign b t ≡ true → lead t ≡ b
+unfolding isSign
+sign-lead b t e = eqb-true (lead t) b e
+
+-- behind a factor a token counts by its first byte alone
+after-byte : (d b : ℕ) (t : List ℕ) → isSign b t ≡ true → scanAfter d t ≡ scanAfter d (b ∷ [])
+unfolding scanAfter isSign lead
+after-byte d b t e = ap (λ (n : ℕ). scanAfter d (n ∷ [])) (sign-lead b t e)
+
+after-quote : (d : ℕ) (t : List ℕ) → isSign 39 t ≡ true → scanAfter d t ≡ After d
+unfolding scanAfter isSign lead
+after-quote d t e = after-byte d 39 t e
+
+after-times : (d : ℕ) (t : List ℕ) → isSign 42 t ≡ true → scanAfter d t ≡ Due d
+unfolding scanAfter isSign lead
+after-times d t e = after-byte d 42 t e
+
+after-plus : (d : ℕ) (t : List ℕ) → isSign 43 t ≡ true → scanAfter d t ≡ Due d
+unfolding scanAfter isSign lead
+after-plus d t e = after-byte d 43 t e
+
+after-close : (d : ℕ) (t : List ℕ) → isSign 41 t ≡ true → scanAfter (suc d) t ≡ After d
+unfolding scanAfter isSign lead
+after-close d t e =
+    after-byte (suc d) 41 t e
+    ∙ ap (λ (b : Bool). cond b (After (suc d - 1)) Broken) (is-true (ltb 0 (suc d)) (lt→ltb 0 (suc d) (omega arith)))
+    ∙ ap After (let q : suc d - 1 ≡ d = omega arith in q)
+
+-- where a factor is due
+abbrev dueByte : ℕ → ℕ → Bool → Scan
+dueByte d n word = cond (eqb n 33) (Due d) (cond (eqb n 40) (Due (d + 1)) (cond word (After d) Broken))
+
+due-byte : (d b : ℕ) (t : List ℕ) → isSign b t ≡ true → scanDue d t ≡ dueByte d b (isWord t)
+unfolding scanDue isSign
+due-byte d b t e = ap (λ (n : ℕ). dueByte d n (isWord t)) (sign-lead b t e)
+
+due-bang : (d : ℕ) (t : List ℕ) → isSign 33 t ≡ true → scanDue d t ≡ Due d
+due-bang d t e = due-byte d 33 t e
+
+due-open : (d : ℕ) (t : List ℕ) → isSign 40 t ≡ true → scanDue d t ≡ Due (suc d)
+due-open d t e = due-byte d 40 t e ∙ ap Due (let q : d + 1 ≡ suc d = omega arith in q)
+
+due-else : (d : ℕ) (t : List ℕ) → isSign 33 t ≡ false → isSign 40 t ≡ false → scanDue d t ≡ cond (isWord t) (After d) Broken
+unfolding scanDue
+due-else d t e h = ap (λ (b : Bool). cond b (Due d) (cond (isSign 40 t) (Due (d + 1)) (cond (isWord t) (After d) Broken))) e ∙ ap (λ (b : Bool). cond b (Due (d + 1)) (cond (isWord t) (After d) Broken)) h
+
+-- ---- the scan
+
+due-on : (d : ℕ) (t : List ℕ) (ts : List (List ℕ)) (s : Scan) → scanDue d t ≡ s → scan (Due d) (t ∷ ts) ≡ scan s ts
+unfolding scan scanToken
+due-on d t ts s e = ap (λ (x : Scan). scan x ts) e
+
+after-on : (d : ℕ) (t : List ℕ) (ts : List (List ℕ)) (s : Scan) → scanAfter d t ≡ s → scan (After d) (t ∷ ts) ≡ scan s ts
+unfolding scan scanToken
+after-on d t ts s e = ap (λ (x : Scan). scan x ts) e
+
+broken-stays : (ts : List (List ℕ)) → scan Broken ts ≡ Broken
+unfolding scan scanToken
+broken-stays [] = refl
+broken-stays (t ∷ ts) = broken-stays ts
+
+done-ends : (ts : List (List ℕ)) → isDone (scan Done ts) ≡ true → ts ≡ []
+unfolding scan scanToken isDone
+done-ends [] e = refl
+done-ends (t ∷ ts) e = absurd (false≢true (sym (ap isDone (broken-stays ts)) ∙ e))
+
+-- ---- signs that turn a value
+
+turns-due : (d : ℕ) (v : Bool) (ts : List (List ℕ)) → scan (Due d) ts ≡ scan (Due d) (turns 33 v ts .1)
+unfolding turns
+turns-due d v [] = refl
+turns-due d v (t ∷ ts) = go (isSign 33 t) refl (turns-due d (not v) ts)
+  where
+    go : (b : Bool) → isSign 33 t ≡ b → scan (Due d) ts ≡ scan (Due d) (turns 33 (not v) ts .1)
+        → scan (Due d) (t ∷ ts) ≡ scan (Due d) (cond b (turns 33 (not v) ts) (v, t ∷ ts) .1)
+    go true e r = due-on d t ts (Due d) (due-bang d t e) ∙ r
+    go false e r = refl
+
+turns-after : (d : ℕ) (v : Bool) (ts : List (List ℕ)) → scan (After d) ts ≡ scan (After d) (turns 39 v ts .1)
+unfolding turns
+turns-after d v [] = refl
+turns-after d v (t ∷ ts) = go (isSign 39 t) refl (turns-after d (not v) ts)
+  where
+    go : (b : Bool) → isSign 39 t ≡ b → scan (After d) ts ≡ scan (After d) (turns 39 (not v) ts .1)
+        → scan (After d) (t ∷ ts) ≡ scan (After d) (cond b (turns 39 (not v) ts) (v, t ∷ ts) .1)
+    go true e r = after-on d t ts (After d) (after-quote d t e) ∙ r
+    go false e r = refl
+
+turns-stop : (b : ℕ) (v : Bool) (ts : List (List ℕ)) → begins b (turns b v ts .1) ≡ false
+unfolding turns begins
+turns-stop b v [] = refl
+turns-stop b v (t ∷ ts) = go (isSign b t) refl (turns-stop b (not v) ts)
+  where
+    go : (c : Bool) → isSign b t ≡ c → begins b (turns b (not v) ts .1) ≡ false → begins b (cond c (turns b (not v) ts) (v, t ∷ ts) .1) ≡ false
+    go true e r = r
+    go false e r = e
+
+turns-short : (b : ℕ) (v : Bool) (ts : List (List ℕ)) → length (turns b v ts .1) ≤ length ts
+unfolding turns
+turns-short b v [] = omega arith
+turns-short b v (t ∷ ts) = go (isSign b t) (turns-short b (not v) ts)
+  where
+    go : (c : Bool) → length (turns b (not v) ts .1) ≤ length ts → length (cond c (turns b (not v) ts) (v, t ∷ ts) .1) ≤ length (t ∷ ts)
+    go true r = omega arith
+    go false r = omega arith
+
+-- a list that begins with a sign
+pub begins-is : (b : ℕ) (ts : List (List ℕ)) → begins b ts ≡ true → (t : List ℕ) × (isSign b t ≡ true) × (ts ≡ t ∷ drop 1 ts)
+unfolding begins
+begins-is b [] e = absurd (false≢true e)
+begins-is b (t ∷ ts) e = (t, e, refl)
+
+-- ---- what the grammar takes, the scan passes over
+
+pub none-some : {A B : Type 0} {a : A} → none ≡ some a → B
+none-some e = let z : _≡_ {A = ℕ} 0 1 = cc in absurd (omega arith)
+
+pub some-once : {A : Type 0} {a b : A} → some a ≡ some b → a ≡ b
+some-once e = cc
+
+abbrev pub Passes : (List (List ℕ) → Taken) → Type 0
+Passes part = (ts : List (List ℕ)) (r : Bool × List (List ℕ)) → part ts ≡ some r → (d : ℕ) → scan (Due d) ts ≡ scan (After d) (r .1)
+
+abbrev rest : ℕ → Bool × List (List ℕ) → Scan
+rest d r = scan (After d) (r .1)
+
+module _ (b : ℕ) (op : (d : ℕ) (t : List ℕ) → isSign b t ≡ true → scanAfter d t ≡ Due d) (join : Bool → Bool → Bool) (part : List (List ℕ) → Taken) (passes : Passes part) where
+  -- the same of the parts that follow
+  abbrev Later : ℕ → Bool × List (List ℕ) → ℕ → Type 0
+  Later fuel r d = (w : Bool) (us : List (List ℕ)) → chain b join part fuel w us ≡ some r → scan (Due d) us ≡ rest d r
+
+  chain-passes : (fuel : ℕ) (v : Bool) → Passes (chain b join part fuel v)
+  unfolding chain
+  chain-passes zero v ts r e d = none-some e
+  chain-passes (suc fuel) v ts r e d = first (λ w us x. chain-passes fuel w us r x d) (part ts) refl e
+    where
+      on : Later fuel r d → (q : Bool × List (List ℕ)) → scan (Due d) ts ≡ rest d q → (c : Bool) → begins b (q .1) ≡ c
+          → cond c (chain b join part fuel (join v (q .0)) (drop 1 (q .1))) (some (join v (q .0), q .1)) ≡ some r → scan (Due d) ts ≡ rest d r
+      on later q k true g x =
+          let w = begins-is b (q .1) g in
+          k ∙ ap (scan (After d)) (w .2) ∙ after-on d (w .0) (drop 1 (q .1)) (Due d) (op d (w .0) (w .1)) ∙ later (join v (q .0)) (drop 1 (q .1)) x
+      on later q k false g x = let y : _≡_ {A = Bool × List (List ℕ)} (join v (q .0), q .1) r = some-once x in k ∙ ap (rest d) y
+
+      first : Later fuel r d → (o : Taken) → part ts ≡ o
+          → andThen o (λ q. cond (begins b (q .1)) (chain b join part fuel (join v (q .0)) (drop 1 (q .1))) (some (join v (q .0), q .1))) ≡ some r → scan (Due d) ts ≡ rest d r
+      first later none g x = unfold andThen in none-some x
+      first later (some q) g x = unfold andThen in on later q (passes ts q g d) (begins b (q .1)) refl x
+
+module _ (value : List ℕ → Bool) (inside : List (List ℕ) → Taken) (passes : Passes inside) where
+  close-passes : (d : ℕ) (v : Bool) (ts : List (List ℕ)) (r : Bool × List (List ℕ)) → closeBracket v ts ≡ some r → scan (After (suc d)) ts ≡ rest d r
+  unfolding closeBracket quoted
+  close-passes d v ts r e = go (begins 41 ts) refl e
+    where
+      go : (c : Bool) → begins 41 ts ≡ c → cond c (some (turns 39 v (drop 1 ts))) none ≡ some r → scan (After (suc d)) ts ≡ rest d r
+      go true g x =
+          let w = begins-is 41 ts g in
+          ap (scan (After (suc d))) (w .2) ∙ after-on (suc d) (w .0) (drop 1 ts) (After d) (after-close d (w .0) (w .1)) ∙ turns-after d v (drop 1 ts) ∙ ap (rest d) (some-once x)
+      go false g x = none-some x
+
+  bracket-passes : (d : ℕ) (odd : Bool) (ts : List (List ℕ)) (r : Bool × List (List ℕ)) → andThen (inside ts) (λ q. closeBracket (flip odd (q .0)) (q .1)) ≡ some r
+      → scan (Due (suc d)) ts ≡ rest d r
+  unfolding andThen
+  bracket-passes d odd ts r e = go (inside ts) refl e
+    where
+      go : (o : Taken) → inside ts ≡ o → andThen o (λ q. closeBracket (flip odd (q .0)) (q .1)) ≡ some r → scan (Due (suc d)) ts ≡ rest d r
+      go none g x = none-some x
+      go (some q) g x = passes ts q g (suc d) ∙ close-passes d (flip odd (q .0)) (q .1) r x
+
+  named-passes : (d : ℕ) (odd : Bool) (ts : List (List ℕ)) (r : Bool × List (List ℕ)) → begins 33 ts ≡ false → begins 40 ts ≡ false → named value odd ts ≡ some r → scan (Due d) ts ≡ rest d r
+  unfolding named quoted begins
+  named-passes d odd [] r a b e = none-some e
+  named-passes d odd (t ∷ ts) r a b e = go (isWord t) refl e
+    where
+      go : (c : Bool) → isWord t ≡ c → cond c (some (turns 39 (flip odd (value t)) ts)) none ≡ some r → scan (Due d) (t ∷ ts) ≡ rest d r
+      go true g x =
+          due-on d t ts (After d) (due-else d t a b ∙ ap (λ (c : Bool). cond c (After d) Broken) g) ∙ turns-after d (flip odd (value t)) ts ∙ ap (rest d) (some-once x)
+      go false g x = none-some x
+
+  atom-passes : (d : ℕ) (odd : Bool) (ts : List (List ℕ)) (r : Bool × List (List ℕ)) → begins 33 ts ≡ false → atom value inside odd ts ≡ some r → scan (Due d) ts ≡ rest d r
+  unfolding atom
+  atom-passes d odd ts r a e = go (begins 40 ts) refl e
+    where
+      go : (c : Bool) → begins 40 ts ≡ c → cond c (andThen (inside (drop 1 ts)) (λ q. closeBracket (flip odd (q .0)) (q .1))) (named value odd ts) ≡ some r → scan (Due d) ts ≡ rest d r
+      go true g x =
+          let w = begins-is 40 ts g in
+          ap (scan (Due d)) (w .2) ∙ due-on d (w .0) (drop 1 ts) (Due (suc d)) (due-open d (w .0) (w .1)) ∙ bracket-passes d odd (drop 1 ts) r x
+      go false g x = named-passes d odd ts r a g x
+
+  factor-passes : Passes (factorOf value inside)
+  unfolding factorOf
+  factor-passes ts r e d = turns-due d false ts ∙ atom-passes d (turns 33 false ts .0) (turns 33 false ts .1) r (turns-stop 33 false ts) e
+
+  -- a sum, where what may stand inside brackets passes
+  form-passes : (fuel : ℕ) → Passes (sumOf value fuel inside)
+  unfolding sumOf productOf
+  form-passes fuel = chain-passes 43 after-plus _||_ (productOf value fuel inside) (chain-passes 42 after-times _&&_ (factorOf value inside) factor-passes fuel true) fuel false
+
+within-passes : (value : List ℕ → Bool) (fuel k : ℕ) → Passes (within value fuel k)
+unfolding within
+within-passes value fuel zero ts r e d = none-some e
+within-passes value fuel (suc k) ts r e d = form-passes value (within value fuel k) (within-passes value fuel k) fuel ts r e d
+
+pub sum-passes : (value : List ℕ → Bool) (fuel k : ℕ) → Passes (sumOf value fuel (within value fuel k))
+sum-passes value fuel k = form-passes value (within value fuel k) (within-passes value fuel k) fuel
+
+-- what the grammar takes, with `;` alone behind it, is in form
+pub taken-formed : (value : List ℕ → Bool) (fuel k : ℕ) (ts : List (List ℕ)) (v : Bool) (t : List ℕ) → isSign 59 t ≡ true
+    → sumOf value fuel (within value fuel k) ts ≡ some (v, t ∷ []) → formed ts ≡ true
+unfolding formed scan isDone scanAfter isSign lead
+taken-formed value fuel k ts v t s e = ap isDone (sum-passes value fuel k ts (v, t ∷ []) e 0 ∙ after-on 0 t [] Done (after-byte 0 59 t s))
+
+-- ---- what the scan accepts, the grammar takes
+
+-- the brackets open behind a token
+opened-same : (d b : ℕ) (t : List ℕ) → isSign b t ≡ true → eqb b 40 ≡ false → eqb b 41 ≡ false → opened d t ≡ d
+unfolding opened isSign
+opened-same d b t e p q =
+    ap (λ (n : ℕ). cond (eqb n 40) (d + 1) (cond (eqb n 41) (d - 1) d)) (sign-lead b t e)
+    ∙ ap (λ (c : Bool). cond c (d + 1) (cond (eqb b 41) (d - 1) d)) p ∙ ap (λ (c : Bool). cond c (d - 1) d) q
+
+opened-open : (d : ℕ) (t : List ℕ) → isSign 40 t ≡ true → opened d t ≡ suc d
+unfolding opened
+opened-open d t e = ap (λ (c : Bool). cond c (d + 1) (cond (isSign 41 t) (d - 1) d)) e ∙ (let q : d + 1 ≡ suc d = omega arith in q)
+
+opened-close : (d : ℕ) (t : List ℕ) → isSign 41 t ≡ true → opened (suc d) t ≡ d
+unfolding opened isSign
+opened-close d t e =
+    ap (λ (n : ℕ). cond (eqb n 40) (suc d + 1) (cond (eqb n 41) (suc d - 1) (suc d))) (sign-lead 41 t e) ∙ (let q : suc d - 1 ≡ d = omega arith in q)
+
+-- no name begins with a sign
+pub word-sign : (n : ℕ) → isNameByte n ≡ false → (t : List ℕ) → isWord t ≡ true → isSign n t ≡ false
+unfolding isWord isEmpty all isSign lead
+word-sign n h [] e = absurd (false≢true e)
+word-sign n h (b ∷ bs) e = go (eqb b n) refl
+  where
+    go : (c : Bool) → eqb b n ≡ c → c ≡ false
+    go true q = absurd (false≢true (sym (ap (λ (x : Bool). x && all isNameByte bs) (ap isNameByte (eqb-true b n q) ∙ h)) ∙ e))
+    go false q = refl
+
+opened-word : (d : ℕ) (t : List ℕ) → isWord t ≡ true → isSign 40 t ≡ false → opened d t ≡ d
+unfolding opened
+opened-word d t w e =
+    ap (λ (c : Bool). cond c (d + 1) (cond (isSign 41 t) (d - 1) d)) e ∙ ap (λ (c : Bool). cond c (d - 1) d) (word-sign 41 (unfold isNameByte isLetter between in refl) t w)
+
+-- at every token at most so many brackets are open, where d are open before the first
+abbrev Low : ℕ → ℕ → List (List ℕ) → Type 0
+Low top d [] = d ≤ top
+Low top d (t ∷ ts) = (d ≤ top) × Low top (opened d t) ts
+
+low-few : (top d : ℕ) (ts : List (List ℕ)) → Low top d ts → d ≤ top
+low-few top d [] h = h
+low-few top d (t ∷ ts) h = h .0
+
+low-on : (top d e : ℕ) (t : List ℕ) (ts : List (List ℕ)) → opened d t ≡ e → Low top d (t ∷ ts) → Low top e ts
+low-on top d e t ts q h = subst (λ (n : ℕ). Low top n ts) q (h .1)
+
+turns-low : (top b d : ℕ) (v : Bool) (ts : List (List ℕ)) → eqb b 40 ≡ false → eqb b 41 ≡ false → Low top d ts → Low top d (turns b v ts .1)
+unfolding turns
+turns-low top b d v [] p q h = h
+turns-low top b d v (t ∷ ts) p q h = go (isSign b t) refl (turns-low top b d (not v) ts p q)
+  where
+    go : (c : Bool) → isSign b t ≡ c → (Low top d ts → Low top d (turns b (not v) ts .1)) → Low top d (cond c (turns b (not v) ts) (v, t ∷ ts) .1)
+    go true e r = r (low-on top d d t ts (opened-same d b t e p q) h)
+    go false e r = h
+
+-- not "brackets over 16 deep"
+shallow-low : (d : ℕ) (ts : List (List ℕ)) → shallow d ts ≡ true → Low 16 d ts
+unfolding shallow
+shallow-low d [] h = leb→le d 16 (subst T (sym h) tt)
+shallow-low d (t ∷ ts) h = go (leb d 16) (leb→le d 16) h (shallow-low (opened d t) ts)
+  where
+    go : (a : Bool) → (T a → d ≤ 16) → (a && shallow (opened d t) ts) ≡ true → (shallow (opened d t) ts ≡ true → Low 16 (opened d t) ts) → (d ≤ 16) × Low 16 (opened d t) ts
+    go true y x r = (y tt, r x)
+    go false y x r = absurd (false≢true x)
+
+-- no token opens more than one
+opened-most : (d : ℕ) (t : List ℕ) → opened d t ≤ suc d
+unfolding opened
+opened-most d t = go (isSign 40 t) (isSign 41 t)
+  where
+    go : (a b : Bool) → cond a (d + 1) (cond b (d - 1) d) ≤ suc d
+    go true b = omega arith
+    go false true = omega arith
+    go false false = omega arith
+
+any-low : (top d : ℕ) (ts : List (List ℕ)) → d + length ts ≤ top → Low top d ts
+any-low top d [] h = omega arith
+any-low top d (t ∷ ts) h = (omega arith, any-low top (opened d t) ts (omega (arith, opened-most d t)))
+
+turns-in : (b : ℕ) (v : Bool) (ts : List (List ℕ)) (t : List ℕ) → List·Memᴰ t (turns b v ts .1) → List·Memᴰ t ts
+unfolding turns
+turns-in b v [] t m = m
+turns-in b v (u ∷ us) t m = go (isSign b u) m (turns-in b (not v) us t)
+  where
+    go : (c : Bool) → List·Memᴰ t (cond c (turns b (not v) us) (v, u ∷ us) .1) → (List·Memᴰ t (turns b (not v) us .1) → List·Memᴰ t us) → List·Memᴰ t (u ∷ us)
+    go true n r = List·Memᴰ·tail (r n)
+    go false n r = n
+
+rest-in : (ts : List (List ℕ)) (u t : List ℕ) → ts ≡ u ∷ drop 1 ts → List·Memᴰ t (drop 1 ts) → List·Memᴰ t ts
+rest-in ts u t e m = subst (λ (us : List (List ℕ)). List·Memᴰ t us) (sym e) (List·Memᴰ·tail m)
+
+-- what a form takes of tokens that the scan accepts with d brackets open: some of them, and behind them the form goes on no further
+pub record Took (top : ℕ) (part : List (List ℕ) → Taken) (Stops : List (List ℕ) → Type 0) (d : ℕ) (ts : List (List ℕ)) : Type 0 where
+  pub got : Bool × List (List ℕ)
+  pub is : part ts ≡ some got
+  pub shorter : length (got .1) < length ts
+  pub accepted : isDone (scan (After d) (got .1)) ≡ true
+  pub low : Low top d (got .1)
+  pub stops : Stops (got .1)
+  pub among : (t : List ℕ) → List·Memᴰ t (got .1) → List·Memᴰ t ts
+
+-- a form takes what the scan accepts of at most n tokens
+abbrev pub Takes : ℕ → (List (List ℕ) → Taken) → (List (List ℕ) → Type 0) → ℕ → ℕ → Type 0
+Takes top part Stops d n = (ts : List (List ℕ)) → length ts ≤ n → isDone (scan (Due d) ts) ≡ true → Low top d ts → Took top part Stops d ts
+
+-- where a factor, a product, a sum stops
+abbrev StopsFactor : List (List ℕ) → Type 0
+StopsFactor ts = begins 39 ts ≡ false
+
+abbrev StopsProduct : List (List ℕ) → Type 0
+StopsProduct ts = StopsFactor ts × (begins 42 ts ≡ false)
+
+abbrev StopsSum : List (List ℕ) → Type 0
+StopsSum ts = StopsProduct ts × (begins 43 ts ≡ false)
+
+drop-short : (ts : List (List ℕ)) (t : List ℕ) → ts ≡ t ∷ drop 1 ts → suc (length (drop 1 ts)) ≡ length ts
+drop-short ts t e = sym (ap length e)
+
+module _ (top b : ℕ) (op : (d : ℕ) (t : List ℕ) → isSign b t ≡ true → scanAfter d t ≡ Due d) (notOpen : eqb b 40 ≡ false) (notClose : eqb b 41 ≡ false) (join : Bool → Bool → Bool)
+    (part : List (List ℕ) → Taken) (Stops : List (List ℕ) → Type 0) (d n : ℕ) (takes : Takes top part Stops d n) where
+  chain-takes : (fuel : ℕ) (v : Bool) (ts : List (List ℕ)) → length ts < fuel → length ts ≤ n → isDone (scan (Due d) ts) ≡ true → Low top d ts
+      → Took top (chain b join part fuel v) (λ us. Stops us × (begins b us ≡ false)) d ts
+  unfolding chain andThen
+  chain-takes zero v ts f h a s = absurd (omega arith)
+  chain-takes (suc fuel) v ts f h a s = go (begins b (p .got .1)) refl (λ w us. chain-takes fuel w us)
+    where
+      p : Took top part Stops d ts
+      p = takes ts h a s
+
+      first : (x : Taken) → cond (begins b (p .got .1)) (chain b join part fuel (join v (p .got .0)) (drop 1 (p .got .1))) (some (join v (p .got .0), p .got .1)) ≡ x
+          → chain b join part (suc fuel) v ts ≡ x
+      first x e = unfold chain andThen in
+          ap (λ (o : Taken). andThen o (λ q. cond (begins b (q .1)) (chain b join part fuel (join v (q .0)) (drop 1 (q .1))) (some (join v (q .0), q .1)))) (p .is) ∙ e
+
+      go : (c : Bool) → begins b (p .got .1) ≡ c
+          → ((w : Bool) (us : List (List ℕ)) → length us < fuel → length us ≤ n → isDone (scan (Due d) us) ≡ true → Low top d us
+          → Took top (chain b join part fuel w) (λ vs. Stops vs × (begins b vs ≡ false)) d us)
+          → Took top (chain b join part (suc fuel) v) (λ us. Stops us × (begins b us ≡ false)) d ts
+      go true g later =
+          let w = begins-is b (p .got .1) g in
+          let l : suc (length (drop 1 (p .got .1))) ≡ length (p .got .1) = drop-short (p .got .1) (w .0) (w .2) in
+          let k : length (p .got .1) < length ts = p .shorter in
+          let r = later (join v (p .got .0)) (drop 1 (p .got .1)) (omega arith) (omega arith)
+          (ap isDone (sym (after-on d (w .0) (drop 1 (p .got .1)) (Due d) (op d (w .0) (w .1))) ∙ ap (scan (After d)) (sym (w .2))) ∙ p .accepted)
+          (low-on top d d (w .0) (drop 1 (p .got .1)) (opened-same d b (w .0) (w .1) notOpen notClose) (subst (λ (us : List (List ℕ)). Low top d us) (w .2) (p .low))) in
+          let m : length (r .got .1) < length (drop 1 (p .got .1)) = r .shorter in
+          record {
+            got = r .got;
+            is = first (some (r .got)) (ap (λ (c : Bool). cond c (chain b join part fuel (join v (p .got .0)) (drop 1 (p .got .1))) (some (join v (p .got .0), p .got .1))) g ∙ r .is);
+            shorter = omega arith;
+            accepted = r .accepted;
+            low = r .low;
+            stops = r .stops;
+            among = λ u i. p .among u (rest-in (p .got .1) (w .0) u (w .2) (r .among u i));
+          }
+      go false g later =
+          record {
+            got = (join v (p .got .0), p .got .1);
+            is = first (some (join v (p .got .0), p .got .1)) (ap (λ (c : Bool). cond c (chain b join part fuel (join v (p .got .0)) (drop 1 (p .got .1))) (some (join v (p .got .0), p .got .1))) g);
+            shorter = p .shorter;
+            accepted = p .accepted;
+            low = p .low;
+            stops = (p .stops, g);
+            among = p .among;
+          }
+
+-- where a sum stops inside brackets, one closes
+stops-close : (d : ℕ) (ts : List (List ℕ)) → isDone (scan (After (suc d)) ts) ≡ true → StopsSum ts → begins 41 ts ≡ true
+unfolding scan scanToken scanAfter isDone begins
+stops-close d [] a s = absurd (false≢true a)
+stops-close d (t ∷ ts) a s = go (isSign 39 t) (isSign 41 t) (isSign 42 t) (isSign 43 t) (isSign 59 t) (eqb (suc d) 0) (s .0 .0) (s .0 .1) (s .1) (is-false (eqb (suc d) 0) (no-eqb (let z : ¬ (suc d ≡ 0) = λ e. omega arith in z))) a
+  where
+    go : (p q r u w z : Bool) → p ≡ false → r ≡ false → u ≡ false → z ≡ false
+        → isDone (scan (cond p (After (suc d)) (cond q (cond (ltb 0 (suc d)) (After (suc d - 1)) Broken) (cond (r || u) (Due (suc d)) (cond (w && z) Done Broken)))) ts) ≡ true → q ≡ true
+    go true q r u w z e f g h x = absurd (true≢false e)
+    go false true r u w z e f g h x = refl
+    go false false true u w z e f g h x = absurd (true≢false f)
+    go false false false true w z e f g h x = absurd (true≢false g)
+    go false false false false w true e f g h x = absurd (true≢false h)
+    go false false false false true false e f g h x = absurd (false≢true (sym (ap isDone (broken-stays ts)) ∙ x))
+    go false false false false false false e f g h x = absurd (false≢true (sym (ap isDone (broken-stays ts)) ∙ x))
+
+-- where a sum stops outside of them, the `;` stands, and nothing behind it
+stops-end : (ts : List (List ℕ)) → isDone (scan (After 0) ts) ≡ true → StopsSum ts → (t : List ℕ) × (isSign 59 t ≡ true) × (ts ≡ t ∷ [])
+unfolding scan scanToken scanAfter isDone begins
+stops-end [] a s = absurd (false≢true a)
+stops-end (t ∷ ts) a s = let r = go (isSign 39 t) (isSign 41 t) (isSign 42 t) (isSign 43 t) (isSign 59 t) (s .0 .0) (s .0 .1) (s .1) a in (t, r .0, ap (λ (us : List (List ℕ)). t ∷ us) (r .1))
+  where
+    go : (p q r u w : Bool) → p ≡ false → r ≡ false → u ≡ false
+        → isDone (scan (cond p (After 0) (cond q (cond (ltb 0 0) (After (0 - 1)) Broken) (cond (r || u) (Due 0) (cond (w && eqb 0 0) Done Broken)))) ts) ≡ true → (w ≡ true) × (ts ≡ [])
+    go true q r u w e f g x = absurd (true≢false e)
+    go false true r u w e f g x = absurd (false≢true (sym (ap isDone (broken-stays ts)) ∙ x))
+    go false false true u w e f g x = absurd (true≢false f)
+    go false false false true w e f g x = absurd (true≢false g)
+    go false false false false true e f g x = (refl, done-ends ts x)
+    go false false false false false e f g x = absurd (false≢true (sym (ap isDone (broken-stays ts)) ∙ x))
+
+module _ (top : ℕ) (value : List ℕ → Bool) (fuel : ℕ) where
+  -- the sum where so many brackets may open
+  abbrev sumAt : ℕ → List (List ℕ) → Taken
+  sumAt k = sumOf value fuel (within value fuel k)
+
+  -- what stands behind a name or a bracket that closes, without its `'`
+  quoted-took : (part : List (List ℕ) → Taken) (d : ℕ) (ts : List (List ℕ)) (v : Bool) (us : List (List ℕ)) → part ts ≡ some (turns 39 v us) → length us < length ts
+      → isDone (scan (After d) us) ≡ true → Low top d us → ((t : List ℕ) → List·Memᴰ t us → List·Memᴰ t ts)
+      → Took top part StopsFactor d ts
+  quoted-took part d ts v us e h a s i =
+      let k : length (turns 39 v us .1) ≤ length us = turns-short 39 v us in
+      record {
+        got = turns 39 v us;
+        is = e;
+        shorter = omega arith;
+        accepted = ap isDone (sym (turns-after d v us)) ∙ a;
+        low = turns-low top 39 d v us refl refl s;
+        stops = turns-stop 39 v us;
+        among = λ t m. i t (turns-in 39 v us t m);
+      }
+
+  module _ (m : ℕ) (ih : (d k : ℕ) → k + d ≡ top → Takes top (sumAt k) StopsSum d m) where
+    bracket-takes : (d k : ℕ) → k + d ≡ top → (odd : Bool) (t : List ℕ) (ts : List (List ℕ)) → length ts ≤ m → isSign 40 t ≡ true → isDone (scan (Due (suc d)) ts) ≡ true → Low top (suc d) ts
+        → Took top (atom value (within value fuel k) odd) StopsFactor d (t ∷ ts)
+    bracket-takes d zero e odd t ts h g a s = let q : suc d ≤ top = low-few top (suc d) ts s in absurd (omega arith)
+    bracket-takes d (suc k) e odd t ts h g a s = quoted-took (atom value (within value fuel (suc k)) odd) d (t ∷ ts) v us is short accepted low (λ u m. List·Memᴰ·tail (r .among u (rest-in (r .got .1) (here .0) u (here .2) m)))
+      where
+        r : Took top (sumAt k) StopsSum (suc d) ts
+        r = ih (suc d) k (omega arith) ts h a s
+
+        v : Bool
+        v = flip odd (r .got .0)
+
+        us : List (List ℕ)
+        us = drop 1 (r .got .1)
+
+        close : begins 41 (r .got .1) ≡ true
+        close = stops-close d (r .got .1) (r .accepted) (r .stops)
+
+        here : (u : List ℕ) × (isSign 41 u ≡ true) × (r .got .1 ≡ u ∷ us)
+        here = begins-is 41 (r .got .1) close
+
+        is : atom value (within value fuel (suc k)) odd (t ∷ ts) ≡ some (turns 39 v us)
+        is = unfold atom begins within andThen closeBracket quoted in
+            ap (λ (c : Bool). cond c (andThen (sumAt k ts) (λ q. closeBracket (flip odd (q .0)) (q .1))) (named value odd (t ∷ ts))) g
+            ∙ ap (λ (o : Taken). andThen o (λ q. closeBracket (flip odd (q .0)) (q .1))) (r .is)
+            ∙ ap (λ (c : Bool). cond c (some (turns 39 v us)) none) close
+
+        accepted : isDone (scan (After d) us) ≡ true
+        accepted = ap isDone (sym (after-on (suc d) (here .0) us (After d) (after-close d (here .0) (here .1))) ∙ ap (scan (After (suc d))) (sym (here .2))) ∙ r .accepted
+
+        low : Low top d us
+        low = low-on top (suc d) d (here .0) us (opened-close d (here .0) (here .1)) (subst (λ (vs : List (List ℕ)). Low top (suc d) vs) (here .2) (r .low))
+
+        short : length us < length (t ∷ ts)
+        short = let x : suc (length us) ≡ length (r .got .1) = drop-short (r .got .1) (here .0) (here .2) in let y : length (r .got .1) < length ts = r .shorter in omega arith
+
+    name-takes : (inside : List (List ℕ) → Taken) (d : ℕ) (odd : Bool) (t : List ℕ) (ts : List (List ℕ)) → isSign 33 t ≡ false → isSign 40 t ≡ false
+        → isDone (scan (Due d) (t ∷ ts)) ≡ true → Low top d (t ∷ ts) → Took top (atom value inside odd) StopsFactor d (t ∷ ts)
+    unfolding isDone
+    name-takes inside d odd t ts p q a s = go (isWord t) refl
+      where
+        go : (c : Bool) → isWord t ≡ c → Took top (atom value inside odd) StopsFactor d (t ∷ ts)
+        go true w =
+            quoted-took (atom value inside odd) d (t ∷ ts) (flip odd (value t)) ts
+            (unfold atom begins named quoted in
+            ap (λ (c : Bool). cond c (andThen (inside ts) (λ x. closeBracket (flip odd (x .0)) (x .1))) (cond (isWord t) (some (turns 39 (flip odd (value t)) ts)) none)) q
+            ∙ ap (λ (c : Bool). cond c (some (turns 39 (flip odd (value t)) ts)) none) w)
+            (omega arith)
+            (ap isDone (sym (due-on d t ts (After d) (due-else d t p q ∙ ap (λ (c : Bool). cond c (After d) Broken) w))) ∙ a)
+            (low-on top d d t ts (opened-word d t w q) s) (λ u m. List·Memᴰ·tail m)
+        go false w = absurd (false≢true (sym (ap isDone (due-on d t ts Broken (due-else d t p q ∙ ap (λ (c : Bool). cond c (After d) Broken) w) ∙ broken-stays ts)) ∙ a))
+
+    atom-takes : (d k : ℕ) → k + d ≡ top → (odd : Bool) (ts : List (List ℕ)) → length ts ≤ suc m → begins 33 ts ≡ false → isDone (scan (Due d) ts) ≡ true → Low top d ts
+        → Took top (atom value (within value fuel k) odd) StopsFactor d ts
+    unfolding begins scan isDone
+    atom-takes d k e odd [] h p a s = absurd (false≢true a)
+    atom-takes d k e odd (t ∷ ts) h p a s = go (isSign 40 t) refl
+      where
+        go : (c : Bool) → isSign 40 t ≡ c → Took top (atom value (within value fuel k) odd) StopsFactor d (t ∷ ts)
+        go true g = bracket-takes d k e odd t ts (omega arith) g (ap isDone (sym (due-on d t ts (Due (suc d)) (due-open d t g))) ∙ a) (low-on top d (suc d) t ts (opened-open d t g) s)
+        go false g = name-takes (within value fuel k) d odd t ts p g a s
+
+    factor-takes : (d k : ℕ) → k + d ≡ top → Takes top (factorOf value (within value fuel k)) StopsFactor d (suc m)
+    unfolding factorOf
+    factor-takes d k e ts h a s =
+        let x : length (turns 33 false ts .1) ≤ length ts = turns-short 33 false ts in
+        let r = atom-takes d k e (turns 33 false ts .0) (turns 33 false ts .1) (omega arith) (turns-stop 33 false ts) (ap isDone (sym (turns-due d false ts)) ∙ a) (turns-low top 33 d false ts refl refl s) in
+        let y : length (r .got .1) < length (turns 33 false ts .1) = r .shorter in
+        record { got = r .got; is = r .is; shorter = omega arith; accepted = r .accepted; low = r .low; stops = r .stops; among = λ u i. turns-in 33 false ts u (r .among u i) }
+
+    form-takes : suc m < fuel → (d k : ℕ) → k + d ≡ top → Takes top (sumAt k) StopsSum d (suc m)
+    unfolding sumOf productOf
+    form-takes l d k e ts h a s =
+        chain-takes top 43 after-plus refl refl _||_ (productOf value fuel (within value fuel k)) StopsProduct d (suc m)
+        (λ us i b c. chain-takes top 42 after-times refl refl _&&_ (factorOf value (within value fuel k)) StopsFactor d (suc m) (factor-takes d k e) fuel true us (omega arith) i b c)
+        fuel false ts (omega arith) h a s
+
+  pub sum-takes : (n : ℕ) → n < fuel → (d k : ℕ) → k + d ≡ top → Takes top (sumAt k) StopsSum d n
+  unfolding scan isDone
+  sum-takes zero l d k e [] h a s = absurd (false≢true a)
+  sum-takes zero l d k e (t ∷ ts) h a s = absurd (omega arith)
+  sum-takes (suc m) l d k e ts h a s = form-takes m (sum-takes m (omega arith)) l d k e ts h a s
+
+-- an expression in form, with fewer tokens than the fuel, is taken whole, with `;` alone left
+whole-taken : (top : ℕ) (value : List ℕ → Bool) (fuel : ℕ) (ts : List (List ℕ)) → length ts < fuel → formed ts ≡ true → Low top 0 ts
+    → (v : Bool) × (t : List ℕ) × (isSign 59 t ≡ true) × List·Memᴰ t ts × (sumOf value fuel (within value fuel top) ts ≡ some (v, t ∷ []))
+unfolding formed
+whole-taken top value fuel ts l f s =
+    let r = sum-takes top value fuel (length ts) l 0 top (let e : top + 0 ≡ top = omega arith in e) ts (le-refl (length ts)) f s in
+    let q = stops-end (r .got .1) (r .accepted) (r .stops) in
+    (r .got .0, q .0, q .1, r .among (q .0) (subst (λ (us : List (List ℕ)). List·Memᴰ (q .0) us) (sym (q .2)) (List·Memᴰ·head refl)), r .is ∙ ap (λ (us : List (List ℕ)). some (r .got .0, us)) (q .2))
+
+-- at any depth of brackets, if as many may open as there are tokens
+pub deep-taken : (value : List ℕ → Bool) (ts : List (List ℕ)) → formed ts ≡ true
+    → (v : Bool) × (t : List ℕ) × (isSign 59 t ≡ true) × List·Memᴰ t ts × (sumOf value (suc (length ts)) (within value (suc (length ts)) (length ts)) ts ≡ some (v, t ∷ []))
+deep-taken value ts f = whole-taken (length ts) value (suc (length ts)) ts (omega arith) f (any-low (length ts) 0 ts (omega arith))
+
+-- where brackets are at most 16 deep, if 16 may open
+pub formed-taken : (value : List ℕ → Bool) (fuel : ℕ) (ts : List (List ℕ)) → length ts < fuel → formed ts ≡ true → shallow 0 ts ≡ true
+    → (v : Bool) × (t : List ℕ) × (isSign 59 t ≡ true) × List·Memᴰ t ts × (sumOf value fuel (within value fuel 16) ts ≡ some (v, t ∷ []))
+formed-taken value fuel ts l f s = whole-taken 16 value fuel ts l f (shallow-low 0 ts s)
