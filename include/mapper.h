@@ -1,7 +1,7 @@
 /* The array mapper's calls. What they answer and leave is proved (crates/capi); this page says it in words.
  *
- * mapper_map maps a cell library text and an AIGER graph text, in the ASCII or the binary form. It never reads or writes outside the four arrays, always returns, and asks
- * nothing of what they hold; they may not overlap.
+ * mapper_map maps a cell library text, an AIGER graph text, in the ASCII or the binary form, and a text of the inputs' arrivals, empty for none.
+ * It never reads or writes outside the five arrays, always returns, and asks nothing of what they hold; they may not overlap.
  *   success   number 0, value the netlist's length; text begins with the netlist and keeps its other bytes; gates, area and arrival are the
  *             figures of its last line; every word of work is 0
  *   refusal   number and value are the refusal's number and place (docs/GUIDE.md), the figures are 0; text is unchanged; work is unchanged
@@ -30,8 +30,8 @@ typedef struct {
     uint32_t arrival;
 } MapperAnswer;
 
-MapperAnswer mapper_map(const uint8_t *cells, size_t cells_len, const uint8_t *graph, size_t graph_len, uint16_t *work, size_t work_len,
-                        uint8_t *text, size_t text_len);
+MapperAnswer mapper_map(const uint8_t *cells, size_t cells_len, const uint8_t *graph, size_t graph_len, const uint8_t *arrivals,
+                        size_t arrivals_len, uint16_t *work, size_t work_len, uint8_t *text, size_t text_len);
 
 MapperAnswer mapper_cells(const uint8_t *genlib, size_t genlib_len, uint8_t *text, size_t text_len);
 

@@ -79,9 +79,9 @@ fn main() {
         for _ in 0..calls {
             let start = cpu_seconds();
             answer = if through_other {
-                reference::map(&cells, &graph, work.len(), text.len()).0
+                reference::map_without_arrivals(&cells, &graph, work.len(), text.len()).0
             } else {
-                ours::map(&cells, &graph, &mut work, &mut text)
+                ours::map(&cells, &graph, &[], &mut work, &mut text)
             };
             least = least.min(cpu_seconds() - start);
         }

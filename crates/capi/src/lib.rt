@@ -4,7 +4,7 @@ use model::Written;
 ghost use mathlib.Core.Path.{_≡_};
 ghost use lib.ListN.{length};
 ghost use Rattle.model.specs.Mapper.{callOf, mapTexts, returned, returnedBy, textAfter, workAfter};
-ghost use Rattle.model.specs.Demands.{Values, Earliest, Twins, Sequenced, EitherEnd};
+ghost use Rattle.model.specs.Demands.{Values, Earliest, Twins, Sequenced, EitherEnd, Untimed, Listed};
 ghost use Rattle.model.specs.Genlib.{genlibText, writtenAnswer, writtenPair, writtenAfter};
 ghost use Rattle.model.specs.GenlibDemands.{GenlibDemand};
 ghost use Rattle.capi.specs.Answers.{answered, answeredText};
@@ -57,24 +57,27 @@ fn text_answer(a: Written) -> MapperAnswer
     }
 }
 
-// Maps a library text and a graph text over lent words and bytes. The same bytes and words may not be lent twice.
+// Maps a library text, a graph text and an arrivals' text, "or empty for none", over lent words and bytes. The same bytes and words may not be lent twice.
 #[no_mangle]
 pub extern "C" fn mapper_map(
     cells: &[u8],
     graph: &[u8],
+    arrivals: &[u8],
     work: &mut [u16],
     text: &mut [u8],
 ) -> MapperAnswer
-    ensures answers { λ r. ⌜ r ≡ answered (returnedBy (mapTexts (callOf (now (cells .entry)) (now (graph .entry)) (now (work .entry)) (now (text .entry))))) ⌝ }
-    ensures words { λ _. ⌜ now (work .exit) ≡ workAfter (mapTexts (callOf (now (cells .entry)) (now (graph .entry)) (now (work .entry)) (now (text .entry)))) (now (work .entry)) ⌝ }
-    ensures bytes { λ _. ⌜ now (text .exit) ≡ textAfter (mapTexts (callOf (now (cells .entry)) (now (graph .entry)) (now (work .entry)) (now (text .entry)))) (now (text .entry)) ⌝ }
-    ensures values { λ _. ⌜ Values (callOf (now (cells .entry)) (now (graph .entry)) (now (work .entry)) (now (text .entry))) ⌝ }
-    ensures earliest { λ _. ⌜ Earliest (callOf (now (cells .entry)) (now (graph .entry)) (now (work .entry)) (now (text .entry))) ⌝ }
-    ensures twins { λ _. ⌜ Twins (callOf (now (cells .entry)) (now (graph .entry)) (now (work .entry)) (now (text .entry))) ⌝ }
-    ensures sequenced { λ _. ⌜ Sequenced (callOf (now (cells .entry)) (now (graph .entry)) (now (work .entry)) (now (text .entry))) ⌝ }
-    ensures ends { λ _. ⌜ EitherEnd (callOf (now (cells .entry)) (now (graph .entry)) (now (work .entry)) (now (text .entry))) ⌝ }
+    ensures answers { λ r. ⌜ r ≡ answered (returnedBy (mapTexts (callOf (now (cells .entry)) (now (graph .entry)) (now (arrivals .entry)) (now (work .entry)) (now (text .entry))))) ⌝ }
+    ensures words { λ _. ⌜ now (work .exit) ≡ workAfter (mapTexts (callOf (now (cells .entry)) (now (graph .entry)) (now (arrivals .entry)) (now (work .entry)) (now (text .entry)))) (now (work .entry)) ⌝ }
+    ensures bytes { λ _. ⌜ now (text .exit) ≡ textAfter (mapTexts (callOf (now (cells .entry)) (now (graph .entry)) (now (arrivals .entry)) (now (work .entry)) (now (text .entry)))) (now (text .entry)) ⌝ }
+    ensures values { λ _. ⌜ Values (callOf (now (cells .entry)) (now (graph .entry)) (now (arrivals .entry)) (now (work .entry)) (now (text .entry))) ⌝ }
+    ensures earliest { λ _. ⌜ Earliest (callOf (now (cells .entry)) (now (graph .entry)) (now (arrivals .entry)) (now (work .entry)) (now (text .entry))) ⌝ }
+    ensures twins { λ _. ⌜ Twins (callOf (now (cells .entry)) (now (graph .entry)) (now (arrivals .entry)) (now (work .entry)) (now (text .entry))) ⌝ }
+    ensures sequenced { λ _. ⌜ Sequenced (callOf (now (cells .entry)) (now (graph .entry)) (now (arrivals .entry)) (now (work .entry)) (now (text .entry))) ⌝ }
+    ensures ends { λ _. ⌜ EitherEnd (callOf (now (cells .entry)) (now (graph .entry)) (now (arrivals .entry)) (now (work .entry)) (now (text .entry))) ⌝ }
+    ensures untimed { λ _. ⌜ Untimed (callOf (now (cells .entry)) (now (graph .entry)) (now (arrivals .entry)) (now (work .entry)) (now (text .entry))) ⌝ }
+    ensures listed { λ _. ⌜ Listed (callOf (now (cells .entry)) (now (graph .entry)) (now (arrivals .entry)) (now (work .entry)) (now (text .entry))) ⌝ }
 {
-    answer(mapper::map_texts(cells, graph, work, text))
+    answer(mapper::map_texts(cells, graph, arrivals, work, text))
 }
 
 // "Read GATE and PIN lines and write our cell text": the cell text of a genlib text, into lent bytes.

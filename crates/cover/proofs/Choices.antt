@@ -9,6 +9,7 @@ use native.Mathlib.Omega.{arith}
 use mathlib.Core.Path.{_≡_, refl, sym, ap, subst, _∙_}
 use mathlib.Core.Bool.{Bool, true, false, cond}
 use mathlib.Core.List.{List, [], _∷_, _++_, map, List·Memᴰ}
+use mathlib.Core.Logic.{inl}
 use lib.Dec.{eqb, ltb}
 use lib.ListN.{length, take, drop, getD, List·getD-eq-default}
 use lib.Seq.{take-suc, take-length, drop-cons, drop-length}
@@ -25,7 +26,7 @@ use Rattle.model.specs.declared.Header.{Header}
 use Rattle.model.specs.declared.Library.{Library}
 use Rattle.model.specs.declared.Match.{Match}
 use Rattle.model.specs.declared.Phase.{Phase}
-use Rattle.model.specs.declared.Source.the-variants.{Cell as Matched}
+use Rattle.model.specs.declared.Source.the-variants.{Input, Cell as Matched}
 use Rattle.theory_graph.proofs.Lists.{map-same, getD-in}
 use Rattle.theory_graph.proofs.Placing.{order-small}
 use Rattle.theory_graph.proofs.Runs.{run-split}
@@ -41,7 +42,7 @@ use Rattle.cover.specs.Choosing.{foundOn, foundAt, foundFrom, bestAt, ow
 use Rattle.cover.proofs.Keeping.{PhasesKept, graph-kept, order-kept, cuts-kept}
 use Rattle.cover.proofs.Marks.{nets-in}
 use Rattle.cover.specs.Held.{HeaderOf, Held}
-use Rattle.cover.proofs.Held.{placed-is, leaf-small, slots-in, cuts-in}
+use Rattle.cover.proofs.Held.{placed-is, leaf-small, slots-in, cuts-in, late-in}
 use Rattle.cover.proofs.Needing.{Covered}
 use Rattle.cover.proofs.Turning.{turn-here, turn-other, up-after}
 
@@ -109,7 +110,7 @@ module _ (lib : Library) (g : Graph) (w : List ℕ) (h : Held w g) (known : ℕ 
   of-held : (n : Node) → directOf (cellsOf lib) w (g .size) v neg n ≡ direct (cellsOf lib) g known v (cutsOf g v) neg n
   unfolding directOf direct ownPhase
   of-held constant = best-held
-  of-held input = refl
+  of-held input = ap (λ (t : ℕ). cond neg noPhase (record { source = Input; arrival = t })) (h .graph .late v small)
   of-held undefined = refl
   of-held (both l r) = best-held
 
@@ -137,7 +138,8 @@ held-kept g v w k h =
     record {
       accepted = h .accepted;
       free = h .free;
-      graph = graph-kept g a b v w k (omega arith) (omega arith) (h .graph);
+      soon = h .soon;
+      graph = graph-kept g a b v w k (omega arith) (omega arith) (inl (omega arith)) (h .graph);
       order = order-kept g a b v w k (omega arith) (omega arith) (h .accepted) (h .order);
       cuts = cuts-kept g a b v w k (omega arith) (omega arith) (h .accepted) (h .free) (h .cuts);
     }
@@ -149,6 +151,7 @@ module _ (lib : Library) (us : Usable lib) (g : Graph) (w : List ℕ) (h : Held 
       record {
         slots = slots-in w g h;
         cuts = cuts-in w g h;
+        late = late-in w g h;
         early =
             record {
               early =
@@ -201,14 +204,14 @@ module _ (lib : Library) (us : Usable lib) (g : Graph) (w : List ℕ) (h : Held 
         here =
             let p = direct-held lib g w′ still (λ x. find noPhases x (sofar i)) agree v placed false in
             let n = direct-held lib g w′ still (λ x. find noPhases x (sofar i)) agree v placed true in
-            turn-here lib us w′ (g .size) (131070 * i) (cuts-in w′ g still) (after .1) v small-v ∙ (λ j. joined (cellsOf lib) (p j) (n j))
+            turn-here lib us w′ (g .size) (131070 * i) (cuts-in w′ g still) (late-in w′ g still) (after .1) v small-v ∙ (λ j. joined (cellsOf lib) (p j) (n j))
 
         go : (t : Bool) → eqb u v ≡ t → phasesAt (chosenTurn (cellsOf lib) w′ (g .size) v) (g .size) u ≡ cond (eqb u v) (phaseStep (cellsOf lib) g (sofar i) v) (find noPhases u (sofar i))
         go true e =
             ap (phasesAt (chosenTurn (cellsOf lib) w′ (g .size) v) (g .size)) (eqb-true u v e) ∙ here
             ∙ sym (ap (λ (t : Bool). cond t (phaseStep (cellsOf lib) g (sofar i) v) (find noPhases u (sofar i))) e)
         go false e =
-            turn-other lib us w′ (g .size) (131070 * i) (cuts-in w′ g still) (after .1) v small-v u s (eqb-false u v e) ∙ agree u s
+            turn-other lib us w′ (g .size) (131070 * i) (cuts-in w′ g still) (late-in w′ g still) (after .1) v small-v u s (eqb-false u v e) ∙ agree u s
             ∙ sym (ap (λ (t : Bool). cond t (phaseStep (cellsOf lib) g (sofar i) v) (find noPhases u (sofar i))) e)
 
   pub up-held : (i : ℕ) → i ≤ length (placingOrder g) → (u : ℕ) → u ≤ g .size → phasesAt (chosenUp (cellsOf lib) w (g .size) i) (g .size) u ≡ find noPhases u (sofar i)

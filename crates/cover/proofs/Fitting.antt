@@ -27,11 +27,11 @@ use Rattle.model.specs.declared.Phase.{Phase}
 use Rattle.model.specs.declared.Source.the-variants.{Input, Cell as Matched}
 use Rattle.theory_graph.proofs.Lists.{map-out}
 use Rattle.theory_cover.proofs.Matches.{cutMatches-out, inverter-out}
-use Rattle.words.specs.Layout.{countAt}
+use Rattle.words.specs.Layout.{countAt, lateAt}
 use Rattle.words.specs.Record.{nodeAt, leavesAt, functionOf}
 use Rattle.words.specs.Phases.{MatchFits, PhaseFits, phasesAt, phaseAt}
 use Rattle.matching.specs.Variants.{Usable}
-use Rattle.cover.specs.Asked.{CutsIn}
+use Rattle.cover.specs.Asked.{CutsIn, LateIn}
 use Rattle.cover.specs.Choosing.{foundOn, foundAt, foundFrom, bestAt, ownPhase, directOf, directAt, Early}
 use Rattle.cover.proofs.Marks.{nets-in}
 
@@ -131,7 +131,7 @@ module _ (lib : Library) (u : Usable lib) (w : List ℕ) (m t : ℕ) (e : Early 
 
   -- ---- the cuts of a variable
 
-  module _ (cuts : CutsIn w m) (v : ℕ) (b : v ≤ m) (neg : Bool) where
+  module _ (cuts : CutsIn w m) (late : LateIn w m) (v : ℕ) (b : v ≤ m) (neg : Bool) where
     inside : (k : ℕ) → k < countAt w m v → (j : ℕ) → getD (leavesAt w m v k) j 0 ≤ m
     inside k h j = go (ltb j (length (leavesAt w m v k))) refl
       where
@@ -162,13 +162,13 @@ module _ (lib : Library) (u : Usable lib) (w : List ℕ) (m t : ℕ) (e : Early 
         choose-all (Fitting (t + 65535)) (none-fits (t + 65535)) (foundFrom (cellsOf lib) w m v neg 0 (countAt w m v))
         (from-fit (countAt w m v) 0 (omega arith))
 
-    own-fit : Fitting (t + 65535) (ownPhase neg)
+    own-fit : Fitting (t + 65535) (ownPhase w m v neg)
     unfolding ownPhase
     own-fit = go neg
       where
-        go : (s : Bool) → Fitting (t + 65535) (cond s noPhase (record { source = Input; arrival = 0 }))
+        go : (s : Bool) → Fitting (t + 65535) (cond s noPhase (record { source = Input; arrival = lateAt w m v }))
         go true = none-fits (t + 65535)
-        go false = record { fit = tt; soon = omega arith }
+        go false = record { fit = tt; soon = omega (arith, late .within v b) }
 
     of-fit : (n : Node) → Fitting (t + 65535) (directOf (cellsOf lib) w m v neg n)
     unfolding directOf

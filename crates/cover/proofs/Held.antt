@@ -1,5 +1,5 @@
 -- What the passes before have left gives what is asked of the words:
---     slots-in, outputs-in, cuts-in       from the graph, its placing order and its cuts
+--     slots-in, outputs-in, cuts-in, late-in      from the graph, its placing order and its cuts
 --     matches-in                          from the chosen phases
 -- Assumes nothing.
 use Prim.Native.Nat.{ℕ, _/_, _≤_, _<_}
@@ -35,7 +35,7 @@ use Rattle.theory_cover.proofs.Matches.{fits-places}
 use Rattle.theory_cover.proofs.Sound.{is-match}
 use Rattle.matching.specs.Variants.{Usable}
 use Rattle.cover.specs.Held.{HeaderOf, Held}
-use Rattle.cover.specs.Asked.{OutputsIn, SlotsIn, CutsIn, MatchIn, MatchesIn}
+use Rattle.cover.specs.Asked.{OutputsIn, SlotsIn, CutsIn, LateIn, MatchIn, MatchesIn}
 use Rattle.cover.proofs.Counting.{few-placed, all-placed, few-cuts}
 
 module _ (h : Header) (g : Graph) (e : HeaderOf h g) (ok : Accepted g) where
@@ -91,6 +91,9 @@ module _ (w : List ℕ) (g : Graph) (h : Held w g) where
             subst (λ (c : List ℕ). getD c j 0 ≤ g .size) (sym e)
             (leaf-small g (h .accepted) v (getD (cutsOf g v) k []) (getD-in (cutsOf g v) k [] n) (getD (getD (cutsOf g v) k []) j 0) (getD-in (getD (cutsOf g v) k []) j 0 i′));
       }
+
+  pub late-in : LateIn w (g .size)
+  late-in = record { within = λ v l. omega (arith, h .graph .late v l, h .soon v) }
 
   -- a chosen match is one of the words
   match-in : (cells : List Cell) (l : ℕ) (x : Match) → l / 2 ≤ g .size → IsMatch cells g l x → MatchIn cells w (g .size) (l / 2) x

@@ -8,6 +8,7 @@ use native.Mathlib.Omega.{arith}
 use mathlib.Core.Path.{_≡_, refl, sym, ap, subst, _∙_}
 use mathlib.Core.Bool.{cond}
 use mathlib.Core.List.{List, [], _∷_}
+use mathlib.Core.Logic.{_⊎_, inl, inr}
 use lib.ListN.{length, getD}
 use Rattle.model.specs.Limits.{cutLimit}
 use Rattle.model.specs.Graph.{Graph, varOf, negated, placingOrder}
@@ -17,7 +18,7 @@ use Rattle.model.specs.declared.Cell.{Cell}
 use Rattle.model.specs.declared.Library.{Library}
 use Rattle.model.specs.declared.Phase.{Phase}
 use Rattle.words.specs.Put.{putAt}
-use Rattle.words.specs.Layout.{Room, RoomFor, kindAt, leftAt, rightAt, slotAt, placeAt, countAt, outputAt, neededAddr, positiveAddr, negativeAddr, countsTo, listsFrom}
+use Rattle.words.specs.Layout.{Room, RoomFor, kindAt, leftAt, rightAt, slotAt, placeAt, countAt, lateAt, outputAt, neededAddr, lateAddr, positiveAddr, negativeAddr, countsTo, listsFrom}
 use Rattle.words.specs.Record.{leavesOf, leavesAt, functionOf, nodeOf, nodeAt, cutsAt}
 use Rattle.words.specs.Phases.{sourceOf, phaseIn, phasesAt, phaseAt, putNeeded}
 use Rattle.words.specs.Holding.{HoldsGraph, HoldsOrder, HoldsCuts, HoldsPhases}
@@ -28,7 +29,7 @@ use Rattle.theory_graph.specs.Accepted.{Accepted}
 use Rattle.theory_graph.proofs.Lists.{getD-in}
 use Rattle.theory_graph.proofs.Placing.{order-small}
 use Rattle.cover.proofs.Counting.{few-placed, few-cuts, count-few}
-use Rattle.cover.specs.Asked.{OutputsIn, SlotsIn, CutsIn, MatchesIn}
+use Rattle.cover.specs.Asked.{OutputsIn, SlotsIn, CutsIn, LateIn, MatchesIn}
 
 -- all words before a and from b on are as before, and so is their number
 pub record Kept (a b : ℕ) (v w : List ℕ) : Type 0 where
@@ -157,14 +158,23 @@ module _ (m a b : ℕ) (v w : List ℕ) (k : Kept a b v w) (from : countsTo m �
               };
         }
 
+-- the arrivals of the inputs, where the columns behind theirs are written, or the one before it
+late-kept : (m a b : ℕ) (v w : List ℕ) → Kept a b v w → (lateAddr m (m + 1) ≤ a) ⊎ (b ≤ lateAddr m 0) → (u : ℕ) → u ≤ m → lateAt w m u ≡ lateAt v m u
+late-kept m a b v w k (inl h) u l = k .before (lateAddr m u) (omega arith)
+late-kept m a b v w k (inr h) u l = k .behind (lateAddr m u) (omega arith)
+
+pub late-in-kept : (m a b : ℕ) (v w : List ℕ) → Kept a b v w → lateAddr m (m + 1) ≤ a → LateIn v m → LateIn w m
+late-in-kept m a b v w k h r = record { within = λ u l. omega (arith, late-kept m a b v w k (inl h) u l, r .within u l) }
+
 -- what the words hold, of a graph of this size
 module _ (g : Graph) (a b : ℕ) (v w : List ℕ) (k : Kept a b v w) (from : countsTo (g .size) ≤ a) (to : b ≤ listsFrom (g .size)) where
-  pub graph-kept : HoldsGraph v g → HoldsGraph w g
-  graph-kept h =
+  pub graph-kept : (lateAddr (g .size) (g .size + 1) ≤ a) ⊎ (b ≤ lateAddr (g .size) 0) → HoldsGraph v g → HoldsGraph w g
+  graph-kept apart h =
       record {
         room = room-for-kept (g .size) a b v w k from to (length (g .outputs)) (h .room);
         nodes = λ u l. node-kept (g .size) a b v w k from to u l ∙ h .nodes u l;
         outputs = λ i l. output-kept (g .size) a b v w k from to i ∙ h .outputs i l;
+        late = λ u l. late-kept (g .size) a b v w k apart u l ∙ h .late u l;
       }
 
   pub order-kept : Accepted g → HoldsOrder v g → HoldsOrder w g

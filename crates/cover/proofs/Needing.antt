@@ -7,6 +7,7 @@ use native.Mathlib.Omega.{arith}
 use mathlib.Core.Path.{_≡_, refl, sym, ap, subst, _∙_}
 use mathlib.Core.Bool.{Bool, true, false, cond, _||_}
 use mathlib.Core.List.{List, [], _∷_, _++_, append-nil, reverse, reverse-append, List·Memᴰ, List·Memᴰ·head, List·Memᴰ·tail}
+use mathlib.Core.Logic.{inr}
 use lib.Dec.{eqb}
 use lib.ListN.{length, take, drop, getD}
 use lib.Seq.{take-suc, take-length, drop-cons, drop-length}
@@ -110,7 +111,8 @@ module _ (lib : Library) (g : Graph) where
             record {
               accepted = c .held .accepted;
               free = c .held .free;
-              graph = graph-kept g a b v w k (omega arith) (omega arith) (c .held .graph);
+              soon = c .held .soon;
+              graph = graph-kept g a b v w k (omega arith) (omega arith) (inr (omega arith)) (c .held .graph);
               order = order-kept g a b v w k (omega arith) (omega arith) (c .held .accepted) (c .held .order);
               cuts = cuts-kept g a b v w k (omega arith) (omega arith) (c .held .accepted) (c .held .free) (c .held .cuts);
             };

@@ -27,9 +27,9 @@ use Rattle.matching.specs.declared.Inverter.{Inverter}
 use Rattle.matching.specs.Inverters.{inverterOf, inverted}
 use Rattle.matching.specs.Variants.{Usable}
 use Rattle.matching.proofs.Inverting.{inverter-chosen}
-use Rattle.cover.specs.Asked.{CutsIn}
+use Rattle.cover.specs.Asked.{CutsIn, LateIn}
 use Rattle.cover.specs.Choosing.{directAt, putPhases, chosenTurn, chosenUp, Early, Choosable, Unchosen}
-use Rattle.cover.proofs.Keeping.{PhasesKept, kept-same, kept-on, kept-put, cuts-in-kept, slots-in-kept}
+use Rattle.cover.proofs.Keeping.{PhasesKept, kept-same, kept-on, kept-put, cuts-in-kept, late-in-kept, slots-in-kept}
 use Rattle.cover.proofs.Fitting.{Fitting, direct-fit, with-fit}
 
 pub sooner-is : (cells : List Cell) (inv : Inverter) (p q p′ q′ x r : Phase) → inv ≡ inverterOf cells → p ≡ p′ → q ≡ q′ → x ≡ inverted inv q → r ≡ earlier p x
@@ -99,10 +99,10 @@ module _ (w : List ℕ) (m v : ℕ) (p : Phases) (r : Room w m) (h : v ≤ m) wh
 
 -- ---- a turn
 
-module _ (lib : Library) (us : Usable lib) (w : List ℕ) (m t : ℕ) (cuts : CutsIn w m) (e : Early w m t) (v : ℕ) (h : v ≤ m) where
+module _ (lib : Library) (us : Usable lib) (w : List ℕ) (m t : ℕ) (cuts : CutsIn w m) (late : LateIn w m) (e : Early w m t) (v : ℕ) (h : v ≤ m) where
   pub turn-fit : (b : Bool) → Fitting (t + 131070) (choose (directAt (cellsOf lib) w m v b ∷ inverterPhases (cellsOf lib) 0 (directAt (cellsOf lib) w m v (not b))))
   turn-fit b =
-      let f = with-fit lib us (t + 65535) (directAt (cellsOf lib) w m v b) (directAt (cellsOf lib) w m v (not b)) (direct-fit lib us w m t e cuts v h b) (direct-fit lib us w m t e cuts v h (not b)) in
+      let f = with-fit lib us (t + 65535) (directAt (cellsOf lib) w m v b) (directAt (cellsOf lib) w m v (not b)) (direct-fit lib us w m t e cuts late v h b) (direct-fit lib us w m t e cuts late v h (not b)) in
       record { fit = f .fit; soon = omega (arith, f .soon) }
 
   pub turn-kept : PhasesKept m w (chosenTurn (cellsOf lib) w m v)
@@ -148,6 +148,9 @@ module _ (lib : Library) (us : Usable lib) (w : List ℕ) (m n : ℕ) (un : Unch
   pub after-cuts : (i : ℕ) → PhasesKept m w (chosenUp (cellsOf lib) w m i) → CutsIn (chosenUp (cellsOf lib) w m i) m
   after-cuts i k = cuts-in-kept m (positiveAddr m 0) (listsFrom m) w (chosenUp (cellsOf lib) w m i) k (omega arith) (omega arith) (un .cuts)
 
+  after-late : (i : ℕ) → PhasesKept m w (chosenUp (cellsOf lib) w m i) → LateIn (chosenUp (cellsOf lib) w m i) m
+  after-late i k = late-in-kept m (positiveAddr m 0) (listsFrom m) w (chosenUp (cellsOf lib) w m i) k (omega arith) (un .late)
+
   pub after-slot : (i : ℕ) → i < n → PhasesKept m w (chosenUp (cellsOf lib) w m i) → slotAt (chosenUp (cellsOf lib) w m i) m i ≤ m
   after-slot i h k =
       slots-in-kept m (positiveAddr m 0) (listsFrom m) w (chosenUp (cellsOf lib) w m i) k (omega arith) (omega arith) n (un .slots) .within i h
@@ -161,10 +164,11 @@ module _ (lib : Library) (us : Usable lib) (w : List ℕ) (m n : ℕ) (un : Unch
       let v : ℕ = slotAt w′ m i in
       let b : v ≤ m = after-slot i h (a .kept) in
       let c : CutsIn w′ m = after-cuts i (a .kept) in
+      let d : LateIn w′ m = after-late i (a .kept) in
       let e : 131070 * i + 131070 ≡ 131070 * suc i = omega arith in
       record {
-        kept = kept-on (positiveAddr m 0) (listsFrom m) w w′ (chosenTurn (cellsOf lib) w′ m v) (a .kept) (turn-kept lib us w′ m (131070 * i) c (a .early) v b);
-        early = subst (Early (chosenTurn (cellsOf lib) w′ m v) m) e (turn-early lib us w′ m (131070 * i) c (a .early) v b);
+        kept = kept-on (positiveAddr m 0) (listsFrom m) w w′ (chosenTurn (cellsOf lib) w′ m v) (a .kept) (turn-kept lib us w′ m (131070 * i) c d (a .early) v b);
+        early = subst (Early (chosenTurn (cellsOf lib) w′ m v) m) e (turn-early lib us w′ m (131070 * i) c d (a .early) v b);
       }
 
   -- arrivals stay far below what the words have room for
@@ -173,5 +177,6 @@ module _ (lib : Library) (us : Usable lib) (w : List ℕ) (m n : ℕ) (un : Unch
       let a = up-after i h in
       record {
         cuts = after-cuts i (a .kept);
+        late = after-late i (a .kept);
         early = record { early = λ l b. omega (arith, a .early .early l b, un .slots .few, un .slots .room .small) };
       }

@@ -11,7 +11,7 @@ use Rattle.model.specs.declared.Cut.{Cut}
 use Rattle.model.specs.declared.Library.{Library}
 use Rattle.model.specs.declared.Match.{Match}
 use Rattle.model.specs.declared.Source.the-variants.{Cell as Matched}
-use Rattle.words.specs.Layout.{Room, RoomFor, slotAt, countAt, outputAt}
+use Rattle.words.specs.Layout.{Room, RoomFor, slotAt, countAt, lateAt, outputAt}
 use Rattle.words.specs.Record.{leavesOf, leavesAt}
 use Rattle.words.specs.Phases.{phaseAt}
 use Rattle.truth.specs.Variant.{placesOf, placesBelow}
@@ -39,6 +39,10 @@ pub record CutsIn (w : List ℕ) (m : ℕ) : Type 0 where
   pub room : Room w m
   pub few : (v : ℕ) → v ≤ m → countAt w m v ≤ cutLimit
   pub within : (v k j : ℕ) → v ≤ m → k < countAt w m v → j < length (leavesAt w m v k) → getD (leavesAt w m v k) j 0 ≤ m
+
+-- each input arrives in time: "each 0 to 65,535"
+pub record LateIn (w : List ℕ) (m : ℕ) : Type 0 where
+  pub within : (v : ℕ) → v ≤ m → lateAt w m v ≤ 65535
 
 -- a match of v: one of its cuts, a cell of the library, an order, and a leaf for each pin
 pub record MatchIn (cells : List Cell) (w : List ℕ) (m v : ℕ) (x : Match) : Type 0 where

@@ -16,7 +16,7 @@ use Rattle.model.specs.declared.Library.{Library}
 use Rattle.model.specs.declared.Phase.{Phase}
 use Rattle.model.specs.declared.Source.the-variants.{Input}
 use Rattle.words.specs.Put.{putAt}
-use Rattle.words.specs.Layout.{slotAt, countAt, positiveAddr, negativeAddr}
+use Rattle.words.specs.Layout.{slotAt, countAt, lateAt, positiveAddr, negativeAddr}
 use Rattle.words.specs.Record.{nodeAt, leavesAt, functionOf}
 use Rattle.words.specs.Phases.{phaseWords, phasesAt, phaseAt}
 use Rattle.matching.specs.Variants.{Usable}
@@ -24,7 +24,7 @@ use Rattle.matching.specs.Sheet.{SheetOf}
 use Rattle.matching.specs.Inverters.{inverterOf}
 use Rattle.matching.specs.declared.Inverter.{Inverter}
 use Rattle.matching.specs.Best.{never, timeOf}
-use Rattle.cover.specs.Asked.{SlotsIn, CutsIn}
+use Rattle.cover.specs.Asked.{SlotsIn, CutsIn, LateIn}
 
 -- ---- what the matches give
 
@@ -62,16 +62,16 @@ unfoldable pub bestAt : List Cell → List ℕ → ℕ → ℕ → Bool → Phas
 unfolding foundFrom choose
 bestAt cells w m v neg = choose (foundFrom cells w m v neg 0 (countAt w m v))
 
--- "an input's own positive net"
-unfoldable pub ownPhase : Bool → Phase
+-- "an input's own positive net": it is there when the input arrives
+unfoldable pub ownPhase : List ℕ → ℕ → ℕ → Bool → Phase
 unfolding noPhase
-ownPhase neg = cond neg noPhase (record { source = Input; arrival = 0 })
+ownPhase w m v neg = cond neg noPhase (record { source = Input; arrival = lateAt w m v })
 
 -- a phase without inverters, by what the variable is
 unfoldable pub directOf : List Cell → List ℕ → ℕ → ℕ → Bool → Node → Phase
 unfolding bestAt ownPhase noPhase
 directOf cells w m v neg constant = bestAt cells w m v neg
-directOf cells w m v neg input = ownPhase neg
+directOf cells w m v neg input = ownPhase w m v neg
 directOf cells w m v neg undefined = noPhase
 directOf cells w m v neg (both l r) = bestAt cells w m v neg
 
@@ -116,10 +116,12 @@ pub record ToolsIn (lib : Library) (sheet : List ℕ) (inv : Inverter) : Type 0 
 -- the words before v is chosen: its cuts, and arrivals that leave room for two delays
 pub record Choosable (w : List ℕ) (m : ℕ) : Type 0 where
   pub cuts : CutsIn w m
+  pub late : LateIn w m
   pub early : Early w m 1073741823
 
 -- the words before all are
 pub record Unchosen (w : List ℕ) (m n : ℕ) : Type 0 where
   pub slots : SlotsIn w m n
   pub cuts : CutsIn w m
+  pub late : LateIn w m
   pub early : Early w m 0

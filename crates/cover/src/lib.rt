@@ -197,16 +197,17 @@ fn best_phase(work: &[u16], m: usize, v: usize, neg: bool, sheet: &[u16; matchin
     b
 }
 
-// "an input's own positive net"
-fn own(neg: bool) -> Phase
-    ensures { λ r. ⌜ r ≡ ownPhase neg ⌝ }
+// "an input's own positive net": "every arrival starts from it".
+fn own(work: &[u16], m: usize, v: usize, neg: bool) -> Phase
+    requires { ⌜ Room (now work) m × (v ≤ m) ⌝ }
+    ensures { λ r. ⌜ r ≡ ownPhase (now (work .entry)) m v neg ⌝ }
 {
     if neg {
         nothing()
     } else {
         Phase {
             source: Source::Input,
-            arrival: 0,
+            arrival: words::late(work, m, v),
         }
     }
 }
@@ -218,7 +219,7 @@ fn direct(work: &[u16], m: usize, v: usize, neg: bool, sheet: &[u16; matching::S
 {
     match words::kind(work, m, v) {
         words::CONSTANT | words::AND => best_phase(work, m, v, neg, sheet),
-        words::INPUT => own(neg),
+        words::INPUT => own(work, m, v, neg),
         _ => nothing(),
     }
 }

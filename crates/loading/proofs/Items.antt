@@ -91,11 +91,12 @@ joined g is = record {
   inputs = g .inputs ++ graphOf (g .size) is .inputs;
   outputs = g .outputs ++ graphOf (g .size) is .outputs;
   ands = g .ands ++ graphOf (g .size) is .ands;
+  late = g .late;
 }
 
 pub joined-none : (g : Graph) → joined g [] ≡ g
 unfolding joined graphOf keep
-joined-none g i = record { size = g .size; inputs = append-nil (g .inputs) i; outputs = append-nil (g .outputs) i; ands = append-nil (g .ands) i }
+joined-none g i = record { size = g .size; inputs = append-nil (g .inputs) i; outputs = append-nil (g .outputs) i; ands = append-nil (g .ands) i; late = g .late }
 
 pub joined-first : (m : ℕ) (is : List Item) → joined (nothing m) is ≡ graphOf m is
 unfolding joined graphOf
@@ -103,9 +104,9 @@ joined-first m is = refl
 
 pub joined-more : (k : Kind) (g : Graph) (at : ℕ) (l : Literals) (is : List Item) → joined (grown k g l) is ≡ joined g (itemOf k at l ∷ is)
 unfolding joined graphOf keep isKind sameKind varOf
-joined-more anInput g at l is = ap (λ (xs : List ℕ). record { size = g .size; inputs = xs; outputs = g .outputs ++ graphOf (g .size) is .outputs; ands = g .ands ++ graphOf (g .size) is .ands }) (append-snoc (g .inputs) (l .first / 2) (graphOf (g .size) is .inputs))
-joined-more anOutput g at l is = ap (λ (xs : List ℕ). record { size = g .size; inputs = g .inputs ++ graphOf (g .size) is .inputs; outputs = xs; ands = g .ands ++ graphOf (g .size) is .ands }) (append-snoc (g .outputs) (l .first) (graphOf (g .size) is .outputs))
-joined-more anAnd g at l is = ap (λ (xs : List And). record { size = g .size; inputs = g .inputs ++ graphOf (g .size) is .inputs; outputs = g .outputs ++ graphOf (g .size) is .outputs; ands = xs }) (append-snoc (g .ands) (andOf l) (graphOf (g .size) is .ands))
+joined-more anInput g at l is = ap (λ (xs : List ℕ). record { size = g .size; inputs = xs; outputs = g .outputs ++ graphOf (g .size) is .outputs; ands = g .ands ++ graphOf (g .size) is .ands; late = g .late }) (append-snoc (g .inputs) (l .first / 2) (graphOf (g .size) is .inputs))
+joined-more anOutput g at l is = ap (λ (xs : List ℕ). record { size = g .size; inputs = g .inputs ++ graphOf (g .size) is .inputs; outputs = xs; ands = g .ands ++ graphOf (g .size) is .ands; late = g .late }) (append-snoc (g .outputs) (l .first) (graphOf (g .size) is .outputs))
+joined-more anAnd g at l is = ap (λ (xs : List And). record { size = g .size; inputs = g .inputs ++ graphOf (g .size) is .inputs; outputs = g .outputs ++ graphOf (g .size) is .outputs; ands = xs; late = g .late }) (append-snoc (g .ands) (andOf l) (graphOf (g .size) is .ands))
 
 -- items, and those behind them
 parts-append : {A : Type 0} (xs : List A) (p : Item → Bool) (f : Item → A) (is js : List Item) → (xs ++ map f (keep p is)) ++ map f (keep p js) ≡ xs ++ map f (keep p (is ++ js))
@@ -120,6 +121,7 @@ joined-append g is js i = record {
   inputs = parts-append (g .inputs) (isKind anInput) (λ (x : Item). varOf (getD (x .literals) 0 0)) is js i;
   outputs = parts-append (g .outputs) (isKind anOutput) (λ (x : Item). getD (x .literals) 0 0) is js i;
   ands = parts-append (g .ands) (isKind anAnd) (λ (x : Item). record { var = varOf (getD (x .literals) 0 0); left = getD (x .literals) 1 0; right = getD (x .literals) 2 0 }) is js i;
+  late = g .late;
 }
 
 -- what the items define

@@ -114,13 +114,13 @@ module _ (w₀ : List ℕ) (m : ℕ) (w : List ℕ) (g : Graph) (order : List �
 -- ---- a graph with a line more
 
 abbrev pub withInput : Graph → ℕ → Graph
-withInput g v = record { size = g .size; inputs = g .inputs ++ (v ∷ []); outputs = g .outputs; ands = g .ands }
+withInput g v = record { size = g .size; inputs = g .inputs ++ (v ∷ []); outputs = g .outputs; ands = g .ands; late = g .late }
 
 abbrev pub withOutput : Graph → ℕ → Graph
-withOutput g l = record { size = g .size; inputs = g .inputs; outputs = g .outputs ++ (l ∷ []); ands = g .ands }
+withOutput g l = record { size = g .size; inputs = g .inputs; outputs = g .outputs ++ (l ∷ []); ands = g .ands; late = g .late }
 
 abbrev pub withAnd : Graph → And → Graph
-withAnd g a = record { size = g .size; inputs = g .inputs; outputs = g .outputs; ands = g .ands ++ (a ∷ []) }
+withAnd g a = record { size = g .size; inputs = g .inputs; outputs = g .outputs; ands = g .ands ++ (a ∷ []); late = g .late }
 
 find-snoc : (u : ℕ) (a : And) (as′ : List And) → (u ≡ a .var → ⊥) → findAnd u (as′ ++ (a ∷ [])) ≡ findAnd u as′
 unfolding findAnd
@@ -191,7 +191,7 @@ output-node g l u = refl
 -- ---- nothing but variable 0
 
 abbrev pub nothing : ℕ → Graph
-nothing m = record { size = m; inputs = []; outputs = []; ands = [] }
+nothing m = record { size = m; inputs = []; outputs = []; ands = []; late = λ _. 0 }
 
 node-zero : (m : ℕ) → node (nothing m) 0 ≡ constant
 unfolding node

@@ -1,4 +1,4 @@
-// The program: `cells.txt` and `graph.aag` of the current folder mapped, the netlist or one line of `refused`, number and place printed.
+// The program: `cells.txt`, `graph.aag` and `arrivals.txt` of the current folder mapped, the netlist or one line of `refused`, number and place printed.
 use libc::STDOUT_FILENO;
 use model::Answer;
 ghost use mathlib.Core.Path.{_≡_};
@@ -29,10 +29,10 @@ fn refused(number: usize, place: usize) {
 }
 
 // "It lends 32,768 words and 65,536 bytes."
-fn map_files(cells: &[u8], graph: &[u8], work: &mut [u16], text: &mut [u8])
+fn map_files(cells: &[u8], graph: &[u8], arrivals: &[u8], work: &mut [u16], text: &mut [u8])
     requires { ⌜ (length (now work) ≡ 32768) × (length (now text) ≡ 65536) ⌝ }
 {
-    match mapper::map_texts(cells, graph, work, text) {
+    match mapper::map_texts(cells, graph, arrivals, work, text) {
         Answer::Mapped(n, _) => {
             io::write_all(STDOUT_FILENO, &text[..n]);
         }
@@ -43,9 +43,17 @@ fn map_files(cells: &[u8], graph: &[u8], work: &mut [u16], text: &mut [u8])
 fn main() {
     let mut cells = [0u8; 65537];
     let mut graph = [0u8; 65537];
+    let mut arrivals = [0u8; 65537];
     let mut work = [0u16; 32768];
     let mut text = [0u8; 65536];
     let n = load(b"cells.txt", &mut cells);
     let m = load(b"graph.aag", &mut graph);
-    map_files(&cells[..n], &graph[..m], &mut work, &mut text);
+    let k = load(b"arrivals.txt", &mut arrivals);
+    map_files(
+        &cells[..n],
+        &graph[..m],
+        &arrivals[..k],
+        &mut work,
+        &mut text,
+    );
 }

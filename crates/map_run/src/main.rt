@@ -1,5 +1,5 @@
-// Each case of the standard input is three parts, each ended by byte 0: four numbers a b c d, which lend 16 a + b words and 16 c + d bytes, a
-// library text and a graph text. For each the five values of the answer are printed, and then the netlist. The other mapper writes the cases and
+// Each case of the standard input is four parts, each ended by byte 0: four numbers a b c d, which lend 16 a + b words and 16 c + d bytes, a
+// library text, a graph text and an arrivals' text. For each the five values of the answer are printed, and then the netlist. The other mapper writes the cases and
 // what must be printed (tests/other/src/bin/cases.rs).
 use libc::STDIN_FILENO;
 use libc::STDOUT_FILENO;
@@ -50,8 +50,8 @@ fn show_netlist(a: Answer, text: &[u8]) {
     }
 }
 
-fn map_lent(cells: &[u8], graph: &[u8], work: &mut [u16], text: &mut [u8]) {
-    let a = mapper::map_texts(cells, graph, work, text);
+fn map_lent(cells: &[u8], graph: &[u8], arrivals: &[u8], work: &mut [u16], text: &mut [u8]) {
+    let a = mapper::map_texts(cells, graph, arrivals, work, text);
     show_answer(a);
     io::write_all(STDOUT_FILENO, b"\n");
     show_netlist(a, text);
@@ -67,12 +67,19 @@ fn map_case(
     bytes: usize,
     cells: &[u8],
     graph: &[u8],
+    arrivals: &[u8],
     work: &mut [u16],
     text: &mut [u8],
 ) {
     if words <= work.len() {
         if bytes <= text.len() {
-            map_lent(cells, graph, &mut work[..words], &mut text[..bytes]);
+            map_lent(
+                cells,
+                graph,
+                arrivals,
+                &mut work[..words],
+                &mut text[..bytes],
+            );
         }
     }
 }
@@ -84,14 +91,29 @@ fn sixteen(a: u16, b: u16) -> usize
     wide(a) * 16 + wide(b)
 }
 
-fn map_with(lent: &[u8], cells: &[u8], graph: &[u8], work: &mut [u16], text: &mut [u8]) {
+fn map_with(
+    lent: &[u8],
+    cells: &[u8],
+    graph: &[u8],
+    arrivals: &[u8],
+    work: &mut [u16],
+    text: &mut [u8],
+) {
     let c = Cursor { at: 0 };
     match amount(c, lent) {
         Number::Value(a, c1) => match amount(c1, lent) {
             Number::Value(b, c2) => match amount(c2, lent) {
                 Number::Value(d, c3) => match c3.number(lent) {
                     Number::Value(e, _) => {
-                        map_case(sixteen(a, b), sixteen(d, e), cells, graph, work, text)
+                        map_case(
+                            sixteen(a, b),
+                            sixteen(d, e),
+                            cells,
+                            graph,
+                            arrivals,
+                            work,
+                            text,
+                        )
                     }
                     Number::Broken => {}
                 },
@@ -118,8 +140,19 @@ fn each(s: &[u8], work: &mut [u16], text: &mut [u8]) {
         if c == s.len() {
             return;
         }
-        map_with(&s[from..a], &s[a + 1..b], &s[b + 1..c], work, text);
-        from = c + 1;
+        let d = parts::end(s, c + 1);
+        if d == s.len() {
+            return;
+        }
+        map_with(
+            &s[from..a],
+            &s[a + 1..b],
+            &s[b + 1..c],
+            &s[c + 1..d],
+            work,
+            text,
+        );
+        from = d + 1;
     }
 }
 

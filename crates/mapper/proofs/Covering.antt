@@ -4,6 +4,7 @@ use native.Mathlib.Omega.{arith}
 use mathlib.Core.Path.{_≡_, refl, sym, _∙_, ap, subst}
 use mathlib.Core.Bool.{Bool, true, false, cond}
 use mathlib.Core.List.{List, [], _∷_, List·Memᴰ}
+use mathlib.Core.Logic.{inr}
 use lib.ListN.{length, getD}
 use Rattle.model.specs.Reading.{refusedAt, firstOf}
 use Rattle.model.specs.Cells.{cellsOf}
@@ -53,7 +54,7 @@ module _ (w : List ℕ) (lib : Library) (h : Header) (g : Graph) (c : Cut w lib 
 
   from : ChosenFrom w mid lib g
   unfolding mid
-  from = choose-law w lib h g (c .given .header) (c .held) (c .given .library .usable) (λ i a b. c .zero i (omega arith) b)
+  from = choose-law w lib h g (c .given .header) (c .held) (c .given .library .usable) (c .unchosen)
 
   pub chosen-covered : Covered (chosenUp (cellsOf lib) w (h .size) (placedOf h)) lib g
   unfolding mid
@@ -64,7 +65,7 @@ module _ (w : List ℕ) (lib : Library) (h : Header) (g : Graph) (c : Cut w lib 
   chosen-verdict = uncovered-law mid (cellsOf lib) h g (c .given .header) (c .held .accepted) (from .covered .held .graph) (from .covered .phases)
 
   none-needed : (v : ℕ) → v ≤ g .size → neededAt mid (g .size) v ≡ 0
-  none-needed v l = from .kept .before (neededAddr (g .size) v) (omega arith) ∙ c .zero (neededAddr (g .size) v) (omega arith) (omega arith)
+  none-needed v l = from .kept .before (neededAddr (g .size) v) (omega arith) ∙ c .unneeded v l
 
   end : List ℕ
   end = marked (cellsOf lib) mid (h .size) (h .outputs) (placedOf h)
@@ -87,7 +88,7 @@ module _ (w : List ℕ) (lib : Library) (h : Header) (g : Graph) (c : Cut w lib 
     accepted = c .held .accepted;
     fewCuts = c .held .free;
     covered = outputs-present (chosen (cellsOf lib) g) 0 (g .outputs) (all-covered lib g e);
-    graph = graph-kept g _ _ mid end (left .kept) (omega arith) (omega arith) (from .covered .held .graph);
+    graph = graph-kept g _ _ mid end (left .kept) (omega arith) (omega arith) (inr (omega arith)) (from .covered .held .graph);
     order = order-kept g _ _ mid end (left .kept) (omega arith) (omega arith) (c .held .accepted) (from .covered .held .order);
     cuts = cuts-kept g _ _ mid end (left .kept) (omega arith) (omega arith) (c .held .accepted) (c .held .free) (from .covered .held .cuts);
     phases = phases-kept g _ _ mid end (left .kept) (omega arith) (omega arith) (cellsOf lib) (omega arith) (from .covered .phases);

@@ -12,6 +12,7 @@ use Rattle.model.specs.Graph.{Graph, unplaced}
 use Rattle.model.specs.Cuts.{crowded}
 use Rattle.model.specs.Choice.{choices}
 use Rattle.model.specs.GraphText.{readHeader, readGraph}
+use Rattle.model.specs.ArrivalsText.{Late, readArrivals, timedBy}
 use Rattle.model.specs.Netlist.{Outcome, refused, coverVerdict, cutsVerdict, placingVerdict, mapCut, mapPlaced, mapGraph}
 use Rattle.model.specs.Mapper.{Design, within, mapDesign}
 use Rattle.model.specs.declared.Library.{Library}
@@ -21,11 +22,13 @@ use Rattle.model.specs.declared.Answer.the-variants.{Refused as Turned}
 use Rattle.model.specs.declared.Verdict.{Verdict}
 use Rattle.model.specs.declared.Verdict.the-variants.{Accepted, Refused}
 use Rattle.words.specs.Layout.{placedOf}
+use Rattle.theory_graph.proofs.Timed.{timed-unplaced}
 use Rattle.netlist.specs.Mapped.{Mapped}
 use Rattle.placing.specs.Loaded.{Fit}
 use Rattle.placing.specs.Placing.{placedVerdict, placedWords}
 use Rattle.placing.proofs.Orders.{place-verdict}
 use Rattle.aiger.specs.Passes.{loadedWords}
+use Rattle.arrivals.specs.Storing.{Listable, putAll, listed}
 use Rattle.cuts.specs.Listing as lists
 use Rattle.cutting.specs.Enumerated.{Ready, enumerated}
 use Rattle.cutting.proofs.Whole.{enumerate-ready, enumerate-verdict}
@@ -35,9 +38,9 @@ use Rattle.cover.specs.Marking.{marked}
 use Rattle.cover.specs.Choosing.{chosenUp}
 use Rattle.cover.proofs.Needing.{mark-asked}
 use Rattle.cover.proofs.Missed.{uncovered-asked}
-use Rattle.mapper.specs.Stages.{Told, LibraryOk, Loaded, Placed, Cut, printedFor, cutFor, placedFor, loadedFor, designOf, graphFor}
+use Rattle.mapper.specs.Stages.{Told, LibraryOk, Loaded, Placed, Timed, Cut, printedFor, cutFor, placedFor, loadedFor, timesOf, timesFor, designOf, graphFor}
 use Rattle.mapper.proofs.Printing.{told-refused}
-use Rattle.mapper.proofs.Handing.{loaded-after, placed-after, all-placed, none-crowded, represents, uncut, placed-accepted, cut-after}
+use Rattle.mapper.proofs.Handing.{loaded-after, placed-after, placed-lists, timed-after, all-placed, none-crowded, timed-ok, cut-after}
 use Rattle.mapper.proofs.Covering.{cut-printed, cut-refused, chosen-covered, chosen-verdict, marked-mapped}
 
 -- what is told of one outcome is told of an equal one
@@ -74,13 +77,13 @@ module _ (w : List ℕ) (lib : Library) (h : Header) (g : Graph) (c : Cut w lib 
 
 -- ---- after the cuts
 
-module _ (w : List ℕ) (lib : Library) (h : Header) (g : Graph) (p : Placed w lib h g) where
-  pub placed-asks : Ready w (h .size) (placedOf h)
-  placed-asks = enumerate-ready w (h .size) (placedOf h) g (represents w lib h g p) (placed-accepted w lib h g p) (uncut w lib h g p)
+module _ (w : List ℕ) (lib : Library) (h : Header) (g : Graph) (p : Timed w lib h g) where
+  pub timed-asks : Ready w (h .size) (placedOf h)
+  timed-asks = enumerate-ready w (h .size) (placedOf h) g (p .represents) (timed-ok w lib h g p) (p .uncut)
 
   module _ (r : Verdict) (told : r ≡ lists.listing w (h .size) (placedOf h) .answer) where
     cuts-is : r ≡ cutsVerdict g
-    cuts-is = told ∙ enumerate-verdict w (h .size) (placedOf h) g (represents w lib h g p) (placed-accepted w lib h g p) (uncut w lib h g p)
+    cuts-is = told ∙ enumerate-verdict w (h .size) (placedOf h) g (p .represents) (timed-ok w lib h g p) (p .uncut)
 
     pub cuts-cut : r ≡ Accepted → (y : List ℕ) → y ≡ enumerated w (h .size) (placedOf h) → Cut y lib h g
     cuts-cut a y e = subst (λ (x : List ℕ). Cut x lib h g) (sym e) (cut-after w lib h g p (sym cuts-is ∙ a))
@@ -99,51 +102,97 @@ module _ (w : List ℕ) (lib : Library) (h : Header) (g : Graph) (p : Placed w l
 
 -- ---- after the placing
 
-module _ (w : List ℕ) (lib : Library) (h : Header) (g : Graph) (l : Loaded w lib h g) (r : Verdict) (told : r ≡ placedVerdict w h) where
+module _ (w : List ℕ) (lib : Library) (h : Header) (g : Graph) (l : Loaded w lib h g) (r : Verdict) (told : r ≡ placedVerdict w h) (y : List ℕ) (e : y ≡ placedWords w h) where
   placing-is : r ≡ placingVerdict g
   placing-is = told ∙ place-verdict (l .before) h (l .fit) w g (l .holding)
 
-  pub placing-placed : r ≡ Accepted → (y : List ℕ) → y ≡ placedWords w h → Placed y lib h g
-  placing-placed a y e = subst (λ (x : List ℕ). Placed x lib h g) (sym e) (placed-after w lib h g l (sym placing-is ∙ a))
+  placing-placed : Placed y lib h g
+  placing-placed = subst (λ (x : List ℕ). Placed x lib h g) (sym e) (placed-after w lib h g l)
 
-  pub placing-goes : r ≡ Accepted → (bytes : ℕ) → loadedFor lib g bytes ≡ placedFor lib g bytes
-  unfolding mapGraph mapPlaced lowest
-  placing-goes a bytes = ap (λ (us : List ℕ). within bytes (mapPlaced (cellsOf lib) g (lowest us))) (all-placed g (sym placing-is ∙ a))
+  pub placing-lists : Listable y (h .size) (h .inputs)
+  placing-lists = placed-lists y lib h g placing-placed
 
-  pub placing-stops : (n k : ℕ) → r ≡ Refused n k → (t : List ℕ) → Told (loadedFor lib g (length t)) t (Turned n k) t
-  unfolding mapGraph mapPlaced placingVerdict refusedAt within
-  placing-stops n k a t = told-as (go (lowest (unplaced g)) (sym placing-is ∙ a)) (told-refused n k t)
-    where
-      go : (o : Option ℕ) → refusedAt 15 o ≡ Refused n k → within (length t) (mapPlaced (cellsOf lib) g o) ≡ refused n k
-      go none q = absurd (let z : _≡_ {A = ℕ} 0 1 = cc in omega arith)
-      go (some v) q = let x : _≡_ {A = ℕ} 15 n = cc in let y : v ≡ k = cc in (λ i. refused (x i) (y i))
+  -- ---- and after the reading of the arrivals' text t
+
+  -- the graph is timed, and the outcome from there on is the call's
+  pub record Times (t z : List ℕ) : Type 0 where
+    pub graph : Graph
+    pub timed : Timed z lib h graph
+    pub outcome : (bytes : ℕ) → timesFor lib t h g bytes ≡ placedFor lib graph bytes
+
+  module _ (t : List ℕ) (u : Verdict) (said : u ≡ verdictOf (readArrivals (h .inputs) t)) where
+    -- 25 and 26
+    pub times-stop : (n k : ℕ) → u ≡ Refused n k → (text : List ℕ) → Told (timesFor lib t h g (length text)) text (Turned n k) text
+    unfolding verdictOf timesFor mapDesign next
+    times-stop n k a text = go (readArrivals (h .inputs) t) refl (sym said ∙ a)
+      where
+        go : (x : Read (List Late)) → readArrivals (h .inputs) t ≡ x → verdictOf x ≡ Refused n k → Told (mapDesign (length text) (timesOf lib t h g)) text (Turned n k) text
+        go (holds es) q z = absurd (let x : _≡_ {A = ℕ} 0 1 = cc in omega arith)
+        go (fault m j) q z =
+            let x : m ≡ n = cc in let y : j ≡ k = cc in
+            told-as (ap (λ (v : Read (List Late)). mapDesign (length text) (next v (λ es. holds (record { cells = cellsOf lib; graph = timedBy g es })))) q ∙ (λ i. refused (x i) (y i))) (told-refused n k text)
+
+    module _ (a : u ≡ Accepted) where
+      times-read : (es : List Late) × (readArrivals (h .inputs) t ≡ holds es)
+      unfolding verdictOf
+      times-read = go (readArrivals (h .inputs) t) refl (sym said ∙ a)
+        where
+          go : (x : Read (List Late)) → readArrivals (h .inputs) t ≡ x → verdictOf x ≡ Accepted → (es : List Late) × (readArrivals (h .inputs) t ≡ holds es)
+          go (holds es) q z = (es, q)
+          go (fault m j) q z = absurd (let x : _≡_ {A = ℕ} 0 1 = cc in omega arith)
+
+      times-are : (bytes : ℕ) → timesFor lib t h g bytes ≡ loadedFor lib (timedBy g (times-read .0)) bytes
+      unfolding timesFor mapDesign next
+      times-are bytes = ap (λ (v : Read (List Late)). mapDesign bytes (next v (λ es. holds (record { cells = cellsOf lib; graph = timedBy g es })))) (times-read .1)
+
+      -- 15
+      pub placing-stops : (n k : ℕ) → r ≡ Refused n k → (text : List ℕ) → Told (timesFor lib t h g (length text)) text (Turned n k) text
+      unfolding mapGraph mapPlaced placingVerdict refusedAt within
+      placing-stops n k b text =
+          told-as (times-are (length text) ∙ go (lowest (unplaced (timedBy g (times-read .0)))) (ap (λ (us : List ℕ). refusedAt 15 (lowest us)) (timed-unplaced g (times-read .0)) ∙ sym placing-is ∙ b))
+          (told-refused n k text)
+        where
+          go : (o : Option ℕ) → refusedAt 15 o ≡ Refused n k → within (length text) (mapPlaced (cellsOf lib) (timedBy g (times-read .0)) o) ≡ refused n k
+          go none q = absurd (let z : _≡_ {A = ℕ} 0 1 = cc in omega arith)
+          go (some v) q = let x : _≡_ {A = ℕ} 15 n = cc in let z : v ≡ k = cc in (λ i. refused (x i) (z i))
+
+      pub placing-timed : r ≡ Accepted → (z : List ℕ) → z ≡ putAll y (h .size) (listed (h .inputs) t) → Times t z
+      unfolding mapGraph mapPlaced lowest
+      placing-timed b z f =
+          let all : unplaced g ≡ [] = all-placed g (sym placing-is ∙ b) in
+          record {
+            graph = timedBy g (times-read .0);
+            timed = subst (λ (x : List ℕ). Timed x lib h (timedBy g (times-read .0))) (sym f) (timed-after y lib h g placing-placed all t (times-read .0) (times-read .1));
+            outcome = λ bytes. times-are bytes
+                ∙ ap (λ (us : List ℕ). within bytes (mapPlaced (cellsOf lib) (timedBy g (times-read .0)) (lowest us))) (timed-unplaced g (times-read .0) ∙ all);
+          }
 
 -- ---- after the reading of the graph
 
-pub record Reads (lib : Library) (s : List ℕ) (h : Header) (y : List ℕ) : Type 0 where
+pub record Reads (lib : Library) (s t : List ℕ) (h : Header) (y : List ℕ) : Type 0 where
   pub graph : Graph
   pub loaded : Loaded y lib h graph
-  pub outcome : (bytes : ℕ) → graphFor lib s h bytes ≡ loadedFor lib graph bytes
+  pub outcome : (bytes : ℕ) → graphFor lib s t h bytes ≡ timesFor lib t h graph bytes
 
-module _ (lib : Library) (ok : LibraryOk lib) (s : List ℕ) (h : Header) (w : List ℕ) (fit : Fit h w) (d : readHeader s ≡ holds h) (r : Verdict) (told : r ≡ verdictOf (readGraph s h)) where
-  pub reading-loaded : r ≡ Accepted → (y : List ℕ) → y ≡ loadedWords w s h → Reads lib s h y
-  unfolding verdictOf graphFor mapDesign next
+module _ (lib : Library) (ok : LibraryOk lib) (s t : List ℕ) (h : Header) (w : List ℕ) (fit : Fit h w) (d : readHeader s ≡ holds h) (r : Verdict) (told : r ≡ verdictOf (readGraph s h)) where
+  pub reading-loaded : r ≡ Accepted → (y : List ℕ) → y ≡ loadedWords w s h → Reads lib s t h y
+  unfolding verdictOf graphFor timesFor mapDesign next
   reading-loaded a y e = go (readGraph s h) refl (sym told ∙ a)
     where
-      go : (x : Read Graph) → readGraph s h ≡ x → verdictOf x ≡ Accepted → Reads lib s h y
+      go : (x : Read Graph) → readGraph s h ≡ x → verdictOf x ≡ Accepted → Reads lib s t h y
       go (holds g) q z = record {
         graph = g;
         loaded = subst (λ (u : List ℕ). Loaded u lib h g) (sym e) (loaded-after lib ok s h w fit d g q);
-        outcome = λ bytes. ap (λ (u : Read Graph). mapDesign bytes (next u (λ k. holds (record { cells = cellsOf lib; graph = k })))) q;
+        outcome = λ bytes. ap (λ (u : Read Graph). mapDesign bytes (next u (timesOf lib t h))) q;
       }
       go (fault n k) q z = absurd (let x : _≡_ {A = ℕ} 0 1 = cc in omega arith)
 
-  pub reading-stops : (n k : ℕ) → r ≡ Refused n k → (t : List ℕ) → Told (graphFor lib s h (length t)) t (Turned n k) t
+  pub reading-stops : (n k : ℕ) → r ≡ Refused n k → (text : List ℕ) → Told (graphFor lib s t h (length text)) text (Turned n k) text
   unfolding verdictOf graphFor mapDesign next
-  reading-stops n k a t = go (readGraph s h) refl (sym told ∙ a)
+  reading-stops n k a text = go (readGraph s h) refl (sym told ∙ a)
     where
-      go : (x : Read Graph) → readGraph s h ≡ x → verdictOf x ≡ Refused n k → Told (mapDesign (length t) (designOf lib s h)) t (Turned n k) t
+      go : (x : Read Graph) → readGraph s h ≡ x → verdictOf x ≡ Refused n k → Told (mapDesign (length text) (designOf lib s t h)) text (Turned n k) text
       go (holds g) q z = absurd (let x : _≡_ {A = ℕ} 0 1 = cc in omega arith)
       go (fault m j) q z =
           let x : m ≡ n = cc in let y : j ≡ k = cc in
-          told-as (ap (λ (u : Read Graph). mapDesign (length t) (next u (λ i. holds (record { cells = cellsOf lib; graph = i })))) q ∙ (λ i. refused (x i) (y i))) (told-refused n k t)
+          told-as (ap (λ (u : Read Graph). mapDesign (length text) (next u (timesOf lib t h))) q ∙ (λ i. refused (x i) (y i))) (told-refused n k text)

@@ -1,5 +1,5 @@
 -- The whole call: refusal 1, the library's, and what comes behind; the demands. Assumes nothing.
-use Prim.Native.Nat.{ℕ, _≤_, _<_}
+use Prim.Native.Nat.{ℕ, _≤_}
 use native.Mathlib.Omega.{arith}
 use mathlib.Core.Path.{_≡_, refl, sym, _∙_, ap, subst}
 use mathlib.Core.Bool.{Bool, true, false, cond, _&&_}
@@ -11,8 +11,9 @@ use Rattle.model.specs.Reading.{Read, holds, fault, next, unless}
 use Rattle.model.specs.Cells.{cellsOf, libraryOf, libraryAnswer}
 use Rattle.model.specs.LibraryText.{readLibrary}
 use Rattle.model.specs.GraphText.{readHeader, readGraph}
+use Rattle.model.specs.ArrivalsText.{readArrivals, timedBy}
 use Rattle.model.specs.Netlist.{Outcome, refused, mapped, mapGraph}
-use Rattle.model.specs.Mapper.{Call, callOf, Design, within, mapDesign, readTexts, mapTexts, answerOf, returned}
+use Rattle.model.specs.Mapper.{Call, callOf, Design, short, within, mapDesign, readTexts, mapTexts, answerOf, returned}
 use Rattle.model.specs.Demands.{Memory}
 use Rattle.model.specs.declared.Cell.{Cell}
 use Rattle.model.specs.declared.LibraryAnswer.{LibraryAnswer}
@@ -57,56 +58,54 @@ memory-fits c work text a y u m = subst (λ (x : Answer). Fits x (c .bytes)) (sy
 
 -- ---- 1
 
-module _ (library graph work text : List ℕ) where
+module _ (library graph arrivals work text : List ℕ) where
   abbrev call : Call
-  call = callOf library graph work text
+  call = callOf library graph arrivals work text
 
-  -- 7 to 14
+  -- 7 to 14, 19 to 21, 25 and 26
   behindCells : List Cell → Read Design
   behindCells cells = next (readHeader graph) (λ h. unless (leb (need (h .size) (h .outputs)) (length work)) 10 0
-      (next (readGraph graph h) (λ g. holds (record { cells = cells; graph = g }))))
+      (next (readGraph graph h) (λ g. next (readArrivals (h .inputs) arrivals) (λ es. holds (record { cells = cells; graph = timedBy g es })))))
 
-  -- 2 to 14
+  -- and 2 to 6 before them
   behind : Read Design
   behind = next (readLibrary library) behindCells
 
-  texts-are : readTexts call ≡ unless (leb (length library) 65536 && leb (length graph) 65536) 1 0 behind
+  texts-are : readTexts call ≡ unless (short call) 1 0 behind
   unfolding readTexts behind behindCells
   texts-are = refl
 
-  one : (leb (length library) 65536 && leb (length graph) 65536) ≡ false → Memory call work text (Turned 1 0) work text
+  one : short call ≡ false → Memory call work text (Turned 1 0) work text
   unfolding mapTexts mapDesign unless
   one e =
       memory-of call work text (Turned 1 0) work text
       (left-as (ap (λ (r : Read Design). mapDesign (length text) r) (texts-are ∙ ap (λ (b : Bool). unless b 1 0 behind) e)) (left-early 1 0 work text refl))
 
-  -- "A text is longer than 65,536 bytes"
-  pub long-library : 65536 < length library → Memory call work text (Turned 1 0) work text
-  long-library l = one (go (leb (length library) 65536) (leb→le (length library) 65536))
-    where
-      go : (b : Bool) → (T b → length library ≤ 65536) → (b && leb (length graph) 65536) ≡ false
-      go true y = absurd (let z : length library ≤ 65536 = y tt in omega arith)
-      go false y = refl
+  -- "A text is longer than 65,536 bytes": any of three
+  short-not : (a b c : Bool) → (T a → T b → T c → ⊥) → (a && (b && c)) ≡ false
+  short-not true true true y = absurd (y tt tt tt)
+  short-not true true false y = refl
+  short-not true false c y = refl
+  short-not false b c y = refl
 
-  pub long-graph : 65536 < length graph → Memory call work text (Turned 1 0) work text
-  long-graph l = one (both (leb (length library) 65536) (leb (length graph) 65536) (leb→le (length graph) 65536))
-    where
-      both : (a b : Bool) → (T b → length graph ≤ 65536) → (a && b) ≡ false
-      both true true y = absurd (let z : length graph ≤ 65536 = y tt in omega arith)
-      both true false y = refl
-      both false b y = refl
+  pub long-text : (length library ≤ 65536 → length graph ≤ 65536 → length arrivals ≤ 65536 → ⊥) → Memory call work text (Turned 1 0) work text
+  long-text l =
+      one (short-not (leb (length library) 65536) (leb (length graph) 65536) (leb (length arrivals) 65536)
+      (λ x y z. l (leb→le (length library) 65536 x) (leb→le (length graph) 65536 y) (leb→le (length arrivals) 65536 z)))
 
-  module _ (short : length library ≤ 65536) (brief : length graph ≤ 65536) where
+  module _ (shortLibrary : length library ≤ 65536) (shortGraph : length graph ≤ 65536) (shortArrivals : length arrivals ≤ 65536) where
     entered : mapTexts call ≡ mapDesign (length text) behind
     unfolding mapTexts unless
     entered =
         ap (λ (r : Read Design). mapDesign (length text) r)
-        (texts-are ∙ go (leb (length library) 65536) (leb (length graph) 65536) (le→leb (length library) 65536 short) (le→leb (length graph) 65536 brief))
+        (texts-are
+        ∙ go (leb (length library) 65536) (leb (length graph) 65536) (leb (length arrivals) 65536) (le→leb (length library) 65536 shortLibrary) (le→leb (length graph) 65536 shortGraph) (le→leb (length arrivals) 65536 shortArrivals))
       where
-        go : (a b : Bool) → T a → T b → unless (a && b) 1 0 behind ≡ behind
-        go true true x y = refl
-        go true false x y = absurd y
-        go false b x y = absurd x
+        go : (a b c : Bool) → T a → T b → T c → unless (a && (b && c)) 1 0 behind ≡ behind
+        go true true true x y z = refl
+        go true true false x y z = absurd z
+        go true false c x y z = absurd y
+        go false b c x y z = absurd x
 
     module _ (l : LibraryAnswer) (told : l ≡ libraryAnswer (readLibrary library)) where
       -- 2 to 6
@@ -125,7 +124,7 @@ module _ (library graph work text : List ℕ) where
 
       pub record IsRead : Type 0 where
         pub ok : LibraryOk (l .library)
-        pub goes : mapTexts call ≡ headerFor (l .library) graph (length work) (length text)
+        pub goes : mapTexts call ≡ headerFor (l .library) graph arrivals (length work) (length text)
 
       pub library-read : l .verdict ≡ Accepted → IsRead
       unfolding libraryAnswer behind behindCells next mapDesign headerFor

@@ -1,9 +1,9 @@
 -- What the words hold between the layers, and the outcome from each layer on, in terms of `model`. Assumes nothing.
 use mathlib.Core.Path.{_≡_}
-use mathlib.Core.List.{List, [], _∷_}
+use mathlib.Core.List.{List, [], _∷_, List·Memᴰ}
 use Prim.Native.Nat.{ℕ, _≤_, _<_}
 use lib.Dec.{T, leb}
-use lib.ListN.{getD}
+use lib.ListN.{length, getD}
 use Rattle.model.specs.Limits.{need}
 use Rattle.model.specs.Reading.{Read, holds, next, unless}
 use Rattle.model.specs.Cells.{cellsOf}
@@ -11,18 +11,20 @@ use Rattle.model.specs.Graph.{Graph, placingOrder, unplaced}
 use Rattle.model.specs.Cuts.{crowded}
 use Rattle.model.specs.Choice.{choices}
 use Rattle.model.specs.GraphText.{readHeader, readGraph}
+use Rattle.model.specs.ArrivalsText.{readArrivals, timedBy}
 use Rattle.model.specs.Netlist.{Outcome, mapped, mapGraph, mapCut, mapChosen}
 use Rattle.model.specs.Mapper.{Design, within, mapDesign, answerOf, textAfter, workAfter}
-use Rattle.model.specs.Demands.{choiceText, choiceFigures}
+use Rattle.model.specs.Demands.{Distinct, choiceText, choiceFigures}
 use Rattle.model.specs.declared.Library.{Library}
 use Rattle.model.specs.declared.Header.{Header}
 use Rattle.model.specs.declared.Answer.{Answer}
 use Rattle.model.specs.declared.Answer.the-variants.{Mapped as IsMapped, Refused as Turned}
-use Rattle.words.specs.Layout.{neededAddr, listsFrom}
+use Rattle.words.specs.Layout.{placedOf, placeAt, neededAt, lateAt, outputAt, positiveAddr, listsFrom}
 use Rattle.theory_graph.specs.Accepted.{Accepted, libraryFits}
 use Rattle.theory_text.specs.Fits.{GraphFits}
 use Rattle.matching.specs.Variants.{Usable}
 use Rattle.placing.specs.Loaded.{Fit, Holding}
+use Rattle.cuts.specs.Represents.{Represents, Uncut}
 use Rattle.cover.specs.Held.{HeaderOf, Held}
 
 -- ---- what is told of an outcome
@@ -49,7 +51,7 @@ pub record LibraryOk (lib : Library) : Type 0 where
   pub fits : T (libraryFits (cellsOf lib))
   pub usable : Usable lib
 
--- library, header and graph that were read: none of the refusals 1 to 14 and 19 to 21 applies
+-- library, header and graph that were read: none of the refusals 1 to 14 and 19 to 21 applies, nor 25 and 26 where the graph is timed
 pub record Given (lib : Library) (h : Header) (g : Graph) : Type 0 where
   pub library : LibraryOk lib
   pub header : HeaderOf h g
@@ -59,23 +61,39 @@ pub record Given (lib : Library) (h : Header) (g : Graph) : Type 0 where
 -- after `load`
 pub record Loaded (w : List ℕ) (lib : Library) (h : Header) (g : Graph) : Type 0 where
   pub given : Given lib h g
+  pub distinct : Distinct (g .inputs)
   pub before : List ℕ
   pub fit : Fit h before
   pub holding : Holding before h w g (0 ∷ g .inputs)
 
--- after `place`
+-- after `place`, whatever it answers
 pub record Placed (w : List ℕ) (lib : Library) (h : Header) (g : Graph) : Type 0 where
   pub given : Given lib h g
-  pub placed : unplaced g ≡ []
+  pub distinct : Distinct (g .inputs)
   pub before : List ℕ
   pub fit : Fit h before
   pub holding : Holding before h w g (placingOrder g)
+
+-- after `arrivals::read`, where neither it nor `place` refuses: the graph is timed
+pub record Timed (w : List ℕ) (lib : Library) (h : Header) (g : Graph) : Type 0 where
+  pub given : Given lib h g
+  pub placed : unplaced g ≡ []
+  pub soon : (v : ℕ) → g .late v ≤ 65535
+  pub fit : Fit h w
+  pub represents : Represents w (h .size) (placedOf h) g
+  pub uncut : Uncut w (h .size)
+  pub outputs : (i : ℕ) → i < length (g .outputs) → outputAt w (h .size) i ≡ getD (g .outputs) i 0
+  pub waiting : (v : ℕ) → v ≤ h .size → ¬ List·Memᴰ v (placingOrder g) → placeAt w (h .size) v ≡ 0
+  pub late : (v : ℕ) → v ≤ h .size → lateAt w (h .size) v ≡ g .late v
+  pub unneeded : (v : ℕ) → v ≤ h .size → neededAt w (h .size) v ≡ 0
+  pub unchosen : (a : ℕ) → positiveAddr (h .size) 0 ≤ a → a < listsFrom (h .size) → getD w a 0 ≡ 0
 
 -- after `enumerate`: no phase is chosen yet, and none is needed
 pub record Cut (w : List ℕ) (lib : Library) (h : Header) (g : Graph) : Type 0 where
   pub given : Given lib h g
   pub held : Held w g
-  pub zero : (a : ℕ) → neededAddr (g .size) 0 ≤ a → a < listsFrom (g .size) → getD w a 0 ≡ 0
+  pub unneeded : (v : ℕ) → v ≤ g .size → neededAt w (g .size) v ≡ 0
+  pub unchosen : (a : ℕ) → positiveAddr (g .size) 0 ≤ a → a < listsFrom (g .size) → getD w a 0 ≡ 0
 
 -- ---- the outcome
 
@@ -95,14 +113,22 @@ placedFor lib g bytes = within bytes (mapCut (cellsOf lib) g (crowded g))
 abbrev pub loadedFor : Library → Graph → ℕ → Outcome
 loadedFor lib g bytes = within bytes (mapGraph (cellsOf lib) g)
 
--- what is read of a graph behind a header
-abbrev pub designOf : Library → List ℕ → Header → Read Design
-designOf lib s h = next (readGraph s h) (λ g. holds (record { cells = cellsOf lib; graph = g }))
+-- what is read with the arrivals' text t of a graph
+abbrev pub timesOf : Library → List ℕ → Header → Graph → Read Design
+timesOf lib t h g = next (readArrivals (h .inputs) t) (λ es. holds (record { cells = cellsOf lib; graph = timedBy g es }))
+
+-- 25 and 26 before it
+unfoldable pub timesFor : Library → List ℕ → Header → Graph → ℕ → Outcome
+timesFor lib t h g bytes = mapDesign bytes (timesOf lib t h g)
+
+-- what is read of a graph's text s and t behind a header
+abbrev pub designOf : Library → List ℕ → List ℕ → Header → Read Design
+designOf lib s t h = next (readGraph s h) (timesOf lib t h)
 
 -- 11 to 14, 20 and 21 before it
-unfoldable pub graphFor : Library → List ℕ → Header → ℕ → Outcome
-graphFor lib s h bytes = mapDesign bytes (designOf lib s h)
+unfoldable pub graphFor : Library → List ℕ → List ℕ → Header → ℕ → Outcome
+graphFor lib s t h bytes = mapDesign bytes (designOf lib s t h)
 
 -- 7 to 10 and 19 before it
-unfoldable pub headerFor : Library → List ℕ → ℕ → ℕ → Outcome
-headerFor lib s words bytes = mapDesign bytes (next (readHeader s) (λ h. unless (leb (need (h .size) (h .outputs)) words) 10 0 (designOf lib s h)))
+unfoldable pub headerFor : Library → List ℕ → List ℕ → ℕ → ℕ → Outcome
+headerFor lib s t words bytes = mapDesign bytes (next (readHeader s) (λ h. unless (leb (need (h .size) (h .outputs)) words) 10 0 (designOf lib s t h)))

@@ -1,5 +1,5 @@
 -- The marked cases A to K of the document, from the texts on, a case for each refusal, the binary form, either line end, matches and ties, outputs'
--- names, and what a call leaves and returns, checked against the definitions by computing.
+-- names, late inputs, and what a call leaves and returns, checked against the definitions by computing.
 -- Assumes nothing.
 use Prim.Native.Nat.{ℕ}
 use Prim.Native.String.{String}
@@ -7,7 +7,7 @@ use mathlib.Core.Bool.{Bool, true, false, not, _&&_}
 use mathlib.Core.Option.{Option, none, some}
 use mathlib.Core.List.{List, [], _∷_, _++_}
 use lib.Dec.{T, eqb}
-use lib.ListN.{length, getD}
+use lib.ListN.{length, getD, replicate}
 use Rattle.model.specs.Base.{all, same, each, below}
 use Rattle.model.specs.Limits.{need}
 use Rattle.model.specs.Text.{text, decimal}
@@ -73,6 +73,12 @@ pub data Case : Type 0 where
   hasAnd : List ℕ → ℕ → ℕ → ℕ → Case
   -- these cuts of a variable, and this function of one of them, of a graph's text that is given as bytes
   listsBytes : List ℕ → ℕ → List (List ℕ) → List ℕ → ℕ → Case
+  -- a graph's text and an arrivals' text, given as bytes: the whole text printed, with its gates, area and arrival
+  printsTimed : List ℕ → List ℕ → List ℕ → List ℕ → ℕ → ℕ → ℕ → Case
+  -- so many gates and this arrival of them
+  givesTimed : List ℕ → List ℕ → List ℕ → ℕ → ℕ → Case
+  -- this refusal of them, with so many words lent
+  refusesTimed : List ℕ → List ℕ → List ℕ → ℕ → ℕ → ℕ → Case
   -- this order takes this row to that row
   takes : ℕ → ℕ → ℕ → Case
   -- the `# gates` line of a text says these figures
@@ -133,11 +139,15 @@ ofGraph p (fault n k) = false
 
 -- a call on a library and a graph's text, with so many words and bytes lent
 abbrev pub given : List ℕ → String → ℕ → ℕ → Call
-given l g words bytes = record { library = l; graph = text g; words = words; bytes = bytes }
+given l g words bytes = record { library = l; graph = text g; arrivals = []; words = words; bytes = bytes }
 
 -- the same with the graph's text as bytes
 abbrev pub givenBytes : List ℕ → List ℕ → ℕ → Call
-givenBytes l g words = record { library = l; graph = g; words = words; bytes = 65536 }
+givenBytes l g words = record { library = l; graph = g; arrivals = []; words = words; bytes = 65536 }
+
+-- the same with an arrivals' text
+abbrev pub givenTimed : List ℕ → List ℕ → List ℕ → ℕ → Call
+givenTimed l g arrivals words = record { library = l; graph = g; arrivals = arrivals; words = words; bytes = 65536 }
 
 -- "It lends 32,768 words and 65,536 bytes."
 unfoldable pub mapText : List ℕ → String → Outcome
@@ -166,6 +176,9 @@ holds (refusesBytes g words n k) = isRefusal n k (mapTexts (givenBytes library g
 holds (means g t) = ofGraph (λ h. same (text t) (asciiText h)) (graphBytes g)
 holds (hasAnd g v l r) = ofGraph (λ h. isAnd v l r (h .ands)) (graphBytes g)
 holds (listsBytes g v cuts cut f) = ofGraph (λ h. sameCuts cuts (cutsOf h v) && eqb f (cutTable h cut v)) (graphBytes g)
+holds (printsTimed l g ts t count area arrival) = isPrint t count area arrival (mapTexts (givenTimed l g ts 32768))
+holds (givesTimed l g ts count arrival) = isGiven count arrival (mapTexts (givenTimed l g ts 32768))
+holds (refusesTimed l g ts words n k) = isRefusal n k (mapTexts (givenTimed l g ts words))
 holds (takes order r q) = eqb q (rowMap (getD orders order []) r)
 holds (says t count area arrival) = areSaid count area arrival (readFigures t)
 holds (saysNothing t) = nothingSaid (readFigures t)
@@ -650,6 +663,119 @@ pub wires-read-hold : T (all holds wiresRead)
 unfolding all holds wiresRead
 wires-read-hold = tt
 
+-- ---- inputs that arrive late
+
+-- an arrivals' text of these lines: they begin at byte 14
+unfoldable pub arrives : String → List ℕ
+unfolding text
+arrives lines = text "input arrival\n" ++ text lines
+
+unfoldable pub lateInputs : List Case
+unfolding library listing with graphB graphC headB arrives text
+lateInputs =
+    -- B with its first input at 100, with its second, the last index, and with both
+    printsTimed library (text graphB) (arrives "0 100\n")
+    (text ".model top\n.inputs p1 p2\n.outputs o0\n.gate inv A=m3 O=p3\n.gate nand2 A=p1 B=p2 O=m3\n.names p3 o0\n1 1\n.end\n# gates 2 area 3 arrival 130\n") 2 3 130
+    ∷ givesTimed library (text graphB) (arrives "1 100\n") 2 130
+    ∷ givesTimed library (text graphB) (arrives "1 100\n0 120\n") 2 150
+    -- "or empty for none"; the first line alone; an input listed at 0
+    ∷ printsTimed library (text graphB) [] listing 2 3 30
+    ∷ printsTimed library (text graphB) (arrives "") listing 2 3 30
+    ∷ printsTimed library (text graphB) (arrives "0 0\n") listing 2 3 30
+    -- lines "ended as library lines are"
+    ∷ givesTimed library (text graphB) (text "input arrival" ++ (13 ∷ 10 ∷ text "0 100" ++ (13 ∷ 10 ∷ text "1 7\n"))) 2 130
+    -- C, its nor2 first: with an input late, a second nor2 whose pin B is quick is chosen, fed by the late input there
+    ∷ gives (with "nor2 2 0001 2 35 35 0 0\nnor2q 2 0001 3 50 5 0 0\n") graphC 1 35
+    ∷ printsTimed (with "nor2 2 0001 2 35 35 0 0\nnor2q 2 0001 3 50 5 0 0\n") (text graphC) (arrives "0 100\n")
+    (text ".model top\n.inputs p1 p2\n.outputs o0\n.gate nor2q A=p2 B=p1 O=p3\n.names p3 o0\n1 1\n.end\n# gates 1 area 3 arrival 105\n") 1 3 105
+    -- and with a nand2 whose pin B is quick, inverters and this nand2 are chosen in place of nor2
+    ∷ gives (with "nor2 2 0001 2 35 35 0 0\nnand2q 2 0007 2 40 2 0 0\n") graphC 1 35
+    ∷ printsTimed (with "nor2 2 0001 2 35 35 0 0\nnand2q 2 0007 2 40 2 0 0\n") (text graphC) (arrives "0 100\n")
+    (text ".model top\n.inputs p1 p2\n.outputs o0\n.gate inv A=p1 O=m1\n.gate inv A=p2 O=m2\n.gate inv A=m3 O=p3\n.gate nand2q A=m2 B=m1 O=m3\n.names p3 o0\n1 1\n.end\n# gates 4 area 5 arrival 122\n") 4 5 122
+    -- E, with pin B of nor2 at 31: nor2 is chosen in place of inverters and nand2
+    ∷ gives (with "nor2 2 0001 2 41 31 0 0\n") graphC 4 40
+    ∷ givesTimed (with "nor2 2 0001 2 41 31 0 0\n") (text graphC) (arrives "0 100\n") 1 131
+    -- D, with an input late: the tie goes to the cell
+    ∷ givesTimed (with "nor2 2 0001 2 40 40 0 0\n") (text graphC) (arrives "1 9\n") 1 49
+    -- an index is a place in the file's inputs: variable 2 stands first
+    ∷ givesTimed library (text "aag 2 2 0 1 0\n4\n2\n2\n") (arrives "1 7\n") 0 7
+    ∷ givesTimed library (text "aag 2 2 0 1 0\n4\n2\n2\n") (arrives "0 7\n") 0 0
+    ∷ givesTimed library (text "aag 2 2 0 2 0\n4\n2\n4\n2\n") (arrives "0 7\n") 0 7
+    -- an input's own net and its complement, as late as can be
+    ∷ givesTimed library (text "aag 1 1 0 1 0\n2\n2\n") (arrives "0 65535\n") 0 65535
+    ∷ givesTimed library (text "aag 1 1 0 1 0\n2\n3\n") (arrives "0 65535\n") 1 65545
+    -- "0 for a cell without pins", and an input that nothing uses
+    ∷ givesTimed (with "tie0 0 0000 1 0 0 0 0\n") (text "aag 1 1 0 1 0\n2\n1\n") (arrives "0 100\n") 2 10
+    -- the binary form
+    ∷ givesTimed library (headB ++ (2 ∷ 2 ∷ [])) (arrives "0 100\n") 2 130
+    ∷ []
+
+pub late-inputs-hold : T (all holds lateInputs)
+unfolding all holds lateInputs
+late-inputs-hold = tt
+
+-- "25 when a line breaks its form; 26 when an index is I or more, or is repeated, both line by line after 14, at the line's offset"
+unfoldable pub lateRefusals : List Case
+unfolding library graphB arrives text
+lateRefusals =
+    -- the first line: it is `input arrival` where there is one
+    refusesTimed library (text graphB) (text "\n") 32768 25 0
+    ∷ refusesTimed library (text graphB) (text "input arrival") 32768 25 0
+    ∷ refusesTimed library (text graphB) (text "input arrival \n") 32768 25 0
+    ∷ refusesTimed library (text graphB) (text "input  arrival\n") 32768 25 0
+    ∷ refusesTimed library (text graphB) (text "Input arrival\n") 32768 25 0
+    ∷ refusesTimed library (text graphB) (text "0 100\n") 32768 25 0
+    ∷ refusesTimed library (text graphB) (text "input arrival" ++ (13 ∷ 13 ∷ 10 ∷ [])) 32768 25 0
+    -- two numbers, one space, no leading zeros, an end
+    ∷ refusesTimed library (text graphB) (arrives "\n") 32768 25 14
+    ∷ refusesTimed library (text graphB) (arrives "0\n") 32768 25 14
+    ∷ refusesTimed library (text graphB) (arrives "0 \n") 32768 25 14
+    ∷ refusesTimed library (text graphB) (arrives "0 5 6\n") 32768 25 14
+    ∷ refusesTimed library (text graphB) (arrives "0  5\n") 32768 25 14
+    ∷ refusesTimed library (text graphB) (arrives " 0 5\n") 32768 25 14
+    ∷ refusesTimed library (text graphB) (arrives "0 5 \n") 32768 25 14
+    ∷ refusesTimed library (text graphB) (arrives "0 5") 32768 25 14
+    ∷ refusesTimed library (text graphB) (arrives "0 05\n") 32768 25 14
+    ∷ refusesTimed library (text graphB) (arrives "00 5\n") 32768 25 14
+    ∷ refusesTimed library (text graphB) (arrives "0 5a\n") 32768 25 14
+    ∷ refusesTimed library (text graphB) (arrives "0 -5\n") 32768 25 14
+    ∷ refusesTimed library (text graphB) (arrives "p1 5\n") 32768 25 14
+    ∷ refusesTimed library (text graphB) (arrives "0 65536\n") 32768 25 14
+    ∷ refusesTimed library (text graphB) (arrives "65536 0\n") 32768 25 14
+    ∷ refusesTimed library (text graphB) (arrives "0 5" ++ (13 ∷ [])) 32768 25 14
+    ∷ refusesTimed library (text graphB) (text "input arrival" ++ (13 ∷ 10 ∷ text "0 5" ++ (13 ∷ 10 ∷ text "1\n"))) 32768 25 20
+    -- an index of I, and the largest; every index where there are no inputs
+    ∷ refusesTimed library (text graphB) (arrives "2 5\n") 32768 26 14
+    ∷ refusesTimed library (text graphB) (arrives "65535 5\n") 32768 26 14
+    ∷ refusesTimed library (text graphB) (arrives "1 5\n2 5\n") 32768 26 18
+    ∷ refusesTimed library (text "aag 0 0 0 0 0\n") (arrives "0 0\n") 32768 26 14
+    ∷ givesTimed library (text "aag 0 0 0 0 0\n") (arrives "") 0 0
+    -- an input listed twice, at one time too, and at 0
+    ∷ refusesTimed library (text graphB) (arrives "0 5\n0 6\n") 32768 26 18
+    ∷ refusesTimed library (text graphB) (arrives "0 5\n1 5\n0 5\n") 32768 26 22
+    ∷ refusesTimed library (text graphB) (arrives "0 0\n0 0\n") 32768 26 18
+    -- line by line: on one line 25 first, and an earlier line's before a later one's
+    ∷ refusesTimed library (text graphB) (arrives "2 x\n") 32768 25 14
+    ∷ refusesTimed library (text graphB) (arrives "0 0\n0 00\n") 32768 25 18
+    ∷ refusesTimed library (text graphB) (arrives "0 x\n2 5\n") 32768 25 14
+    ∷ refusesTimed library (text graphB) (arrives "2 5\n0 x\n") 32768 26 14
+    ∷ refusesTimed library (text graphB) (arrives "0 5\n0 6\n1\n") 32768 26 18
+    -- after 10 and after 14, before 15 and before 17
+    ∷ refusesTimed library (text graphB) (text "\n") 496 10 0
+    ∷ refusesTimed library (text "aag 4 2 0 1 1\n2\n4\n8\n6 2 4\n") (text "\n") 32768 14 18
+    ∷ refusesTimed library (text "aag 2 0 0 0 2\n2 4 4\n4 2 2\n") (text "\n") 32768 25 0
+    ∷ refusesTimed library (text "aag 2 0 0 0 2\n2 4 4\n4 2 2\n") (arrives "0 0\n") 32768 26 14
+    ∷ refusesTimed library (text "aag 2 0 0 0 2\n2 4 4\n4 2 2\n") (arrives "") 32768 15 1
+    ∷ refusesTimed library (text "aag 0 0 0 1 0\n1\n") (arrives "0 0\n") 32768 26 14
+    -- "1 covers this text too", before 2
+    ∷ refusesTimed [] (text graphB) (replicate 65537 10) 32768 1 0
+    ∷ refusesTimed [] (text graphB) (replicate 65536 10) 32768 2 0
+    ∷ []
+
+pub late-refusals-hold : T (all holds lateRefusals)
+unfolding all holds lateRefusals
+late-refusals-hold = tt
+
 -- ---- the lent memory, and what a call returns
 
 -- "Work memory is unchanged by every refusal tried up to 10, and all zero after a later one and after success."
@@ -660,8 +786,10 @@ pub work-left : T (
     && (same (workAfter (refused 20 16) (7 ∷ 8 ∷ [])) (0 ∷ 0 ∷ [])
     && (same (workAfter (refused 21 16) (7 ∷ 8 ∷ [])) (0 ∷ 0 ∷ [])
     && (same (workAfter (refused 11 20) (7 ∷ 8 ∷ [])) (0 ∷ 0 ∷ [])
+    && (same (workAfter (refused 25 0) (7 ∷ 8 ∷ [])) (0 ∷ 0 ∷ [])
+    && (same (workAfter (refused 26 14) (7 ∷ 8 ∷ [])) (0 ∷ 0 ∷ [])
     && (same (workAfter (refused 18 134) (7 ∷ 8 ∷ [])) (0 ∷ 0 ∷ [])
-    && same (workAfter (mapped (5 ∷ []) (record { gates = 0; area = 0; arrival = 0 })) (7 ∷ 8 ∷ [])) (0 ∷ 0 ∷ [])))))))
+    && same (workAfter (mapped (5 ∷ []) (record { gates = 0; area = 0; arrival = 0 })) (7 ∷ 8 ∷ [])) (0 ∷ 0 ∷ [])))))))))
     )
 unfolding same workAfter
 work-left = tt

@@ -219,8 +219,9 @@ pub record NetValues (cells : List Cell) (n : Blif) (setting : List Bool) (w : L
   pub atWires : (x : Wire) → List·Memᴰ x (n .wires) → w (x .target) ≡ w (x .source)
 
 -- "A printed net's arrival follows the same rule over the gate lines, in whatever order they stand, with the library text's `d` delays."
--- The `.names` lines "aren't gates and add no delay": an output's own name arrives as its net.
-pub record NetArrivals (cells : List Cell) (n : Blif) (at : List ℕ → ℕ) : Type 0 where
-  pub atInputs : (name : List ℕ) → List·Memᴰ name (n .inputs) → at name ≡ 0
+-- An input net has its input's time, of those given in the inputs' order. The `.names` lines "aren't gates and add no delay": an output's own name
+-- arrives as its net.
+pub record NetArrivals (cells : List Cell) (n : Blif) (times : List ℕ) (at : List ℕ → ℕ) : Type 0 where
+  pub atInputs : map at (n .inputs) ≡ times
   pub atGates : (t : GateLine) → List·Memᴰ t (n .gates) → at (drives t) ≡ latest (map at (fedBy cells t)) (named cells (t .cell) .delays)
   pub atWires : (x : Wire) → List·Memᴰ x (n .wires) → at (x .target) ≡ at (x .source)

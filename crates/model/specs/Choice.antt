@@ -127,7 +127,7 @@ inverterPhases (c ∷ cs) line other =
 unfoldable pub direct : List Cell → Graph → (ℕ → Phases) → ℕ → List (List ℕ) → Bool → Node → Phase
 unfolding choose matchPhases noPhase
 direct cells g known v cuts neg constant = choose (matchPhases cells g known v neg 0 cuts)
-direct cells g known v cuts neg input = cond neg noPhase (record { source = Input; arrival = 0 })
+direct cells g known v cuts neg input = cond neg noPhase (record { source = Input; arrival = g .late v })
 direct cells g known v cuts neg undefined = noPhase
 direct cells g known v cuts neg (both l r) = choose (matchPhases cells g known v neg 0 cuts)
 

@@ -52,10 +52,14 @@ pub data Feeds (cells : List Cell) (g : Graph) (source : ℕ → Source) (x : �
   directly : {l : ℕ} → List·Memᴰ x (feeds cells (cutsOf g) l (source l)) → Feeds cells g source x l
   through : {y l : ℕ} → Feeds cells g source x y → List·Memᴰ y (feeds cells (cutsOf g) l (source l)) → Feeds cells g source x l
 
--- "Arrival: 0 for an input, 0 for a cell without pins, otherwise the largest of feeding arrival plus pin delay."
+-- "Arrival: 0 for an input, 0 for a cell without pins, otherwise the largest of feeding arrival plus pin delay." An input's own net has the input's
+-- arrival, and "every arrival starts from it"
 unfoldable pub arrivalBy : List Cell → Graph → (ℕ → ℕ) → ℕ → Source → ℕ
 unfolding latest feeds cellOf cutsOf
-arrivalBy cells g arrival l s = latest (map arrival (feeds cells (cutsOf g) l s)) (cellOf cells s .delays)
+arrivalBy cells g arrival l Input = g .late (varOf l)
+arrivalBy cells g arrival l Nothing = 0
+arrivalBy cells g arrival l (Matched m) = latest (map arrival (feeds cells (cutsOf g) l (Matched m))) (cellOf cells (Matched m) .delays)
+arrivalBy cells g arrival l (Inverted c) = latest (map arrival (feeds cells (cutsOf g) l (Inverted c))) (cellOf cells (Inverted c) .delays)
 
 -- "A cover gives each needed phase of a variable one source"; "No circle: no phase feeds itself, directly or through others."
 pub record Cover (cells : List Cell) (g : Graph) (outs : List ℕ) : Type 0 where

@@ -1,26 +1,29 @@
--- The three demands as types, for every call: library text, graph text in either form, number of lent words and number of lent bytes; and what is
--- promised of two texts that mean the same graph, and of texts alike but for line ends. Assumes nothing.
+-- The three demands as types, for every call: library text, graph text in either form, arrivals' text, number of lent words and number of lent bytes; and
+-- what is promised of two texts that mean the same graph, of texts alike but for line ends, and of inputs that arrive late. Assumes nothing.
 use Prim.Native.Nat.{ℕ, suc, _*_, _≤_, _<_}
 use mathlib.Core.Path.{_≡_}
-use mathlib.Core.Bool.{Bool, true, false, cond}
+use mathlib.Core.Bool.{Bool, true, false, cond, _&&_, _||_}
 use mathlib.Core.Option.{some}
 use mathlib.Core.List.{List, [], _∷_, _++_, map, List·Memᴰ}
 use mathlib.Core.Logic.{_⊎_, _↔_}
 use Prim.Native.Nat.{Ordering·gt}
-use lib.Dec.{leb}
+use lib.Dec.{eqb, leb}
 use lib.ListN.{length, getD}
 use Rattle.model.specs.Base.{each, below, same}
+use Rattle.model.specs.Limits.{need}
 use Rattle.model.specs.Text.{Line, text, linesFrom, shown, fields}
-use Rattle.model.specs.Reading.{holds, fault}
+use Rattle.model.specs.Reading.{Read, holds, fault, next, unless}
 use Rattle.model.specs.Cells.{nameOf}
 use Rattle.model.specs.Graph.{Graph, literal, varOf, negated, unplaced, placingOrder, literalValue, GraphValues}
+use Rattle.model.specs.LibraryText.{readLibrary}
 use Rattle.model.specs.GraphText.{readHeader, readGraph, asciiText}
+use Rattle.model.specs.ArrivalsText.{Late, readArrivals}
 use Rattle.model.specs.Cuts.{cutsOf, compareLeaves, crowded}
 use Rattle.model.specs.Choice.{feeds, cellOf, absent, chosen, preference}
 use Rattle.model.specs.Cover.{IsOwn, Allowed, Needed, arrivalBy, Cover, CoverArrivals}
 use Rattle.model.specs.Netlist.{Outcome, refused, mapped, gates, figuresOf, netlistText, netName, outName, sum, largest}
 use Rattle.model.specs.Blif.{GateLine, Binding, Wire, Blif, readBlif, readFigures, named, drives, fedBy, pinNames, outputName, NetValues, NetArrivals}
-use Rattle.model.specs.Mapper.{Call, Design, readTexts, mapTexts, answerOf, returned, returnedBy, textAfter, workAfter}
+use Rattle.model.specs.Mapper.{Call, Design, readTexts, mapDesign, mapTexts, answerOf, returned, returnedBy, textAfter, workAfter}
 use Rattle.model.specs.declared.Cell.{Cell}
 use Rattle.model.specs.declared.Header.{Header}
 use Rattle.model.specs.declared.Source.{Source}
@@ -103,28 +106,28 @@ pub record SameValues (cells : List Cell) (g : Graph) (f : Figures) (n : Blif) :
   pub same : (setting v : ℕ → Bool) → GraphValues g setting v → (w : List ℕ → Bool) → NetValues cells n (map setting (g .inputs)) w
       → map w (n .outputs) ≡ map (literalValue v) (g .outputs)
 
--- "the figures equal those of the printed text": nets have arrivals, and with any such arrivals, an output's "read at its `o` name", the figures are
--- the text's.
+-- "the figures equal those of the printed text": nets have arrivals, from those of the graph's inputs on, and with any such arrivals, an output's
+-- "read at its `o` name", the figures are the text's.
 -- "Gates number at most 2(M+1)."
 pub record SameFigures (cells : List Cell) (g : Graph) (f : Figures) (n : Blif) : Type 0 where
-  pub hasArrivals : (at : List ℕ → ℕ) × NetArrivals cells n at
+  pub hasArrivals : (at : List ℕ → ℕ) × NetArrivals cells n (map (g .late) (g .inputs)) at
   pub count : f .gates ≡ length (n .gates)
   pub area : f .area ≡ sum (map (λ (t : GateLine). named cells (t .cell) .area) (n .gates))
-  pub arrival : (at : List ℕ → ℕ) → NetArrivals cells n at → f .arrival ≡ largest (map at (n .outputs))
+  pub arrival : (at : List ℕ → ℕ) → NetArrivals cells n (map (g .late) (g .inputs)) at → f .arrival ≡ largest (map at (n .outputs))
   pub bound : f .gates ≤ 2 * suc (g .size)
 
 -- ---- Demand 3: "for each net of the printed netlist, every cover of the outputs that has this net gives it an arrival no earlier".
--- "A cover has a net if it needs that net's phase"
+-- "A cover has a net if it needs that net's phase". Both arrivals start from the inputs' own: "no cover so timed gives a printed net earlier"
 abbrev pub NoEarlier : List Cell → Graph → Figures → Blif → Type 0
 NoEarlier cells g f n =
-    (at : List ℕ → ℕ) → NetArrivals cells n at → (l : ℕ) → List·Memᴰ (netName l) (drivenNets n)
+    (at : List ℕ → ℕ) → NetArrivals cells n (map (g .late) (g .inputs)) at → (l : ℕ) → List·Memᴰ (netName l) (drivenNets n)
     → (c : Cover cells g (g .outputs)) (arrival : ℕ → ℕ) → CoverArrivals cells g (g .outputs) c arrival → Needed cells g (g .outputs) (c .source) l
     → at (netName l) ≤ arrival l
 
 -- the same of the nets `o0`, `o1` and so on: output k's own name arrives as its net, which every cover of the outputs has
 abbrev pub OutputsNoEarlier : List Cell → Graph → Figures → Blif → Type 0
 OutputsNoEarlier cells g f n =
-    (at : List ℕ → ℕ) → NetArrivals cells n at → (k : ℕ) → k < length (g .outputs)
+    (at : List ℕ → ℕ) → NetArrivals cells n (map (g .late) (g .inputs)) at → (k : ℕ) → k < length (g .outputs)
     → (at (outName k) ≡ at (netName (getD (g .outputs) k 0)))
     × ((c : Cover cells g (g .outputs)) (arrival : ℕ → ℕ) → CoverArrivals cells g (g .outputs) c arrival → at (outName k) ≤ arrival (getD (g .outputs) k 0))
 
@@ -138,11 +141,13 @@ pub record Mappable (c : Call) (d : Design) : Type 0 where
 abbrev pub OfMappable : (ℕ → Outcome → List Cell → Graph → Type 0) → Call → Type 0
 OfMappable P c = (d : Design) → Mappable c d → P (c .bytes) (mapTexts c) (d .cells) (d .graph)
 
--- every cover has arrivals, and on the phases that it needs no others: where there is no cover there are no sources for one
+-- every cover has arrivals, and on the phases that it needs no others: where there is no cover there are no sources for one. "every arrival starts from
+-- it": an input's own net has the input's arrival
 pub record Timed (cells : List Cell) (g : Graph) (outs : List ℕ) (c : Cover cells g outs) : Type 0 where
   pub has : (at : ℕ → ℕ) × CoverArrivals cells g outs c at
   pub alone : (at bt : ℕ → ℕ) → CoverArrivals cells g outs c at → CoverArrivals cells g outs c bt
       → (l : ℕ) → Needed cells g outs (c .source) l → at l ≡ bt l
+  pub starts : (at : ℕ → ℕ) → CoverArrivals cells g outs c at → (l : ℕ) → Needed cells g outs (c .source) l → IsOwn g l → at l ≡ g .late (varOf l)
 
 abbrev pub CoversTimed : ℕ → Outcome → List Cell → Graph → Type 0
 CoversTimed bytes outcome cells g = (outs : List ℕ) (c : Cover cells g outs) → Timed cells g outs c
@@ -221,7 +226,7 @@ pub record Means (bytes : List ℕ) (g : Graph) : Type 0 where
 
 -- the call with another graph's text
 abbrev pub onGraph : Call → List ℕ → Call
-onGraph c t = record { library = c .library; graph = t; words = c .words; bytes = c .bytes }
+onGraph c t = record { library = c .library; graph = t; arrivals = c .arrivals; words = c .words; bytes = c .bytes }
 
 -- "A file free of 19 to 21 and its ASCII twin, each within the length in 1, must give the same netlist": what a call's text means, its ASCII twin
 -- means; and whatever else differs in two texts that mean the same graph, the outcome is the same, netlist, figures or refusal
@@ -253,16 +258,18 @@ unfoldable pub isBinaryText : List ℕ → Bool
 unfolding firstWord linesFrom same text
 isBinaryText s = same (firstWord (linesFrom 0 [] s)) (text "aig")
 
--- both texts are "within the length in 1"
+-- all texts are "within the length in 1"
 pub record Short (c : Call) : Type 0 where
   pub library : length (c .library) ≤ 65536
   pub graph : length (c .graph) ≤ 65536
+  pub arrivals : length (c .arrivals) ≤ 65536
 
--- two calls that differ in no more than the ends of their texts' lines. Either ending is accepted "in library and ASCII graph", so a graph in the
--- binary form is the same in both
+-- two calls that differ in no more than the ends of their texts' lines. Either ending is accepted "in library and ASCII graph", and lines of arrivals are
+-- "ended as library lines are"; a graph in the binary form is the same in both
 pub record AlikeTexts (c d : Call) : Type 0 where
   pub libraries : Alike (c .library) (d .library)
   pub graphs : Alike (c .graph) (d .graph)
+  pub arrivals : Alike (c .arrivals) (d .arrivals)
   pub binary : isBinaryText (c .graph) ≡ true → c .graph ≡ d .graph
   pub words : c .words ≡ d .words
   pub bytes : c .bytes ≡ d .bytes
@@ -278,9 +285,13 @@ lineStart s i = getD (map (λ (l : Line). l .offset) (linesFrom 0 [] s)) i (leng
 abbrev pub SamePlace : List ℕ → List ℕ → ℕ → ℕ → Type 0
 SamePlace s t k j = ((i : ℕ) × (lineStart s i ≡ k) × (lineStart t i ≡ j)) ⊎ ((s ≡ t) × (k ≡ j))
 
--- the text that a refusal's place is in: 2 to 6 are the library's, the others tried up to 14 the graph's
+-- the refusals of the arrivals' text
+abbrev pub ofArrivals : ℕ → Bool
+ofArrivals n = eqb n 25 || eqb n 26
+
+-- the text that a refusal's place is in: 2 to 6 are the library's, 25 and 26 the arrivals', the others tried before 15 the graph's
 unfoldable pub atFault : ℕ → Call → List ℕ
-atFault n c = cond (leb n 6) (c .library) (c .graph)
+atFault n c = cond (leb n 6) (c .library) (cond (ofArrivals n) (c .arrivals) (c .graph))
 
 -- what the one call's texts hold the other's hold, and whatever comes of that comes of both, 15 to 18 at the same place too: the same netlist is
 -- printed, with the same figures. A refusal of the one is a refusal of the other and of the same number; where it is one of the texts, at the same line
@@ -294,3 +305,35 @@ pub record SameButEnds (c d : Call) : Type 0 where
 -- so with every call that is alike this one
 abbrev pub EitherEnd : Call → Type 0
 EitherEnd c = (d : Call) → AlikeTexts c d → SameButEnds c d
+
+-- ---- "Inputs that arrive late"
+
+-- what the library's text and the graph's hold, with no third text: the inputs arrive at 0
+abbrev pub readUntimed : Call → Read Design
+readUntimed c =
+    unless (leb (length (c .library)) 65536 && leb (length (c .graph)) 65536) 1 0
+    (next (readLibrary (c .library)) (λ cells.
+    next (readHeader (c .graph)) (λ h.
+    unless (leb (need (h .size) (h .outputs)) (c .words)) 10 0
+    (next (readGraph (c .graph) h) (λ g. holds (record { cells = cells; graph = g }))))))
+
+-- the third text is "empty for none": the outcome is then that of the library and the graph alone
+pub record Untimed (c : Call) : Type 0 where
+  pub reads : c .arrivals ≡ [] → readTexts c ≡ readUntimed c
+  pub outcome : c .arrivals ≡ [] → mapTexts c ≡ mapDesign (c .bytes) (readUntimed c)
+  pub zero : (d : Design) → readUntimed c ≡ holds d → (v : ℕ) → d .graph .late v ≡ 0
+
+-- these lines list input k, "an input's index from 0"
+abbrev pub Lists : List Late → ℕ → Type 0
+Lists es k = List·Memᴰ k (map (λ (e : Late). e .index) es)
+
+-- what a call reads of arrivals: each line's index is an input's place in the file, no index is listed twice, the input there arrives as its line says,
+-- and "Inputs not listed arrive at 0."
+pub record ListedFor (g : Graph) (es : List Late) : Type 0 where
+  pub inside : (k : ℕ) → Lists es k → k < length (g .inputs)
+  pub once : Distinct (map (λ (e : Late). e .index) es)
+  pub listed : (e : Late) → List·Memᴰ e es → g .late (getD (g .inputs) (e .index) 0) ≡ e .arrival
+  pub others : (k : ℕ) → k < length (g .inputs) → (¬ Lists es k) → g .late (getD (g .inputs) k 0) ≡ 0
+
+abbrev pub Listed : Call → Type 0
+Listed c = (d : Design) → readTexts c ≡ holds d → (es : List Late) × (readArrivals (length (d .graph .inputs)) (c .arrivals) ≡ holds es) × ListedFor (d .graph) es

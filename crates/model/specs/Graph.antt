@@ -14,12 +14,14 @@ pub record And : Type 0 where
   pub left : ℕ
   pub right : ℕ
 
--- `aag M I L O A`: M, the inputs' variables, the outputs' literals, the ANDs
+-- `aag M I L O A`: M, the inputs' variables, the outputs' literals, the ANDs; and, of an input's variable, when this input arrives: "The input
+-- record gains this number"
 pub record Graph : Type 0 where
   pub size : ℕ
   pub inputs : List ℕ
   pub outputs : List ℕ
   pub ands : List And
+  pub late : ℕ → ℕ
 
 -- "Literal 2v is variable v, 2v+1 its complement"
 unfoldable pub varOf : ℕ → ℕ

@@ -222,7 +222,7 @@ unfoldable pub isKind : Kind → Item → Bool
 unfolding sameKind
 isKind k i = sameKind k (i .kind)
 
--- the graph of the lines that are read
+-- the graph of the lines that are read; of arrivals they say nothing
 unfoldable pub graphOf : ℕ → List Item → Graph
 unfolding keep isKind varOf
 graphOf size is = record {
@@ -230,6 +230,7 @@ graphOf size is = record {
   inputs = map (λ (i : Item). varOf (getD (i .literals) 0 0)) (keep (isKind anInput) is);
   outputs = map (λ (i : Item). getD (i .literals) 0 0) (keep (isKind anOutput) is);
   ands = map (λ (i : Item). record { var = varOf (getD (i .literals) 0 0); left = getD (i .literals) 1 0; right = getD (i .literals) 2 0 }) (keep (isKind anAnd) is);
+  late = λ _. 0;
 }
 
 -- the graph behind a header that is accepted: 11 to 14, or 11, 12, 20 and 21, over what stands behind the header's line

@@ -13,6 +13,7 @@ pub mod Netlist
 pub mod Blif
 pub mod LibraryText
 pub mod GraphText
+pub mod ArrivalsText
 pub mod Mapper
 pub mod Demands
 pub mod GenlibWords

@@ -1,4 +1,4 @@
--- The whole: two texts, the lent words and bytes, the answer "in checking order", and what the lent memory then holds. Assumes nothing.
+-- The whole: three texts, the lent words and bytes, the answer "in checking order", and what the lent memory then holds. Assumes nothing.
 use Prim.Native.Nat.{ℕ, _+_}
 use mathlib.Core.Bool.{Bool, cond, _&&_, _||_}
 use mathlib.Core.List.{List, _++_}
@@ -8,37 +8,45 @@ use Rattle.model.specs.Limits.{need}
 use Rattle.model.specs.Reading.{Read, holds, fault, next, unless}
 use Rattle.model.specs.LibraryText.{readLibrary}
 use Rattle.model.specs.GraphText.{readHeader, readGraph}
+use Rattle.model.specs.ArrivalsText.{readArrivals, timedBy}
 use Rattle.model.specs.Graph.{Graph}
 use Rattle.model.specs.Netlist.{Outcome, refused, mapped, mapGraph}
 use Rattle.model.specs.declared.Cell.{Cell}
 use Rattle.model.specs.declared.Answer.{Answer}
 use Rattle.model.specs.declared.Answer.the-variants.{Mapped, Refused}
 
--- what a call is given: the library's text, the graph's text, and how many words and bytes are lent to it
+-- what a call is given: the library's text, the graph's, the arrivals', "or empty for none", and how many words and bytes are lent to it
 pub record Call : Type 0 where
   pub library : List ℕ
   pub graph : List ℕ
+  pub arrivals : List ℕ
   pub words : ℕ
   pub bytes : ℕ
 
--- the call on two texts, with work memory and text memory lent
-abbrev pub callOf : List ℕ → List ℕ → List ℕ → List ℕ → Call
-callOf library graph work text = record { library = library; graph = graph; words = length work; bytes = length text }
+-- the call on three texts, with work memory and text memory lent
+abbrev pub callOf : List ℕ → List ℕ → List ℕ → List ℕ → List ℕ → Call
+callOf library graph arrivals work text = record { library = library; graph = graph; arrivals = arrivals; words = length work; bytes = length text }
 
--- what the two texts hold
+-- what the texts hold
 pub record Design : Type 0 where
   pub cells : List Cell
   pub graph : Graph
 
--- refusals 1 to 14 and 19 to 21: "Work memory has fewer than 124(M+1) + O 16-bit words" stands between the header's and those of what follows it
+-- "A text is longer than 65,536 bytes": any of the three
+abbrev pub short : Call → Bool
+short c = leb (length (c .library)) 65536 && (leb (length (c .graph)) 65536 && leb (length (c .arrivals)) 65536)
+
+-- refusals 1 to 14, 19 to 21, 25 and 26: "Work memory has fewer than 124(M+1) + O 16-bit words" stands between the header's and those of what follows
+-- it, and the arrivals' come "after 14"
 unfoldable pub readTexts : Call → Read Design
-unfolding next unless readLibrary readHeader readGraph need
+unfolding next unless readLibrary readHeader readGraph readArrivals timedBy need
 readTexts c =
-    unless (leb (length (c .library)) 65536 && leb (length (c .graph)) 65536) 1 0
+    unless (short c) 1 0
     (next (readLibrary (c .library)) (λ cells.
     next (readHeader (c .graph)) (λ h.
     unless (leb (need (h .size) (h .outputs)) (c .words)) 10 0
-    (next (readGraph (c .graph) h) (λ g. holds (record { cells = cells; graph = g }))))))
+    (next (readGraph (c .graph) h) (λ g.
+    next (readArrivals (h .inputs) (c .arrivals)) (λ es. holds (record { cells = cells; graph = timedBy g es })))))))
 
 -- "Text memory is shorter than the netlist; place, the length needed."
 unfoldable pub within : ℕ → Outcome → Outcome

@@ -3,7 +3,7 @@
 --     order-law        the slots that are filled hold `placeF`
 --     place-verdict    `place` answers `placingVerdict`
 --     place-law        and the words hold `placingOrder`
---     holds-graph      the words hold the graph, as the layers above ask
+--     holds-nodes      the words hold the graph's nodes, as the layers above ask
 -- Assumes nothing.
 use mathlib.Core.Path.{_≡_, refl, sym, ap, _∙_, subst}
 use mathlib.Core.Bool.{Bool, true, false, not}
@@ -21,9 +21,8 @@ use Rattle.model.specs.Graph.{And, Graph, Node, constant, input, undefined, bot
 use Rattle.model.specs.Netlist.{placingVerdict}
 use Rattle.model.specs.declared.Header.{Header}
 use Rattle.model.specs.declared.Verdict.the-variants.{Accepted, Refused}
-use Rattle.words.specs.Layout.{Room, RoomFor, constantKind, andKind, kindAt, leftAt, rightAt, placeAt, outputAt}
+use Rattle.words.specs.Layout.{Room, constantKind, andKind, kindAt, leftAt, rightAt, placeAt}
 use Rattle.words.specs.Record.{nodeOf, nodeAt}
-use Rattle.words.specs.Holding.{HoldsGraph}
 use Rattle.theory_graph.proofs.Lists.{by-eqb, elem-in, elem-out, map-in, map-out, keep-in, keep-out, is-true}
 use Rattle.theory_graph.proofs.Values.{Found, node-and}
 use Rattle.placing.specs.Loaded.{Fit, kindOf, leftOf, rightOf, Ordered, Loaded, Within, Sure, Holding}
@@ -354,14 +353,6 @@ node-back input = refl
 node-back undefined = refl
 node-back (both l r) = refl
 
-module _ (w₀ : List ℕ) (h : Header) (fit : Fit h w₀) (w : List ℕ) (g : Graph) (order : List ℕ) (hold : Holding w₀ h w g order) where
-  graph-here : (m : ℕ) → m ≡ h .size → (RoomFor w m (length (g .outputs))) × ((v : ℕ) → v ≤ m → nodeAt w m v ≡ node g v) × ((i : ℕ) → i < length (g .outputs) → outputAt w m i ≡ getD (g .outputs) i 0)
-  unfolding nodeAt
-  graph-here m e = rw e (
-    record { small = fit .room .small; room = omega (arith, fit .room .room, hold .held .long, hold .outs) },
-    (λ v l. rw (hold .held .kinds v l, hold .held .lefts v l, hold .held .rights v l) (node-back (node g v))),
-    hold .held .outs,
-  )
-
-  pub holds-graph : HoldsGraph w g
-  holds-graph = let t = graph-here (g .size) (hold .size) in record { room = t .0; nodes = t .1; outputs = t .2 }
+pub holds-nodes : (w₀ : List ℕ) (h : Header) (w : List ℕ) (g : Graph) (order : List ℕ) → Holding w₀ h w g order → (v : ℕ) → v ≤ h .size → nodeAt w (h .size) v ≡ node g v
+unfolding nodeAt
+holds-nodes w₀ h w g order hold v l = rw (hold .held .kinds v l, hold .held .lefts v l, hold .held .rights v l) (node-back (node g v))

@@ -13,13 +13,13 @@ use lib.ListN.{length, getD}
 use Rattle.model.specs.Reading.{Read, holds, fault}
 use Rattle.model.specs.Cells.{nameOf}
 use Rattle.model.specs.Base.{each, flip, below}
-use Rattle.model.specs.Graph.{And, Graph, varOf, negated, literalValue, valueOf}
+use Rattle.model.specs.Graph.{And, Graph, literal, varOf, negated, literalValue, valueOf}
 use Rattle.model.specs.Choice.{chosen}
 use Rattle.model.specs.Cover.{output}
 use Rattle.model.specs.Netlist.{Gate, Outcome, refused, mapped, mapGraph, gates, figuresOf, netName, outName, sum, largest}
 use Rattle.model.specs.Blif.{GateLine, Wire, Blif, readBlif, readFigures, named, drives}
 use Rattle.model.specs.Mapper.{Call, Design, readTexts, mapTexts, mapDesign, within}
-use Rattle.model.specs.Demands.{drivenNets, Printed, OfPrinted, Readable, Formed, Gated, SameValues, SameFigures, NoEarlier, OutputsNoEarlier, OfMappable, CoversTimed, Decided, Chosen, choiceText, choiceFigures, Values, Earliest, Twins}
+use Rattle.model.specs.Demands.{drivenNets, Printed, OfPrinted, Readable, Formed, Gated, SameValues, SameFigures, NoEarlier, OutputsNoEarlier, OfMappable, CoversTimed, Decided, Chosen, choiceText, choiceFigures, Values, Earliest, Twins, Untimed}
 use Rattle.model.specs.declared.Cell.{Cell}
 use Rattle.model.specs.declared.Figures.{Figures}
 use Rattle.theory_graph.proofs.Lists.{map-out, map-map, map-same, is-true, getD-in}
@@ -33,10 +33,11 @@ use Rattle.theory_text.proofs.ReadBack.{lineOf, inputNames, wiresFrom, blifOf}
 use Rattle.theory_text.proofs.ReadTexts.{design-library, design-accepted}
 use Rattle.theory_text.proofs.Names.{net-once}
 use Rattle.theory_text.proofs.Twins.{ascii-means, means-outcome}
+use Rattle.theory_text.proofs.Arrivals.{reads-untimed, untimed-zero}
 use Rattle.theory.proofs.Gates.{gate-out, line-bound, back, figures-said}
 use Rattle.theory.proofs.Wires.{out-net, wire-targets, at-output, at-outputs}
 use Rattle.theory.proofs.Values.{net-value, the, the-holds}
-use Rattle.theory.proofs.Arrivals.{theTime, times-hold, net-time}
+use Rattle.theory.proofs.Arrivals.{theTime, input-time, times-hold, input-at, net-time}
 use Rattle.theory.proofs.Outcomes.{FromChoice, outcome-is, printed-choice, refused-never}
 use Rattle.theory.proofs.Formed.{line-net, gate-count, well-formed}
 use Rattle.theory.proofs.Gated.{gates-gated}
@@ -168,7 +169,13 @@ no-earlier = of-printed NoEarlier at-net
             (choice-earliest (d .cells) (d .graph) (k .graph) (d .graph .outputs) c arrival times l n .1)
 
         go : List·Memᴰ (netName l) (inputNames (d .graph)) ⊎ List·Memᴰ (netName l) (map drives (map lineOf ts) ++ ends) → at (netName l) ≤ arrival l
-        go (inl i) = le-trans (le-of-eq (h .atInputs (netName l) i)) (omega arith)
+        go (inl i) =
+            let o = map-out (λ (v : ℕ). netName (literal false v)) (d .graph .inputs) i in
+            let e : literal false (o .0) ≡ l = sym (net-once l (literal false (o .0)) (o .2)) in
+            le-trans
+            (le-of-eq (ap at (o .2) ∙ input-at (d .cells) (k .library) (d .graph) (k .graph) (k .choice .covered) at (d .graph .inputs) (h .atInputs) (o .0) (o .1)
+            ∙ sym (input-time (d .cells) (k .library) (d .graph) (k .graph) (k .choice .covered) (o .0) (o .1)) ∙ ap (λ (x : ℕ). chosen (d .cells) (d .graph) x .arrival) e))
+            (choice-earliest (d .cells) (d .graph) (k .graph) (d .graph .outputs) c arrival times l n .1)
         go (inr i) = gate (List·Memᴰ·append-cases (map drives (map lineOf ts)) i)
 
 pub outputs-no-earlier : (c : Call) → OfPrinted OutputsNoEarlier c
@@ -262,6 +269,11 @@ demand-earliest c =
       decided = decided c;
       choice = choice c;
     }
+
+-- the third text is "empty for none"
+pub demand-untimed : (c : Call) → Untimed c
+unfolding mapTexts
+demand-untimed c = record { reads = reads-untimed c; outcome = λ e. ap (mapDesign (c .bytes)) (reads-untimed c e); zero = untimed-zero c }
 
 -- "A file free of 19 to 21 and its ASCII twin, each within the length in 1, must give the same netlist"
 pub demand-twins : (c : Call) → Twins c

@@ -1,77 +1,38 @@
 -- The form of the printed netlist: names in the file's order, listed cells with their pins bound, every net driven once and every used net
 -- driven. Assumes nothing.
-use Prim.Native.Nat.{ℕ, suc, _*_, _≤_, _<_}
-use native.Mathlib.Nat.{le-trans, le-of-eq, not-suc-le-zero}
+use Prim.Native.Nat.{ℕ, suc, _*_, _≤_}
+use native.Mathlib.Nat.{le-trans, le-of-eq}
 use mathlib.Core.Path.{_≡_, refl, sym, _∙_, ap, ap₂, subst}
 use mathlib.Core.Logic.{_⊎_, inl, inr}
 use mathlib.Core.Bool.{Bool, true, false, not, cond, true≢false}
-use mathlib.Core.List.{List, [], _∷_, _++_, map, List·Memᴰ, List·Memᴰ·tail, List·Memᴰ·append-cases, Memᴰ·append-left, Memᴰ·append-right, Memᴰ·cast}
+use mathlib.Core.List.{List, [], _∷_, _++_, map, List·Memᴰ, List·Memᴰ·append-cases, Memᴰ·append-left, Memᴰ·append-right, Memᴰ·cast}
 use lib.Dec.{T}
 use lib.ListN.{length}
 use Rattle.model.specs.Base.{elem, keep, below, each}
 use Rattle.model.specs.Cells.{nameOf}
-use Rattle.model.specs.Graph.{And, Graph, placeF, placingOrder, varOf, negated, literal, node}
+use Rattle.model.specs.Graph.{And, Graph, varOf, literal}
 use Rattle.model.specs.Cuts.{cutsOf}
 use Rattle.model.specs.Choice.{feeds, cellOf, absent, chosen}
-use Rattle.model.specs.Cover.{IsOwn, output, fed}
+use Rattle.model.specs.Cover.{output, fed}
 use Rattle.model.specs.Netlist.{Gate, isOwn, needed, gates, netName, outName}
 use Rattle.model.specs.Blif.{GateLine, Binding, Wire, drives, fedBy, pinNames, outputName}
 use Rattle.model.specs.Demands.{Distinct, drivenNets, Formed}
 use Rattle.model.specs.declared.Cell.{Cell}
 use Rattle.model.specs.declared.Source.{Source}
 use Rattle.model.specs.declared.Source.the-variants.{Input}
-use Rattle.model.specs.declared.Phase.{Phase}
 use Rattle.model.specs.declared.Figures.{Figures}
 use Rattle.theory_graph.proofs.Lists.{map-in, map-out, keep-out, map-map, map-same}
 use Rattle.theory_graph.proofs.Literals.{lit-var}
-use Rattle.theory_graph.proofs.Runs.{along}
 use Rattle.theory_graph.specs.Accepted.{Accepted, libraryFits}
 use Rattle.theory_graph.proofs.Placing.{order-once}
-use Rattle.theory_graph.proofs.Nodes.{node-input}
 use Rattle.theory_text.proofs.ReadBack.{lineOf, inputNames, outputNames, wiresFrom, blifOf}
 use Rattle.theory_text.proofs.Names.{net-once}
-use Rattle.model.specs.Choice.{choose, earlier, direct, inverterPhases}
-use lib.Dec.{ltb, ltb→lt}
-use Rattle.theory_cover.proofs.Turns.{own, chosen-entry}
+use Rattle.theory_cover.proofs.Own.{own-chosen}
 use Rattle.theory_graph.proofs.Placing.{distinct-once}
 use Rattle.theory_graph.proofs.Lists.{each-out}
 use Rattle.theory_graph.proofs.Distinct.{map-distinct, keep-distinct, below-distinct, append-distinct, length-map, length-keep, length-from}
 use Rattle.theory.proofs.Gates.{sourceOf, NeedsOf, gateOf, chosenGates, gate-in, gate-out, line-bound, gate-listed, own-value, own-source, own-net}
 use Rattle.theory.proofs.Wires.{out-once, out-net, wire-targets, wire-sources}
-
--- ---- "for an input's positive phase its own net"
-
-own-earliest : (b : Phase) → earlier (record { source = Input; arrival = 0 }) b ≡ record { source = Input; arrival = 0 }
-unfolding earlier absent
-own-earliest b = go (absent (b .source)) (ltb (b .arrival) 0) (ltb→lt (b .arrival) 0)
-  where
-    go : (x y : Bool) → (T y → b .arrival < 0) → cond x (record { source = Input; arrival = 0 }) (cond y b (record { source = Input; arrival = 0 })) ≡ record { source = Input; arrival = 0 }
-    go true y h = refl
-    go false true h = absurd (not-suc-le-zero (h tt))
-    go false false h = refl
-
-pub own-chosen : (cells : List Cell) (g : Graph) → Distinct (placingOrder g) → (l : ℕ) → IsOwn g l → chosen cells g l .source ≡ Input
-own-chosen cells g once l o =
-    along (λ v. (x : ℕ) → varOf x ≡ v → IsOwn g x → chosen cells g x .source ≡ Input) (placingOrder g)
-    (λ u h x p i. absurd (h (Memᴰ·cast (sym p) (in-order x (i .isInput)))))
-    (λ pre v post e ih x p i. ap (λ (f : Phase). f .source) (chosen-entry cells g pre v post e once x p ∙ turn pre v x p i))
-    (varOf l) l refl o
-  where
-    in-order : (x : ℕ) → List·Memᴰ (varOf x) (g .inputs) → List·Memᴰ (varOf x) (placingOrder g)
-    in-order x m = unfold placingOrder in List·Memᴰ·tail (Memᴰ·append-left (placeF (length (g .ands)) (g .ands) (0 ∷ g .inputs)) m)
-
-    off : (b : Bool) → T (not b) → b ≡ false
-    off true t = absurd t
-    off false t = refl
-
-    turn : (pre : List ℕ) (v x : ℕ) → varOf x ≡ v → IsOwn g x
-        → choose (own cells g pre v (negated x) ∷ inverterPhases cells 0 (own cells g pre v (not (negated x)))) ≡ record { source = Input; arrival = 0 }
-    turn pre v x p i =
-        unfold choose direct in
-        ap (λ (f : Phase). earlier f (choose (inverterPhases cells 0 (own cells g pre v (not (negated x))))))
-        (ap₂ (λ (b : Bool) (k : Rattle.model.specs.Graph.Node). direct cells g (Rattle.theory_cover.proofs.Turns.phasesKnown cells g pre) v (cutsOf g v) b k) (off (negated x) (i .positive))
-        (ap (node g) (sym p) ∙ node-input g (varOf x) once (i .isInput)))
-        ∙ own-earliest (choose (inverterPhases cells 0 (own cells g pre v (not (negated x)))))
 
 module _ (cells : List Cell) (fit : T (libraryFits cells)) (g : Graph) (ok : Accepted g)
     (present-outputs : (l : ℕ) → List·Memᴰ l (g .outputs) → absent (chosen cells g l .source) ≡ false) where

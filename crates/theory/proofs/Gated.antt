@@ -24,7 +24,8 @@ use Rattle.theory_graph.proofs.Placing.{order-once}
 use Rattle.theory_text.proofs.ReadBack.{lineOf, blifOf}
 use Rattle.theory_text.proofs.Names.{net-once}
 use Rattle.theory.proofs.Gates.{sourceOf, NeedsOf, gateOf, chosenGates, gate-in, gate-out, line-bound, own-source}
-use Rattle.theory.proofs.Formed.{own-chosen, gateNets, driven-nets}
+use Rattle.theory_cover.proofs.Own.{own-chosen}
+use Rattle.theory.proofs.Formed.{gateNets, driven-nets}
 
 -- ---- the order
 

@@ -2,10 +2,9 @@
 use Prim.Native.Nat.{ℕ, _*_, _<_}
 use native.Mathlib.Omega.{arith}
 use mathlib.Core.Path.{_≡_, refl, sym, _∙_, ap, subst}
-use mathlib.Core.Bool.{true, _&&_, _||_}
+use mathlib.Core.Bool.{true, _||_}
 use mathlib.Core.List.{List, [], _∷_, _++_, List·Memᴰ, List·Memᴰ·head, List·Memᴰ·tail, List·Memᴰ·not-nil, Memᴰ·append-right}
 use lib.Dec.{T, leb, ltb}
-use lib.ListN.{length}
 use Rattle.model.specs.Base.{lowest}
 use Rattle.model.specs.Limits.{need}
 use Rattle.model.specs.Reading.{Read, holds, fault, next, unless}
@@ -13,15 +12,17 @@ use Rattle.model.specs.LibraryText.{readLibrary}
 use Rattle.model.specs.Graph.{And, Graph, varOf, unplaced}
 use Rattle.model.specs.GraphText.{readHeader, readGraph}
 use Rattle.model.specs.Netlist.{mapGraph}
-use Rattle.model.specs.Mapper.{Call, Design, readTexts, mapDesign, mapTexts}
+use Rattle.model.specs.ArrivalsText.{Late, readArrivals, timedBy}
+use Rattle.model.specs.Mapper.{Call, Design, short, readTexts, mapDesign, mapTexts}
 use Rattle.model.specs.Demands.{Sequenced}
 use Rattle.model.specs.declared.Cell.{Cell}
 use Rattle.model.specs.declared.Header.{Header}
 use Rattle.theory_graph.proofs.Lists.{each-in, lowest-in}
 use Rattle.theory_graph.specs.Accepted.{andVars}
+use Rattle.theory_graph.proofs.Timed.{timed-unplaced}
 use Rattle.theory_order.proofs.Sequence.{Lower, rising-placed}
 use Rattle.theory_text.proofs.Steps.{holds-once}
-use Rattle.theory_text.proofs.Faults.{Faults, in-holds, in-unless, in-next, library-faults, header-faults}
+use Rattle.theory_text.proofs.Faults.{Faults, in-holds, in-unless, in-next, library-faults, header-faults, arrivals-faults}
 use Rattle.theory_text.proofs.ReadGraph.{graph-known}
 use Rattle.theory_text.proofs.ReadTexts.{texts-read}
 use Rattle.theory_text.proofs.Sequence.{binary-faults, binary-falls}
@@ -54,21 +55,26 @@ module _ (c : Call) (h : Header) (d : readHeader (c .graph) ≡ holds h) (b : h 
   texts-other : Faults Other (readTexts c)
   unfolding readTexts
   texts-other =
-      in-unless Other (leb (length (c .library)) 65536 && leb (length (c .graph)) 65536) 1 0 (next (readLibrary (c .library)) read) (λ _. tt)
+      in-unless Other (short c) 1 0 (next (readLibrary (c .library)) read) (λ _. tt)
       (in-next Other (readLibrary (c .library)) read (library-faults Other tt (λ _. tt) (λ _. tt) (λ _. tt) (λ _. tt) (c .library))
       (λ cells _.
       in-next Other (readHeader (c .graph)) (words cells) (header-faults Other tt tt tt tt (c .graph))
       (λ k e.
-      in-unless Other (leb (need (k .size) (k .outputs)) (c .words)) 10 0 (next (readGraph (c .graph) k) (made cells)) (λ _. tt)
-      (in-next Other (readGraph (c .graph) k) (made cells)
+      in-unless Other (leb (need (k .size) (k .outputs)) (c .words)) 10 0 (next (readGraph (c .graph) k) (timed cells k)) (λ _. tt)
+      (in-next Other (readGraph (c .graph) k) (timed cells k)
       (binary-faults (c .graph) k e (ap (λ (x : Header). x .binary) (holds-once (sym e ∙ d)) ∙ b) Other (λ _. tt) (λ _. tt) (λ _ _. tt) (λ _ _. tt))
-      (λ g _. in-holds Other (record { cells = cells; graph = g }))))))
+      (λ g _.
+      in-next Other (readArrivals (k .inputs) (c .arrivals)) (made cells g) (arrivals-faults Other (λ _. tt) (λ _. tt) (k .inputs) (c .arrivals))
+      (λ es _. in-holds Other (record { cells = cells; graph = timedBy g es })))))))
     where
-      made : List Cell → Graph → Read Design
-      made cells g = holds (record { cells = cells; graph = g })
+      made : List Cell → Graph → List Late → Read Design
+      made cells g es = holds (record { cells = cells; graph = timedBy g es })
+
+      timed : List Cell → Header → Graph → Read Design
+      timed cells k g = next (readArrivals (k .inputs) (c .arrivals)) (made cells g)
 
       words : List Cell → Header → Read Design
-      words cells k = unless (leb (need (k .size) (k .outputs)) (c .words)) 10 0 (next (readGraph (c .graph) k) (made cells))
+      words cells k = unless (leb (need (k .size) (k .outputs)) (c .words)) 10 0 (next (readGraph (c .graph) k) (timed cells k))
 
       read : List Cell → Read Design
       read cells = next (readHeader (c .graph)) (words cells)
@@ -80,7 +86,9 @@ module _ (c : Call) (h : Header) (d : readHeader (c .graph) ≡ holds h) (b : h 
       go : (r : Read Design) → readTexts c ≡ r → Faults Other r → Refusal Other (mapDesign (c .bytes) r)
       go (holds x) e f =
           let t = texts-read c x e in
-          let p = binary-placed (c .graph) h (x .graph) d b (subst (λ (k : Header). readGraph (c .graph) k ≡ holds (x .graph)) (holds-once (sym (t .isHeader) ∙ d)) (t .isGraph)) in
+          let p : unplaced (x .graph) ≡ [] =
+          ap unplaced (sym (t .isTimed)) ∙ timed-unplaced (t .meant) (t .late)
+          ∙ binary-placed (c .graph) h (t .meant) d b (subst (λ (k : Header). readGraph (c .graph) k ≡ holds (t .meant)) (holds-once (sym (t .isHeader) ∙ d)) (t .isGraph)) in
           within-refusal Other (λ _. tt) (c .bytes) (mapGraph (x .cells) (x .graph))
           (map-refusal Other (x .cells) (x .graph) (λ v q. absurd (List·Memᴰ·not-nil (lowest-in [] v (sym (ap lowest p) ∙ q)))) (λ _. tt) (λ _. tt))
       go (fault n k) e f = f .has n k refl

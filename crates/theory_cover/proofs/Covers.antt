@@ -5,10 +5,13 @@ use Prim.Native.Nat.{ℕ, zero, suc, _+_, _*_, _≤_}
 use native.Mathlib.Nat.{not-suc-le-zero}
 use native.Mathlib.Omega.{arith}
 use mathlib.Core.Path.{_≡_, refl, sym, _∙_, ap, subst}
-use mathlib.Core.List.{List, [], _∷_, _++_, append-assoc, List·Memᴰ, List·Memᴰ·head, List·Memᴰ·tail, List·Memᴰ·not-nil, List·Memᴰ·eq-of-singleton, Memᴰ·append-left, Memᴰ·cast}
+use mathlib.Core.Bool.{Bool, true, false, not}
+use mathlib.Core.List.{List, [], _∷_, _++_, map, append-assoc, List·Memᴰ, List·Memᴰ·head, List·Memᴰ·tail, List·Memᴰ·not-nil, List·Memᴰ·eq-of-singleton, Memᴰ·append-left, Memᴰ·cast}
+use lib.Dec.{T}
 use lib.ListN.{length}
-use Rattle.model.specs.Graph.{Graph, placeF, placingOrder, varOf, opposite}
-use Rattle.model.specs.Cuts.{cutsOf}
+use Rattle.model.specs.Base.{find}
+use Rattle.model.specs.Graph.{Graph, placeF, placingOrder, varOf, negated, opposite}
+use Rattle.model.specs.Cuts.{nodeCuts, cutsOf}
 use Rattle.model.specs.Choice.{feeds, cellOf, latest}
 use Rattle.model.specs.Cover.{IsMatch, IsOwn, Allowed, Needed, fed, directly, through, arrivalBy, Cover}
 use Rattle.model.specs.Demands.{Distinct, Timed}
@@ -16,9 +19,10 @@ use Rattle.model.specs.declared.Cell.{Cell}
 use Rattle.model.specs.declared.Source.{Source}
 use Rattle.model.specs.declared.Source.the-variants.{Input, Cell as Matched, Inverter as Inverted, Nothing}
 use Rattle.theory_graph.proofs.Lists.{by-eqb, map-same}
-use Rattle.theory_graph.proofs.Literals.{opposite-var, opposite-back}
+use Rattle.theory_graph.proofs.Literals.{opposite-var, opposite-neg, opposite-back}
 use Rattle.theory_graph.proofs.Runs.{along}
-use Rattle.theory_graph.proofs.CutFacts.{cuts-none, leaves-before}
+use Rattle.theory_graph.proofs.Nodes.{node-input}
+use Rattle.theory_graph.proofs.CutFacts.{cutsKnown, cuts-entry, cuts-none, leaves-before}
 use Rattle.theory_cover.proofs.Matches.{cutFor, cut-listed, matched-leaf}
 
 -- a source that is no inverter
@@ -77,6 +81,46 @@ module _ (cells : List Cell) (g : Graph) (once : Distinct (placingOrder g)) (out
           let f = fed-straight l i n s in
           unplaced-straight (opposite l) (λ m. h (Memᴰ·cast (sym (opposite-var l)) m)) (f .0) (f .1)
 
+  -- ---- inputs' own nets
+
+  -- an input has only the cut of it alone
+  input-cut : (v : ℕ) → List·Memᴰ v (g .inputs) → (d : List ℕ) → List·Memᴰ d (cutsOf g v) → d ≡ v ∷ []
+  unfolding nodeCuts
+  input-cut = along (λ u. List·Memᴰ u (g .inputs) → (d : List ℕ) → List·Memᴰ d (cutsOf g u) → d ≡ u ∷ []) (placingOrder g)
+      (λ u h i d m. absurd (List·Memᴰ·not-nil (subst (λ (cs : List (List ℕ)). List·Memᴰ d cs) (cuts-none g u h) m)))
+      (λ pre u post e _ i d m.
+      List·Memᴰ·eq-of-singleton (subst (λ (cs : List (List ℕ)). List·Memᴰ d cs)
+      (cuts-entry g pre u post e once ∙ ap (nodeCuts (λ w. find [] w (cutsKnown g pre)) u) (node-input g u once i)) m))
+
+  straight-input : (l : ℕ) → List·Memᴰ (varOf l) (g .inputs) → Needs l → Straight (c .source l) → c .source l ≡ Input
+  straight-input l i n = go (c .source l) refl
+    where
+      go : (s : Source) → c .source l ≡ s → Straight s → s ≡ Input
+      go Input s t = refl
+      go Nothing s t = absurd t
+      go (Matched m) s t =
+          let k : IsMatch cells g l m = subst (Allowed cells g l) s (c .allowed l n) in
+          absurd (k .notAlone (input-cut (varOf l) i (cutFor g l m) (cut-listed cells g l m k)))
+      go (Inverted j) s t = absurd t
+
+  -- no cover has another source for an input's positive phase than its own net: it has no match, and two inverters are a circle
+  pub own-only : (l : ℕ) → IsOwn g l → Needs l → c .source l ≡ Input
+  own-only l o n = go (c .source l) refl
+    where
+      never : (b : Bool) → T (not b) → T (not (not b)) → ⊥
+      never true t u = t
+      never false t u = u
+
+      go : (s : Source) → c .source l ≡ s → c .source l ≡ Input
+      go Input s = s
+      go Nothing s = absurd (subst (Allowed cells g l) s (c .allowed l n))
+      go (Matched m) s = straight-input l (o .isInput) n (subst Straight (sym s) tt)
+      go (Inverted i) s =
+          let f = fed-straight l i n s in
+          let e : c .source (opposite l) ≡ Input = straight-input (opposite l) (Memᴰ·cast (opposite-var l) (o .isInput)) (f .0) (f .1) in
+          let p : IsOwn g (opposite l) = subst (Allowed cells g (opposite l)) e (c .allowed (opposite l) (f .0)) in
+          absurd (never (negated l) (o .positive) (subst (λ (b : Bool). T (not b)) (opposite-neg l) (p .positive)))
+
   -- ---- what feeds a phase
 
   -- what feeds a phase without an inverter is placed before its variable
@@ -132,7 +176,17 @@ module _ (cells : List Cell) (g : Graph) (once : Distinct (placingOrder g)) (out
   same-arrival : (f h : ℕ → ℕ) (l : ℕ) → ((x : ℕ) → List·Memᴰ x (feeds cells (cutsOf g) l (c .source l)) → f x ≡ h x)
       → arrivalBy cells g f l (c .source l) ≡ arrivalBy cells g h l (c .source l)
   unfolding arrivalBy
-  same-arrival f h l e = ap (λ (ts : List ℕ). latest ts (cellOf cells (c .source l) .delays)) (map-same f h (feeds cells (cutsOf g) l (c .source l)) e)
+  same-arrival f h l e = go (c .source l) e
+    where
+      by-pins : (s : Source) → ((x : ℕ) → List·Memᴰ x (feeds cells (cutsOf g) l s) → f x ≡ h x)
+          → latest (map f (feeds cells (cutsOf g) l s)) (cellOf cells s .delays) ≡ latest (map h (feeds cells (cutsOf g) l s)) (cellOf cells s .delays)
+      by-pins s k = ap (λ (ts : List ℕ). latest ts (cellOf cells s .delays)) (map-same f h (feeds cells (cutsOf g) l s) k)
+
+      go : (s : Source) → ((x : ℕ) → List·Memᴰ x (feeds cells (cutsOf g) l s) → f x ≡ h x) → arrivalBy cells g f l s ≡ arrivalBy cells g h l s
+      go Input k = refl
+      go Nothing k = refl
+      go (Matched m) k = by-pins (Matched m) k
+      go (Inverted i) k = by-pins (Inverted i) k
 
   -- by the rule so many times over, from 0
   time : ℕ → ℕ → ℕ
@@ -175,10 +229,11 @@ module _ (cells : List Cell) (g : Graph) (once : Distinct (placingOrder g)) (out
       later : (x : ℕ) → Settled n x → Settled (suc n) x
       later x s y q m j a = s y q m j (omega arith)
 
-  -- a cover has arrivals, and on the phases that it needs no others
+  -- a cover has arrivals, on the phases that it needs no others, and at inputs' own nets the inputs'
   pub covers-timed : Timed cells g outs c
-  unfolding time Settled
+  unfolding time Settled arrivalBy
   covers-timed = record {
+    starts = λ at a l n o. a .timed l n ∙ ap (arrivalBy cells g at l) (own-only l o n);
     has = (time rounds, record { timed = λ l n. settle 0 [] (placingOrder g) refl (λ u h l p k. absurd (unplaced-never l (λ m. h (Memᴰ·cast (sym p) m)) k)) (varOf l) l refl n rounds (omega arith) });
     alone = λ at bt a b. by-feeding (λ l. at l ≡ bt l) (λ l n e. a .timed l n ∙ same-arrival at bt l e ∙ sym (b .timed l n));
   }

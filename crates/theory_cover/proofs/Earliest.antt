@@ -1,6 +1,6 @@
 -- Demand 3 at the choice: no cover gives a phase that it needs an earlier arrival than the choice does, and the choice gives such a phase a
 -- source. The order of placing has no number twice: that is all that is asked of the graph here. Assumes nothing.
-use Prim.Native.Nat.{ℕ, _+_, _≤_, zero-le}
+use Prim.Native.Nat.{ℕ, _+_, _≤_}
 use native.Mathlib.Nat.{le-refl, le-trans, le-of-eq, zero-add}
 use native.Mathlib.Omega.{arith}
 use mathlib.Core.Path.{_≡_, refl, sym, _∙_, ap, subst}
@@ -58,6 +58,11 @@ pub arrival-matched : (cells : List Cell) (g : Graph) (arrival : ℕ → ℕ) (l
     → arrivalBy cells g arrival l (Matched m) ≡ latest (map arrival (matchNets cells (cutFor g l m) m)) (cellAt cells (m .cell) .delays)
 unfolding arrivalBy feeds cellOf
 arrival-matched cells g arrival l m = refl
+
+-- "every arrival starts from it": an input's own net has the input's arrival
+pub arrival-input : (cells : List Cell) (g : Graph) (arrival : ℕ → ℕ) (l : ℕ) → arrivalBy cells g arrival l Input ≡ g .late (varOf l)
+unfolding arrivalBy
+arrival-input cells g arrival l = refl
 
 pub arrival-inverted : (cells : List Cell) (g : Graph) (arrival : ℕ → ℕ) (l i : ℕ)
     → arrivalBy cells g arrival l (Inverted i) ≡ latest (arrival (opposite l) ∷ []) (cellAt cells i .delays)
@@ -131,9 +136,9 @@ module _ (cells : List Cell) (g : Graph) (once : Distinct (placingOrder g)) (out
   unfolding direct
   straight-beats pre l post e ih n = go (c .source l) refl
     where
-      own : (b : Bool) → T (not b) → Beats (cond b noPhase (record { source = Input; arrival = 0 })) (at l)
-      own true t = absurd t
-      own false t = record { present = refl; early = zero-le }
+      own : (b : Bool) → T (not b) → at l ≡ g .late (varOf l) → Beats (cond b noPhase (record { source = Input; arrival = g .late (varOf l) })) (at l)
+      own true t q = absurd t
+      own false t q = record { present = refl; early = le-of-eq (sym q) }
 
       tried : (m : Match) → c .source l ≡ Matched m → IsMatch cells g l m
           → Beats (choose (matchPhases cells g (phasesKnown cells g pre) (varOf l) (negated l) 0 (cutsOf g (varOf l)))) (at l)
@@ -145,7 +150,7 @@ module _ (cells : List Cell) (g : Graph) (once : Distinct (placingOrder g)) (out
       go Input s t =
           let o : IsOwn g l = subst (Allowed cells g l) s (c .allowed l n) in
           subst (λ (k : Node). Beats (direct cells g (phasesKnown cells g pre) (varOf l) (cutsOf g (varOf l)) (negated l) k) (at l))
-          (sym (node-input g (varOf l) once (o .isInput))) (own (negated l) (o .positive))
+          (sym (node-input g (varOf l) once (o .isInput))) (own (negated l) (o .positive) (times .timed l n ∙ ap (arrivalBy cells g at l) s ∙ arrival-input cells g at l))
       go Nothing s t = absurd t
       go (Matched m) s t =
           let h : IsMatch cells g l m = subst (Allowed cells g l) s (c .allowed l n) in

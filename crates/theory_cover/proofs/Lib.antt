@@ -3,6 +3,7 @@ pub mod Matches
 pub mod Covers
 pub mod Earliest
 pub mod Sound
+pub mod Own
 pub mod Demand3
 pub mod Gates
 pub mod Pins

@@ -242,11 +242,11 @@ module _ (cells : List Cell) (g : Graph) (once : Distinct (placingOrder g)) (pre
   unfolding direct absent arrivalBy feeds latest
   own-least o = subst (Least (chosen cells g l)) is-net (mine-least (ap (λ (p : Phase). absent (p .source)) is-net))
     where
-      positive : (b : Bool) → T (not b) → _≡_ {A = Phase} (cond b noPhase (record { source = Input; arrival = 0 })) (record { source = Input; arrival = 0 })
+      positive : (b : Bool) → T (not b) → _≡_ {A = Phase} (cond b noPhase (record { source = Input; arrival = g .late (varOf l) })) (record { source = Input; arrival = g .late (varOf l) })
       positive true t = absurd t
       positive false t = refl
 
-      is-net : mine ≡ record { source = Input; arrival = 0 }
+      is-net : mine ≡ record { source = Input; arrival = g .late (varOf l) }
       is-net =
           ap (direct cells g (phasesKnown cells g pre) (varOf l) (cutsOf g (varOf l)) (negated l)) (node-input g (varOf l) once (o .isInput))
           ∙ positive (negated l) (o .positive)

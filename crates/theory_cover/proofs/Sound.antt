@@ -60,7 +60,7 @@ choose-in (w ∷ ws) h = go (earlier w (choose ws)) (earlier-between w (choose w
 
 -- what a phase is without inverters
 data DirectPhase (cells : List Cell) (g : Graph) (known : ℕ → Phases) (l : ℕ) : Phase → Type 0 where
-  own-net : node g (varOf l) ≡ input → negated l ≡ false → DirectPhase cells g known l (record { source = Input; arrival = 0 })
+  own-net : node g (varOf l) ≡ input → negated l ≡ false → DirectPhase cells g known l (record { source = Input; arrival = g .late (varOf l) })
   by-match : (m : Match) → IsMatch cells g l m → DirectPhase cells g known l (matchPhase cells known (cutFor g l m) m)
 
 direct-out : (cells : List Cell) (g : Graph) (known : ℕ → Phases) (l : ℕ) (k : Node) → node g (varOf l) ≡ k
@@ -77,8 +77,8 @@ direct-out cells g known l = at
         let o = match-out cells g known l (choose tried) (choose-in tried h) in
         subst (DirectPhase cells g known l) (sym (o .2)) (by-match (o .0) (o .1))
 
-    net : (b : Bool) → negated l ≡ b → node g (varOf l) ≡ input → absent (cond b noPhase (record { source = Input; arrival = 0 }) .source) ≡ false
-        → DirectPhase cells g known l (cond b noPhase (record { source = Input; arrival = 0 }))
+    net : (b : Bool) → negated l ≡ b → node g (varOf l) ≡ input → absent (cond b noPhase (record { source = Input; arrival = g .late (varOf l) }) .source) ≡ false
+        → DirectPhase cells g known l (cond b noPhase (record { source = Input; arrival = g .late (varOf l) }))
     net true q e h = absurd (true≢false h)
     net false q e h = own-net e q
 

@@ -5,7 +5,7 @@ use native.Mathlib.Omega.{arith}
 use mathlib.Core.Path.{_≡_, refl, sym, ap}
 use mathlib.Core.Logic.{_⊎_, inl, inr}
 use mathlib.Core.Bool.{Bool, true, false, cond}
-use mathlib.Core.List.{List, [], _∷_, _++_, map, List·Memᴰ, List·Memᴰ·head, List·Memᴰ·tail, List·Memᴰ·not-nil, List·Memᴰ·append-cases, Memᴰ·cast}
+use mathlib.Core.List.{List, [], _∷_, _++_, map, List·Memᴰ, List·Memᴰ·head, List·Memᴰ·tail, List·Memᴰ·not-nil, List·Memᴰ·append-cases, Memᴰ·append-left, Memᴰ·cast}
 use lib.ListN.{length}
 use Rattle.model.specs.Base.{keep, from, below}
 use Rattle.model.specs.Demands.{Distinct}
@@ -48,6 +48,10 @@ append-distinct (x ∷ xs) ys a b h =
     go : List·Memᴰ x xs ⊎ List·Memᴰ x ys → ⊥
     go (inl m) = a .0 m
     go (inr m) = h x (List·Memᴰ·head refl) m
+
+pub front-distinct : {A : Type 0} (xs ys : List A) → Distinct (xs ++ ys) → Distinct xs
+front-distinct [] ys d = tt
+front-distinct (x ∷ xs) ys d = ((λ m. d .0 (Memᴰ·append-left ys m)), front-distinct xs ys (d .1))
 
 -- ---- lengths
 

@@ -9,3 +9,4 @@ pub mod CutFacts
 pub mod Placing
 pub mod Values
 pub mod GraphValue
+pub mod Timed

@@ -68,7 +68,7 @@ line-ends n ns rest =
     ∙ ap (λ (x : List ℕ). decimal n ++ x) (append-assoc (spaced ns) (10 ∷ []) rest)
     ∙ sym (append-assoc (decimal n) (spaced ns) (10 ∷ rest))
 
-numbers-first : (at n : ℕ) (ns rest : List ℕ) → linesFrom at [] (numbersLine n ns ++ rest) ≡ lineOfBytes at (words n ns) ∷ linesFrom (at + suc (length (words n ns))) [] rest
+pub numbers-first : (at n : ℕ) (ns rest : List ℕ) → linesFrom at [] (numbersLine n ns ++ rest) ≡ lineOfBytes at (words n ns) ∷ linesFrom (at + suc (length (words n ns))) [] rest
 numbers-first at n ns rest = ap (linesFrom at []) (line-ends n ns rest) ∙ line-first at (words n ns) rest (words-free 10 (lit< tt) n ns) (words-free 13 (lit< tt) n ns)
 
 -- ---- due lines that are written read back

@@ -3,14 +3,15 @@
 --     same-library   alike libraries hold the same cells, or have the same fault at the same line
 --     same-header    so with the headers of alike graph texts in the ASCII form
 --     same-graph     and with their graphs
+--     same-arrivals  so with alike arrivals' texts
 --     same-texts     so with the texts of two calls
 --     demand-ends    which is what is promised of them
 -- Assumes nothing.
 use Prim.Native.Nat.{ℕ, suc, _+_, _*_, _%_}
 use native.Mathlib.Omega.{arith}
-use mathlib.Core.Path.{_≡_, refl, sym, _∙_, ap, subst}
+use mathlib.Core.Path.{_≡_, refl, sym, _∙_, ap, ap₂, subst}
 use mathlib.Core.Logic.{inl, inr}
-use mathlib.Core.Bool.{Bool, true, false, not, cond, _&&_, _||_}
+use mathlib.Core.Bool.{Bool, true, false, not, cond, true≢false, _&&_, _||_}
 use mathlib.Core.Option.{Option, none, some}
 use mathlib.Core.List.{List, [], _∷_, map, reverse, cons≢nil, nil≢cons, head-eq-of-cons-eq, tail-eq-of-cons-eq}
 use lib.Dec.{eqb, ltb, leb}
@@ -24,15 +25,16 @@ use Rattle.model.specs.Cells.{nameOf}
 use Rattle.model.specs.LibraryText.{cellOfFields, cellOfLine, isClean, readCells, readLibraryLines, readLibrary}
 use Rattle.model.specs.Graph.{And, Graph, varOf}
 use Rattle.model.specs.GraphText.{closed, headerOfNumbers, headerOf, inLimits, inSequence, readHeader, Kind, anInput, anOutput, anAnd, howMany, defines, due, Item, itemLiterals, readDue, readItems, uses, definedBy, checkUses, sameKind, isKind, graphOf, readGraph}
+use Rattle.model.specs.ArrivalsText.{Late, lateNumbers, readLate, readLateLines, readArrivals, timedBy}
 use Rattle.model.specs.Netlist.{Outcome, refused, mapped}
 use Rattle.model.specs.Mapper.{Call, Design, readTexts, mapDesign, mapTexts, returnedBy}
-use Rattle.model.specs.Demands.{Alike, firstWord, isBinaryText, AlikeTexts, lineStart, SamePlace, atFault, SameButEnds, EitherEnd}
+use Rattle.model.specs.Demands.{Alike, firstWord, isBinaryText, AlikeTexts, lineStart, SamePlace, ofArrivals, atFault, SameButEnds, EitherEnd}
 use Rattle.model.specs.declared.Cell.{Cell}
 use Rattle.model.specs.declared.Header.{Header}
 use Rattle.model.specs.declared.Figures.{Figures}
 use Rattle.theory_text.proofs.Steps.{fault-never}
 use Rattle.theory_text.proofs.LineLaws.{lines-step, closing-next}
-use Rattle.theory_text.proofs.Faults.{Faults, in-holds, in-fault, in-unless, in-next, header-faults, graph-faults}
+use Rattle.theory_text.proofs.Faults.{Faults, in-holds, in-fault, header-faults, graph-faults}
 
 -- ---- lines
 
@@ -258,7 +260,7 @@ same-graphs At size r =
     rw (a, b, c)
 
 -- places of lines are places of the refusals from 7 on
-module _ (At : ℕ → ℕ → Type 0) (P : ℕ → ℕ → ℕ → Type 0) (put : (n : ℕ) → leb n 6 ≡ false → (k j : ℕ) → At k j → P n k j) where
+module _ (At : ℕ → ℕ → Type 0) (P : ℕ → ℕ → ℕ → Type 0) (put : (n : ℕ) → (leb n 6 || ofArrivals n) ≡ false → (k j : ℕ) → At k j → P n k j) where
   same-due : (end bound size : ℕ) (before : List ℕ) (ks : List Kind) (ls ms : List Line) → Paired At end bound ls ms
       → Fares (SameItems At) P (readDue (closed false) end size before ks ls) (readDue (closed false) bound size before ks ms)
   unfolding readDue
@@ -328,7 +330,7 @@ header-by l ls e =
     andThen (only (closed b l && (eqb (length (fields (l .bytes))) 6 && (b || same (getD (fields (l .bytes)) 0 []) (text "aag")))) (drop 1 (fields (l .bytes)))) (λ vs.
     andThen (numbers vs) (λ ns. some (headerOfNumbers b (nextOf l) ns)))) e
 
-module _ (At : ℕ → ℕ → Type 0) (P : ℕ → ℕ → ℕ → Type 0) (put : (n : ℕ) → leb n 6 ≡ false → (k j : ℕ) → At k j → P n k j) (s t : List ℕ) (z : At 0 0) where
+module _ (At : ℕ → ℕ → Type 0) (P : ℕ → ℕ → ℕ → Type 0) (put : (n : ℕ) → (leb n 6 || ofArrivals n) ≡ false → (k j : ℕ) → At k j → P n k j) (s t : List ℕ) (z : At 0 0) where
   same-first : (p : List ℕ × Bool) (n q : ℕ) → Paired At (length s) (length t) (linesFrom n [] (drop n s)) (linesFrom q [] (drop q t))
       → Fares (Headers At s t) P (from? (headerBy p n) 7 0) (from? (headerBy p q) 7 0)
   unfolding headerBy andThen from?
@@ -405,6 +407,51 @@ module _ (At : ℕ → ℕ → Type 0) (P : ℕ → ℕ → ℕ → Type 0) (put
           (λ is js e. subst (λ (m : ℕ). Fares _≡_ P (next (checkUses (definedBy is) is) (λ xs. holds (graphOf (headerOfNumbers false n ns .size) xs))) (next (checkUses (definedBy js) js) (λ xs. holds (graphOf m xs))))
           (size n q ns) (then-graph At P put (headerOfNumbers false n ns .size) is js e))
 
+-- ---- the arrivals
+
+-- a line's two numbers, by what is shown of the line
+late-shown : (l m : Line) → shown l ≡ shown m → lateNumbers l ≡ lateNumbers m
+unfolding lateNumbers shown
+late-shown l m e = ap (λ (p : List ℕ × Bool). andThen (only (p .1 && eqb (length (fields (p .0))) 2) (fields (p .0))) numbers) e
+
+-- places of lines are places of refusals 25 and 26
+module _ (At : ℕ → ℕ → Type 0) (P : ℕ → ℕ → ℕ → Type 0) (put : (n : ℕ) → (not (leb n 6) && ofArrivals n) ≡ true → (k j : ℕ) → At k j → P n k j) where
+  same-late : (end bound inputs : ℕ) (before : List ℕ) (ls ms : List Line) → Paired At end bound ls ms → Fares _≡_ P (readLate inputs before ls) (readLate inputs before ms)
+  unfolding readLate
+  same-late end bound inputs before [] [] (noLines a) = bothHold refl
+  same-late end bound inputs before (l ∷ ls) (m ∷ ms) (aLine e a more) =
+      fares-next P _≡_ _≡_ (from? (lateNumbers l) 25 (l .offset)) (from? (lateNumbers m) 25 (m .offset)) (read ls (l .offset)) (read ms (m .offset))
+      (fares-from P (lateNumbers l) (lateNumbers m) 25 (l .offset) (m .offset) (late-shown l m e) (put 25 refl (l .offset) (m .offset) a))
+      (λ ns os q.
+      subst (λ (x : List ℕ). Fares _≡_ P (read ls (l .offset) ns) (read ms (m .offset) x)) q (of ns (same-late end bound inputs (getD ns 0 0 ∷ before) ls ms more)))
+    where
+      late : List ℕ → Late
+      late ns = record { index = getD ns 0 0; arrival = getD ns 1 0 }
+
+      read : List Line → ℕ → List ℕ → Read (List Late)
+      read xs at ns =
+          unless (ltb (getD ns 0 0) inputs && not (elem (getD ns 0 0) before)) 26 at
+          (next (readLate inputs (getD ns 0 0 ∷ before) xs) (λ es. holds (late ns ∷ es)))
+
+      of : (ns : List ℕ) → Fares _≡_ P (readLate inputs (getD ns 0 0 ∷ before) ls) (readLate inputs (getD ns 0 0 ∷ before) ms) → Fares _≡_ P (read ls (l .offset) ns) (read ms (m .offset) ns)
+      of ns f =
+          fares-unless P _≡_ (ltb (getD ns 0 0) inputs && not (elem (getD ns 0 0) before)) (ltb (getD ns 0 0) inputs && not (elem (getD ns 0 0) before)) 26 (l .offset) (m .offset) _ _ refl
+          (put 26 refl (l .offset) (m .offset) a)
+          (fares-next P _≡_ _≡_ (readLate inputs (getD ns 0 0 ∷ before) ls) (readLate inputs (getD ns 0 0 ∷ before) ms) (λ es. holds (late ns ∷ es)) (λ es. holds (late ns ∷ es)) f
+          (λ es fs r. bothHold (ap (λ (xs : List Late). late ns ∷ xs) r)))
+
+  same-late-lines : (end bound inputs : ℕ) (ls ms : List Line) → Paired At end bound ls ms → Fares _≡_ P (readLateLines inputs ls) (readLateLines inputs ms)
+  unfolding readLateLines shown
+  same-late-lines end bound inputs [] [] (noLines a) = bothHold refl
+  same-late-lines end bound inputs (l ∷ ls) (m ∷ ms) (aLine e a more) =
+      fares-unless P _≡_ (ended l && same (l .bytes) (text "input arrival")) (ended m && same (m .bytes) (text "input arrival")) 25 (l .offset) (m .offset) _ _
+      (ap (λ (p : List ℕ × Bool). p .1 && same (p .0) (text "input arrival")) e) (put 25 refl (l .offset) (m .offset) a) (same-late end bound inputs [] ls ms more)
+
+same-arrivals : (s t : List ℕ) (P : ℕ → ℕ → ℕ → Type 0) → ((n : ℕ) → (not (leb n 6) && ofArrivals n) ≡ true → (k j : ℕ) → SamePlace s t k j → P n k j) → Alike s t
+    → (inputs : ℕ) → Fares _≡_ P (readArrivals inputs s) (readArrivals inputs t)
+unfolding readArrivals
+same-arrivals s t P put e inputs = same-late-lines (SamePlace s t) P put (length s) (length t) inputs (linesFrom 0 [] s) (linesFrom 0 [] t) (pair-lines s t e)
+
 -- ---- the texts of two calls
 
 module _ (c d : Call) (alike : AlikeTexts c d) where
@@ -412,43 +459,78 @@ module _ (c d : Call) (alike : AlikeTexts c d) where
   Places : ℕ → ℕ → ℕ → Type 0
   Places n k j = SamePlace (atFault n c) (atFault n d) k j
 
+  -- the text at fault, by two tests of the number
+  abbrev pick : Bool → Bool → Call → List ℕ
+  pick a b x = cond a (x .library) (cond b (x .arrivals) (x .graph))
+
   in-library : (n : ℕ) → leb n 6 ≡ true → (k j : ℕ) → SamePlace (c .library) (d .library) k j → Places n k j
   unfolding atFault Places
-  in-library n e k j p = subst (λ (b : Bool). SamePlace (cond b (c .library) (c .graph)) (cond b (d .library) (d .graph)) k j) (sym e) p
+  in-library n e k j p = subst (λ (b : Bool). SamePlace (pick b (ofArrivals n) c) (pick b (ofArrivals n) d) k j) (sym e) p
 
-  in-graph : (n : ℕ) → leb n 6 ≡ false → (k j : ℕ) → SamePlace (c .graph) (d .graph) k j → Places n k j
+  in-graph : (n : ℕ) → (leb n 6 || ofArrivals n) ≡ false → (k j : ℕ) → SamePlace (c .graph) (d .graph) k j → Places n k j
   unfolding atFault Places
-  in-graph n e k j p = subst (λ (b : Bool). SamePlace (cond b (c .library) (c .graph)) (cond b (d .library) (d .graph)) k j) (sym e) p
+  in-graph n e k j p = go (leb n 6) (ofArrivals n) e
+    where
+      go : (a b : Bool) → (a || b) ≡ false → SamePlace (pick a b c) (pick a b d) k j
+      go true b q = absurd (true≢false q)
+      go false true q = absurd (true≢false q)
+      go false false q = p
+
+  in-arrivals : (n : ℕ) → (not (leb n 6) && ofArrivals n) ≡ true → (k j : ℕ) → SamePlace (c .arrivals) (d .arrivals) k j → Places n k j
+  unfolding atFault Places
+  in-arrivals n e k j p = go (leb n 6) (ofArrivals n) e
+    where
+      go : (a b : Bool) → (not a && b) ≡ true → SamePlace (pick a b c) (pick a b d) k j
+      go true b q = absurd (true≢false (sym q))
+      go false true q = p
+      go false false q = absurd (true≢false (sym q))
+
+  -- what is read behind the graph, for so many inputs
+  timed : List ℕ → List Cell → ℕ → Graph → Read Design
+  timed s cells inputs g = next (readArrivals inputs s) (λ es. holds (record { cells = cells; graph = timedBy g es }))
+
+  -- what is read behind the header
+  behindHeader : List ℕ → List ℕ → ℕ → List Cell → Header → Read Design
+  behindHeader s arrivals words cells h = unless (leb (need (h .size) (h .outputs)) words) 10 0 (next (readGraph s h) (timed arrivals cells (h .inputs)))
 
   -- what is read behind the library
-  behindLibrary : List ℕ → ℕ → List Cell → Read Design
-  behindLibrary s words cells =
-      next (readHeader s) (λ h. unless (leb (need (h .size) (h .outputs)) words) 10 0 (next (readGraph s h) (λ g. holds (record { cells = cells; graph = g }))))
+  behindLibrary : List ℕ → List ℕ → ℕ → List Cell → Read Design
+  behindLibrary s arrivals words cells = next (readHeader s) (behindHeader s arrivals words cells)
 
-  late : (s : List ℕ) (words : ℕ) (cells : List Cell) → Faults (λ n k. leb n 6 ≡ false) (behindLibrary s words cells)
-  unfolding behindLibrary
-  late s words cells =
-      in-next Late (readHeader s) _ (header-faults Late refl refl refl refl s)
-      (λ h e. in-unless Late (leb (need (h .size) (h .outputs)) words) 10 0 _ (λ f. refl)
-      (in-next Late (readGraph s h) _ (graph-faults Late (λ k. refl) (λ k. refl) (λ k. refl) (λ k. refl) (λ k. refl) (λ k. refl) s h) (λ g f. in-holds Late (record { cells = cells; graph = g }))))
-    where
-      Late : ℕ → ℕ → Type 0
-      Late n k = leb n 6 ≡ false
+  same-timed : (cells : List Cell) (inputs : ℕ) (x y : Graph) → x ≡ y → Fares _≡_ Places (timed (c .arrivals) cells inputs x) (timed (d .arrivals) cells inputs y)
+  unfolding timed
+  same-timed cells inputs x y e =
+      fares-next Places _≡_ _≡_ (readArrivals inputs (c .arrivals)) (readArrivals inputs (d .arrivals)) _ _
+      (same-arrivals (c .arrivals) (d .arrivals) Places in-arrivals (alike .arrivals) inputs)
+      (λ es fs q. bothHold (ap₂ (λ (g : Graph) (xs : List Late). record { cells = cells; graph = timedBy g xs }) e q))
 
-  one-graph : c .graph ≡ d .graph → (cells : List Cell) → Fares _≡_ Places (behindLibrary (c .graph) (c .words) cells) (behindLibrary (d .graph) (c .words) cells)
+  one-graph : c .graph ≡ d .graph → (cells : List Cell) → Fares _≡_ Places (behindLibrary (c .graph) (c .arrivals) (c .words) cells) (behindLibrary (d .graph) (d .arrivals) (c .words) cells)
+  unfolding behindLibrary behindHeader
   one-graph e cells =
-      subst (λ (s : List ℕ). Fares _≡_ Places (behindLibrary (c .graph) (c .words) cells) (behindLibrary s (c .words) cells)) e
-      (fares-self Places (behindLibrary (c .graph) (c .words) cells) (record { has = λ n k f. in-graph n (late (c .graph) (c .words) cells .has n k f) k k (inr (e, refl)) }))
+      subst (λ (s : List ℕ). Fares _≡_ Places (behindLibrary (c .graph) (c .arrivals) (c .words) cells) (behindLibrary s (d .arrivals) (c .words) cells)) e
+      (fares-next Places _≡_ _≡_ (readHeader (c .graph)) (readHeader (c .graph)) _ _ (alone (readHeader (c .graph)) (header-faults OfGraph refl refl refl refl (c .graph)))
+      (λ h k q.
+      subst (λ (x : Header). Fares _≡_ Places (behindHeader (c .graph) (c .arrivals) (c .words) cells h) (behindHeader (c .graph) (d .arrivals) (c .words) cells x)) q
+      (fares-unless Places _≡_ (leb (need (h .size) (h .outputs)) (c .words)) (leb (need (h .size) (h .outputs)) (c .words)) 10 0 0 _ _ refl (in-graph 10 refl 0 0 (inr (e, refl)))
+      (fares-next Places _≡_ _≡_ (readGraph (c .graph) h) (readGraph (c .graph) h) _ _
+      (alone (readGraph (c .graph) h) (graph-faults OfGraph (λ k. refl) (λ k. refl) (λ k. refl) (λ k. refl) (λ k. refl) (λ k. refl) (c .graph) h)) (same-timed cells (h .inputs))))))
+    where
+      OfGraph : ℕ → ℕ → Type 0
+      OfGraph n k = (leb n 6 || ofArrivals n) ≡ false
 
-  two-graphs : isBinaryText (c .graph) ≡ false → (cells : List Cell) → Fares _≡_ Places (behindLibrary (c .graph) (c .words) cells) (behindLibrary (d .graph) (c .words) cells)
-  unfolding behindLibrary
+      alone : {A : Type 0} (r : Read A) → Faults OfGraph r → Fares _≡_ Places r r
+      alone r f = fares-self Places r (record { has = λ n k q. in-graph n (f .has n k q) k k (inr (e, refl)) })
+
+  two-graphs : isBinaryText (c .graph) ≡ false → (cells : List Cell)
+      → Fares _≡_ Places (behindLibrary (c .graph) (c .arrivals) (c .words) cells) (behindLibrary (d .graph) (d .arrivals) (c .words) cells)
+  unfolding behindLibrary behindHeader
   two-graphs a cells =
       fares-next Places (Headers At (c .graph) (d .graph)) _≡_ (readHeader (c .graph)) (readHeader (d .graph)) _ _
       (same-header At Places in-graph (c .graph) (d .graph) zero-place (pair-lines (c .graph) (d .graph) (alike .graphs)) a)
       (λ h k r.
       fares-unless Places _≡_ (leb (need (h .size) (h .outputs)) (c .words)) (leb (need (k .size) (k .outputs)) (c .words)) 10 0 0 _ _ (needs r) (in-graph 10 refl 0 0 zero-place)
       (fares-next Places _≡_ _≡_ (readGraph (c .graph) h) (readGraph (d .graph) k) _ _ (same-graph At Places in-graph (c .graph) (d .graph) zero-place h k r)
-      (λ x y e. bothHold (ap (λ (g : Graph). record { cells = cells; graph = g }) e))))
+      (λ x y e. subst (λ (n : ℕ). Fares _≡_ Places (timed (c .arrivals) cells (h .inputs) x) (timed (d .arrivals) cells n y)) (counts r) (same-timed cells (h .inputs) x y e))))
     where
       At : ℕ → ℕ → Type 0
       At = SamePlace (c .graph) (d .graph)
@@ -459,25 +541,31 @@ module _ (c d : Call) (alike : AlikeTexts c d) where
       needs : {h k : Header} → Headers At (c .graph) (d .graph) h k → leb (need (h .size) (h .outputs)) (c .words) ≡ leb (need (k .size) (k .outputs)) (c .words)
       needs (headers n q ns b) = unfold headerOfNumbers in refl
 
-  same-behind : (cells : List Cell) → Fares _≡_ Places (behindLibrary (c .graph) (c .words) cells) (behindLibrary (d .graph) (d .words) cells)
+      counts : {h k : Header} → Headers At (c .graph) (d .graph) h k → h .inputs ≡ k .inputs
+      counts (headers n q ns b) = unfold headerOfNumbers in refl
+
+  same-behind : (cells : List Cell) → Fares _≡_ Places (behindLibrary (c .graph) (c .arrivals) (c .words) cells) (behindLibrary (d .graph) (d .arrivals) (d .words) cells)
   same-behind cells =
-      subst (λ (n : ℕ). Fares _≡_ Places (behindLibrary (c .graph) (c .words) cells) (behindLibrary (d .graph) n cells)) (alike .words) (go (isBinaryText (c .graph)) refl)
+      subst (λ (n : ℕ). Fares _≡_ Places (behindLibrary (c .graph) (c .arrivals) (c .words) cells) (behindLibrary (d .graph) (d .arrivals) n cells)) (alike .words)
+      (go (isBinaryText (c .graph)) refl)
     where
-      go : (b : Bool) → isBinaryText (c .graph) ≡ b → Fares _≡_ Places (behindLibrary (c .graph) (c .words) cells) (behindLibrary (d .graph) (c .words) cells)
+      go : (b : Bool) → isBinaryText (c .graph) ≡ b → Fares _≡_ Places (behindLibrary (c .graph) (c .arrivals) (c .words) cells) (behindLibrary (d .graph) (d .arrivals) (c .words) cells)
       go true e = one-graph (alike .binary e) cells
       go false e = two-graphs e cells
 
   same-texts : Fares _≡_ Places (readTexts c) (readTexts d)
-  unfolding readTexts behindLibrary unless
+  unfolding readTexts behindLibrary behindHeader timed unless
   same-texts =
       let a : leb (length (c .library)) 65536 ≡ true = le-leb (length (c .library)) 65536 (alike .short .library) in
       let b : leb (length (c .graph)) 65536 ≡ true = le-leb (length (c .graph)) 65536 (alike .short .graph) in
+      let s : leb (length (c .arrivals)) 65536 ≡ true = le-leb (length (c .arrivals)) 65536 (alike .short .arrivals) in
       let e : leb (length (d .library)) 65536 ≡ true = le-leb (length (d .library)) 65536 (alike .shortToo .library) in
       let f : leb (length (d .graph)) 65536 ≡ true = le-leb (length (d .graph)) 65536 (alike .shortToo .graph) in
-      rw (a, b, e, f)
-      (fares-next Places _≡_ _≡_ (readLibrary (c .library)) (readLibrary (d .library)) (behindLibrary (c .graph) (c .words)) (behindLibrary (d .graph) (d .words))
+      let t : leb (length (d .arrivals)) 65536 ≡ true = le-leb (length (d .arrivals)) 65536 (alike .shortToo .arrivals) in
+      rw (a, b, s, e, f, t)
+      (fares-next Places _≡_ _≡_ (readLibrary (c .library)) (readLibrary (d .library)) (behindLibrary (c .graph) (c .arrivals) (c .words)) (behindLibrary (d .graph) (d .arrivals) (d .words))
       (same-library (c .library) (d .library) Places in-library (alike .libraries))
-      (λ x y q. subst (λ (z : List Cell). Fares _≡_ Places (behindLibrary (c .graph) (c .words) x) (behindLibrary (d .graph) (d .words) z)) q (same-behind x)))
+      (λ x y q. subst (λ (z : List Cell). Fares _≡_ Places (behindLibrary (c .graph) (c .arrivals) (c .words) x) (behindLibrary (d .graph) (d .arrivals) (d .words) z)) q (same-behind x)))
 
   same-design : (x : Design) → readTexts c ≡ holds x → readTexts d ≡ holds x
   same-design = fares-holds Places (readTexts c) (readTexts d) same-texts

@@ -14,6 +14,7 @@ use Rattle.model.specs.Cells.{nameOf}
 use Rattle.model.specs.Graph.{varOf}
 use Rattle.model.specs.LibraryText.{cellOfLine, isClean, readCells, readLibraryLines, readLibrary}
 use Rattle.model.specs.GraphText.{closed, headerOfNumbers, headerOf, inLimits, inSequence, readHeader, Kind, anOutput, anAnd, defines, due, Item, itemLiterals, readDue, Passed, difference, lessBy, readAnds, behindLines, inputItems, readBinary, readItems, uses, definedBy, checkUses, graphOf, readGraph}
+use Rattle.model.specs.ArrivalsText.{Late, lateNumbers, readLate, readLateLines, readArrivals}
 use Rattle.model.specs.declared.Cell.{Cell}
 use Rattle.model.specs.declared.Header.{Header}
 use Rattle.theory_text.proofs.Steps.{holds-once, fault-never, unless-out, from-out, next-out, then-out}
@@ -167,6 +168,33 @@ module _ (P : ℕ → ℕ → Type 0) where
       go : (ls : List Line) → Faults P (readLibraryLines ls)
       go [] = in-fault P 2 0 p2
       go (l ∷ ls) = in-unless P (ended l && same (l .bytes) (text "cell pins table area d0 d1 d2 d3")) 2 0 (readCells 0 [] ls) (λ _. p2) (cells-faults p3 p4 p5 p6 0 [] ls)
+
+  -- 25 and 26
+  late-faults : ((k : ℕ) → P 25 k) → ((k : ℕ) → P 26 k) → (inputs : ℕ) (before : List ℕ) (ls : List Line) → Faults P (readLate inputs before ls)
+  unfolding readLate
+  late-faults p25 p26 inputs before [] = in-holds P []
+  late-faults p25 p26 inputs before (l ∷ ls) =
+      in-next P (from? (lateNumbers l) 25 (l .offset)) read (in-from P (lateNumbers l) 25 (l .offset) (p25 (l .offset)))
+      (λ ns _.
+      in-unless P (ltb (getD ns 0 0) inputs && not (elem (getD ns 0 0) before)) 26 (l .offset) (rest ns) (λ _. p26 (l .offset))
+      (in-next P (readLate inputs (getD ns 0 0 ∷ before) ls) (λ es. holds (late ns ∷ es)) (late-faults p25 p26 inputs (getD ns 0 0 ∷ before) ls) (λ es _. in-holds P (late ns ∷ es))))
+    where
+      late : List ℕ → Late
+      late ns = record { index = getD ns 0 0; arrival = getD ns 1 0 }
+
+      rest : List ℕ → Read (List Late)
+      rest ns = next (readLate inputs (getD ns 0 0 ∷ before) ls) (λ es. holds (late ns ∷ es))
+
+      read : List ℕ → Read (List Late)
+      read ns = unless (ltb (getD ns 0 0) inputs && not (elem (getD ns 0 0) before)) 26 (l .offset) (rest ns)
+
+  pub arrivals-faults : ((k : ℕ) → P 25 k) → ((k : ℕ) → P 26 k) → (inputs : ℕ) (s : List ℕ) → Faults P (readArrivals inputs s)
+  unfolding readArrivals readLateLines
+  arrivals-faults p25 p26 inputs s = go (linesFrom 0 [] s)
+    where
+      go : (ls : List Line) → Faults P (readLateLines inputs ls)
+      go [] = in-holds P []
+      go (l ∷ ls) = in-unless P (ended l && same (l .bytes) (text "input arrival")) 25 (l .offset) (readLate inputs [] ls) (λ _. p25 (l .offset)) (late-faults p25 p26 inputs [] ls)
 
   -- 7 to 9 and 19
   pub header-faults : P 7 0 → P 8 0 → P 9 0 → P 19 0 → (s : List ℕ) → Faults P (readHeader s)

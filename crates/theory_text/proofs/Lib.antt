@@ -14,5 +14,6 @@ pub mod DueBack
 pub mod Sequence
 pub mod Twins
 pub mod ReadTexts
+pub mod Arrivals
 pub mod Ends
 pub mod Written

@@ -330,6 +330,14 @@ graph-counted bytes h g d e = subst (Counted h) (s .isGraph) (record {
     s : Lines bytes h g
     s = graph-lines bytes h g d e
 
+-- a graph's text says nothing of arrivals: every input arrives at 0
+pub graph-untimed : (bytes : List ℕ) (h : Header) (g : Graph) → readGraph bytes h ≡ holds g → (λ (v : ℕ). 0) ≡ g .late
+unfolding readGraph graphOf
+graph-untimed bytes h g e =
+    let a = next-out (readItems bytes h) (λ is. next (checkUses (definedBy is) is) (λ js. holds (graphOf (h .size) js))) g e in
+    let b = next-out (checkUses (definedBy (a .0)) (a .0)) (λ js. holds (graphOf (h .size) js)) g (a .2) in
+    ap (λ (x : Graph). x .late) (holds-once (b .2))
+
 pub graph-low : (bytes : List ℕ) (h : Header) (g : Graph) → readHeader bytes ≡ holds h → readGraph bytes h ≡ holds g → LowLiterals g
 unfolding graphOf howMany
 graph-low bytes h g d e = subst LowLiterals (s .isGraph) (record {

@@ -1,8 +1,8 @@
--- Two texts that are read give a library that fits and a graph that is in the limits, and accepted if all its ANDs can be placed. Assumes nothing.
+-- Texts that are read give a library that fits and a graph that is in the limits, and accepted if all its ANDs can be placed. Assumes nothing.
 use Prim.Native.Nat.{_≤_}
-use mathlib.Core.Path.{_≡_, subst}
+use mathlib.Core.Path.{_≡_, refl, sym, _∙_, ap, subst}
 use mathlib.Core.Bool.{_&&_}
-use mathlib.Core.List.{[], List·Memᴰ}
+use mathlib.Core.List.{List, [], List·Memᴰ}
 use lib.Dec.{T, leb}
 use lib.ListN.{length}
 use mir.Facts.{and-yes, leb-yes}
@@ -10,17 +10,19 @@ use Rattle.model.specs.Limits.{need}
 use Rattle.model.specs.Reading.{holds}
 use Rattle.model.specs.LibraryText.{readLibrary, isClean}
 use Rattle.model.specs.GraphText.{readHeader, readGraph}
-use Rattle.model.specs.Graph.{unplaced}
-use Rattle.model.specs.Mapper.{Call, Design, readTexts}
+use Rattle.model.specs.ArrivalsText.{Late, readArrivals, timedBy}
+use Rattle.model.specs.Graph.{Graph, unplaced}
+use Rattle.model.specs.Mapper.{Call, Design, short, readTexts}
 use Rattle.model.specs.declared.Cell.{Cell}
 use Rattle.model.specs.declared.Header.{Header}
 use Rattle.theory_graph.specs.Accepted.{Accepted, libraryFits}
+use Rattle.theory_graph.proofs.Timed.{timed-accepted, timed-unplaced}
 use Rattle.theory_text.proofs.Steps.{holds-once, unless-out, next-out}
 use Rattle.theory_text.proofs.ReadLibrary.{Written, library-fits, library-few, library-written}
 use Rattle.theory_text.specs.Fits.{GraphFits}
 use Rattle.theory_text.proofs.ReadGraph.{graph-accepted, graph-fits}
 
--- the two texts were read: the library's, the header's and the graph's, with words enough
+-- the texts were read: the library's, the header's, the graph's, which is the design's but for its arrivals, with words enough, and the arrivals'
 pub record Texts (c : Call) (d : Design) : Type 0 where
   pub header : Header
   pub shortLibrary : length (c .library) ≤ 65536
@@ -28,26 +30,43 @@ pub record Texts (c : Call) (d : Design) : Type 0 where
   pub isLibrary : readLibrary (c .library) ≡ holds (d .cells)
   pub isHeader : readHeader (c .graph) ≡ holds header
   pub enough : need (header .size) (header .outputs) ≤ c .words
-  pub isGraph : readGraph (c .graph) header ≡ holds (d .graph)
+  pub meant : Graph
+  pub isGraph : readGraph (c .graph) header ≡ holds meant
+  pub shortArrivals : length (c .arrivals) ≤ 65536
+  pub late : List Late
+  pub isLate : readArrivals (header .inputs) (c .arrivals) ≡ holds late
+  pub isTimed : timedBy meant late ≡ d .graph
 
 pub texts-read : (c : Call) (d : Design) → readTexts c ≡ holds d → Texts c d
 unfolding readTexts
 texts-read c d e =
-    let a = unless-out (leb (length (c .library)) 65536 && leb (length (c .graph)) 65536) 1 0 _ d e in
-    let p = and-yes (leb (length (c .library)) 65536) (leb (length (c .graph)) 65536) (a .0) in
+    let a = unless-out (short c) 1 0 _ d e in
+    let p = and-yes (leb (length (c .library)) 65536) (leb (length (c .graph)) 65536 && leb (length (c .arrivals)) 65536) (a .0) in
+    let q = and-yes (leb (length (c .graph)) 65536) (leb (length (c .arrivals)) 65536) (p .1) in
     let b = next-out (readLibrary (c .library)) _ d (a .1) in
     let k = next-out (readHeader (c .graph)) _ d (b .2) in
     let f = unless-out (leb (need (k .0 .size) (k .0 .outputs)) (c .words)) 10 0 _ d (k .2) in
-    let g = next-out (readGraph (c .graph) (k .0)) (λ x. holds (record { cells = b .0; graph = x })) d (f .1) in
-    subst (Texts c) (holds-once (g .2)) (record {
+    let g = next-out (readGraph (c .graph) (k .0)) _ d (f .1) in
+    let t = next-out (readArrivals (k .0 .inputs) (c .arrivals)) (λ es. holds (record { cells = b .0; graph = timedBy (g .0) es })) d (g .2) in
+    subst (Texts c) (holds-once (t .2)) (record {
       header = k .0;
       shortLibrary = leb-yes (p .0);
-      shortGraph = leb-yes (p .1);
+      shortGraph = leb-yes (q .0);
       isLibrary = b .1;
       isHeader = k .1;
       enough = leb-yes (f .0);
+      meant = g .0;
       isGraph = g .1;
+      shortArrivals = leb-yes (q .1);
+      late = t .0;
+      isLate = t .1;
+      isTimed = refl;
     })
+
+-- the limits say nothing of arrivals
+pub timed-fits : (g : Graph) (es : List Late) → GraphFits g → GraphFits (timedBy g es)
+unfolding timedBy
+timed-fits g es f = record { size = f .size; outputs = f .outputs; variables = f .variables; low = record { outputs = f .low .outputs; lefts = f .low .lefts; rights = f .low .rights } }
 
 module _ (c : Call) (d : Design) (e : readTexts c ≡ holds d) where
   -- the library is free of refusals 3 to 6
@@ -62,8 +81,11 @@ module _ (c : Call) (d : Design) (e : readTexts c ≡ holds d) where
 
   -- the graph is free of refusals 9 and 12
   pub design-graph : GraphFits (d .graph)
-  design-graph = let t = texts-read c d e in graph-fits (c .graph) (t .header) (d .graph) (t .isHeader) (t .isGraph)
+  design-graph = let t = texts-read c d e in subst GraphFits (t .isTimed) (timed-fits (t .meant) (t .late) (graph-fits (c .graph) (t .header) (t .meant) (t .isHeader) (t .isGraph)))
 
   -- and of 13 to 15, if all its ANDs can be placed
   pub design-accepted : unplaced (d .graph) ≡ [] → Accepted (d .graph)
-  design-accepted = let t = texts-read c d e in graph-accepted (c .graph) (t .header) (d .graph) (t .isHeader) (t .isGraph)
+  design-accepted p =
+      let t = texts-read c d e in
+      subst Accepted (t .isTimed) (timed-accepted (t .meant) (t .late)
+      (graph-accepted (c .graph) (t .header) (t .meant) (t .isHeader) (t .isGraph) (sym (timed-unplaced (t .meant) (t .late)) ∙ ap unplaced (t .isTimed) ∙ p)))

@@ -17,6 +17,7 @@ use Rattle.model.specs.Text.{Line, nextOf, text, decimal, linesFrom, numbers}
 use Rattle.model.specs.Reading.{Read, holds, next, unless, from?}
 use Rattle.model.specs.Graph.{And, Graph, varOf}
 use Rattle.model.specs.GraphText.{closed, headerOfNumbers, headerOf, inLimits, inSequence, readHeader, Kind, anInput, anOutput, anAnd, howMany, defines, due, Item, readDue, readItems, uses, definedBy, checkUses, isKind, sameKind, graphOf, readGraph, numbersLine, asciiText}
+use Rattle.model.specs.ArrivalsText.{readArrivals, timedBy}
 use Rattle.model.specs.Mapper.{Call, Design, readTexts, mapDesign, mapTexts}
 use Rattle.model.specs.Demands.{Distinct, Means, onGraph}
 use Rattle.model.specs.Limits.{need}
@@ -30,7 +31,7 @@ use Rattle.theory_text.proofs.LineLaws.{lineOfBytes, line-first, fields
 use Rattle.theory_text.proofs.Items.{head, kindsOf, defined-cons}
 use Rattle.theory_text.proofs.Binary.{defined-append, uses-in}
 use Rattle.theory_text.specs.Fits.{GraphFits}
-use Rattle.theory_text.proofs.ReadGraph.{Known, graph-known, graph-fits, Counted, graph-counted, keep-of}
+use Rattle.theory_text.proofs.ReadGraph.{Known, graph-known, graph-fits, Counted, graph-counted, graph-untimed, keep-of}
 use Rattle.theory_text.proofs.DueBack.{numbers-back, words, fields-numbers, words-free, line-ends, itemLine, itemsAt, Row, rows-back, kept-anywhere, defined-anywhere, found-anywhere}
 
 -- ---- the lines of a graph
@@ -96,7 +97,7 @@ twice-var v = omega arith
 
 -- ---- a graph that some text means
 
-module _ (g : Graph) (fits : GraphFits g) (known : Known g) where
+module _ (g : Graph) (fits : GraphFits g) (known : Known g) (untimed : (λ (v : ℕ). 0) ≡ g .late) where
   abbrev rows : List Item
   rows = rowsOf g
 
@@ -241,11 +242,12 @@ module _ (g : Graph) (fits : GraphFits g) (known : Known g) where
           back [] = refl
           back (a ∷ as′) = ap₂ (λ (x : And) (b : List And). x ∷ b) (ap (λ (v : ℕ). record { var = v; left = a .left; right = a .right }) (twice-var (a .var))) (back as′)
 
-      made : {is os : List ℕ} {as′ : List And} → is ≡ g .inputs → os ≡ g .outputs → as′ ≡ g .ands → record { size = g .size; inputs = is; outputs = os; ands = as′ } ≡ g
+      made : {is os : List ℕ} {as′ : List And} → is ≡ g .inputs → os ≡ g .outputs → as′ ≡ g .ands → record { size = g .size; inputs = is; outputs = os; ands = as′; late = λ _. 0 } ≡ g
       made {os = os} {as′ = as′} p q r =
-          ap (λ (x : List ℕ). record { size = g .size; inputs = x; outputs = os; ands = as′ }) p
-          ∙ ap (λ (x : List ℕ). record { size = g .size; inputs = g .inputs; outputs = x; ands = as′ }) q
-          ∙ ap (λ (x : List And). record { size = g .size; inputs = g .inputs; outputs = g .outputs; ands = x }) r
+          ap (λ (x : List ℕ). record { size = g .size; inputs = x; outputs = os; ands = as′; late = λ _. 0 }) p
+          ∙ ap (λ (x : List ℕ). record { size = g .size; inputs = g .inputs; outputs = x; ands = as′; late = λ _. 0 }) q
+          ∙ ap (λ (x : List And). record { size = g .size; inputs = g .inputs; outputs = g .outputs; ands = x; late = λ _. 0 }) r
+          ∙ ap (λ (f : ℕ → ℕ). record { size = g .size; inputs = g .inputs; outputs = g .outputs; ands = g .ands; late = f }) untimed
 
   -- ---- the twin's text
 
@@ -346,36 +348,42 @@ pub ascii-means : (bytes : List ℕ) (g : Graph) → Means bytes g → length (a
 ascii-means bytes g m short =
     let f = graph-fits bytes (m .header) g (m .isHeader) (m .isGraph) in
     let k = graph-known bytes (m .header) g (m .isHeader) (m .isGraph) in
-    record { header = twinHeader g f k; short = short; isHeader = twin-header g f k; isGraph = twin-graph g f k }
+    let u = graph-untimed bytes (m .header) g (m .isGraph) in
+    record { header = twinHeader g f k u; short = short; isHeader = twin-header g f k u; isGraph = twin-graph g f k u }
 
 -- ---- the outcome
 
--- what the two texts hold hangs on the library's text, the lent words and the graph that is meant: M and O are the graph's
-reads-by-graph : (c : Call) (g : Graph) → Means (c .graph) g
-    → readTexts c ≡ unless (leb (length (c .library)) 65536) 1 0 (next (readLibrary (c .library)) (λ cells. unless (leb (need (g .size) (length (g .outputs))) (c .words)) 10 0 (holds (record { cells = cells; graph = g }))))
+-- what the texts hold hangs on the library's text, the arrivals' text, the lent words and the graph that is meant: M, I and O are the graph's
+reads-by-graph : (c : Call) (g : Graph) → Means (c .graph) g → readTexts c ≡ unless (leb (length (c .library)) 65536 && leb (length (c .arrivals)) 65536) 1 0
+    (next (readLibrary (c .library)) (λ cells. unless (leb (need (g .size) (length (g .outputs))) (c .words)) 10 0
+    (next (readArrivals (length (g .inputs)) (c .arrivals)) (λ es. holds (record { cells = cells; graph = timedBy g es })))))
 unfolding readTexts next
 reads-by-graph c g m =
-    ap (λ (b : Bool). unless b 1 0 (next (readLibrary (c .library)) read)) (short (leb (length (c .library)) 65536))
-    ∙ ap (λ (k : List Cell → Read Design). unless (leb (length (c .library)) 65536) 1 0 (next (readLibrary (c .library)) k)) (fun-ext meant)
+    ap (λ (b : Bool). unless b 1 0 (next (readLibrary (c .library)) read))
+    (ap (λ (b : Bool). leb (length (c .library)) 65536 && (b && leb (length (c .arrivals)) 65536)) (is-true (leb (length (c .graph)) 65536) (le→leb (length (c .graph)) 65536 (m .short))))
+    ∙ ap (λ (k : List Cell → Read Design). unless (leb (length (c .library)) 65536 && leb (length (c .arrivals)) 65536) 1 0 (next (readLibrary (c .library)) k)) (fun-ext meant)
   where
     h : Header
     h = m .header
 
-    read : List Cell → Read Design
-    read cells = next (readHeader (c .graph)) (λ k. unless (leb (need (k .size) (k .outputs)) (c .words)) 10 0 (next (readGraph (c .graph) k) (λ x. holds (record { cells = cells; graph = x }))))
+    timed : List Cell → ℕ → Graph → Read Design
+    timed cells inputs x = next (readArrivals inputs (c .arrivals)) (λ es. holds (record { cells = cells; graph = timedBy x es }))
 
-    short : (b : Bool) → (b && leb (length (c .graph)) 65536) ≡ b
-    short true = is-true (leb (length (c .graph)) 65536) (le→leb (length (c .graph)) 65536 (m .short))
-    short false = refl
+    behind : List Cell → Header → Read Design
+    behind cells k = unless (leb (need (k .size) (k .outputs)) (c .words)) 10 0 (next (readGraph (c .graph) k) (timed cells (k .inputs)))
+
+    read : List Cell → Read Design
+    read cells = next (readHeader (c .graph)) (behind cells)
 
     counted : Counted h g
     counted = graph-counted (c .graph) h g (m .isHeader) (m .isGraph)
 
-    meant : (cells : List Cell) → read cells ≡ unless (leb (need (g .size) (length (g .outputs))) (c .words)) 10 0 (holds (record { cells = cells; graph = g }))
+    meant : (cells : List Cell) → read cells ≡ unless (leb (need (g .size) (length (g .outputs))) (c .words)) 10 0 (timed cells (length (g .inputs)) g)
     meant cells =
-        ap (λ (r : Read Header). next r (λ k. unless (leb (need (k .size) (k .outputs)) (c .words)) 10 0 (next (readGraph (c .graph) k) (λ x. holds (record { cells = cells; graph = x }))))) (m .isHeader)
-        ∙ ap (λ (r : Read Graph). unless (leb (need (h .size) (h .outputs)) (c .words)) 10 0 (next r (λ x. holds (record { cells = cells; graph = x })))) (m .isGraph)
-        ∙ ap₂ (λ (a b : ℕ). unless (leb (need a b) (c .words)) 10 0 (holds (record { cells = cells; graph = g }))) (sym (counted .size)) (sym (counted .outputs))
+        ap (λ (r : Read Header). next r (behind cells)) (m .isHeader)
+        ∙ ap (λ (r : Read Graph). unless (leb (need (h .size) (h .outputs)) (c .words)) 10 0 (next r (timed cells (h .inputs)))) (m .isGraph)
+        ∙ ap₂ (λ (a b : ℕ). unless (leb (need a b) (c .words)) 10 0 (timed cells (h .inputs) g)) (sym (counted .size)) (sym (counted .outputs))
+        ∙ ap (λ (i : ℕ). unless (leb (need (g .size) (length (g .outputs))) (c .words)) 10 0 (timed cells i g)) (sym (counted .inputs))
 
 -- two texts that mean the same graph have the same outcome
 pub means-outcome : (c : Call) (t : List ℕ) (g : Graph) → Means (c .graph) g → Means t g → mapTexts (onGraph c t) ≡ mapTexts c

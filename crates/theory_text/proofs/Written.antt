@@ -257,6 +257,7 @@ pub alike-back : (c d : Call) → AlikeTexts c d → AlikeTexts d c
 alike-back c d a = record {
   libraries = sym (a .libraries);
   graphs = sym (a .graphs);
+  arrivals = sym (a .arrivals);
   binary = λ e. sym (a .binary (same-form (c .graph) (d .graph) (a .graphs) ∙ e));
   words = sym (a .words);
   bytes = sym (a .bytes);

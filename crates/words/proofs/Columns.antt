@@ -14,7 +14,7 @@ use lib.ListN.{length, getD}
 use borrow.Author.Tests.{eqb-true, eqb-false, ltb-true, ltb-false}
 use Rattle.model.specs.Limits.{need}
 use Rattle.words.specs.Layout.{Room, RoomFor, outputAddr}
-use Rattle.words.specs.Places.{Column, kinds, lefts, rights, order, places, counts, needs, free, positives, negatives, cuts, functions, outputs, columns, rank, edge, addressOf, sizeOf, Listed}
+use Rattle.words.specs.Places.{Column, kinds, lefts, rights, order, places, counts, needs, lates, positives, negatives, cuts, functions, outputs, columns, rank, edge, addressOf, sizeOf, Listed}
 use Rattle.words.proofs.Parts.{Apart}
 
 -- "124(M+1) + O 16-bit words" are what the columns take
@@ -42,7 +42,7 @@ begins m o order v k h = omega arith
 begins m o places v k h = omega arith
 begins m o counts v k h = omega arith
 begins m o needs v k h = omega arith
-begins m o free v k h = omega arith
+begins m o lates v k h = omega arith
 begins m o positives v k h = omega arith
 begins m o negatives v k h = omega arith
 begins m o cuts v k h = omega arith
@@ -57,7 +57,7 @@ ends m o order v k h = omega arith
 ends m o places v k h = omega arith
 ends m o counts v k h = omega arith
 ends m o needs v k h = omega arith
-ends m o free v k h = omega arith
+ends m o lates v k h = omega arith
 ends m o positives v k h = omega arith
 ends m o negatives v k h = omega arith
 ends m o cuts v k h = omega arith
@@ -80,7 +80,7 @@ below-end order = omega arith
 below-end places = omega arith
 below-end counts = omega arith
 below-end needs = omega arith
-below-end free = omega arith
+below-end lates = omega arith
 below-end positives = omega arith
 below-end negatives = omega arith
 below-end cuts = omega arith
@@ -99,7 +99,7 @@ found order = refl
 found places = refl
 found counts = refl
 found needs = refl
-found free = refl
+found lates = refl
 found positives = refl
 found negatives = refl
 found cuts = refl
@@ -115,7 +115,7 @@ other-index m o order v k u j h l n = omega arith
 other-index m o places v k u j h l n = omega arith
 other-index m o counts v k u j h l n = omega arith
 other-index m o needs v k u j h l n = omega arith
-other-index m o free v k u j h l n = omega arith
+other-index m o lates v k u j h l n = omega arith
 other-index m o positives v k u j h l n = omega arith
 other-index m o negatives v k u j h l n = omega arith
 other-index m o cuts v k u j h l n = omega arith
@@ -130,7 +130,7 @@ other-number m o order v k j h l n = omega arith
 other-number m o places v k j h l n = omega arith
 other-number m o counts v k j h l n = omega arith
 other-number m o needs v k j h l n = omega arith
-other-number m o free v k j h l n = omega arith
+other-number m o lates v k j h l n = omega arith
 other-number m o positives v k j h l n = omega arith
 other-number m o negatives v k j h l n = omega arith
 other-number m o cuts v k j h l n = omega arith

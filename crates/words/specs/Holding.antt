@@ -10,15 +10,16 @@ use Rattle.model.specs.Cuts.{cutsOf, cutTable}
 use Rattle.model.specs.Choice.{chosen}
 use Rattle.model.specs.Netlist.{needed}
 use Rattle.model.specs.declared.Cell.{Cell}
-use Rattle.words.specs.Layout.{RoomFor, slotAt, placeAt, outputAt}
+use Rattle.words.specs.Layout.{RoomFor, slotAt, placeAt, lateAt, outputAt}
 use Rattle.words.specs.Record.{nodeAt, cutsAt, functionOf}
 use Rattle.words.specs.Phases.{phaseAt, isNeeded}
 
--- the nodes and the outputs of a graph
+-- the nodes and the outputs of a graph, and when its inputs arrive
 pub record HoldsGraph (w : List ℕ) (g : Graph) : Type 0 where
   pub room : RoomFor w (g .size) (length (g .outputs))
   pub nodes : (v : ℕ) → v ≤ g .size → nodeAt w (g .size) v ≡ node g v
   pub outputs : (i : ℕ) → i < length (g .outputs) → outputAt w (g .size) i ≡ getD (g .outputs) i 0
+  pub late : (v : ℕ) → v ≤ g .size → lateAt w (g .size) v ≡ g .late v
 
 -- its placing order: slot i has the i-th placed variable, and a variable's place is 1 and its slot
 pub record HoldsOrder (w : List ℕ) (g : Graph) : Type 0 where

@@ -57,9 +57,9 @@ countAddr m v = 5 * (m + 1) + v
 abbrev pub neededAddr : ℕ → ℕ → ℕ
 neededAddr m v = 6 * (m + 1) + v
 
--- a word for each variable that nothing uses yet
-abbrev pub freeAddr : ℕ → ℕ → ℕ
-freeAddr m v = 7 * (m + 1) + v
+-- when it arrives, of an input: "The input record gains this number"
+abbrev pub lateAddr : ℕ → ℕ → ℕ
+lateAddr m v = 7 * (m + 1) + v
 
 -- its phases, four words for each
 abbrev pub positiveAddr : ℕ → ℕ → ℕ
@@ -142,6 +142,9 @@ countAt w m v = getD w (countAddr m v) 0
 
 abbrev pub neededAt : List ℕ → ℕ → ℕ → ℕ
 neededAt w m v = getD w (neededAddr m v) 0
+
+abbrev pub lateAt : List ℕ → ℕ → ℕ → ℕ
+lateAt w m v = getD w (lateAddr m v) 0
 
 abbrev pub outputAt : List ℕ → ℕ → ℕ → ℕ
 outputAt w m i = getD w (outputAddr m i) 0

@@ -4,13 +4,13 @@ use mathlib.Core.Path.{_≡_}
 use Prim.Native.Nat.{ℕ, zero, suc, _+_, _*_, _≤_, _<_}
 use lib.ListN.{getD}
 use Rattle.model.specs.Limits.{cutLimit}
-use Rattle.words.specs.Layout.{kindAddr, leftAddr, rightAddr, slotAddr, placeAddr, countAddr, neededAddr, freeAddr, positiveAddr, negativeAddr, block, cutAddr, functionAddr, outputAddr}
+use Rattle.words.specs.Layout.{kindAddr, leftAddr, rightAddr, slotAddr, placeAddr, countAddr, neededAddr, lateAddr, positiveAddr, negativeAddr, block, cutAddr, functionAddr, outputAddr}
 
 pub data Column : Type 0 where
-  kinds lefts rights order places counts needs free positives negatives cuts functions outputs : Column
+  kinds lefts rights order places counts needs lates positives negatives cuts functions outputs : Column
 
 abbrev pub columns : List Column
-columns = kinds ∷ lefts ∷ rights ∷ order ∷ places ∷ counts ∷ needs ∷ free ∷ positives ∷ negatives ∷ cuts ∷ functions ∷ outputs ∷ []
+columns = kinds ∷ lefts ∷ rights ∷ order ∷ places ∷ counts ∷ needs ∷ lates ∷ positives ∷ negatives ∷ cuts ∷ functions ∷ outputs ∷ []
 
 -- a column's number, from 0
 abbrev pub rank : Column → ℕ
@@ -21,7 +21,7 @@ rank order = 3
 rank places = 4
 rank counts = 5
 rank needs = 6
-rank free = 7
+rank lates = 7
 rank positives = 8
 rank negatives = 9
 rank cuts = 10
@@ -37,7 +37,7 @@ width m o order = m + 1
 width m o places = m + 1
 width m o counts = m + 1
 width m o needs = m + 1
-width m o free = m + 1
+width m o lates = m + 1
 width m o positives = 4 * (m + 1)
 width m o negatives = 4 * (m + 1)
 width m o cuts = block * (m + 1)
@@ -58,7 +58,7 @@ addressOf m order v k = slotAddr m v
 addressOf m places v k = placeAddr m v
 addressOf m counts v k = countAddr m v
 addressOf m needs v k = neededAddr m v
-addressOf m free v k = freeAddr m v
+addressOf m lates v k = lateAddr m v
 addressOf m positives v k = positiveAddr m v
 addressOf m negatives v k = negativeAddr m v
 addressOf m cuts v k = cutAddr m v k
@@ -74,7 +74,7 @@ sizeOf order = 1
 sizeOf places = 1
 sizeOf counts = 1
 sizeOf needs = 1
-sizeOf free = 1
+sizeOf lates = 1
 sizeOf positives = 4
 sizeOf negatives = 4
 sizeOf cuts = 5
@@ -90,7 +90,7 @@ Listed m o order v k = (v ≤ m) × (k ≡ 0)
 Listed m o places v k = (v ≤ m) × (k ≡ 0)
 Listed m o counts v k = (v ≤ m) × (k ≡ 0)
 Listed m o needs v k = (v ≤ m) × (k ≡ 0)
-Listed m o free v k = (v ≤ m) × (k ≡ 0)
+Listed m o lates v k = (v ≤ m) × (k ≡ 0)
 Listed m o positives v k = (v ≤ m) × (k ≡ 0)
 Listed m o negatives v k = (v ≤ m) × (k ≡ 0)
 Listed m o cuts v k = (v ≤ m) × (k < cutLimit)

@@ -12,7 +12,7 @@ ghost use Rattle.model.specs.Limits.{cutLimit, need};
 ghost use Rattle.model.specs.Choice.{absent};
 ghost use Rattle.model.specs.Netlist.{isOwn, isInverted};
 ghost use Rattle.words.specs.Put.{putAt, zeros};
-ghost use Rattle.words.specs.Layout.{placedOf, Room, RoomFor, kindAt, kindAddr, leftAt, leftAddr, rightAt, rightAddr, slotAt, slotAddr, placeAt, placeAddr, countAt, countAddr, neededAt, neededAddr, positiveAddr, negativeAddr, listsFrom, outputAt, outputAddr, notesFrom, notesTo, noteAddr, notedAt, walkAt, noteWords};
+ghost use Rattle.words.specs.Layout.{placedOf, Room, RoomFor, kindAt, kindAddr, leftAt, leftAddr, rightAt, rightAddr, slotAt, slotAddr, placeAt, placeAddr, countAt, countAddr, neededAt, neededAddr, lateAt, lateAddr, positiveAddr, negativeAddr, listsFrom, outputAt, outputAddr, notesFrom, notesTo, noteAddr, notedAt, walkAt, noteWords};
 ghost use Rattle.words.specs.Record.{cutIn, cutOf, functionOf, putCut, putFunctions, putNode};
 ghost use Rattle.words.specs.Phases.{MatchFits, matchWord, PhaseFits, kindSource, phaseWords, phaseIn, positiveAt, negativeAt, phaseAt, makesGate, isNeeded, putNeeded};
 
@@ -46,6 +46,12 @@ fn wide(x: u16) -> usize
     ensures { λ r. ⌜ r ≡ x ⌝ }
 {
     x as usize
+}
+
+fn long(x: u16) -> u32
+    ensures { λ r. ⌜ r ≡ x ⌝ }
+{
+    x as u32
 }
 
 fn word(work: &[u16], at: usize) -> usize
@@ -128,6 +134,14 @@ pub fn needed(work: &[u16], m: usize, v: usize) -> usize
     word(work, 6 * (m + 1) + v)
 }
 
+// When an input arrives.
+pub fn late(work: &[u16], m: usize, v: usize) -> u32
+    requires { ⌜ Room (now work) m × (v ≤ m) ⌝ }
+    ensures { λ r. ⌜ r ≡ lateAt (now (work .entry)) m v ⌝ }
+{
+    long(work[7 * (m + 1) + v])
+}
+
 pub fn set_kind(work: &mut [u16], m: usize, v: usize, x: usize)
     requires { ⌜ Room (now work) m × (v ≤ m) × (x < 65536) ⌝ }
     ensures { λ _. ⌜ now (work .exit) ≡ putAt (now (work .entry)) (kindAddr m v) (x ∷ []) ⌝ }
@@ -175,6 +189,13 @@ pub fn set_needed(work: &mut [u16], m: usize, v: usize, x: usize)
     ensures { λ _. ⌜ now (work .exit) ≡ putAt (now (work .entry)) (neededAddr m v) (x ∷ []) ⌝ }
 {
     set_word(work, 6 * (m + 1) + v, x as u16);
+}
+
+pub fn set_late(work: &mut [u16], m: usize, v: usize, x: u16)
+    requires { ⌜ Room (now work) m × (v ≤ m) ⌝ }
+    ensures { λ _. ⌜ now (work .exit) ≡ putAt (now (work .entry)) (lateAddr m v) (x ∷ []) ⌝ }
+{
+    set_word(work, 7 * (m + 1) + v, x);
 }
 
 // What a variable is: its kind and its operands.

@@ -210,10 +210,11 @@ impl Netlist {
         self.outputs.iter().map(|output| value[output.as_str()]).collect()
     }
 
-    /// "0 for an input, 0 for a cell without pins, otherwise the largest of
-    /// feeding arrival plus pin delay"; `.names` lines "add no delay".
-    pub fn arrivals(&self, kinds: &BTreeMap<String, Kind>, ordered: &[&Gate]) -> BTreeMap<String, u64> {
-        let mut arrivals: BTreeMap<String, u64> = self.inputs.iter().map(|input| (input.clone(), 0)).collect();
+    /// For an input the arrival that stands at its place, "0 for a cell without
+    /// pins, otherwise the largest of feeding arrival plus pin delay"; `.names`
+    /// lines "add no delay".
+    pub fn arrivals(&self, kinds: &BTreeMap<String, Kind>, late: &[u64], ordered: &[&Gate]) -> BTreeMap<String, u64> {
+        let mut arrivals: BTreeMap<String, u64> = self.inputs.iter().cloned().zip(late.iter().copied()).collect();
         for gate in ordered {
             let delays = &kinds[&gate.cell].delays;
             let latest = gate.pins.iter().zip(delays).map(|(net, delay)| arrivals[net] + delay).max();
@@ -226,8 +227,8 @@ impl Netlist {
     }
 
     /// The three figures, from the lines above the last one.
-    pub fn figures(&self, kinds: &BTreeMap<String, Kind>, ordered: &[&Gate]) -> [u64; 3] {
-        let arrivals = self.arrivals(kinds, ordered);
+    pub fn figures(&self, kinds: &BTreeMap<String, Kind>, late: &[u64], ordered: &[&Gate]) -> [u64; 3] {
+        let arrivals = self.arrivals(kinds, late, ordered);
         let latest = self.outputs.iter().map(|output| arrivals[output]).max();
         let area = self.gates.iter().map(|gate| kinds[&gate.cell].area).sum();
         [self.gates.len() as u64, area, latest.unwrap_or(0)]

@@ -20,6 +20,8 @@ pub struct Source {
     pub cell: Option<usize>,
     /// For each pin the phase that feeds it, and the pin's delay.
     pub feeds: Vec<(Phase, u64)>,
+    /// The arrival of what nothing feeds: an input's own, or 0.
+    pub start: u64,
 }
 
 pub struct Brute {
@@ -80,14 +82,16 @@ fn first_order(laying: &[usize]) -> [usize; 4] {
 }
 
 impl Brute {
-    pub fn new(cells: &[Cell], graph: &Graph) -> Brute {
+    /// The arrivals of the inputs stand in the order of their lines.
+    pub fn new(cells: &[Cell], graph: &Graph, late: &[u64]) -> Brute {
         let mut sources: BTreeMap<Phase, Vec<Source>> = BTreeMap::new();
         let ands = graph.ands.iter().map(|(left, _, _)| *left);
         for variable in [0].into_iter().chain(graph.inputs.iter().copied()).chain(ands) {
             for negative in [false, true] {
                 let mut list = Vec::new();
-                if graph.inputs.contains(&variable) && !negative {
-                    list.push(Source { rank: (false, 0, Vec::new(), 0, [0; 4], 0), cell: None, feeds: Vec::new() });
+                for (_, &start) in graph.inputs.iter().zip(late).filter(|(&input, _)| input == variable && !negative) {
+                    let rank = (false, 0, Vec::new(), 0, [0; 4], 0);
+                    list.push(Source { rank, cell: None, feeds: Vec::new(), start });
                 }
                 for cut in cut_set(graph, variable) {
                     let leaves = members(cut);
@@ -98,7 +102,8 @@ impl Brute {
                 for (line, cell) in cells.iter().enumerate() {
                     if cell.pins == 1 && cell.table == 1 {
                         let feeds = vec![((variable, !negative), u64::from(cell.delays[0]))];
-                        list.push(Source { rank: (true, 0, Vec::new(), line, [0; 4], 0), cell: Some(line), feeds });
+                        let rank = (true, 0, Vec::new(), line, [0; 4], 0);
+                        list.push(Source { rank, cell: Some(line), feeds, start: 0 });
                     }
                 }
                 sources.insert((variable, negative), list);
@@ -139,11 +144,11 @@ impl Brute {
             return true;
         };
         // Two sources fed alike make the same arrivals.
-        let mut seen: BTreeSet<Vec<(Phase, u64)>> = BTreeSet::new();
+        let mut seen: BTreeSet<(u64, Vec<(Phase, u64)>)> = BTreeSet::new();
         for source in &self.sources[&open] {
             let mut alike = source.feeds.clone();
             alike.sort();
-            if !seen.insert(alike) {
+            if !seen.insert((source.start, alike)) {
                 continue;
             }
             let mut more = needed.clone();
@@ -162,7 +167,7 @@ impl Brute {
     pub fn choice(&self, phase: Phase, least: &BTreeMap<Phase, u64>) -> Option<&Source> {
         let arrival = |source: &Source| {
             let feeding = source.feeds.iter().map(|(phase, delay)| Some(least.get(phase)? + delay));
-            Some(feeding.collect::<Option<Vec<u64>>>()?.into_iter().max().unwrap_or(0))
+            Some(feeding.collect::<Option<Vec<u64>>>()?.into_iter().max().unwrap_or(source.start))
         };
         let delay = |source: &Source| if source.rank.0 { source.feeds[0].1 } else { 0 };
         let possible = self.sources[&phase].iter().filter_map(|source| Some((arrival(source)?, source)));
@@ -193,7 +198,7 @@ fn matches(cells: &[Cell], graph: &Graph, phase: Phase, leaves: &[usize], list: 
                     let fed_by = |pin: usize| (leaves[laying[pin]], mask >> pin & 1 == 1);
                     let feeds = (0..cell.pins).map(|pin| (fed_by(pin), u64::from(cell.delays[pin]))).collect();
                     let rank = (false, count, leaves.to_vec(), line, first_order(&laying), mask);
-                    list.push(Source { rank, cell: Some(line), feeds });
+                    list.push(Source { rank, cell: Some(line), feeds, start: 0 });
                 }
             }
         }
@@ -208,7 +213,7 @@ fn arrivals(chosen: &BTreeMap<Phase, &Source>) -> Option<BTreeMap<Phase, u64>> {
         for (&phase, source) in chosen {
             let feeding = source.feeds.iter().map(|(phase, delay)| Some(known.get(phase)? + delay));
             if let Some(all) = feeding.collect::<Option<Vec<u64>>>() {
-                known.insert(phase, all.into_iter().max().unwrap_or(0));
+                known.insert(phase, all.into_iter().max().unwrap_or(source.start));
             }
         }
         if known.len() == before {

@@ -34,7 +34,7 @@ const NAND2: &str = "nand2 2 0007 2 20 20 0 0";
 /// The marked cases A to K.
 pub fn marked() -> Check {
     let plain = library(&[INV, NAND2]);
-    let map = |cells: &[u8], lines: &[&str]| reference::map(cells, &text(lines), 32_768, 65_536);
+    let map = |cells: &[u8], lines: &[&str]| reference::map_without_arrivals(cells, &text(lines), 32_768, 65_536);
     let figures = |cells: &[u8], lines: &[&str]| {
         let (answer, netlist) = map(cells, lines);
         (answer.number, answer.gates, answer.arrival, String::from_utf8_lossy(&netlist).into_owned())
@@ -81,7 +81,7 @@ pub fn marked() -> Check {
 /// Runs a case through the reference with what it lends.
 pub fn run(case: &Case) -> (reference::Answer, Vec<u8>) {
     let words = case.words.of(reference::words_needed(&case.graph).unwrap_or(64));
-    let printed = reference::print_all(&case.cells, &case.graph, words);
+    let printed = reference::print_all(&case.cells, &case.graph, &case.arrivals, words);
     let length = printed.as_ref().map_or(64, |printed| printed.text.len());
     reference::answer(printed, case.text.of(length))
 }
@@ -114,7 +114,7 @@ pub fn limits() -> Check {
 /// Cases with any number of faults: the first in checking order is answered.
 pub fn faults(cases: usize, seed: u64) -> Check {
     let mut rng = Rng::new(seed);
-    let mut counts = [0usize; 22];
+    let mut counts = [0usize; 27];
     for _ in 0..cases {
         let case = gen::faults(&mut rng);
         let (answer, _) = run(&case);
@@ -125,7 +125,8 @@ pub fn faults(cases: usize, seed: u64) -> Check {
         }
         counts[answer.number as usize] += 1;
     }
-    ensure!(counts.iter().all(|&count| count > 0), "a number never comes: {counts:?}");
+    let mut numbers = (0..22).chain([25, 26]);
+    ensure!(numbers.all(|number| counts[number] > 0), "a number never comes: {counts:?}");
     Ok(format!("{cases} cases, by number {counts:?}"))
 }
 
@@ -133,27 +134,32 @@ pub fn faults(cases: usize, seed: u64) -> Check {
 pub fn damage() -> Check {
     let cells = gen::library_text(&gen::small_library());
     let graph = text(&["aag 5 2 0 2 2", "4", "2", "10", "7", "10 3 4", "6 10 3", "c"]);
-    let mut counts = [0usize; 22];
+    let arrivals = text(&["input arrival", "1 20", "0 7"]);
+    let mut counts = [0usize; 27];
     let all = [
-        (true, gen::all_damage_of_ends(&cells)),
-        (false, gen::all_damage_of_ends(&graph)),
-        (false, gen::all_binary_damage()),
+        (0, gen::all_damage_of_ends(&cells)),
+        (1, gen::all_damage_of_ends(&graph)),
+        (1, gen::all_binary_damage()),
+        (2, gen::all_damage_of_ends(&arrivals)),
     ];
-    for (on_cells, texts) in all {
+    for (which, texts) in all {
         for damaged in texts {
-            let (cells, graph) = if on_cells { (&damaged, &graph) } else { (&cells, &damaged) };
+            let mut three = [&cells, &graph, &arrivals];
+            three[which] = &damaged;
+            let [cells, graph, arrivals] = three;
             let words = reference::words_needed(graph).unwrap_or(0).min(WORDS_EACH * 200);
-            let (answer, _) = reference::map(cells, graph, words, 10_000);
-            let judged = judge::judge(cells, graph, words);
+            let (answer, _) = reference::map(cells, graph, arrivals, words, 10_000);
+            let judged = judge::judge(cells, graph, arrivals, words);
             let same = match judged {
                 Some((number, place)) => answer.number == number && answer.value as usize == place,
                 None => answer.number == 0 || (15..19).contains(&answer.number),
             };
             ensure!(
                 same,
-                "judged {judged:?}, answered {answer:?}\n{}\n{}",
+                "judged {judged:?}, answered {answer:?}\n{}\n{}\n{:?}",
                 String::from_utf8_lossy(cells),
-                String::from_utf8_lossy(graph)
+                String::from_utf8_lossy(graph),
+                String::from_utf8_lossy(arrivals)
             );
             counts[answer.number as usize] += 1;
         }
@@ -169,7 +175,9 @@ pub fn judge_netlist(case: &Case, answer: &reference::Answer, netlist: &[u8]) ->
     let read = blif::read(netlist).map_err(told)?;
     let ordered = read.ordered(&kinds).map_err(told)?;
     read.gates_stand_right().map_err(told)?;
-    let figures = read.figures(&kinds, &ordered);
+    let graph = Graph::from_text(&good_part(&case.graph));
+    let late = gen::late(&case.arrivals, graph.inputs.len());
+    let figures = read.figures(&kinds, &late, &ordered);
     let answered = [answer.gates, answer.area, answer.arrival].map(u64::from);
     ensure!(
         figures == read.said && figures == answered,
@@ -178,7 +186,6 @@ pub fn judge_netlist(case: &Case, answer: &reference::Answer, netlist: &[u8]) ->
     );
     ensure!(answer.value as usize == netlist.len(), "{}", told("length".into()));
 
-    let graph = Graph::from_text(&good_part(&case.graph));
     let net = |literal: usize| format!("{}{}", ["p", "m"][literal % 2], literal / 2);
     let inputs: Vec<String> = graph.inputs.iter().map(|variable| net(2 * variable)).collect();
     // "`o0`, `o1` and so on, in file order", and "each gets `.names` with its
@@ -220,7 +227,7 @@ fn good_part(text: &[u8]) -> Vec<u8> {
 /// loose reader, and what the making knows.
 pub fn netlists(cases: usize, seed: u64) -> Check {
     let mut rng = Rng::new(seed);
-    let mut counts = [0usize; 22];
+    let mut counts = [0usize; 27];
     let mut by_pins = [0usize; 5];
     let mut timed = 0;
     let mut kinds = [0usize; 8];
@@ -240,7 +247,8 @@ pub fn netlists(cases: usize, seed: u64) -> Check {
             }
         }
         let words = case.words.of(reference::words_needed(&case.graph).unwrap_or(64));
-        let judged = judge::judge(&case.cells, &case.graph, words).map(|(number, place)| (number, place as u32));
+        let judged = judge::judge(&case.cells, &case.graph, &case.arrivals, words);
+        let judged = judged.map(|(number, place)| (number, place as u32));
         let in_texts = (1..15).contains(&answer.number) || answer.number > 18;
         let read = in_texts.then_some((answer.number, answer.value));
         ensure!(judged == read, "{}: judged {judged:?}, answered {answer:?}", case.what);
@@ -292,7 +300,7 @@ pub fn twins_of(case: &Case) -> Option<[Case; 2]> {
 /// graphs have, where it can be renumbered.
 pub fn twins(cases: usize, seed: u64) -> Check {
     let mut rng = Rng::new(seed);
-    let mut counts = [0usize; 22];
+    let mut counts = [0usize; 27];
     let some = (0..cases).map(|_| gen::case(&mut rng)).collect::<Vec<_>>();
     let cells = gen::library_text(&gen::full_library());
     let small = gen::every_small_graph().into_iter().map(|graph| Case::new("small", cells.clone(), graph.text()));
@@ -319,12 +327,12 @@ fn sorted_operands(text: &[u8]) -> Vec<u8> {
 }
 
 /// "Texts alike but for line ends, each within the length in 1, give the same
-/// netlist": the same answer in success and for 15 to 18, and for 2 to 14 the same
-/// number at the same line. A binary graph "keeps byte 10 alone": 13 before it is
+/// netlist": the same answer in success and for 15 to 18, and for 2 to 14, 25 and
+/// 26 the same number at the same line. A binary graph "keeps byte 10 alone": 13 before it is
 /// 7 in the header and 11 in an output line.
 pub fn line_ends(cases: usize, seed: u64) -> Check {
     let mut rng = Rng::new(seed);
-    let (mut counts, mut binary) = ([0usize; 22], [0usize; 2]);
+    let (mut counts, mut binary) = ([0usize; 27], [0usize; 2]);
     let some = (0..cases).map(|_| gen::case(&mut rng)).collect::<Vec<_>>();
     let faults = (0..cases).map(|_| gen::faults(&mut rng)).collect::<Vec<_>>();
     for case in some.into_iter().chain(faults).chain(gen::limits()) {
@@ -333,15 +341,23 @@ pub fn line_ends(cases: usize, seed: u64) -> Check {
         let is_binary = case.graph.starts_with(b"aig");
         let graph = if is_binary { gen::with_ends(&[], || false) } else { gen::mixed(&mut rng, &case.graph) };
         let graph_text = if is_binary { &case.graph } else { &graph.text };
-        if case.cells.len().max(case.graph.len()).max(cells.text.len()).max(graph_text.len()) > 65_536 {
+        let arrivals = gen::mixed(&mut rng, &case.arrivals);
+        let texts = [&case.cells, &case.graph, &case.arrivals, &cells.text, graph_text, &arrivals.text];
+        if texts.iter().any(|text| text.len() > 65_536) {
             continue;
         }
-        let alike = Case { cells: cells.text.clone(), graph: graph_text.clone(), ..case.clone() };
+        let alike = Case {
+            cells: cells.text.clone(),
+            graph: graph_text.clone(),
+            arrivals: arrivals.text.clone(),
+            ..case.clone()
+        };
         let (other, other_netlist) = run(&alike);
         let place = answer.value as usize;
         let value = match answer.number {
             2..=6 => cells.place(place),
             7..=14 if !is_binary => graph.place(place),
+            25 | 26 => arrivals.place(place),
             _ => place,
         };
         let wanted = reference::Answer { value: value as u32, ..answer };
@@ -360,8 +376,79 @@ pub fn line_ends(cases: usize, seed: u64) -> Check {
         }
     }
     let often = |number: usize| counts[number] > 0;
-    ensure!((2..=21).all(often) && counts[0] > cases / 4 && binary[0].min(binary[1]) > 0, "{counts:?} {binary:?}");
+    ensure!(
+        (2..=21).chain([25, 26]).all(often) && counts[0] > cases / 4 && binary[0].min(binary[1]) > 0,
+        "{counts:?} {binary:?}"
+    );
     Ok(format!("{} pairs, by number {counts:?}; binary lines {binary:?}", counts.iter().sum::<usize>()))
+}
+
+/// What document 01 gives without request N7, pinned as one number: an empty
+/// arrivals text gives the same.
+pub fn without_arrivals() -> Check {
+    let digest = digest_without_arrivals();
+    ensure!(digest == 0x36be_5103_7599_550a, "without arrivals: {digest:#x}");
+    Ok("1500 cases give what document 01 gives".into())
+}
+
+/// "or empty for none", "Inputs not listed arrive at 0": an empty text, the first
+/// line alone and all inputs at 0 give the same. The order of lines doesn't matter.
+/// No input that is late makes the latest output earlier, or later by more than
+/// that.
+pub fn arrivals(cases: usize, seed: u64) -> Check {
+    let mut rng = Rng::new(seed);
+    let mut later = 0;
+    for _ in 0..cases {
+        let count = gen::library_size(&mut rng);
+        let cells = gen::library_text(&gen::library(&mut rng, count));
+        let graph = gen::graph(&mut rng, 8, 20, CUT_LIMIT + 1);
+        let late = some_late(&mut rng, graph.inputs.len());
+        let map = |arrivals: &[u8]| reference::map(&cells, &graph.text(), arrivals, graph.words(), 65_536);
+        let (answer, netlist) = map(b"");
+        let zeros = gen::arrivals_of(&vec![0; late.len()]);
+        for text in [gen::ARRIVALS_LINE.as_bytes(), &zeros] {
+            ensure!(map(text) == (answer, netlist.clone()), "none is late: {:?} and {answer:?}", map(text).0);
+        }
+        let listed = gen::arrivals_of(&late);
+        let (one, other) = (map(&listed), map(&in_another_order(&mut rng, &listed)));
+        ensure!(one == other, "another order of lines: {:?} and {:?}", one.0, other.0);
+        let most = late.iter().copied().max().unwrap_or(0) as u32;
+        let refused = |answer: reference::Answer| (answer.number, if answer.number == 0 { 0 } else { answer.value });
+        ensure!(refused(one.0) == refused(answer), "refused alike: {:?} and {answer:?}", one.0);
+        let within = (answer.arrival..=answer.arrival + most).contains(&one.0.arrival);
+        ensure!(within || answer.number > 0, "{late:?}: {answer:?}, late {:?}", one.0);
+        later += usize::from(one.0.arrival > answer.arrival);
+    }
+    ensure!(later > cases / 8, "hardly ever later: {later} of {cases}");
+    Ok(format!("{cases} cases, {later} arrive later with late inputs"))
+}
+
+/// The lines after the first in another order, those with 0 sometimes left out.
+fn in_another_order(rng: &mut Rng, arrivals: &[u8]) -> Vec<u8> {
+    let mut lines: Vec<&[u8]> = arrivals.split_inclusive(|&byte| byte == b'\n').collect();
+    rng.shuffle(&mut lines[1..]);
+    lines.retain(|line| !line.ends_with(b" 0\n") || rng.one_in(2));
+    lines.concat()
+}
+
+/// The answers and netlists of some cases without arrivals in one number (FNV-1a).
+pub fn digest_without_arrivals() -> u64 {
+    let mut rng = Rng::new(77);
+    let mut digest: u64 = 0xcbf2_9ce4_8422_2325;
+    let mut add = |bytes: &[u8]| {
+        for &byte in bytes {
+            digest = (digest ^ u64::from(byte)).wrapping_mul(0x0100_0000_01b3);
+        }
+    };
+    for _ in 0..1_500 {
+        let count = gen::library_size(&mut rng);
+        let cells = gen::library_text(&gen::library(&mut rng, count));
+        let graph = gen::graph(&mut rng, 8, 20, CUT_LIMIT + 1);
+        let (answer, netlist) = reference::map_without_arrivals(&cells, &graph.text(), graph.words(), 65_536);
+        add(format!("{answer:?}").as_bytes());
+        add(&netlist);
+    }
+    digest
 }
 
 /// What the brute force has gone through.
@@ -383,7 +470,8 @@ pub fn all_covers(cases: usize, seed: u64) -> Check {
         let cells = gen::library(&mut rng, count);
         let ands = rng.between(1, 5);
         let graph = gen::graph(&mut rng, 4, ands, CUT_LIMIT);
-        against_all_covers(&cells, graph, &mut gone)?;
+        let late = some_late(&mut rng, graph.inputs.len());
+        against_all_covers(&cells, graph, &late, &mut gone)?;
     }
     let Gone { graphs, too_wide, mappings, bare } = gone;
     Ok(format!("{graphs} graphs ({too_wide} more too wide), {mappings} mappings, {bare} without a cover"))
@@ -395,16 +483,26 @@ pub fn every_small_graph() -> Check {
     let mut gone = Gone::default();
     for graph in gen::every_small_graph() {
         let count = rng.between(1, 6);
-        against_all_covers(&gen::library(&mut rng, count), graph, &mut gone)?;
+        let late = some_late(&mut rng, graph.inputs.len());
+        against_all_covers(&gen::library(&mut rng, count), graph, &late, &mut gone)?;
     }
     let Gone { graphs, too_wide, mappings, bare } = gone;
     Ok(format!("{graphs} graphs ({too_wide} more too wide), {mappings} mappings, {bare} without a cover"))
 }
 
-fn against_all_covers(cells: &[gen::Cell], mut graph: Graph, gone: &mut Gone) -> Result<(), String> {
+/// Arrivals for so many inputs; none is late in one case of three.
+fn some_late(rng: &mut Rng, inputs: usize) -> Vec<u64> {
+    let kind = rng.below(5);
+    let on_time = rng.one_in(3);
+    (0..inputs).map(|_| if on_time || rng.one_in(3) { 0 } else { gen::arrival(rng, kind) }).collect()
+}
+
+/// "no cover so timed gives a printed net earlier"
+fn against_all_covers(cells: &[gen::Cell], mut graph: Graph, late: &[u64], gone: &mut Gone) -> Result<(), String> {
     let every = graph.ands.iter().map(|(left, _, _)| *left).chain(graph.inputs.iter().copied()).chain([0]);
     let every: Vec<brute::Phase> = every.flat_map(|variable| [(variable, false), (variable, true)]).collect();
-    let brute = brute::Brute::new(cells, &graph);
+    let brute = brute::Brute::new(cells, &graph, late);
+    let arrivals_text = if late.iter().all(|&arrival| arrival == 0) { Vec::new() } else { gen::arrivals_of(late) };
     let mut budget = 60_000;
     let mut least: BTreeMap<brute::Phase, u64> = BTreeMap::new();
     for &phase in &every {
@@ -424,9 +522,9 @@ fn against_all_covers(cells: &[gen::Cell], mut graph: Graph, gone: &mut Gone) ->
         gone.mappings += 1;
         let wanted: Vec<brute::Phase> = graph.outputs.iter().map(|literal| (literal / 2, literal % 2 == 1)).collect();
         let (library, text) = (gen::library_text(cells), graph.text());
-        let (answer, netlist) = reference::map(&library, &text, graph.words(), 65_536);
+        let (answer, netlist) = reference::map(&library, &text, &arrivals_text, graph.words(), 65_536);
         let told = || {
-            let texts = [&library, &text, &netlist].map(|text| String::from_utf8_lossy(text));
+            let texts = [&library, &text, &arrivals_text, &netlist].map(|text| String::from_utf8_lossy(text));
             texts.join("\n")
         };
         if let Some(index) = wanted.iter().position(|phase| !least.contains_key(phase)) {
@@ -446,7 +544,7 @@ fn against_all_covers(cells: &[gen::Cell], mut graph: Graph, gone: &mut Gone) ->
         let kinds = blif::kinds(&library)?;
         let read = blif::read(&netlist)?;
         let ordered = read.ordered(&kinds).map_err(|wrong| format!("{wrong}\n{}", told()))?;
-        let arrivals = read.arrivals(&kinds, &ordered);
+        let arrivals = read.arrivals(&kinds, late, &ordered);
         for (index, phase) in wanted.iter().enumerate() {
             let arrival = arrivals.get(&format!("o{index}"));
             ensure!(arrival == Some(&least[phase]), "o{index} arrives at {arrival:?}\n{}", told());
@@ -495,6 +593,14 @@ pub fn real_graphs(folder: &std::path::Path) -> Check {
                 ensure!(answer.number == 0, "{}: {answer:?}", case.what);
                 judge_netlist(&case, &answer, &netlist)?;
                 mapped += 1;
+                // The same with every third input late.
+                let inputs = Graph::from_text(&good_part(&graph)).inputs.len();
+                let late: Vec<u64> =
+                    (0..inputs as u64).map(|index| if index % 3 == 1 { 7 * index } else { 0 }).collect();
+                let case = case.arrivals(gen::arrivals_of(&late));
+                let (answer, netlist) = run(&case);
+                ensure!(answer.number == 0, "{}, late: {answer:?}", case.what);
+                judge_netlist(&case, &answer, &netlist)?;
             }
         }
     }

@@ -725,6 +725,7 @@ pub struct Case {
     pub what: String,
     pub cells: Vec<u8>,
     pub graph: Vec<u8>,
+    pub arrivals: Vec<u8>,
     pub words: Lent,
     pub text: Lent,
     /// Refusal number and place, where the making knows them; number 0 is
@@ -734,7 +735,13 @@ pub struct Case {
 
 impl Case {
     pub fn new(what: impl Into<String>, cells: Vec<u8>, graph: Vec<u8>) -> Case {
-        Case { what: what.into(), cells, graph, words: Lent::Over(5), text: Lent::Over(9), expected: None }
+        let (words, text) = (Lent::Over(5), Lent::Over(9));
+        Case { what: what.into(), cells, graph, arrivals: Vec::new(), words, text, expected: None }
+    }
+
+    pub fn arrivals(mut self, arrivals: impl Into<Vec<u8>>) -> Case {
+        self.arrivals = arrivals.into();
+        self
     }
 
     pub fn expect(mut self, number: u32, place: usize) -> Case {
@@ -848,6 +855,17 @@ fn case_of_tens(rng: &mut Rng) -> Case {
     };
     case.words = lent(rng);
     case.text = lent(rng);
+    if rng.one_in(2) {
+        let inputs = inputs_of(&case.graph);
+        case.arrivals = arrivals(rng, inputs);
+        if case.expected.is_none() && rng.one_in(6) {
+            case.arrivals = match rng.below(3) {
+                0 => arrivals_with_faults(rng, inputs, 2).0,
+                1 => damaged(rng, &case.arrivals),
+                _ => damaged_end(rng, &case.arrivals),
+            };
+        }
+    }
     if case.expected.is_none() {
         if rng.one_in(25) {
             case.words = if rng.one_in(2) { Lent::OneShort } else { Lent::This(rng.below(200)) };
@@ -873,6 +891,309 @@ fn make_circle(rng: &mut Rng, graph: &mut Graph) {
             graph.ands[from].2 = literal;
         }
     }
+}
+
+// ---------------------------------------------------------------- arrivals
+
+pub const ARRIVALS_LINE: &str = "input arrival\n";
+
+/// The arrivals that a good text gives so many inputs.
+pub fn late(text: &[u8], inputs: usize) -> Vec<u64> {
+    let text = std::str::from_utf8(text).expect("a good text");
+    let mut late = vec![0; inputs];
+    for line in text.lines().skip(1) {
+        let (index, arrival) = line.split_once(' ').expect("two numbers");
+        late[index.parse::<usize>().expect("an index")] = arrival.parse().expect("an arrival");
+    }
+    late
+}
+
+/// A text that lists the arrivals of all inputs.
+pub fn arrivals_of(late: &[u64]) -> Vec<u8> {
+    let lines = late.iter().enumerate().map(|(index, arrival)| format!("{index} {arrival}\n"));
+    (ARRIVALS_LINE.to_string() + &lines.collect::<String>()).into_bytes()
+}
+
+/// I in the first line of a graph text, or a number where none is read.
+fn inputs_of(graph: &[u8]) -> usize {
+    let header = graph.split(|&byte| byte == b'\n').next().unwrap_or_default();
+    let word = String::from_utf8_lossy(header).split(' ').nth(2).and_then(|word| word.parse().ok());
+    word.unwrap_or(3).min(4_095)
+}
+
+/// An arrival of a kind, so that ties with delays are common.
+pub fn arrival(rng: &mut Rng, kind: usize) -> u64 {
+    match kind {
+        0 => rng.pick(&[0, 10, 20, 30, 40]),
+        1 => rng.below(4) as u64,
+        2 => rng.pick(&[0, 65_535, 65_534, 9, 10, 99, 100, 9_999, 10_000]),
+        3 => rng.below(65_536) as u64,
+        _ => rng.below(120) as u64,
+    }
+}
+
+/// A good text for so many inputs: empty, its first line alone, or some of the
+/// inputs or all, in any order.
+pub fn arrivals(rng: &mut Rng, inputs: usize) -> Vec<u8> {
+    let mut indices: Vec<usize> = (0..inputs).collect();
+    if rng.one_in(2) {
+        rng.shuffle(&mut indices);
+    }
+    match rng.below(8) {
+        0 => return Vec::new(),
+        1 => indices.clear(),
+        2 | 3 => indices.truncate(rng.below(inputs + 1)),
+        _ => {}
+    }
+    let kind = rng.below(5);
+    let lines = indices.into_iter().map(|index| format!("{index} {}\n", arrival(rng, kind)));
+    (ARRIVALS_LINE.to_string() + &lines.collect::<String>()).into_bytes()
+}
+
+/// A text with any number of faults, and the first: its lines decide, and on one
+/// line 25 comes before 26.
+pub fn arrivals_with_faults(rng: &mut Rng, inputs: usize, rarity: usize) -> (Vec<u8>, Option<(u32, usize)>) {
+    let mut first = None;
+    let mut text = ARRIVALS_LINE.to_string();
+    if rng.one_in(8 * rarity) {
+        first = Some((25, 0));
+        text = rng
+            .pick(&[
+                "\n",
+                "\r\n",
+                "input\n",
+                "arrival input\n",
+                "Input arrival\n",
+                "input  arrival\n",
+                " input arrival\n",
+                "input arrival \n",
+                "input\tarrival\n",
+                "input arrival\r\r\n",
+                "input arrival 0\n",
+                "0 0\n",
+                "cell pins table area d0 d1 d2 d3\n",
+            ])
+            .to_string();
+    }
+    let mut indices: Vec<usize> = (0..inputs).collect();
+    rng.shuffle(&mut indices);
+    indices.truncate(rng.below(inputs + 1).min(12) + 1);
+    let mut listed: Vec<usize> = Vec::new();
+    for index in indices.into_iter().chain([inputs]) {
+        let wrong_index = rng.one_in(4 * rarity);
+        if index == inputs && !wrong_index {
+            continue;
+        }
+        let repeated = wrong_index && !listed.is_empty() && rng.one_in(2);
+        let index = match wrong_index {
+            true if repeated => rng.pick(&listed),
+            true => rng.pick(&[inputs, inputs + 1, 4_095.max(inputs), 65_535]),
+            false => index,
+        };
+        let kind = rng.below(5);
+        let arrival = if rng.one_in(3) { 0 } else { arrival(rng, kind) };
+        let broken = rng.one_in(5 * rarity);
+        let line = match rng.below(16) {
+            _ if !broken => format!("{index} {arrival}\n"),
+            0 => format!("{index}\n"),
+            1 => format!("{index} {arrival} 0\n"),
+            2 => format!("0{index} {arrival}\n"),
+            3 => format!("{index} 0{arrival}\n"),
+            4 => format!("{index} 65536\n"),
+            5 => format!("65536 {arrival}\n"),
+            6 => format!(" {index} {arrival}\n"),
+            7 => format!("{index} {arrival} \n"),
+            8 => format!("{index}  {arrival}\n"),
+            9 => format!("{index}\t{arrival}\n"),
+            10 => format!("-{index} {arrival}\n"),
+            11 => format!("{index} {arrival}\r\r\n"),
+            12 => format!("{index} {arrival}.0\n"),
+            13 => format!("\r{index} {arrival}\n"),
+            14 => String::from("\r\n"),
+            _ => String::from("\n"),
+        };
+        let number = if broken { Some(25) } else { wrong_index.then_some(26) };
+        first = first.or(number.map(|number| (number, text.len())));
+        listed.push(index);
+        text += &line;
+    }
+    if rng.one_in(8 * rarity) {
+        // The last line without its end.
+        let start = text[..text.len() - 1].rfind('\n').map_or(0, |end| end + 1);
+        text.pop();
+        if text.ends_with('\r') || first.is_none_or(|(_, place)| place >= start) {
+            first = first.filter(|&(_, place)| place < start).or(Some((25, start)));
+        }
+        if text.is_empty() {
+            first = None;
+        }
+    }
+    (text.into_bytes(), first)
+}
+
+/// 25 and 26 from both sides, and beside the numbers before and after them.
+fn arrival_limits() -> Vec<Case> {
+    let cells = library_text(&small_library());
+    let b = Graph { top: 3, inputs: vec![1, 2], outputs: vec![6], ands: vec![(3, 2, 4)] };
+    let mut cases = Vec::new();
+    let mut add = |case: Case| cases.push(case);
+    let of = |arrivals: &str| Case::new(format!("arrivals {arrivals:?}"), cells.clone(), b.text()).arrivals(arrivals);
+    for (lines, number, place) in [
+        ("", 0, 0),
+        ("0 0", 0, 0),
+        ("1 0", 0, 0),
+        ("0 65535\n1 65535", 0, 0),
+        ("1 65535\n0 0", 0, 0),
+        ("0 65536", 25, 14),
+        ("65536 0", 25, 14),
+        ("65535 0", 26, 14),
+        ("2 0", 26, 14),
+        ("3 7", 26, 14),
+        ("2 65536", 25, 14),
+        ("0 1\n0 1", 26, 18),
+        ("0 0\n0 0", 26, 18),
+        ("0 0\n1 0\n0 5", 26, 22),
+        ("1 20\n0 5\n1 20", 26, 23),
+        ("0 01", 25, 14),
+        ("00 1", 25, 14),
+        ("01 1", 25, 14),
+        ("0", 25, 14),
+        ("0 1 2", 25, 14),
+        ("0  1", 25, 14),
+        (" 0 1", 25, 14),
+        ("0 1 ", 25, 14),
+        ("0 1\n", 25, 18),
+        ("x 1", 25, 14),
+        ("0 x", 25, 14),
+        ("-0 1", 25, 14),
+        ("0 1\r", 0, 0),
+        ("0 1\r\r", 25, 14),
+        ("2 0\nx", 26, 14),
+        ("x\n2 0", 25, 14),
+        ("0 1\nx\n0 1", 25, 18),
+        ("0 1\n0 1\nx", 26, 18),
+    ] {
+        let lines = if lines.is_empty() { String::new() } else { format!("{lines}\n") };
+        add(of(&format!("input arrival\n{lines}")).expect(number, place));
+        // In two bytes all through, the places count the 13s.
+        let tens = format!("input arrival\n{lines}");
+        let alike = with_ends(tens.as_bytes(), || true);
+        let place = if number == 0 { 0 } else { alike.place(place) };
+        let text = String::from_utf8(alike.text).expect("text");
+        add(of(&text).expect(number, place));
+    }
+    for (text, number, place) in [
+        ("", 0, 0),
+        ("\n", 25, 0),
+        ("\r\n", 25, 0),
+        ("input arrival", 25, 0),
+        ("input arrival\r", 25, 0),
+        ("input arrival\r\n", 0, 0),
+        ("input arrival\r\r\n", 25, 0),
+        ("input arrival \n", 25, 0),
+        ("inputs arrival\n", 25, 0),
+        ("0 1\n", 25, 0),
+        ("x", 25, 0),
+        ("input arrival\n0 1", 25, 14),
+        ("input arrival\n0 1\r", 25, 14),
+        ("input arrival\n0", 25, 14),
+        ("input arrival\n\r", 25, 14),
+        ("input arrival\n2 1", 25, 14),
+    ] {
+        add(of(text).expect(number, place));
+    }
+    // The length in 1.
+    for length in [65_535, 65_536, 65_537] {
+        let mut text = String::from(ARRIVALS_LINE);
+        text += &"9".repeat(length - text.len());
+        let case = Case::new(format!("arrivals of {length} bytes"), cells.clone(), b.text()).arrivals(text.clone());
+        add(if length > 65_536 { case.expect(1, 0) } else { case.expect(25, 14) });
+        let case = Case::new("a broken library", Vec::new(), b.text()).arrivals(text);
+        add(case.expect(if length > 65_536 { 1 } else { 2 }, 0));
+    }
+    // No inputs: every index is 26.
+    let tie = [&cells[..], b"tie0 0 0000 1 0 0 0 0\n"].concat();
+    for (lines, number) in [("", 0), ("0 0\n", 26), ("0 00\n", 25), ("5 5\n", 26)] {
+        let case = Case::new("no inputs", tie.clone(), b"aag 0 0 0 1 0\n1\n".to_vec());
+        add(case.arrivals(format!("input arrival\n{lines}")).expect(number, if number == 0 { 0 } else { 14 }));
+    }
+    // The index is the place in the file's inputs: variable 2 stands first.
+    for outputs in [vec![2], vec![5], vec![6, 2], vec![2, 4, 6, 3, 5]] {
+        let swapped = Graph { inputs: vec![2, 1], outputs, ..b.clone() };
+        for lines in ["0 100\n", "1 100\n", "0 100\n1 50\n"] {
+            let case = Case::new("inputs in another order", cells.clone(), swapped.text());
+            add(case.arrivals(format!("input arrival\n{lines}")).expect(0, 0));
+        }
+    }
+    // After 10, 11 to 14 and 19 to 21; before 15, 16, 17 and 18.
+    let wide = as_it_comes(shape_with_cuts(CUT_LIMIT + 1), &[(0, true)]).text();
+    for (arrivals, late, place) in [
+        ("x".to_string(), Some(25), 0),
+        ("input arrival\n9999 0\n".into(), Some(26), 14),
+        (String::from(ARRIVALS_LINE), None, 0),
+    ] {
+        let graphs: [(&[u8], u32, usize); 14] = [
+            (b"aag 3 2 1 1 1\n2\n4\n6\n6 2 4\n", 8, 0),
+            (b"aag 3 3 0 1 1\n2\n4\n6\n6 2 4\n", 9, 0),
+            (b"aag 3 2 0 1 1\n2\n4\n6\n6 2\n", 11, 20),
+            (b"aag 3 2 0 1 1\n2\n4\n6\n", 11, 20),
+            (b"aag 3 2 0 1 1\n2\n4\n8\n6 2 4\n", 12, 18),
+            (b"aag 3 2 0 1 1\n2\n2\n6\n6 2 4\n", 13, 16),
+            (b"aag 4 2 0 1 1\n2\n4\n8\n6 2 4\n", 14, 18),
+            (b"aag 4 2 0 1 1\n2\n4\n6\n6 2 8\n", 14, 20),
+            (b"aig 4 2 0 1 1\n6\n\x02\x02", 19, 0),
+            (b"aig 3 2 0 1 1\n6\n\x02", 20, 17),
+            (b"aig 3 2 0 1 1\n6\n\x00\x02", 21, 16),
+            (b"aag 2 0 0 0 2\n2 4 4\n4 2 2\n", 15, 1),
+            (&wide, 16, shape_with_cuts(CUT_LIMIT + 1).nodes() - 1),
+            (b"aag 1 1 0 1 0\n2\n0\n", 17, 0),
+        ];
+        for (graph, number, at) in graphs {
+            let case = Case::new(format!("{number} beside {arrivals:?}"), cells.clone(), graph.to_vec())
+                .arrivals(arrivals.clone());
+            add(match late {
+                Some(late) if (15..=18).contains(&number) => case.expect(late, place),
+                _ => case.expect(number, at),
+            });
+        }
+        let case = Case::new("10 beside arrivals", cells.clone(), b.text()).arrivals(arrivals.clone());
+        add(case.words(Lent::OneShort).expect(10, 0));
+        let case =
+            Case::new("18 beside arrivals", cells.clone(), b.text()).arrivals(arrivals.clone()).text(Lent::This(5));
+        add(match late {
+            Some(late) => case.expect(late, place),
+            None => case.expect(18, LISTING.len()),
+        });
+    }
+    // The largest figures: the slow chain with the latest inputs, and as many
+    // inputs as there can be, all late.
+    let slow = format!("{NAMES_LINE}inv 1 0001 65535 65535 0 0 0\nnand2 2 0007 65535 65535 65535 0 0\n");
+    let chain = Graph {
+        top: 4_095,
+        inputs: vec![1, 2, 3, 4],
+        outputs: vec![2 * 4_095],
+        ands: (5..=4_095).map(|variable| (variable, 2 * variable - 2, 2 * (1 + variable % 4))).collect(),
+    };
+    let all_late = arrivals_of(&[65_535; 4]);
+    add(Case::new("a slow chain, late", slow.clone().into_bytes(), chain.text()).arrivals(all_late).expect(0, 0));
+    let many = Graph {
+        top: 4_095,
+        inputs: (1..=4_095).rev().collect(),
+        outputs: (1..=4_095).map(|variable| 2 * variable + 1).collect(),
+        ands: Vec::new(),
+    };
+    let each: Vec<u64> = (0..4_095).map(|index| index * 16).collect();
+    add(Case::new("4,095 late inputs", slow.clone().into_bytes(), many.text())
+        .arrivals(arrivals_of(&each))
+        .expect(0, 0));
+    let text = [&arrivals_of(&each)[..], b"4094 0\n"].concat();
+    let place = arrivals_of(&each).len();
+    add(Case::new("4,095 late inputs, one again", slow.clone().into_bytes(), many.text())
+        .arrivals(text)
+        .expect(26, place));
+    let text = [&arrivals_of(&each)[..], b"4095 0\n"].concat();
+    add(Case::new("an index of 4,095", slow.into_bytes(), many.text()).arrivals(text).expect(26, place));
+    cases
 }
 
 // ---------------------------------------------------------------- line ends
@@ -928,16 +1249,18 @@ pub fn alike_but_for_ends(rng: &mut Rng, case: &Case) -> Case {
     let cells = mixed(rng, &case.cells);
     let is_binary = case.graph.starts_with(b"aig");
     let graph = if is_binary { with_ends(&[], || false) } else { mixed(rng, &case.graph) };
-    let too_long = cells.text.len().max(graph.text.len()) > 65_536;
+    let arrivals = mixed(rng, &case.arrivals);
+    let too_long = cells.text.len().max(graph.text.len()).max(arrivals.text.len()) > 65_536;
     let expected = case.expected.map(|(number, place)| match number {
         2..=6 => (number, cells.place(place)),
         7..=14 if !is_binary => (number, graph.place(place)),
+        25 | 26 => (number, arrivals.place(place)),
         _ => (number, place),
     });
     let expected = if too_long { Some((1, 0)) } else { expected };
     let graph = if is_binary { case.graph.clone() } else { graph.text };
     let what = format!("{}, ends mixed", case.what);
-    Case { what, cells: cells.text, graph, expected, ..case.clone() }
+    Case { what, cells: cells.text, graph, arrivals: arrivals.text, expected, ..case.clone() }
 }
 
 /// The offsets of the bytes 10 that end a good binary text's header and its
@@ -1420,13 +1743,22 @@ pub fn faults(rng: &mut Rng) -> Case {
     }
     // The first of each stage; lines were gone through in order above.
     let lines_fault = found.iter().copied().find(|(number, _)| (11..=14).contains(number));
-    let mut first = library_fault.or(stage(7..=10, &found)).or(lines_fault).or(stage(15..=17, &places));
+    let mut late_fault = None;
+    if rng.one_in(2) {
+        (case.arrivals, late_fault) = arrivals_with_faults(rng, inputs, rarity);
+    }
+    let before = library_fault.or(stage(7..=10, &found)).or(lines_fault);
+    let mut first = before.or(late_fault).or(stage(15..=17, &places));
     if wanted(rng, 20 * rarity) {
         // Bytes after the last line that is read count for refusal 1 alone.
         graph_text.resize(65_536 + rng.below(2), b'x');
         if graph_text.len() > 65_536 {
             first = Some((1, 0));
         }
+    }
+    if wanted(rng, 40 * rarity) {
+        case.arrivals.resize(65_537, b'x');
+        first = Some((1, 0));
     }
     case.graph = graph_text;
     case.expected = first;
@@ -1548,8 +1880,10 @@ fn binary_faults(rng: &mut Rng) -> Case {
         let trailing: Vec<u8> = (0..rng.below(9)).map(|_| rng.word() as u8).collect();
         text.extend(trailing);
     }
-    // In checking order: 7, 8, 9, 19, 10; then what is due.
-    first = found.first().copied().or(first).or(later);
+    // In checking order: 7, 8, 9, 19, 10; then what is due; then the arrivals.
+    let (arrivals, late_fault) =
+        if rng.one_in(2) { arrivals_with_faults(rng, inputs, 2 * rarity) } else { (Vec::new(), None) };
+    first = found.first().copied().or(first).or(late_fault).or(later);
     if wanted(rng, 20 * rarity) {
         text.resize(65_537, 0);
         first = Some((1, 0));
@@ -1559,7 +1893,7 @@ fn binary_faults(rng: &mut Rng) -> Case {
         cells.push(b'x');
         first = first.filter(|&(number, _)| number == 1).or(Some((4, cells.len() - 1)));
     }
-    let mut case = Case::new("binary faults", cells, text).words(words).text(Lent::Exact);
+    let mut case = Case::new("binary faults", cells, text).arrivals(arrivals).words(words).text(Lent::Exact);
     if wanted(rng, 3) {
         case.text = Lent::OneShort;
     }
@@ -1572,6 +1906,7 @@ pub fn limits() -> Vec<Case> {
     let mut cases = ascii_limits();
     cases.extend(binary_limits());
     cases.extend(end_limits());
+    cases.extend(arrival_limits());
     cases
 }
 

@@ -1,4 +1,4 @@
-//! A second reader for refusals 1 to 14 and 19 to 21, made another way round:
+//! A second reader for refusals 1 to 14, 19 to 21, 25 and 26, made another way round:
 //! it reads loosely, prints what it understood and compares the bytes. Used
 //! where no one knows by construction what a damaged text brings.
 
@@ -63,48 +63,71 @@ fn figures(line: &[u8], head: &str, wanted: usize, either_end: bool) -> Option<V
     (figures.len() == wanted && reads_again(&again.join(" "), line, either_end)).then_some(figures)
 }
 
-/// The refusal among 1 to 14 and 19 to 21 that the texts bring, if one does.
-pub fn judge(cells: &[u8], graph: &[u8], words: usize) -> Option<(u32, usize)> {
-    if cells.len().max(graph.len()) > 65_536 {
+/// The refusal among 1 to 14, 19 to 21, 25 and 26 that the texts bring, if one
+/// does.
+pub fn judge(cells: &[u8], graph: &[u8], arrivals: &[u8], words: usize) -> Option<(u32, usize)> {
+    if cells.len().max(graph.len()).max(arrivals.len()) > 65_536 {
         return Some((1, 0));
     }
+    let inputs = match judge_two(cells, graph, words) {
+        Ok(inputs) => inputs,
+        Err(refusal) => return Some(refusal),
+    };
+    let mut free: BTreeSet<usize> = (0..inputs).collect();
+    for (number, (offset, line)) in lines(arrivals).enumerate() {
+        if number == 0 {
+            if !reads_again("input arrival", line, true) {
+                return Some((25, 0));
+            }
+            continue;
+        }
+        let Some(figures) = figures(line, "", 2, true) else { return Some((25, offset)) };
+        if !free.remove(&usize::from(figures[0])) {
+            return Some((26, offset));
+        }
+    }
+    None
+}
+
+/// The refusal of the library and the graph, or else the number of inputs.
+fn judge_two(cells: &[u8], graph: &[u8], words: usize) -> Result<usize, (u32, usize)> {
     let mut listed = lines(cells);
     let names = listed.next().map_or(&cells[..0], |(_, line)| line);
     if !reads_again("cell pins table area d0 d1 d2 d3", names, true) {
-        return Some((2, 0));
+        return Err((2, 0));
     }
     let mut seen: BTreeSet<String> = BTreeSet::new();
     for (offset, line) in listed {
         if seen.len() == 32 {
-            return Some((3, offset));
+            return Err((3, offset));
         }
-        let Some(cell) = cell(line) else { return Some((4, offset)) };
+        let Some(cell) = cell(line) else { return Err((4, offset)) };
         if !seen.insert(cell.name) {
-            return Some((5, offset));
+            return Err((5, offset));
         }
         let rows = 1u32 << cell.pins;
         if u32::from(cell.table) >= 1 << rows || cell.delays.iter().skip(cell.pins.into()).any(|&delay| delay > 0) {
-            return Some((6, offset));
+            return Err((6, offset));
         }
     }
     let mut due = lines(graph);
     let first = due.next().map_or(&graph[..0], |(_, line)| line);
     let is_binary = first.starts_with(b"aig");
     let Some(header) = figures(first, if is_binary { "aig" } else { "aag" }, 5, !is_binary) else {
-        return Some((7, 0));
+        return Err((7, 0));
     };
     let [m, i, l, o, a] = [0, 1, 2, 3, 4].map(|index: usize| usize::from(header[index]));
     if l > 0 {
-        return Some((8, 0));
+        return Err((8, 0));
     }
     if m >= 4096 || o >= 4097 || m < i + a {
-        return Some((9, 0));
+        return Err((9, 0));
     }
     if is_binary && m > i + a {
-        return Some((19, 0));
+        return Err((19, 0));
     }
     if words < WORDS_EACH * m + WORDS_EACH + o {
-        return Some((10, 0));
+        return Err((10, 0));
     }
     let mut defined = vec![false; m + 1];
     defined[0] = true;
@@ -114,21 +137,21 @@ pub fn judge(cells: &[u8], graph: &[u8], words: usize) -> Option<(u32, usize)> {
     let sorts = if is_binary { [(0, 1), (o, 1), (0, 3)] } else { [(i, 1), (o, 1), (a, 3)] };
     for (sort, (count, wanted)) in sorts.into_iter().enumerate() {
         for _ in 0..count {
-            let Some((offset, line)) = due.next() else { return Some((11, graph.len())) };
-            let Some(literals) = figures(line, "", wanted, !is_binary) else { return Some((11, offset)) };
+            let Some((offset, line)) = due.next() else { return Err((11, graph.len())) };
+            let Some(literals) = figures(line, "", wanted, !is_binary) else { return Err((11, offset)) };
             end = offset + line.len();
             let literals: Vec<usize> = literals.into_iter().map(usize::from).collect();
             if literals.iter().any(|literal| literal / 2 > m) {
-                return Some((12, offset));
+                return Err((12, offset));
             }
             let reads = if sort == 1 {
                 &literals[..]
             } else {
                 if literals[0] & 1 == 1 || literals[0] < 2 {
-                    return Some((12, offset));
+                    return Err((12, offset));
                 }
                 if std::mem::replace(&mut defined[literals[0] / 2], true) {
-                    return Some((13, offset));
+                    return Err((13, offset));
                 }
                 &literals[1..]
             };
@@ -136,9 +159,10 @@ pub fn judge(cells: &[u8], graph: &[u8], words: usize) -> Option<(u32, usize)> {
         }
     }
     if is_binary {
-        return judge_differences(graph, end, i, a);
+        return judge_differences(graph, end, i, a).map_or(Ok(i), Err);
     }
-    used.into_iter().find(|&(_, variable)| !defined[variable]).map(|(offset, _)| (14, offset))
+    let fault = used.into_iter().find(|&(_, variable)| !defined[variable]);
+    fault.map_or(Ok(i), |(offset, _)| Err((14, offset)))
 }
 
 /// Cuts the rest into runs of bytes that end with one below 128, however long,

@@ -22,7 +22,7 @@ pub fn which() -> u32 {
 }
 
 /// Number and what is wrong.
-pub const LIST: [(u32, &str); 39] = [
+pub const LIST: [(u32, &str); 49] = [
     (1, "an AND with a cut too many is accepted"),
     (2, "a tie between cell and inverter goes to the inverter"),
     (3, "a cut's function walks on below a leaf whose operands are leaves too"),
@@ -62,6 +62,16 @@ pub const LIST: [(u32, &str); 39] = [
     (37, "a binary text's output lines may end in 13 and 10"),
     (38, "a lone 13 ends a line"),
     (39, "the names line must end in 10 alone"),
+    (54, "an arrival goes to the variable of that number, not to the input of that index"),
+    (55, "the choice takes all inputs as if they arrived at 0"),
+    (56, "26 of a line is tried before 25 of an earlier one"),
+    (57, "25 and 26 are tried before 11 to 14, 20 and 21"),
+    (58, "25 and 26 are tried after 15"),
+    (59, "an index listed with 0 may be repeated"),
+    (60, "index I is accepted"),
+    (61, "an inverter adds its delay to 0 where an input feeds it"),
+    (62, "any first line is accepted in the arrivals text"),
+    (63, "1 doesn't cover the arrivals text"),
 ];
 
 /// Those of the reader of genlib.

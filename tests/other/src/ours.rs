@@ -21,6 +21,8 @@ extern "C" {
         cells_len: usize,
         graph: *const u8,
         graph_len: usize,
+        arrivals: *const u8,
+        arrivals_len: usize,
         work: *mut u16,
         work_len: usize,
         text: *mut u8,
@@ -30,7 +32,7 @@ extern "C" {
 
 /// The mapper under test. It asks nothing of what it is lent.
 #[cfg(feature = "ours")]
-pub fn map(cells: &[u8], graph: &[u8], work: &mut [u16], text: &mut [u8]) -> Answer {
+pub fn map(cells: &[u8], graph: &[u8], arrivals: &[u8], work: &mut [u16], text: &mut [u8]) -> Answer {
     // Each pointer comes with the length of its own slice, and none overlap.
     let crossing = unsafe {
         mapper_map(
@@ -38,6 +40,8 @@ pub fn map(cells: &[u8], graph: &[u8], work: &mut [u16], text: &mut [u8]) -> Ans
             cells.len(),
             graph.as_ptr(),
             graph.len(),
+            arrivals.as_ptr(),
+            arrivals.len(),
             work.as_mut_ptr(),
             work.len(),
             text.as_mut_ptr(),
@@ -72,8 +76,8 @@ pub fn cells(genlib: &[u8], text: &mut [u8]) -> Answer {
 
 /// The reference with the memories that the document promises.
 #[cfg(all(feature = "self", not(feature = "ours")))]
-pub fn map(cells: &[u8], graph: &[u8], work: &mut [u16], text: &mut [u8]) -> Answer {
-    let (answer, netlist) = crate::reference::map(cells, graph, work.len(), text.len());
+pub fn map(cells: &[u8], graph: &[u8], arrivals: &[u8], work: &mut [u16], text: &mut [u8]) -> Answer {
+    let (answer, netlist) = crate::reference::map(cells, graph, arrivals, work.len(), text.len());
     if answer.number == 0 {
         text[..netlist.len()].copy_from_slice(&netlist);
     }

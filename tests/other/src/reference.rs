@@ -1,6 +1,6 @@
 //! Another mapper, plain and slow. Quoted sentences are document 01's and, for
-//! binary graph texts, the names of outputs and line ends, those of requests N1,
-//! N3 and N5 in document 02.
+//! binary graph texts, the names of outputs, line ends and late inputs, those of
+//! requests N1, N3, N5 and N7 in document 02.
 
 use crate::{CUT_LIMIT, WORDS_EACH};
 use std::collections::{BTreeMap, BTreeSet};
@@ -34,8 +34,13 @@ pub struct Printed {
 }
 
 /// The whole mapper: the answer, and the netlist if it succeeds.
-pub fn map(cells: &[u8], graph: &[u8], words: usize, text_len: usize) -> (Answer, Vec<u8>) {
-    answer(print_all(cells, graph, words), text_len)
+pub fn map(cells: &[u8], graph: &[u8], arrivals: &[u8], words: usize, text_len: usize) -> (Answer, Vec<u8>) {
+    answer(print_all(cells, graph, arrivals, words), text_len)
+}
+
+/// The same with an empty arrivals text, "for none".
+pub fn map_without_arrivals(cells: &[u8], graph: &[u8], words: usize, text_len: usize) -> (Answer, Vec<u8>) {
+    map(cells, graph, &[], words, text_len)
 }
 
 /// "Text memory is shorter than the netlist" and the form of the answer.
@@ -57,16 +62,28 @@ pub fn answer(printed: Result<Printed, Refusal>, text_len: usize) -> (Answer, Ve
     }
 }
 
-/// Refusals 1 to 17 and 19 to 21, or the netlist.
-pub fn print_all(cells: &[u8], graph: &[u8], words: usize) -> Result<Printed, Refusal> {
-    if cells.len() > 65_536 || graph.len() > 65_536 {
+/// Refusals 1 to 17, 19 to 21, 25 and 26, or the netlist.
+pub fn print_all(cells: &[u8], graph: &[u8], arrivals: &[u8], words: usize) -> Result<Printed, Refusal> {
+    // "1 covers this text too."
+    if cells.len() > 65_536 || graph.len() > 65_536 || arrivals.len() > plain_or!(63, 65_536, usize::MAX) {
         return refuse(1, 0);
     }
     let library = read_library(cells).map_err(|refusal| plain_or!(35, refusal, uncounted(cells, refusal)))?;
-    let graph = read_graph(graph, words).map_err(|refusal| plain_or!(35, refusal, uncounted(graph, refusal)))?;
-    let order = placing_order(&graph)?;
+    let early = plain_or!(57, None, fault_of_arrivals(graph, arrivals));
+    let graph = read_graph(graph, words).map_err(|refusal| {
+        let refusal = plain_or!(35, refusal, uncounted(graph, refusal));
+        early.filter(|_| !leaves_work_memory(refusal.number)).unwrap_or(refusal)
+    })?;
+    // "both line by line after 14"
+    let late = read_arrivals(arrivals, graph.inputs.len());
+    let order = placing_order(&graph);
+    let (late, order) = plain_or!(58, (late?, order?), order.and_then(|order| Ok((late?, order)))?);
     let cuts = cut_lists(&graph, &order)?;
-    let mapped = cover(&library, &graph, &order, &cuts);
+    let mapped = plain_or!(
+        55,
+        cover(&library, &graph, &late, &order, &cuts),
+        timed_again(&library, &graph, &late, &cuts, cover(&library, &graph, &[], &order, &cuts))
+    );
     for (index, &literal) in graph.outputs.iter().enumerate() {
         if !mapped.contains_key(&phase_of(literal)) {
             return refuse(17, index);
@@ -394,6 +411,71 @@ fn difference(text: &[u8], offset: usize) -> Result<(u32, usize), Refusal> {
     refuse(20, offset)
 }
 
+// ---------------------------------------------------------------- arrivals
+
+/// "first line `input arrival`, then an input's index from 0 and its arrival, each 0
+/// to 65,535, spaced and ended as library lines are, without leading zeros. Inputs
+/// not listed arrive at 0.": the arrivals by index. "25 when a line breaks its form;
+/// 26 when an index is I or more, or is repeated, both line by line [...] at the
+/// line's offset".
+pub fn read_arrivals(text: &[u8], inputs: usize) -> Result<Vec<u32>, Refusal> {
+    let mut arrivals = vec![0; inputs];
+    let mut listed: BTreeSet<usize> = BTreeSet::new();
+    if text.is_empty() {
+        return Ok(arrivals);
+    }
+    let names = line_at(text, 0, Ends::Either);
+    let Some(names) = names.filter(|line| plain_or!(62, line.contents == b"input arrival", true)) else {
+        return refuse(25, 0);
+    };
+    let mut offset = names.next;
+    while offset < text.len() {
+        let line = line_at(text, offset, Ends::Either);
+        let Some((line, [index, arrival])) = line.and_then(|line| Some((line, read_arrival(line.contents)?))) else {
+            return plain_or!(56, refuse(25, offset), Err(later_26(text, offset, inputs, listed)));
+        };
+        let repeated = !listed.insert(index);
+        let repeated = plain_or!(59, repeated, repeated && arrivals.get(index) != Some(&0));
+        if index >= inputs + plain_or!(60, 0, 1) || repeated {
+            return refuse(26, offset);
+        }
+        if let Some(slot) = arrivals.get_mut(index) {
+            *slot = arrival as u32;
+        }
+        offset = line.next;
+    }
+    Ok(arrivals)
+}
+
+fn read_arrival(line: &[u8]) -> Option<[usize; 2]> {
+    let figures = numbers(&fields(line, 2)?)?;
+    Some([figures[0] as usize, figures[1] as usize])
+}
+
+/// The first 26 of the lines after this one, or else 25 at this one.
+#[cfg(feature = "mutants")]
+fn later_26(text: &[u8], offset: usize, inputs: usize, mut listed: BTreeSet<usize>) -> Refusal {
+    let mut next = offset;
+    while let Some(line) = (next < text.len()).then(|| line_at(text, next, Ends::Either)).flatten() {
+        if let Some([index, _]) = read_arrival(line.contents) {
+            if index >= inputs || !listed.insert(index) {
+                return Refusal { number: 26, place: next as u32 };
+            }
+        }
+        next = line.next;
+    }
+    Refusal { number: 25, place: offset as u32 }
+}
+
+/// 25 or 26 by the graph's header alone.
+#[cfg(feature = "mutants")]
+fn fault_of_arrivals(graph: &[u8], arrivals: &[u8]) -> Option<Refusal> {
+    let (_, [_, inputs, ..], _) = read_header(graph)?;
+    read_arrivals(arrivals, inputs).err()
+}
+
+// ---------------------------------------------------------------- placing
+
 /// "variable 0 and the inputs first, then again and again the lowest-numbered
 /// AND whose operands are both placed"
 pub fn placing_order(graph: &Graph) -> Result<Vec<u16>, Refusal> {
@@ -616,8 +698,9 @@ pub fn feeds(cells: &[Cell], cuts: &[Vec<Vec<u16>>], phase: Phase, source: Sourc
 }
 
 /// "In the state each phase is one of these sources with its data, or none":
-/// every phase's source by the choice, where it has one.
-pub fn cover(cells: &[Cell], graph: &Graph, order: &[u16], cuts: &[Vec<Vec<u16>>]) -> Mapped {
+/// every phase's source by the choice, where it has one. "The input record gains
+/// this number, every arrival starts from it": the inputs' arrivals stand by index.
+pub fn cover(cells: &[Cell], graph: &Graph, late: &[u32], order: &[u16], cuts: &[Vec<Vec<u16>>]) -> Mapped {
     let library = Library::new(cells);
     let inverters = cells.iter().enumerate().filter(|(_, cell)| cell.pins == 1 && cell.table == 0x0001);
     let inverter = inverters.min_by_key(|(line, cell)| (cell.delays[0], plain_or!(8, *line, 99 - *line)));
@@ -625,14 +708,21 @@ pub fn cover(cells: &[Cell], graph: &Graph, order: &[u16], cuts: &[Vec<Vec<u16>>
     for &variable in order {
         let lists = &cuts[usize::from(variable)];
         let own = [false, true].map(|negative| {
-            if graph.inputs.contains(&variable) {
-                return (!negative).then_some(Net { arrival: 0, source: Source::Input });
+            if let Some(index) = graph.inputs.iter().position(|&input| input == variable) {
+                let index = plain_or!(54, index, usize::from(variable) - 1);
+                let arrival = late.get(index).copied().unwrap_or(0);
+                return (!negative).then_some(Net { arrival, source: Source::Input });
             }
             matched(&library, graph, &mapped, variable, negative, lists)
         });
         for (negative, own, opposite) in [(false, own[0], own[1]), (true, own[1], own[0])] {
             let inverted = opposite.zip(inverter).map(|(opposite, (line, cell))| Net {
-                arrival: opposite.arrival + cell.delays[0],
+                arrival: cell.delays[0]
+                    + plain_or!(
+                        61,
+                        opposite.arrival,
+                        if opposite.source == Source::Input { 0 } else { opposite.arrival }
+                    ),
                 source: Source::Inverter { cell: line },
             });
             // "earliest arrival; then a matched cell before the inverter"
@@ -650,6 +740,35 @@ pub fn cover(cells: &[Cell], graph: &Graph, order: &[u16], cuts: &[Vec<Vec<u16>>
         }
     }
     mapped
+}
+
+/// A cover with its sources kept and the arrivals of late inputs.
+#[cfg(feature = "mutants")]
+fn timed_again(cells: &[Cell], graph: &Graph, late: &[u32], cuts: &[Vec<Vec<u16>>], mapped: Mapped) -> Mapped {
+    fn arrival(
+        phase: Phase,
+        known: &mut BTreeMap<Phase, u32>,
+        of: &dyn Fn(Phase) -> Result<u32, Vec<(Phase, u32)>>,
+    ) -> u32 {
+        if let Some(&arrival) = known.get(&phase) {
+            return arrival;
+        }
+        let latest = match of(phase) {
+            Ok(start) => start,
+            Err(feeds) => feeds.into_iter().map(|(feed, delay)| arrival(feed, known, of) + delay).max().unwrap_or(0),
+        };
+        known.insert(phase, latest);
+        latest
+    }
+    let of = |phase: Phase| match mapped[&phase].source {
+        Source::Input => {
+            let index = graph.inputs.iter().position(|&input| input == phase.0);
+            Ok(index.and_then(|index| late.get(index).copied()).unwrap_or(0))
+        }
+        source => Err(feeds(cells, cuts, phase, source)),
+    };
+    let mut known = BTreeMap::new();
+    mapped.iter().map(|(&phase, &net)| (phase, Net { arrival: arrival(phase, &mut known, &of), ..net })).collect()
 }
 
 /// What the choice compares: arrival, cut, cell line, order number, mask.

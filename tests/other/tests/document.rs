@@ -41,6 +41,12 @@ fn line_ends() {
 }
 
 #[test]
+fn arrivals() {
+    passes(checks::without_arrivals());
+    passes(checks::arrivals(3_000, 1));
+}
+
+#[test]
 fn netlists() {
     passes(checks::netlists(4_000, 1));
 }
@@ -63,6 +69,7 @@ fn longer() {
     passes(checks::all_covers(20_000, 2));
     passes(checks::twins(40_000, 2));
     passes(checks::line_ends(40_000, 2));
+    passes(checks::arrivals(40_000, 2));
 }
 
 /// Runs where GRAPHS_DIR names a folder of graphs with its `graphs.tsv`.
@@ -78,7 +85,8 @@ fn real_graphs() {
 
 /// With the library of case B and the memories of the program.
 fn map(graph: &[u8]) -> (Answer, String) {
-    let (answer, netlist) = reference::map(&gen::library_text(&gen::small_library()), graph, 32_768, 65_536);
+    let (answer, netlist) =
+        reference::map_without_arrivals(&gen::library_text(&gen::small_library()), graph, 32_768, 65_536);
     (answer, String::from_utf8_lossy(&netlist).into_owned())
 }
 
@@ -175,7 +183,7 @@ fn nineteen() {
     assert_eq!(refusal(b"aig 4 2 1 1 1\n"), (8, 0));
     // 19 before 10: no word is lent.
     let cells = gen::library_text(&gen::small_library());
-    let number = |graph: &[u8], words| reference::map(&cells, graph, words, 65_536).0.number;
+    let number = |graph: &[u8], words| reference::map_without_arrivals(&cells, graph, words, 65_536).0.number;
     assert_eq!(number(b"aig 4 2 0 1 1\n", 0), 19);
     assert_eq!(number(B, 4 * WORDS_EACH), 10);
     assert_eq!(number(B, 4 * WORDS_EACH + 1), 0);
@@ -253,7 +261,7 @@ fn difference_by_difference() {
 fn in_the_place_given() {
     let cells = gen::library_text(&gen::small_library());
     let broken: &[u8] = b"aig 4 2 1 1 1\n6\n\x00";
-    assert_eq!(reference::map(&cells[1..], broken, 0, 0).0.number, 2, "the library's first");
+    assert_eq!(reference::map_without_arrivals(&cells[1..], broken, 0, 0).0.number, 2, "the library's first");
     assert_eq!(refusal(&[broken, &[0; 65_537]].concat()), (1, 0));
     assert_eq!(refusal(&[B, &[0; 65_536 - 18]].concat()), (0, 0));
     assert_eq!(refusal(&[B, &[0; 65_537 - 18]].concat()), (1, 0));
@@ -267,7 +275,7 @@ fn in_the_place_given() {
     assert_eq!(refusal(&good[..good.len() - 1]).0, 20);
     assert_eq!(refusal(b"aig 1 0 0 1 1\n0\n\x01\x01"), (17, 0));
     assert_eq!(refusal(b"aig 1 0 0 1 1\n0\n\x01\x02"), (21, 17));
-    let short = |graph: &[u8]| reference::map(&cells, graph, 32_768, 0).0;
+    let short = |graph: &[u8]| reference::map_without_arrivals(&cells, graph, 32_768, 0).0;
     assert_eq!(short(B), Answer { number: 18, value: gen::LISTING.len() as u32, ..Answer::default() });
     assert_eq!(short(&B[..17]), Answer { number: 20, value: 17, ..Answer::default() });
 }
@@ -277,7 +285,7 @@ fn in_the_place_given() {
 /// With this library and the memories of the program: number and place, or 0 and
 /// the netlist's length.
 fn with_library(cells: &str, graph: &str) -> (u32, u32) {
-    let (answer, _) = reference::map(cells.as_bytes(), graph.as_bytes(), 32_768, 65_536);
+    let (answer, _) = reference::map_without_arrivals(cells.as_bytes(), graph.as_bytes(), 32_768, 65_536);
     (answer.number, answer.value)
 }
 
@@ -293,7 +301,7 @@ fn either_ending_line_by_line() {
         let end = |line: usize| ["\n", "\r\n"][ends >> line & 1];
         let cells: String = (0..3).map(|line| format!("{}{}", CELLS[line], end(line))).collect();
         let graph: String = (0..5).map(|line| format!("{}{}", GRAPH[line], end(3 + line))).collect();
-        let (answer, netlist) = reference::map(cells.as_bytes(), graph.as_bytes(), 32_768, 65_536);
+        let (answer, netlist) = reference::map_without_arrivals(cells.as_bytes(), graph.as_bytes(), 32_768, 65_536);
         assert_eq!((answer.number, answer.value), (0, LENGTH), "{cells:?} {graph:?}");
         assert_eq!(netlist, gen::LISTING.as_bytes(), "byte 10 ends each line printed");
     }
@@ -313,8 +321,8 @@ fn binary_texts_keep_byte_10() {
     // The library of a binary graph takes either.
     let cells = CELLS.join("\r\n") + "\r\n";
     assert_eq!(
-        reference::map(cells.as_bytes(), B, 32_768, 65_536),
-        reference::map(&gen::library_text(&gen::small_library()), B, 32_768, 65_536)
+        reference::map_without_arrivals(cells.as_bytes(), B, 32_768, 65_536),
+        reference::map_without_arrivals(&gen::library_text(&gen::small_library()), B, 32_768, 65_536)
     );
 }
 
@@ -386,6 +394,141 @@ fn within_the_length() {
     assert_eq!(with_library(&cells, &(longer + &to_full)), (1, 0));
 }
 
+// ---------------------------------------------------------------- request N7
+
+/// With the library of case B, these lines more and this arrivals text: number and
+/// place, or 0 and the latest output's arrival.
+fn with_arrivals(more_cells: &str, graph: &[u8], arrivals: &str) -> (u32, u32) {
+    let cells = [&gen::library_text(&gen::small_library()), more_cells.as_bytes()].concat();
+    let (answer, _) = reference::map(&cells, graph, arrivals.as_bytes(), 32_768, 65_536);
+    (answer.number, if answer.number == 0 { answer.arrival } else { answer.value })
+}
+
+const CASE_B: &[u8] = b"aag 3 2 0 1 1\n2\n4\n6\n6 2 4\n";
+
+/// "Add a third text (`arrivals.txt`, or empty for none), first line `input
+/// arrival`"
+#[test]
+fn a_third_text() {
+    assert_eq!(with_arrivals("", CASE_B, ""), (0, 30));
+    assert_eq!(with_arrivals("", CASE_B, "input arrival\n"), (0, 30), "the first line alone");
+    assert_eq!(with_arrivals("", CASE_B, "input arrival\r\n"), (0, 30));
+    for text in
+        ["\n", "x", "input arrival", "input\n", "Input arrival\n", "input arrival \n", "0 5\n", "input arrival\r\r\n"]
+    {
+        assert_eq!(with_arrivals("", CASE_B, text), (25, 0), "{text:?}");
+    }
+}
+
+/// "then an input's index from 0 and its arrival, each 0 to 65,535, spaced and ended
+/// as library lines are, without leading zeros. Inputs not listed arrive at 0."
+#[test]
+fn index_and_arrival() {
+    let of = |lines: &str| with_arrivals("", CASE_B, &format!("input arrival\n{lines}"));
+    assert_eq!(of("0 7\n"), (0, 37));
+    assert_eq!(of("1 7\n"), (0, 37));
+    assert_eq!(of("0 7\n1 20\n"), (0, 50));
+    assert_eq!(of("1 20\r\n0 7\n"), (0, 50), "in any order, with either end");
+    assert_eq!(of("0 65535\n"), (0, 65_565));
+    for line in [
+        "0 65536", "65536 0", "00 1", "0 01", "01 1", "0", "0 1 2", " 0 1", "0 1 ", "0  1", "0\t1", "x 1", "0 -1", "",
+        "0 1\r\r",
+    ] {
+        assert_eq!(of(&format!("{line}\n")), (25, 14), "{line:?}");
+        assert_eq!(of(&format!("1 5\r\n{line}\n")), (25, 19), "{line:?}");
+    }
+    assert_eq!(of("0 1"), (25, 14), "without its end");
+    // The index is the place in the file's inputs, and not the variable.
+    let swapped = b"aag 3 2 0 1 0\n6\n2\n6\n";
+    assert_eq!(with_arrivals("", swapped, "input arrival\n0 9\n"), (0, 9));
+    assert_eq!(with_arrivals("", swapped, "input arrival\n1 9\n"), (0, 0));
+    // In a binary graph index k is variable k + 1.
+    let binary = |output: u8| [b"aig 3 2 0 1 1\n", &[output][..], b"\n\x02\x02"].concat();
+    assert_eq!(with_arrivals("", &binary(b'2'), "input arrival\n0 9\n1 8\n"), (0, 9));
+    assert_eq!(with_arrivals("", &binary(b'4'), "input arrival\n0 9\n1 8\n"), (0, 8));
+    assert_eq!(with_arrivals("", &binary(b'5'), "input arrival\n0 9\n1 8\n"), (0, 18));
+}
+
+/// "The input record gains this number, every arrival starts from it"
+#[test]
+fn every_arrival_starts_from_it() {
+    let late = "input arrival\n0 100\n";
+    assert_eq!(with_arrivals("", b"aag 1 1 0 1 0\n2\n2\n", late), (0, 100));
+    assert_eq!(with_arrivals("", b"aag 1 1 0 1 0\n2\n3\n", late), (0, 110));
+    // "A cell without pins" arrives at 0.
+    assert_eq!(with_arrivals(TIE0, b"aag 1 1 0 1 0\n2\n0\n", late), (0, 0));
+    assert_eq!(with_arrivals(TIE0, b"aag 1 1 0 1 0\n2\n1\n", late), (0, 10));
+    // An unused input may be late.
+    assert_eq!(with_arrivals("", b"aag 2 2 0 1 0\n2\n4\n4\n", late), (0, 0));
+    // The printed lines are the same but for the figure.
+    let cells = gen::library_text(&gen::small_library());
+    let (_, netlist) = reference::map(&cells, CASE_B, late.as_bytes(), 32_768, 65_536);
+    let wanted = gen::LISTING.replace("arrival 30", "arrival 130");
+    assert_eq!(String::from_utf8_lossy(&netlist), wanted);
+}
+
+/// "no cover so timed gives a printed net earlier": a late input turns the choice.
+#[test]
+fn the_choice_counts_it() {
+    // A pin of 5 and one of 40: the late input goes to the early pin.
+    let and2 = "and2 2 0008 2 40 5 0 0\n";
+    let chosen = |arrivals: &str| {
+        let cells = [&gen::library_text(&gen::small_library()), and2.as_bytes()].concat();
+        let (answer, netlist) = reference::map(&cells, CASE_B, arrivals.as_bytes(), 32_768, 65_536);
+        let netlist = String::from_utf8_lossy(&netlist).into_owned();
+        let line = netlist.lines().find(|line| line.ends_with("O=p3")).unwrap_or_default().to_string();
+        (answer.arrival, line)
+    };
+    assert_eq!(chosen(""), (30, ".gate inv A=m3 O=p3".into()), "20 and 10 before 40");
+    assert_eq!(chosen("input arrival\n0 35\n"), (40, ".gate and2 A=p2 B=p1 O=p3".into()));
+    assert_eq!(chosen("input arrival\n1 35\n"), (40, ".gate and2 A=p1 B=p2 O=p3".into()));
+    assert_eq!(chosen("input arrival\n0 35\n1 35\n"), (65, ".gate inv A=m3 O=p3".into()));
+    // The tie at 40 goes to the matched cell.
+    assert_eq!(chosen("input arrival\n0 10\n"), (40, ".gate and2 A=p2 B=p1 O=p3".into()));
+    assert_eq!(chosen("input arrival\n0 9\n"), (39, ".gate inv A=m3 O=p3".into()));
+}
+
+/// "1 covers this text too."
+#[test]
+fn one_covers_it() {
+    assert_eq!(with_arrivals("", CASE_B, &"x".repeat(65_536)), (25, 0));
+    assert_eq!(with_arrivals("", CASE_B, &"x".repeat(65_537)), (1, 0));
+    assert_eq!(reference::map(b"", b"", &[b'x'; 65_537], 0, 0).0.number, 1);
+    assert_eq!(reference::map(b"", b"", &[b'x'; 65_536], 0, 0).0.number, 2);
+}
+
+/// "25 when a line breaks its form; 26 when an index is I or more, or is repeated,
+/// both line by line after 14, at the line's offset."
+#[test]
+fn twenty_five_and_twenty_six() {
+    let of = |lines: &str| with_arrivals("", CASE_B, &format!("input arrival\n{lines}"));
+    assert_eq!(of("1 0\n"), (0, 30));
+    assert_eq!(of("2 0\n"), (26, 14));
+    assert_eq!(of("65535 0\n"), (26, 14));
+    assert_eq!(of("0 1\n0 1\n"), (26, 18));
+    assert_eq!(of("0 0\n1 0\n0 0\n"), (26, 22), "an index listed with 0 is listed");
+    assert_eq!(of("2 65536\n"), (25, 14), "25 before 26 on one line");
+    assert_eq!(of("2 0\nx\n"), (26, 14), "line by line");
+    assert_eq!(of("x\n2 0\n"), (25, 14), "line by line");
+    assert_eq!(of("0 1\r\n0 1\r\n"), (26, 19), "offsets count every byte");
+    // Without inputs every index is 26.
+    assert_eq!(with_arrivals("", b"aag 0 0 0 0 0\n", "input arrival\n0 0\n"), (26, 14));
+    assert_eq!(with_arrivals("", b"aag 0 0 0 0 0\n", "input arrival\n"), (0, 0));
+    // After 14, and before 15 to 18.
+    for arrivals in ["x", "input arrival\n9 9\n"] {
+        let late = if arrivals == "x" { (25, 0) } else { (26, 14) };
+        assert_eq!(with_arrivals("", b"aag 4 2 0 1 1\n2\n4\n8\n6 2 4\n", arrivals), (14, 18));
+        assert_eq!(with_arrivals("", b"aig 3 2 0 1 1\n6\n\x00", arrivals), (21, 16));
+        assert_eq!(with_arrivals("", b"aag 2 0 0 0 2\n2 4 4\n4 2 2\n", arrivals), late);
+        assert_eq!(with_arrivals("", b"aag 1 1 0 1 0\n2\n0\n", arrivals), late);
+        let cells = gen::library_text(&gen::small_library());
+        let number = |words, bytes| reference::map(&cells, CASE_B, arrivals.as_bytes(), words, bytes).0.number;
+        assert_eq!((number(0, 65_536), number(32_768, 0)), (10, late.0));
+    }
+    // They come after 10, and so work memory is all zero.
+    assert!(!reference::leaves_work_memory(25) && !reference::leaves_work_memory(26));
+}
+
 // ---------------------------------------------------------------- request N3
 
 /// What stands on the lines, ended by byte 10.
@@ -396,7 +539,7 @@ fn text(lines: &[&str]) -> String {
 /// The netlist of these graph lines with the library of case B and these lines.
 fn printed(more_cells: &str, graph: &[&str]) -> String {
     let cells = [&gen::library_text(&gen::small_library()), more_cells.as_bytes()].concat();
-    let (answer, netlist) = reference::map(&cells, text(graph).as_bytes(), 32_768, 65_536);
+    let (answer, netlist) = reference::map_without_arrivals(&cells, text(graph).as_bytes(), 32_768, 65_536);
     assert_eq!((answer.number, answer.value as usize), (0, netlist.len()), "{graph:?}");
     String::from_utf8_lossy(&netlist).into_owned()
 }
@@ -421,7 +564,9 @@ fn case_b() {
     assert_eq!(printed("", &b), text(&listing));
     assert_eq!(gen::LISTING, text(&listing));
     // Lines of 11, 14, 12, 20, 27, 13, 4, 5 and 28 bytes.
-    let short = |bytes| reference::map(&gen::library_text(&gen::small_library()), text(&b).as_bytes(), 32_768, bytes).0;
+    let short = |bytes| {
+        reference::map_without_arrivals(&gen::library_text(&gen::small_library()), text(&b).as_bytes(), 32_768, bytes).0
+    };
     assert_eq!(short(134), Answer { number: 0, value: 134, gates: 2, area: 3, arrival: 30 });
     assert_eq!(short(133), Answer { number: 18, value: 134, ..Answer::default() });
 }
@@ -522,8 +667,8 @@ fn read_at_the_o_name() {
     let kinds = blif::kinds(&cells).expect("a good library");
     let netlist = blif::read(gen::LISTING.as_bytes()).expect("a good netlist");
     let ordered = netlist.ordered(&kinds).expect("a good netlist");
-    assert_eq!(netlist.figures(&kinds, &ordered), [2, 3, 30]);
-    assert_eq!(netlist.arrivals(&kinds, &ordered)["o0"], 30);
+    assert_eq!(netlist.figures(&kinds, &[0, 0], &ordered), [2, 3, 30]);
+    assert_eq!(netlist.arrivals(&kinds, &[0, 0], &ordered)["o0"], 30);
     for row in 0..4 {
         let setting = [row % 2 == 1, row / 2 == 1];
         assert_eq!(netlist.values(&kinds, &ordered, &setting), [row == 3]);
@@ -532,7 +677,7 @@ fn read_at_the_o_name() {
     let other = gen::LISTING.replace(".names p3", ".names m3").replace("arrival 30", "arrival 20");
     let netlist = blif::read(other.as_bytes()).expect("a good netlist");
     let ordered = netlist.ordered(&kinds).expect("a good netlist");
-    assert_eq!(netlist.figures(&kinds, &ordered), [2, 3, 20]);
+    assert_eq!(netlist.figures(&kinds, &[0, 0], &ordered), [2, 3, 20]);
     assert_eq!(netlist.values(&kinds, &ordered, &[true, true]), [false]);
 }
 
@@ -573,7 +718,7 @@ fn broken_names() {
 fn eighteen_in_the_program() {
     let cells = gen::library_text(&gen::small_library());
     let number = |graph: String| {
-        let answer = reference::map(&cells, graph.as_bytes(), 32_768, 65_536).0;
+        let answer = reference::map_without_arrivals(&cells, graph.as_bytes(), 32_768, 65_536).0;
         (answer.number, answer.value)
     };
     let on_p1 = |outputs: usize| format!("aag 1 1 0 {outputs} 0\n2\n") + &"2\n".repeat(outputs);
@@ -592,7 +737,7 @@ fn eighteen_cuts() {
     let cells = gen::library_text(&gen::small_library());
     let of = |ands: &[&str]| {
         let graph = text(&[&["aag 6 1 0 1 5", "2", "12"], ands].concat());
-        let answer = reference::map(&cells, graph.as_bytes(), 32_768, 65_536).0;
+        let answer = reference::map_without_arrivals(&cells, graph.as_bytes(), 32_768, 65_536).0;
         let read = reference::read_graph(graph.as_bytes(), 32_768).expect("a good graph");
         let order = reference::placing_order(&read).expect("no circle");
         let most = reference::cut_lists(&read, &order).map(|lists| lists[6].len());
@@ -611,7 +756,7 @@ fn work_memory() {
     let cells = gen::library_text(&gen::small_library());
     let number = |top: usize, outputs: usize, words: usize| {
         let graph = format!("aag {top} 1 0 {outputs} 0\n2\n") + &"2\n".repeat(outputs);
-        reference::map(&cells, graph.as_bytes(), words, 1 << 20).0.number
+        reference::map_without_arrivals(&cells, graph.as_bytes(), words, 1 << 20).0.number
     };
     for (top, outputs, words) in [(1, 0, 248), (3, 1, 497), (260, 404, 32_768), (4_095, 4_096, 512_000)] {
         assert_eq!((number(top, outputs, words), number(top, outputs, words - 1)), (0, 10), "{top} {outputs}");

@@ -34,6 +34,15 @@ fn damage() {
     passes(checks::damage(20_000, 1));
 }
 
+/// The longer run: `cargo test -- --ignored`.
+#[test]
+#[ignore = "takes minutes"]
+fn longer() {
+    passes(checks::good(40_000, 2));
+    passes(checks::faults(200_000, 2));
+    passes(checks::damage(200_000, 2));
+}
+
 /// Runs where GRAPHS_DIR names a folder with genlibs.
 #[test]
 fn real() {

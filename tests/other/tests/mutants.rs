@@ -4,7 +4,7 @@
 use other::{checks, genlib_checks, mutants};
 use std::panic::catch_unwind;
 
-type Checks = [(&'static str, fn() -> checks::Check); 9];
+type Checks = [(&'static str, fn() -> checks::Check); 10];
 
 const CHECKS: Checks = [
     ("marked_cases", checks::marked),
@@ -13,6 +13,7 @@ const CHECKS: Checks = [
     ("damage", checks::damage),
     ("twins", || checks::twins(1_500, 1)),
     ("line_ends", || checks::line_ends(1_500, 1)),
+    ("arrivals", || checks::arrivals(1_000, 1)),
     ("netlists", || checks::netlists(1_500, 1)),
     ("every_small_graph", checks::every_small_graph),
     ("all_covers", || checks::all_covers(1_500, 1)),

@@ -30,7 +30,7 @@ invert-requires : tie.Need-invert-requires
 invert-requires c κs =
     let s = c .before .before .before .before .before in
     let a = s .args in
-    let f : Fitting (1073741823 + 65535) (directAt (cellsOf (s .pre .0 .0)) (a .work .now) (a .m) (a .v) true) = direct-fit (s .pre .0 .0) (s .pre .0 .1 .built .usable) (a .work .now) (a .m) 1073741823 (s .pre .1 .early) (s .pre .1 .cuts) (a .v) (s .pre .2) true in
+    let f : Fitting (1073741823 + 65535) (directAt (cellsOf (s .pre .0 .0)) (a .work .now) (a .m) (a .v) true) = direct-fit (s .pre .0 .0) (s .pre .0 .1 .built .usable) (a .work .now) (a .m) 1073741823 (s .pre .1 .early) (s .pre .1 .cuts) (s .pre .1 .late) (a .v) (s .pre .2) true in
     omega (arith, ap (λ (p : Phase). p .arrival) (c .direct2 .ensures (s .pre .0 .0) (s .pre .0 .1 .built)), f .soon)
 
 sooner-requires : tie.Need-sooner-requires
@@ -40,7 +40,7 @@ invert-requires-2 : tie.Need-invert-requires-2
 invert-requires-2 c κs =
     let s = c .before .before .before .before .before .before .before in
     let a = s .args in
-    let f : Fitting (1073741823 + 65535) (directAt (cellsOf (s .pre .0 .0)) (a .work .now) (a .m) (a .v) false) = direct-fit (s .pre .0 .0) (s .pre .0 .1 .built .usable) (a .work .now) (a .m) 1073741823 (s .pre .1 .early) (s .pre .1 .cuts) (a .v) (s .pre .2) false in
+    let f : Fitting (1073741823 + 65535) (directAt (cellsOf (s .pre .0 .0)) (a .work .now) (a .m) (a .v) false) = direct-fit (s .pre .0 .0) (s .pre .0 .1 .built .usable) (a .work .now) (a .m) 1073741823 (s .pre .1 .early) (s .pre .1 .cuts) (s .pre .1 .late) (a .v) (s .pre .2) false in
     omega (arith, ap (λ (p : Phase). p .arrival) (c .before .before .before .before .direct .ensures (s .pre .0 .0) (s .pre .0 .1 .built)), f .soon)
 
 sooner-requires-2 : tie.Need-sooner-requires-2
@@ -50,7 +50,7 @@ set-positive-requires : tie.Need-set-positive-requires
 set-positive-requires c κs =
     let s = c .before .before .before .before .before .before .before .before .before .before in
     let a = s .args in
-    (s .pre .1 .cuts .room, s .pre .2, subst PhaseFits (sym (sooner-is (cellsOf (s .pre .0 .0)) (a .inv) (c .before .before .before .before .before .before .before .direct .result) (c .before .before .before .before .before .direct2 .result) (directAt (cellsOf (s .pre .0 .0)) (a .work .now) (a .m) (a .v) false) (directAt (cellsOf (s .pre .0 .0)) (a .work .now) (a .m) (a .v) true) (c .before .before .before .before .invert .result) (c .before .before .before .sooner .result) (s .pre .0 .1 .inverter) (c .before .before .before .before .before .before .before .direct .ensures (s .pre .0 .0) (s .pre .0 .1 .built)) (c .before .before .before .before .before .direct2 .ensures (s .pre .0 .0) (s .pre .0 .1 .built)) (c .before .before .before .before .invert .ensures) (c .before .before .before .sooner .ensures))) (turn-fit (s .pre .0 .0) (s .pre .0 .1 .built .usable) (a .work .now) (a .m) 1073741823 (s .pre .1 .cuts) (s .pre .1 .early) (a .v) (s .pre .2) false .fit))
+    (s .pre .1 .cuts .room, s .pre .2, subst PhaseFits (sym (sooner-is (cellsOf (s .pre .0 .0)) (a .inv) (c .before .before .before .before .before .before .before .direct .result) (c .before .before .before .before .before .direct2 .result) (directAt (cellsOf (s .pre .0 .0)) (a .work .now) (a .m) (a .v) false) (directAt (cellsOf (s .pre .0 .0)) (a .work .now) (a .m) (a .v) true) (c .before .before .before .before .invert .result) (c .before .before .before .sooner .result) (s .pre .0 .1 .inverter) (c .before .before .before .before .before .before .before .direct .ensures (s .pre .0 .0) (s .pre .0 .1 .built)) (c .before .before .before .before .before .direct2 .ensures (s .pre .0 .0) (s .pre .0 .1 .built)) (c .before .before .before .before .invert .ensures) (c .before .before .before .sooner .ensures))) (turn-fit (s .pre .0 .0) (s .pre .0 .1 .built .usable) (a .work .now) (a .m) 1073741823 (s .pre .1 .cuts) (s .pre .1 .late) (s .pre .1 .early) (a .v) (s .pre .2) false .fit))
 
 set-negative-requires : tie.Need-set-negative-requires
 set-negative-requires c κs =
@@ -61,7 +61,7 @@ set-negative-requires c κs =
     ap length (c .before .before .before .set-positive .ensures)
     ∙ length-put (a .work .now) (positiveAddr (a .m) (a .v)) (phaseWords (c .before .before .before .before .before .before .before .sooner .result)) (omega (arith, s .pre .1 .cuts .room .room, length-phase (c .before .before .before .before .before .before .before .sooner .result))) in
     let r : Room w′ (a .m) = record { small = s .pre .1 .cuts .room .small; room = omega (arith, s .pre .1 .cuts .room .room) } in
-    (r, s .pre .2, subst PhaseFits (sym (sooner-is (cellsOf (s .pre .0 .0)) (a .inv) (c .before .before .before .before .before .before .before .before .before .direct2 .result) (c .before .before .before .before .before .before .before .before .before .before .before .direct .result) (directAt (cellsOf (s .pre .0 .0)) (a .work .now) (a .m) (a .v) true) (directAt (cellsOf (s .pre .0 .0)) (a .work .now) (a .m) (a .v) false) (c .before .before .before .before .before .before .invert2 .result) (c .before .before .before .before .before .sooner2 .result) (s .pre .0 .1 .inverter) (c .before .before .before .before .before .before .before .before .before .direct2 .ensures (s .pre .0 .0) (s .pre .0 .1 .built)) (c .before .before .before .before .before .before .before .before .before .before .before .direct .ensures (s .pre .0 .0) (s .pre .0 .1 .built)) (c .before .before .before .before .before .before .invert2 .ensures) (c .before .before .before .before .before .sooner2 .ensures))) (turn-fit (s .pre .0 .0) (s .pre .0 .1 .built .usable) (a .work .now) (a .m) 1073741823 (s .pre .1 .cuts) (s .pre .1 .early) (a .v) (s .pre .2) true .fit))
+    (r, s .pre .2, subst PhaseFits (sym (sooner-is (cellsOf (s .pre .0 .0)) (a .inv) (c .before .before .before .before .before .before .before .before .before .direct2 .result) (c .before .before .before .before .before .before .before .before .before .before .before .direct .result) (directAt (cellsOf (s .pre .0 .0)) (a .work .now) (a .m) (a .v) true) (directAt (cellsOf (s .pre .0 .0)) (a .work .now) (a .m) (a .v) false) (c .before .before .before .before .before .before .invert2 .result) (c .before .before .before .before .before .sooner2 .result) (s .pre .0 .1 .inverter) (c .before .before .before .before .before .before .before .before .before .direct2 .ensures (s .pre .0 .0) (s .pre .0 .1 .built)) (c .before .before .before .before .before .before .before .before .before .before .before .direct .ensures (s .pre .0 .0) (s .pre .0 .1 .built)) (c .before .before .before .before .before .before .invert2 .ensures) (c .before .before .before .before .before .sooner2 .ensures))) (turn-fit (s .pre .0 .0) (s .pre .0 .1 .built .usable) (a .work .now) (a .m) 1073741823 (s .pre .1 .cuts) (s .pre .1 .late) (s .pre .1 .early) (a .v) (s .pre .2) true .fit))
 
 same-length : tie.Need-same-length
 same-length c = search needs

@@ -24,7 +24,7 @@ module _ (cells : List Cell) (w : List ℕ) (m v : ℕ) (neg : Bool) where
   unfolding directAt nodeAt directOf
   of-and e = sym (ap (λ (k : ℕ). directOf cells w m v neg (nodeOf k (leftAt w m v) (rightAt w m v))) e)
 
-  of-input : kindAt w m v ≡ inputKind → ownPhase neg ≡ directAt cells w m v neg
+  of-input : kindAt w m v ≡ inputKind → ownPhase w m v neg ≡ directAt cells w m v neg
   unfolding directAt nodeAt directOf
   of-input e = sym (ap (λ (k : ℕ). directOf cells w m v neg (nodeOf k (leftAt w m v) (rightAt w m v))) e)
 
@@ -39,7 +39,7 @@ best-phase-requires : tie.Need-best-phase-requires
 best-phase-requires c κs = search needs
 
 own-requires : tie.Need-own-requires
-own-requires c κs = search needs
+own-requires c κs = let s = c .before .before .before in (s .pre .1 .cuts .room, s .pre .2)
 
 nothing-requires : tie.Need-nothing-requires
 nothing-requires c κs = search needs

@@ -18,7 +18,7 @@ enum-known-n c = search needs
 slice-reshare-prefix-write-all : tie.Need-slice-reshare-prefix-write-all
 slice-reshare-prefix-write-all c =
     let at-map-texts = c .before .before .before .before .before .before .before in
-    let text = at-map-texts .before .before .before .before .before .before .before .args .text .now in
+    let text = at-map-texts .before .before .before .before .before .before .before .before .args .text .now in
     let n = c .before .n .given in
     let h : n .0 .0 ≤ length text = subst (λ (a : Answer). Fits a (length text)) (n .1) (at-map-texts .map-texts .ensures .1 .1 .1 .0) in
     omega arith
@@ -26,10 +26,10 @@ slice-reshare-prefix-write-all c =
 slice-aggregate-write-all : tie.Need-slice-aggregate-write-all
 slice-aggregate-write-all c =
     let at-map-texts = c .before .before .before .before .before .before .before .before in
-    let text = at-map-texts .before .before .before .before .before .before .before .args .text .now in
+    let text = at-map-texts .before .before .before .before .before .before .before .before .args .text .now in
     let n = c .before .before .n .given in
     let h : n .0 .0 ≤ length text = subst (λ (a : Answer). Fits a (length text)) (n .1) (at-map-texts .map-texts .ensures .1 .1 .1 .0) in
-    omega (arith, length-take (n .0 .0) (at-map-texts .map-texts .last .1 .1 .1 .0))
+    omega (arith, length-take (n .0 .0) (at-map-texts .map-texts .last .1 .1 .1 .1 .0))
 
 write-all-requires : tie.Need-write-all-requires
 write-all-requires c κs = search needs

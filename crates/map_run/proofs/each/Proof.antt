@@ -1,11 +1,15 @@
 -- `map_run::each` is safe: each case begins within the input, and the memory lent keeps its length. Assumes nothing.
 use borrow.Author.Needs.{needs}
 use mathlib.Core.Path.{_≡_}
-use Prim.Native.Nat.{_≤_, _-_}
+use Prim.Native.Nat.{ℕ, _≤_, _+_, _-_}
 use native.Mathlib.Omega.{arith}
 use lib.ListN.{length}
 use Rattle.map_run.proofs.each.Statement.{statement}
 use Rattle.map_run.proofs.each.Tie as tie
+
+-- a place that is not the end is before it
+inside : {d n : ℕ} → d ≤ n → (d ≡ n → ⊥) → d + 1 ≤ n
+inside l ne = omega arith
 
 abbrev Inv-loop : tie.InvT-loop
 Inv-loop s work₀ text₀ from₀ work text from = (from ≤ length s) × (length work ≡ length work₀) × (length text ≡ length text₀)
@@ -58,6 +62,21 @@ same-length-6 c = omega arith
 returns-3 : tie.Need-returns-3 Inv-loop μ-loop
 returns-3 c = search needs
 
+add-end-3 : tie.Need-add-end-3 Inv-loop μ-loop
+add-end-3 c = search needs
+
+end-requires-4 : tie.Need-end-requires-4 Inv-loop μ-loop
+end-requires-4 c κs = search needs
+
+same-length-7 : tie.Need-same-length-7 Inv-loop μ-loop
+same-length-7 c = omega arith
+
+same-length-8 : tie.Need-same-length-8 Inv-loop μ-loop
+same-length-8 c = omega arith
+
+returns-4 : tie.Need-returns-4 Inv-loop μ-loop
+returns-4 c = search needs
+
 sub-map-with : tie.Need-sub-map-with Inv-loop μ-loop
 sub-map-with c = search needs
 
@@ -91,6 +110,18 @@ part-map-with-start-3 c = search needs
 part-map-with-end-3 : tie.Need-part-map-with-end-3 Inv-loop μ-loop
 part-map-with-end-3 c = search needs
 
+add-map-with-3 : tie.Need-add-map-with-3 Inv-loop μ-loop
+add-map-with-3 c = search needs
+
+sub-map-with-4 : tie.Need-sub-map-with-4 Inv-loop μ-loop
+sub-map-with-4 c = search needs
+
+part-map-with-start-4 : tie.Need-part-map-with-start-4 Inv-loop μ-loop
+part-map-with-start-4 c = search needs
+
+part-map-with-end-4 : tie.Need-part-map-with-end-4 Inv-loop μ-loop
+part-map-with-end-4 c = search needs
+
 map-with-requires : tie.Need-map-with-requires Inv-loop μ-loop
 map-with-requires c κs = search needs
 
@@ -98,19 +129,25 @@ add-from : tie.Need-add-from Inv-loop μ-loop
 add-from c = search needs
 
 loop-less : tie.Need-loop-less Inv-loop μ-loop
-loop-less c = omega (arith, c .before .before .before .before .before .before .before .before .before .before .before .before .before .before .before .end .ensures .1, c .before .before .before .before .before .before .before .before .before .before .before .before .before .end2 .ensures .1, c .before .before .before .before .before .before .before .before .before .before .before .end3 .ensures .1, c .before .before .before .before .before .before .before .before .before .before .before .end3 .ensures .2)
+loop-less c =
+    let at-end4 = c .before .before .before .before .before .before .before .before .before .before .before .before in
+    let at-end3 = at-end4 .before .before in
+    let at-end2 = at-end3 .before .before in
+    omega (arith, at-end2 .before .before .end .ensures .1, at-end2 .end2 .ensures .1, at-end3 .end3 .ensures .1, at-end4 .end4 .ensures .1, at-end4 .end4 .ensures .2)
 
 loop-again : tie.Need-loop-again Inv-loop μ-loop
-loop-again c = search needs
+loop-again c =
+    let at-end4 = c .before .before .before .before .before .before .before .before .before .before .before .before in
+    (inside (at-end4 .end4 .ensures .2) (c .before .before .before .before .before .before .before .before .before .before .before .if4 .left), omega arith, omega arith)
 
-same-length-7 : tie.Need-same-length-7 Inv-loop μ-loop
-same-length-7 c = omega arith
+same-length-9 : tie.Need-same-length-9 Inv-loop μ-loop
+same-length-9 c = omega arith
 
-same-length-8 : tie.Need-same-length-8 Inv-loop μ-loop
-same-length-8 c = omega arith
+same-length-10 : tie.Need-same-length-10 Inv-loop μ-loop
+same-length-10 c = omega arith
 
-returns-4 : tie.Need-returns-4 Inv-loop μ-loop
-returns-4 c = search needs
+returns-5 : tie.Need-returns-5 Inv-loop μ-loop
+returns-5 c = search needs
 
 pub each-spec : {M : Type 1} → statement M
 each-spec =
@@ -133,6 +170,11 @@ each-spec =
     same-length-5
     same-length-6
     returns-3
+    add-end-3
+    end-requires-4
+    same-length-7
+    same-length-8
+    returns-4
     sub-map-with
     part-map-with-start
     part-map-with-end
@@ -144,10 +186,14 @@ each-spec =
     sub-map-with-3
     part-map-with-start-3
     part-map-with-end-3
+    add-map-with-3
+    sub-map-with-4
+    part-map-with-start-4
+    part-map-with-end-4
     map-with-requires
     add-from
     loop-less
     loop-again
-    same-length-7
-    same-length-8
-    returns-4)
+    same-length-9
+    same-length-10
+    returns-5)

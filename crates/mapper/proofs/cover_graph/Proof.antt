@@ -1,5 +1,4 @@
 -- `mapper::cover_graph` meets its contract: the choice, 17, and the marking, each from what the one before left. Assumes nothing.
-use native.Mathlib.Omega.{arith}
 use Rattle.cover.proofs.Choices.{choose-asked}
 use Rattle.mapper.proofs.Turns.{told-as, chosen-outputs, chosen-asks, cover-mapped, cover-goes, cover-stops}
 use borrow.Author.Needs.{needs}
@@ -10,7 +9,7 @@ choose-requires : tie.Need-choose-requires
 choose-requires c κs =
     let s = c .before .before .before in
     let p = s .pre in
-    choose-asked (s .args .work .now) (s .args .lib) (s .args .h) (p .0) (p .1 .given .header) (p .1 .held) (p .1 .given .library .usable) (λ i a b. p .1 .zero i (omega arith) b)
+    choose-asked (s .args .work .now) (s .args .lib) (s .args .h) (p .0) (p .1 .given .header) (p .1 .held) (p .1 .given .library .usable) (p .1 .unchosen)
 
 uncovered-requires : tie.Need-uncovered-requires
 uncovered-requires c κs =

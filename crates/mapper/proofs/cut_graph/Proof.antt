@@ -1,5 +1,5 @@
 -- `mapper::cut_graph` meets its contract: the cuts, then the cover, or 16. Assumes nothing.
-use Rattle.mapper.proofs.Turns.{told-as, placed-asks, cuts-cut, cuts-go, cuts-stop}
+use Rattle.mapper.proofs.Turns.{told-as, timed-asks, cuts-cut, cuts-go, cuts-stop}
 use borrow.Author.Needs.{needs}
 use Rattle.mapper.proofs.cut_graph.Statement.{statement}
 use Rattle.mapper.proofs.cut_graph.Tie as tie
@@ -7,7 +7,7 @@ use Rattle.mapper.proofs.cut_graph.Tie as tie
 enumerate-requires : tie.Need-enumerate-requires
 enumerate-requires c κs =
     let s = c .before .before .before in
-    placed-asks (s .args .work .now) (s .args .lib) (s .args .h) (s .pre .0) (s .pre .1)
+    timed-asks (s .args .work .now) (s .args .lib) (s .args .h) (s .pre .0) (s .pre .1)
 
 enum-told : tie.Need-enum-told
 enum-told c = search needs

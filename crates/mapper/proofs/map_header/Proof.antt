@@ -19,7 +19,7 @@ need-words-requires : tie.Need-need-words-requires
 need-words-requires c κs =
     let at-h = c .before in
     let at-header = at-h .before .before in
-    let start = at-header .before .before .before .before in
+    let start = at-header .before .before .before .before .before in
     let f = header-fits (start .args .graph .now) (at-h .h .given .0 .0) (header-read _ _ (sym (at-header .header .ensures .0) ∙ at-h .h .given .1)) in
     omega (arith, f .size, f .outputs)
 
@@ -28,15 +28,15 @@ returns c =
     let at-need-words = c .before in
     let at-h = at-need-words .before .before in
     let at-header = at-h .before .before in
-    let args = at-header .before .before .before .before .args in
-    header-short (args .lib) (args .graph .now) (args .work .now) (args .text .now) (at-h .h .given .0 .0) (header-read _ _ (sym (at-header .header .ensures .0) ∙ at-h .h .given .1)) (omega (arith, at-need-words .need-words .ensures))
+    let args = at-header .before .before .before .before .before .args in
+    header-short (args .lib) (args .graph .now) (args .arrivals .now) (args .work .now) (args .text .now) (at-h .h .given .0 .0) (header-read _ _ (sym (at-header .header .ensures .0) ∙ at-h .h .given .1)) (omega (arith, at-need-words .need-words .ensures))
 
 load-graph-requires : tie.Need-load-graph-requires
 load-graph-requires c κs =
     let at-need-words = c .before .before .before in
     let at-h = at-need-words .before .before in
     let at-header = at-h .before .before in
-    (at-header .before .before .before .before .pre, (header-read _ _ (sym (at-header .header .ensures .0) ∙ at-h .h .given .1)), omega (arith, at-need-words .need-words .ensures))
+    (at-header .before .before .before .before .before .pre, (header-read _ _ (sym (at-header .header .ensures .0) ∙ at-h .h .given .1)), omega (arith, at-need-words .need-words .ensures))
 
 clear-all-requires : tie.Need-clear-all-requires
 clear-all-requires c κs = search needs
@@ -57,16 +57,16 @@ returns-2 c =
     let at-need-words = at-load-graph .before .before .before .before in
     let at-h = at-need-words .before .before in
     let at-header = at-h .before .before in
-    let args = at-header .before .before .before .before .args in
+    let args = at-header .before .before .before .before .before .args in
     let g = at-load-graph .load-graph in
-    header-done (args .lib) (args .graph .now) (args .work .now) (args .text .now) (at-h .h .given .0 .0) (header-read _ _ (sym (at-header .header .ensures .0) ∙ at-h .h .given .1)) (omega (arith, at-need-words .need-words .ensures)) _ _ (g .last .1 .1 .1 .0) _ (g .ensures) (omega arith) (at-clear-all .clear-all .ensures)
+    header-done (args .lib) (args .graph .now) (args .arrivals .now) (args .work .now) (args .text .now) (at-h .h .given .0 .0) (header-read _ _ (sym (at-header .header .ensures .0) ∙ at-h .h .given .1)) (omega (arith, at-need-words .need-words .ensures)) _ _ (g .last .1 .1 .1 .1 .0) _ (g .ensures) (omega arith) (at-clear-all .clear-all .ensures)
 
 returns-3 : tie.Need-returns-3
 returns-3 c =
     let at-number = c .before in
     let at-header = at-number .before .before in
-    let args = at-header .before .before .before .before .args in
-    header-stops (args .lib) (args .graph .now) (args .work .now) (args .text .now) (at-header .header .result) (at-header .header .ensures .0) _ _ (at-number .number .given .1)
+    let args = at-header .before .before .before .before .before .args in
+    header-stops (args .lib) (args .graph .now) (args .arrivals .now) (args .work .now) (args .text .now) (at-header .header .result) (at-header .header .ensures .0) _ _ (at-number .number .given .1)
 
 pub map-header-spec : {M : Type 1} → statement M
 map-header-spec =

@@ -2,29 +2,35 @@
 -- Assumes nothing.
 use native.Mathlib.Omega.{arith}
 use Rattle.model.specs.Mapper.{Call, callOf}
-use Rattle.model.specs.Demands.{Values, Earliest, Twins, Sequenced, EitherEnd}
-use Rattle.theory.proofs.Demanded.{demand-values, demand-earliest, demand-twins}
+use Rattle.model.specs.Demands.{Values, Earliest, Twins, Sequenced, EitherEnd, Untimed, Listed}
+use Rattle.theory.proofs.Demanded.{demand-values, demand-earliest, demand-twins, demand-untimed}
 use Rattle.theory.proofs.Sequence.{demand-sequenced}
 use Rattle.theory_text.proofs.Ends.{demand-ends}
+use Rattle.theory_text.proofs.Arrivals.{texts-listed}
 use Rattle.mapper.proofs.Ends.{left-as}
-use Rattle.mapper.proofs.Whole.{memory-of, memory-fits, long-library, long-graph, library-stops, library-read}
+use Rattle.mapper.proofs.Whole.{memory-of, memory-fits, long-text, library-stops, library-read}
 use borrow.Author.Needs.{needs}
 use Rattle.mapper.proofs.map_texts.Statement.{statement}
 use Rattle.mapper.proofs.map_texts.Tie as tie
 
 -- the clauses behind demand 1, which hold of every call
-abbrev demanded : (c : Call) {A : Type 0} → A → Values c × (Earliest c × (A × (Twins c × (Sequenced c × EitherEnd c))))
-demanded c fits = (demand-values c, (demand-earliest c, (fits, (demand-twins c, (demand-sequenced c, demand-ends c)))))
+abbrev demanded : (c : Call) {A : Type 0} → A → Values c × (Earliest c × (A × (Twins c × (Sequenced c × (EitherEnd c × (Untimed c × Listed c))))))
+demanded c fits = (demand-values c, (demand-earliest c, (fits, (demand-twins c, (demand-sequenced c, (demand-ends c, (demand-untimed c, texts-listed c)))))))
 
 returns : tie.Need-returns
 returns c =
-    let s = c .before .before .before .before .before .args in
-    (long-library (s .cells .now) (s .graph .now) (s .work .now) (s .text .now) (omega arith), demanded (callOf (s .cells .now) (s .graph .now) (s .work .now) (s .text .now)) tt)
+    let s = c .before .before .before .before .before .before .args in
+    (long-text (s .cells .now) (s .graph .now) (s .arrivals .now) (s .work .now) (s .text .now) (λ x y z. omega arith), demanded (callOf (s .cells .now) (s .graph .now) (s .arrivals .now) (s .work .now) (s .text .now)) tt)
 
 returns-2 : tie.Need-returns-2
 returns-2 c =
-    let s = c .before .before .before .before .before .before .args in
-    (long-graph (s .cells .now) (s .graph .now) (s .work .now) (s .text .now) (omega arith), demanded (callOf (s .cells .now) (s .graph .now) (s .work .now) (s .text .now)) tt)
+    let s = c .before .before .before .before .before .before .before .args in
+    (long-text (s .cells .now) (s .graph .now) (s .arrivals .now) (s .work .now) (s .text .now) (λ x y z. omega arith), demanded (callOf (s .cells .now) (s .graph .now) (s .arrivals .now) (s .work .now) (s .text .now)) tt)
+
+returns-3 : tie.Need-returns-3
+returns-3 c =
+    let s = c .before .before .before .before .before .before .before .before .args in
+    (long-text (s .cells .now) (s .graph .now) (s .arrivals .now) (s .work .now) (s .text .now) (λ x y z. omega arith), demanded (callOf (s .cells .now) (s .graph .now) (s .arrivals .now) (s .work .now) (s .text .now)) tt)
 
 read-requires : tie.Need-read-requires
 read-requires c κs = search needs
@@ -36,8 +42,8 @@ map-header-requires : tie.Need-map-header-requires
 map-header-requires c κs =
     let t = c .before .before .before in
     let l = t .before .before .read in
-    let s = t .before .before .before .before .before .before .before .before .before .args in
-    library-read (s .cells .now) (s .graph .now) (s .work .now) (s .text .now) (omega arith) (omega arith) (l .result) (l .ensures .0) (t .enum-told .given .1) .ok
+    let s = t .before .before .before .before .before .before .before .before .before .before .before .args in
+    library-read (s .cells .now) (s .graph .now) (s .arrivals .now) (s .work .now) (s .text .now) (omega arith) (omega arith) (omega arith) (l .result) (l .ensures .0) (t .enum-told .given .1) .ok
 
 enum-known-v : tie.Need-enum-known-v
 enum-known-v c = search needs
@@ -48,23 +54,23 @@ same-length c = search needs
 same-length-2 : tie.Need-same-length-2
 same-length-2 c = search needs
 
-returns-3 : tie.Need-returns-3
-returns-3 c =
+returns-4 : tie.Need-returns-4
+returns-4 c =
     let h = c .before .before .before .before .map-header in
     let t = c .before .before .before .before .before .before .before .before in
     let l = t .before .before .read in
-    let s = t .before .before .before .before .before .before .before .before .before .args in
-    let call = callOf (s .cells .now) (s .graph .now) (s .work .now) (s .text .now) in
-    let r = library-read (s .cells .now) (s .graph .now) (s .work .now) (s .text .now) (omega arith) (omega arith) (l .result) (l .ensures .0) (t .enum-told .given .1) in
-    let m = memory-of call (s .work .now) (s .text .now) (h .result) (h .last .1 .1 .0) (h .last .1 .1 .1 .0) (left-as (r .goes) (h .ensures)) in
-    (m, demanded call (memory-fits call (s .work .now) (s .text .now) (h .result) (h .last .1 .1 .0) (h .last .1 .1 .1 .0) m))
+    let s = t .before .before .before .before .before .before .before .before .before .before .before .args in
+    let call = callOf (s .cells .now) (s .graph .now) (s .arrivals .now) (s .work .now) (s .text .now) in
+    let r = library-read (s .cells .now) (s .graph .now) (s .arrivals .now) (s .work .now) (s .text .now) (omega arith) (omega arith) (omega arith) (l .result) (l .ensures .0) (t .enum-told .given .1) in
+    let m = memory-of call (s .work .now) (s .text .now) (h .result) (h .last .1 .1 .1 .0) (h .last .1 .1 .1 .1 .0) (left-as (r .goes) (h .ensures)) in
+    (m, demanded call (memory-fits call (s .work .now) (s .text .now) (h .result) (h .last .1 .1 .1 .0) (h .last .1 .1 .1 .1 .0) m))
 
-returns-4 : tie.Need-returns-4
-returns-4 c =
+returns-5 : tie.Need-returns-5
+returns-5 c =
     let l = c .before .before .before .read in
-    let s = c .before .before .before .before .before .before .before .before .before .before .args in
-    let call = callOf (s .cells .now) (s .graph .now) (s .work .now) (s .text .now) in
-    (library-stops (s .cells .now) (s .graph .now) (s .work .now) (s .text .now) (omega arith) (omega arith) (l .result) (l .ensures .0) _ _ (c .before .v .given .1), demanded call tt)
+    let s = c .before .before .before .before .before .before .before .before .before .before .before .before .args in
+    let call = callOf (s .cells .now) (s .graph .now) (s .arrivals .now) (s .work .now) (s .text .now) in
+    (library-stops (s .cells .now) (s .graph .now) (s .arrivals .now) (s .work .now) (s .text .now) (omega arith) (omega arith) (omega arith) (l .result) (l .ensures .0) _ _ (c .before .v .given .1), demanded call tt)
 
 pub map-texts-spec : {M : Type 1} → statement M
 map-texts-spec =
@@ -72,11 +78,12 @@ map-texts-spec =
     (tie.spec
     returns
     returns-2
+    returns-3
     read-requires
     enum-told
     map-header-requires
     enum-known-v
     same-length
     same-length-2
-    returns-3
-    returns-4)
+    returns-4
+    returns-5)

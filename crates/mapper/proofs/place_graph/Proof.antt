@@ -1,23 +1,41 @@
--- `mapper::place_graph` meets its contract: the placing order, then the cuts, or 15. Assumes nothing.
+-- `mapper::place_graph` meets its contract: the placing order and the arrivals, then the cuts, or 25, 26 or 15. Assumes nothing.
 use Rattle.mapper.proofs.Handing.{loaded-asks}
-use Rattle.mapper.proofs.Turns.{told-as, placing-placed, placing-goes, placing-stops}
+use Rattle.mapper.proofs.Turns.{told-as, placing-lists, times-stop, placing-stops, placing-timed}
 use borrow.Author.Needs.{needs}
 use Rattle.mapper.proofs.place_graph.Statement.{statement}
 use Rattle.mapper.proofs.place_graph.Tie as tie
 
 place-requires : tie.Need-place-requires
 place-requires c κs =
-    let s = c .before .before .before in
-    loaded-asks (s .args .work .now) (s .args .lib) (s .args .h) (s .pre .0) (s .pre .1)
+    let start = c .before .before .before .before in
+    loaded-asks (start .args .work .now) (start .args .lib) (start .args .h) (start .pre .0) (start .pre .1)
+
+read-requires : tie.Need-read-requires
+read-requires c κs =
+    let at-place = c .before .before .before in
+    let start = at-place .before .before .before .before .before in
+    let r = at-place .place in
+    placing-lists (start .args .work .now) (start .args .lib) (start .args .h) (start .pre .0) (start .pre .1) (r .result) (r .ensures .0) (r .last .0) (r .ensures .1)
 
 enum-told : tie.Need-enum-told
 enum-told c = search needs
 
+enum-told-2 : tie.Need-enum-told-2
+enum-told-2 c = search needs
+
 cut-graph-requires : tie.Need-cut-graph-requires
 cut-graph-requires c κs =
-    let s = c .before .before .before .before .before .before .before .before .before .before in
-    let r = c .before .before .before .before .before .before .place in
-    (s .pre .0, placing-placed (s .args .work .now) (s .args .lib) (s .args .h) (s .pre .0) (s .pre .1) (r .result) (r .ensures .0) (c .before .before .enum-told .given .1) (r .last .0) (r .ensures .1))
+    let at-read = c .before .before .before .before .before .before .before .before in
+    let at-place = at-read .before .before .before .before in
+    let start = at-place .before .before .before .before .before in
+    let args = start .args in
+    let r = at-place .place in
+    let u = at-read .read in
+    let d = placing-timed (args .work .now) (args .lib) (args .h) (start .pre .0) (start .pre .1) (r .result) (r .ensures .0) (r .last .0) (r .ensures .1) (args .arrivals .now) (u .result) (u .ensures .0) (c .before .before .before .before .enum-told .given .1) (c .before .before .enum-told2 .given .1) (u .last .1 .1 .0) (u .ensures .1 .1) in
+    (d .graph, d .timed)
+
+enum-known-placed : tie.Need-enum-known-placed
+enum-known-placed c = search needs
 
 enum-known-number : tie.Need-enum-known-number
 enum-known-number c = search needs
@@ -30,32 +48,55 @@ same-length-2 c = search needs
 
 returns : tie.Need-returns
 returns c =
-    let s = c .before .before .before .before .before .before .before .before .before .before .before .before .before .before .before in
-    let r = c .before .before .before .before .before .before .before .before .before .before .before .place in
-    let a = c .before .before .before .before .before .before .before .enum-told .given .1 in
+    let at-cut = c .before .before .before .before in
+    let at-read = at-cut .before .before .before .before .before .before .before .before .before in
+    let at-place = at-read .before .before .before .before in
+    let args = at-place .before .before .before .before .before .args in
+    let r = at-place .place in
+    let u = at-read .read in
     λ g l.
-    told-as (placing-goes (s .args .work .now) (s .args .lib) (s .args .h) g l (r .result) (r .ensures .0) a _)
-    (c .before .before .before .before .cut-graph .ensures g (placing-placed (s .args .work .now) (s .args .lib) (s .args .h) g l (r .result) (r .ensures .0) a (r .last .0) (r .ensures .1)))
+    let d = placing-timed (args .work .now) (args .lib) (args .h) g l (r .result) (r .ensures .0) (r .last .0) (r .ensures .1) (args .arrivals .now) (u .result) (u .ensures .0) (at-cut .before .before .before .before .before .enum-told .given .1) (at-cut .before .before .before .enum-told2 .given .1) (u .last .1 .1 .0) (u .ensures .1 .1) in
+    told-as (d .outcome _) (at-cut .cut-graph .ensures (d .graph) (d .timed))
 
 same-length-3 : tie.Need-same-length-3
 same-length-3 c = search needs
 
 returns-2 : tie.Need-returns-2
 returns-2 c =
-    let s = c .before .before .before .before .before .before .before .before .before in
-    let r = c .before .before .before .before .before .place in
-    λ g l. placing-stops (s .args .work .now) (s .args .lib) (s .args .h) g l (r .result) (r .ensures .0) _ _ (c .before .number .given .1) (s .args .text .now)
+    let at-read = c .before .before .before .before .before .before .before in
+    let at-place = at-read .before .before .before .before in
+    let args = at-place .before .before .before .before .before .args in
+    let r = at-place .place in
+    let u = at-read .read in
+    λ g l. placing-stops (args .work .now) (args .lib) (args .h) g l (r .result) (r .ensures .0) (r .last .0) (r .ensures .1) (args .arrivals .now) (u .result) (u .ensures .0) (c .before .before .before .enum-told .given .1) _ _ (c .before .placed .given .1) (args .text .now)
+
+same-length-4 : tie.Need-same-length-4
+same-length-4 c = search needs
+
+returns-3 : tie.Need-returns-3
+returns-3 c =
+    let at-read = c .before .before .before .before .before in
+    let at-place = at-read .before .before .before .before in
+    let args = at-place .before .before .before .before .before .args in
+    let r = at-place .place in
+    let u = at-read .read in
+    λ g l. times-stop (args .work .now) (args .lib) (args .h) g l (r .result) (r .ensures .0) (r .last .0) (r .ensures .1) (args .arrivals .now) (u .result) (u .ensures .0) _ _ (c .before .number .given .1) (args .text .now)
 
 pub place-graph-spec : {M : Type 1} → statement M
 place-graph-spec =
     tie.close
     (tie.spec
     place-requires
+    read-requires
     enum-told
+    enum-told-2
     cut-graph-requires
+    enum-known-placed
     enum-known-number
     same-length
     same-length-2
     returns
     same-length-3
-    returns-2)
+    returns-2
+    same-length-4
+    returns-3)

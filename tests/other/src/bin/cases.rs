@@ -14,15 +14,20 @@ struct Cases {
 
 impl Cases {
     fn add(&mut self, cells: &str, graph: impl AsRef<[u8]>, words: usize, bytes: usize) {
+        self.add_late(cells, graph, "", words, bytes);
+    }
+
+    /// The parts of a case: what is lent, the library, the graph and the arrivals.
+    fn add_late(&mut self, cells: &str, graph: impl AsRef<[u8]>, arrivals: &str, words: usize, bytes: usize) {
         let graph = graph.as_ref();
         let lent = format!("{} {} {} {}", words / 16, words % 16, bytes / 16, bytes % 16);
-        for part in [lent.as_bytes(), cells.as_bytes(), graph] {
+        for part in [lent.as_bytes(), cells.as_bytes(), graph, arrivals.as_bytes()] {
             // Byte 0 ends a part, so a binary graph has none.
             assert!(!part.contains(&0));
             self.input.extend_from_slice(part);
             self.input.push(0);
         }
-        let (a, netlist) = map(cells.as_bytes(), graph, words, bytes);
+        let (a, netlist) = map(cells.as_bytes(), graph, arrivals.as_bytes(), words, bytes);
         let line = format!("{} {} {} {} {} \n", a.number, a.value, a.gates, a.area, a.arrival);
         self.printed.extend_from_slice(line.as_bytes());
         self.printed.extend_from_slice(&netlist);
@@ -164,6 +169,36 @@ fn main() {
         "aig 3 2 0 1 1\n6\r\n\x02\x02",
     ] {
         c.add(&library, graph, 32768, 65536);
+    }
+    // late inputs: the index in the file's order, a tie and a choice that turn, the first line alone; 25 and 26 at each of
+    // their places, and beside 14, 15, 17 and 18
+    let nor_at_40 = with("nor2 2 0001 2 40 40 0 0");
+    for lines in [
+        "",
+        "0 5\n",
+        "1 5\n",
+        "1 65535\n0 0\n",
+        "0 7\r\n1 7\n",
+        "0 0\n0 0\n",
+        "2 0\n",
+        "1 3\n0 07\n",
+        "0 1\n1",
+        "x\n2 0\n",
+        "2 0\nx\n",
+    ] {
+        let arrivals = format!("input arrival\n{lines}");
+        c.add_late(&library, b, &arrivals, need, 137);
+        c.add_late(&nor_at_40, nor, &arrivals, 32768, 65536);
+        c.add_late(&library, "aag 3 2 0 3 1\n4\n2\n6\n3\n4\n6 2 4\n", &arrivals, 32768, 65536);
+        c.add_late(&library, b_in_binary, &arrivals, 32768, 65536);
+    }
+    for arrivals in ["x", "input arrival", "input arrival\r\n", "input arrival\n9 9\n"] {
+        c.add_late(&library, b, arrivals, 32768, 65536);
+        c.add_late(&library, b, arrivals, 32768, 10);
+        c.add_late(&library, b, arrivals, 0, 65536);
+        c.add_late(&library, "aag 4 2 0 1 1\n2\n4\n8\n6 2 4\n", arrivals, 32768, 65536);
+        c.add_late(&library, "aag 2 0 0 0 2\n2 4 4\n4 2 2\n", arrivals, 32768, 65536);
+        c.add_late(&library, "aag 1 1 0 1 0\n2\n0\n", arrivals, 32768, 65536);
     }
     // outputs that repeat, that are inputs, constants and complements; names of one to three digits; 18 in what the program lends
     c.add(&library, "aag 3 2 0 4 1\n2\n4\n7\n6\n6\n7\n6 2 4\n", 32768, 65536);

@@ -83,7 +83,7 @@ impl<T: Copy + PartialEq> Memory<T> {
 
 #[derive(Default)]
 struct Tally {
-    counts: [u64; 22],
+    counts: [u64; 27],
     reference: Duration,
     ours: Duration,
 }
@@ -103,7 +103,7 @@ const MOST_WORDS: usize = WORDS_EACH * 4_096 + 4_096 + 2_000;
 fn compare(case: &Case, rng: &mut Rng, tally: &mut Tally) -> Result<(), Difference> {
     let words = case.words.of(reference::words_needed(&case.graph).unwrap_or(64)).min(MOST_WORDS);
     let start = Instant::now();
-    let printed = reference::print_all(&case.cells, &case.graph, words);
+    let printed = reference::print_all(&case.cells, &case.graph, &case.arrivals, words);
     tally.reference += start.elapsed();
     let length = printed.as_ref().map_or(64, |printed| printed.text.len());
     let text_len = case.text.of(length);
@@ -125,7 +125,7 @@ fn compare(case: &Case, rng: &mut Rng, tally: &mut Tally) -> Result<(), Differen
     } else {
         checks::as_expected(case, &wanted).err()
     };
-    tally.counts[wanted.number.min(21) as usize] += 1;
+    tally.counts[wanted.number as usize] += 1;
     match wrong {
         None => Ok(()),
         Some(wrong) => {
@@ -137,14 +137,14 @@ fn compare(case: &Case, rng: &mut Rng, tally: &mut Tally) -> Result<(), Differen
 
 #[cfg(not(feature = "mutants"))]
 fn behind_the_boundary(case: &Case, work: &mut [u16], text: &mut [u8]) -> Answer {
-    ours::map(&case.cells, &case.graph, work, text)
+    ours::map(&case.cells, &case.graph, &case.arrivals, work, text)
 }
 
 /// The mistake is switched on only behind the boundary.
 #[cfg(feature = "mutants")]
 fn behind_the_boundary(case: &Case, work: &mut [u16], text: &mut [u8]) -> Answer {
     other::mutants::switch(MUTANT.with(|mutant| mutant.get()));
-    let answer = ours::map(&case.cells, &case.graph, work, text);
+    let answer = ours::map(&case.cells, &case.graph, &case.arrivals, work, text);
     other::mutants::switch(0);
     answer
 }
@@ -155,8 +155,8 @@ thread_local! {
 }
 
 /// The marked cases' texts, every limit, every graph of two inputs and two
-/// ANDs in both forms, and every damage of a small library, a small graph and a
-/// small binary graph.
+/// ANDs in both forms, and every damage of a small library, a small graph, a small
+/// binary graph and a small arrivals text.
 fn fixed() -> Vec<Case> {
     let mut cases = gen::limits();
     let graph = |lines: &[&str]| lines.iter().map(|line| format!("{line}\n")).collect::<String>().into_bytes();
@@ -189,12 +189,16 @@ fn fixed() -> Vec<Case> {
     for damaged in gen::all_damage_of_ends(&plain) {
         cases.push(Case::new("damaged library", damaged, b.clone()));
     }
+    for damaged in gen::all_damage_of_ends(b"input arrival\n1 20\n0 7\n") {
+        cases.push(Case::new("damaged arrivals", plain.clone(), b.clone()).arrivals(damaged));
+    }
     let mut rng = Rng::new(4);
     for graph in gen::every_small_graph() {
         let count = gen::library_size(&mut rng);
         let cells = gen::library_text(&gen::library(&mut rng, count));
+        let arrivals = gen::arrivals(&mut rng, graph.inputs.len());
         cases.push(Case::new("small graph", cells.clone(), graph.text()));
-        cases.push(Case::new("small binary graph", cells, graph.binary().expect("in sequence")));
+        cases.push(Case::new("small binary graph", cells, graph.binary().expect("in sequence")).arrivals(arrivals));
     }
     let longer = graph(&["aag 5 2 0 2 2", "4", "2", "10", "7", "10 3 4", "6 10 3", "c"]);
     for damaged in gen::all_damage_of_ends(&longer) {
@@ -219,7 +223,10 @@ fn folder(path: &Path) -> Vec<Case> {
         for cells in of(".txt") {
             let what = format!("{} with {}", graph.display(), cells.display());
             let read = |name: &PathBuf| fs::read(name).expect("a text");
-            cases.push(Case::new(what, read(cells), read(graph)).words(Lent::Exact).text(Lent::Over(1)));
+            let case = Case::new(what, read(cells), read(graph)).words(Lent::Exact).text(Lent::Over(1));
+            let inputs = reference::read_graph(&case.graph, usize::MAX).map_or(0, |graph| graph.inputs.len());
+            let late = gen::arrivals(&mut Rng::new(cases.len() as u64), inputs);
+            cases.extend([case.clone(), case.arrivals(late)]);
         }
     }
     cases
@@ -244,6 +251,7 @@ fn main() {
             |name: &str, bytes: &[u8]| fs::write(options.out.join(name), bytes).expect("a text of the difference");
         write("cells.txt", &case.cells);
         write("graph.aag", &case.graph);
+        write("arrivals.txt", &case.arrivals);
         write("wanted.txt", &netlist);
         write("text-memory.bin", &text);
         let told = format!("{name}, {}\n{wrong}\nwanted {wanted:?}\ngot    {got:?}\n", case.what);
@@ -275,7 +283,7 @@ fn main() {
         }
     }
     let counts: Vec<String> =
-        tally.counts.iter().enumerate().map(|(number, count)| format!("{number}:{count}")).collect();
+        (0..22).chain([25, 26]).map(|number: usize| format!("{number}:{}", tally.counts[number])).collect();
     let all: u64 = tally.counts.iter().sum();
     println!(
         "{all} cases, {twins} of them twins, by number {}, 0 differences; reference {:.1} s, under test {:.1} s",

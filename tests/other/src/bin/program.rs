@@ -30,7 +30,7 @@ fn main() {
     let (mut texts, mut refused) = (0, 0);
     for (index, case) in cases.iter().chain([&none]).enumerate() {
         // An empty text is tried as an absent file every other time.
-        for (name, text) in [("cells.txt", &case.cells), ("graph.aag", &case.graph)] {
+        for (name, text) in [("cells.txt", &case.cells), ("graph.aag", &case.graph), ("arrivals.txt", &case.arrivals)] {
             let path = folder.join(name);
             if text.is_empty() && index % 2 == 0 {
                 let _ = fs::remove_file(path);
@@ -38,7 +38,7 @@ fn main() {
                 fs::write(path, text).expect("a text");
             }
         }
-        let (answer, netlist) = reference::map(&case.cells, &case.graph, 32_768, 65_536);
+        let (answer, netlist) = reference::map(&case.cells, &case.graph, &case.arrivals, 32_768, 65_536);
         let wanted = match answer.number {
             0 => netlist,
             number => format!("refused {number} {}\n", answer.value).into_bytes(),
@@ -53,6 +53,7 @@ fn main() {
         *(if answer.number == 0 { &mut texts } else { &mut refused }) += 1;
     }
     println!("{texts} netlists, {refused} refusals, 0 differences");
+    let _ = fs::remove_file(folder.join("arrivals.txt"));
     if let Some(graphs) = graphs {
         twins(&map, &folder, Path::new(&graphs));
     }

@@ -11,7 +11,7 @@ fn main() {
         let graph = gen::large_graph(&mut rng, top);
         let text = graph.text();
         let start = Instant::now();
-        let (answer, _) = reference::map(&cells, &text, graph.words(), 1 << 20);
+        let (answer, _) = reference::map_without_arrivals(&cells, &text, graph.words(), 1 << 20);
         let seconds = start.elapsed().as_secs_f64();
         println!("M {top}, {} ANDs: {seconds:.3} s, {answer:?}", graph.ands.len());
     }

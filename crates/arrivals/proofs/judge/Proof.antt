@@ -1,0 +1,62 @@
+-- `arrivals::judge` meets its contract: each return knows the tests that led there.
+-- Assumes nothing.
+use borrow.Author.Needs.{needs}
+use mathlib.Core.Path.{sym, _∙_}
+use native.Mathlib.Omega.{arith}
+use Rattle.arrivals.specs.Reading.{judgedAt}
+use Rattle.arrivals.proofs.Lines.{judged-over, judged-again, judged-fresh}
+use Rattle.arrivals.proofs.judge.Statement.{statement}
+use Rattle.arrivals.proofs.judge.Tie as tie
+
+read-late-requires : tie.Need-read-late-requires
+read-late-requires c κs = search needs
+
+enum-known-index : tie.Need-enum-known-index
+enum-known-index c = search needs
+
+wide-requires : tie.Need-wide-requires
+wide-requires c κs = search needs
+
+returns : tie.Need-returns
+returns c =
+    let at-wide = c .before in
+    let at-index = at-wide .before .before in
+    judged-over _ _ _ _ _ _ _ (sym (at-index .before .before .read-late .ensures) ∙ at-index .index .given .1) _ (at-wide .wide .ensures) (c .if1 .taken)
+
+element-copy-out-if2 : tie.Need-element-copy-out-if2
+element-copy-out-if2 c = search needs
+
+enum-told : tie.Need-enum-told
+enum-told c = search needs
+
+returns-2 : tie.Need-returns-2
+returns-2 c =
+    let at-if1 = c .before .before in
+    let at-wide = at-if1 .before in
+    let at-index = at-wide .before .before in
+    judged-fresh _ _ _ _ _ _ _ (sym (at-index .before .before .read-late .ensures) ∙ at-index .index .given .1) _ (at-wide .wide .ensures) (omega arith) (c .if2 .taken)
+
+returns-3 : tie.Need-returns-3
+returns-3 c =
+    let at-if1 = c .before .before in
+    let at-wide = at-if1 .before in
+    let at-index = at-wide .before .before in
+    judged-again _ _ _ _ _ _ _ (sym (at-index .before .before .read-late .ensures) ∙ at-index .index .given .1) _ (at-wide .wide .ensures) (omega arith) (c .if2 .left)
+
+returns-4 : tie.Need-returns-4
+unfolding judgedAt
+returns-4 c = rw (sym (c .before .before .read-late .ensures) ∙ c .enum-told .given .1)
+
+pub judge-spec : {M : Type 1} → statement M
+judge-spec =
+    tie.close
+    (tie.spec
+    read-late-requires
+    enum-known-index
+    wide-requires
+    returns
+    element-copy-out-if2
+    enum-told
+    returns-2
+    returns-3
+    returns-4)

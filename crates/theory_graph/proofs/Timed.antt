@@ -1,0 +1,123 @@
+-- A graph whose inputs are timed is the same graph in everything but their arrivals, and each input arrives as is listed for its place in the file.
+-- Assumes nothing.
+use Prim.Native.Nat.{ℕ, zero, suc, _<_}
+use native.Mathlib.Nat.{not-suc-le-zero, le-of-suc-le-suc}
+use mathlib.Core.Path.{_≡_, refl, sym, _∙_, ap, subst, fun-ext}
+use mathlib.Core.Bool.{Bool, false, cond}
+use mathlib.Core.List.{List, [], _∷_, map, List·Memᴰ, List·Memᴰ·head, List·Memᴰ·tail, Memᴰ·cast}
+use lib.Dec.{eqb, eqb-refl}
+use lib.ListN.{length, getD}
+use mir.Facts.{no-eqb}
+use Rattle.model.specs.Base.{orElse}
+use Rattle.model.specs.Graph.{Graph, node, placingOrder, span, unplaced, nodeValue, GraphValues}
+use Rattle.model.specs.Cuts.{cutsOf, crowded, leafBit, walk, tabulate, cutTable}
+use Rattle.model.specs.ArrivalsText.{Late, lateOf, timedBy}
+use Rattle.model.specs.Demands.{Distinct, Lists, ListedFor}
+use Rattle.theory_graph.specs.Accepted.{Accepted}
+use Rattle.theory_graph.proofs.Lists.{is-true, is-false, getD-in, map-in}
+
+-- ---- what stays
+
+module _ (g : Graph) (es : List Late) where
+  pub timed-node : (v : ℕ) → node (timedBy g es) v ≡ node g v
+  unfolding timedBy node
+  timed-node v = refl
+
+  pub timed-order : placingOrder (timedBy g es) ≡ placingOrder g
+  unfolding timedBy placingOrder
+  timed-order = refl
+
+  pub timed-unplaced : unplaced (timedBy g es) ≡ unplaced g
+  unfolding timedBy unplaced placingOrder
+  timed-unplaced = refl
+
+  pub timed-cuts : (v : ℕ) → cutsOf (timedBy g es) v ≡ cutsOf g v
+  unfolding timedBy cutsOf placingOrder node
+  timed-cuts v = refl
+
+  timed-walk : (fuel : ℕ) (cut : List ℕ) (r v : ℕ) → walk fuel (timedBy g es) cut r v ≡ walk fuel g cut r v
+  unfolding timedBy walk node
+  timed-walk zero cut r v = refl
+  timed-walk (suc fuel) cut r v = ap (λ (w : ℕ → Bool). orElse (leafBit cut 0 r v) (nodeValue (λ u. false) w v (node g v))) (fun-ext (timed-walk fuel cut r))
+
+  pub timed-table : (cut : List ℕ) (v : ℕ) → cutTable (timedBy g es) cut v ≡ cutTable g cut v
+  unfolding timedBy cutTable span
+  timed-table cut v = ap (λ (f : ℕ → Bool). tabulate f 16) (fun-ext (λ r. timed-walk (span g) cut r v))
+
+  pub timed-crowded : crowded (timedBy g es) ≡ crowded g
+  unfolding timedBy crowded cutsOf placingOrder node
+  timed-crowded = refl
+
+  pub timed-values : (setting w : ℕ → Bool) → GraphValues g setting w → GraphValues (timedBy g es) setting w
+  unfolding timedBy
+  timed-values setting w v = record { atConstant = v .atConstant; atInputs = v .atInputs; atAnds = v .atAnds }
+
+  pub timed-accepted : Accepted g → Accepted (timedBy g es)
+  unfolding timedBy unplaced placingOrder
+  timed-accepted a = record { defined = a .defined; inRange = a .inRange; used = a .used; placed = a .placed }
+
+  -- and the arrivals
+  pub timed-late : timedBy g es .late ≡ lateOf (g .inputs) es
+  unfolding timedBy
+  timed-late = refl
+
+-- "or empty for none": a graph whose inputs arrive at 0 stays as it is
+pub timed-none : (g : Graph) → (λ (v : ℕ). 0) ≡ g .late → timedBy g [] ≡ g
+unfolding timedBy lateOf
+timed-none g e = ap (λ (f : ℕ → ℕ). record { size = g .size; inputs = g .inputs; outputs = g .outputs; ands = g .ands; late = f }) e
+
+-- ---- which input arrives when
+
+-- where no number stands twice, a number has one place
+pub place-once : (xs : List ℕ) → Distinct xs → (i j : ℕ) → i < length xs → j < length xs → getD xs i 0 ≡ getD xs j 0 → i ≡ j
+place-once [] d i j h k e = absurd (not-suc-le-zero h)
+place-once (x ∷ xs) d zero zero h k e = refl
+place-once (x ∷ xs) d zero (suc j) h k e = absurd (d .0 (Memᴰ·cast e (getD-in xs j 0 (le-of-suc-le-suc k))))
+place-once (x ∷ xs) d (suc i) zero h k e = absurd (d .0 (Memᴰ·cast (sym e) (getD-in xs i 0 (le-of-suc-le-suc h))))
+place-once (x ∷ xs) d (suc i) (suc j) h k e = ap suc (place-once xs (d .1) i j (le-of-suc-le-suc h) (le-of-suc-le-suc k) e)
+
+late-here : (inputs : List ℕ) (e : Late) (es : List Late) → lateOf inputs (e ∷ es) (getD inputs (e .index) 0) ≡ e .arrival
+unfolding lateOf
+late-here inputs e es =
+    ap (λ (b : Bool). cond b (e .arrival) (lateOf inputs es (getD inputs (e .index) 0))) (is-true (eqb (getD inputs (e .index) 0) (getD inputs (e .index) 0)) (eqb-refl (getD inputs (e .index) 0)))
+
+late-past : (inputs : List ℕ) (e : Late) (es : List Late) (v : ℕ) → ¬ (v ≡ getD inputs (e .index) 0) → lateOf inputs (e ∷ es) v ≡ lateOf inputs es v
+unfolding lateOf
+late-past inputs e es v h = ap (λ (b : Bool). cond b (e .arrival) (lateOf inputs es v)) (is-false (eqb v (getD inputs (e .index) 0)) (no-eqb h))
+
+module _ (inputs : List ℕ) (once : Distinct inputs) where
+  -- the input at a listed index arrives as its line says
+  pub late-listed : (es : List Late) → ((k : ℕ) → Lists es k → k < length inputs) → Distinct (map (λ (e : Late). e .index) es) → (e : Late) → List·Memᴰ e es
+      → lateOf inputs es (getD inputs (e .index) 0) ≡ e .arrival
+  late-listed (x ∷ es) inside d e (List·Memᴰ·head q) = subst (λ (y : Late). lateOf inputs (x ∷ es) (getD inputs (y .index) 0) ≡ y .arrival) (sym q) (late-here inputs x es)
+  late-listed (x ∷ es) inside d e (List·Memᴰ·tail m) =
+      let i : Lists es (e .index) = map-in (λ (y : Late). y .index) m in
+      late-past inputs x es (getD inputs (e .index) 0)
+      (λ q. d .0 (Memᴰ·cast (sym (place-once inputs once (e .index) (x .index) (inside (e .index) (List·Memᴰ·tail i)) (inside (x .index) (List·Memᴰ·head refl)) q)) i))
+      ∙ late-listed es (λ k n. inside k (List·Memᴰ·tail n)) (d .1) e m
+
+  -- "Inputs not listed arrive at 0."
+  pub late-others : (es : List Late) → ((k : ℕ) → Lists es k → k < length inputs) → (k : ℕ) → k < length inputs → ¬ Lists es k → lateOf inputs es (getD inputs k 0) ≡ 0
+  unfolding lateOf
+  late-others [] inside k h n = refl
+  late-others (x ∷ es) inside k h n =
+      late-past inputs x es (getD inputs k 0) (λ q. n (List·Memᴰ·head (place-once inputs once k (x .index) h (inside (x .index) (List·Memᴰ·head refl)) q)))
+      ∙ late-others es (λ j m. inside j (List·Memᴰ·tail m)) k h (λ m. n (List·Memᴰ·tail m))
+
+-- nor does a variable that is no input
+pub late-elsewhere : (inputs : List ℕ) (es : List Late) → ((k : ℕ) → Lists es k → k < length inputs) → (v : ℕ) → ¬ List·Memᴰ v inputs → lateOf inputs es v ≡ 0
+unfolding lateOf
+late-elsewhere inputs [] inside v n = refl
+late-elsewhere inputs (x ∷ es) inside v n =
+    late-past inputs x es v (λ q. n (Memᴰ·cast q (getD-in inputs (x .index) 0 (inside (x .index) (List·Memᴰ·head refl)))))
+    ∙ late-elsewhere inputs es (λ k m. inside k (List·Memᴰ·tail m)) v n
+
+pub listed-for : (g : Graph) → Distinct (g .inputs) → (es : List Late) → ((k : ℕ) → Lists es k → k < length (g .inputs)) → Distinct (map (λ (e : Late). e .index) es)
+    → ListedFor (timedBy g es) es
+unfolding timedBy
+listed-for g once es inside d = record {
+  inside = inside;
+  once = d;
+  listed = late-listed (g .inputs) once es inside d;
+  others = late-others (g .inputs) once es inside;
+}

@@ -1,0 +1,221 @@
+-- The arrivals' text: what is known of the lines that are read, what they say of the graph's inputs, and that an empty text is none.
+--     late-read           an index is below I and listed once, an arrival is at most 65,535
+--     arrivals-back       and such lines that are written read back
+--     texts-listed        each listed input arrives as its line says, and the others at 0
+--     reads-untimed       with an empty arrivals' text a call reads what the library and the graph hold
+-- Assumes nothing.
+use Prim.Native.Nat.{ℕ, suc, _+_, _≤_, _<_, zero-le}
+use native.Mathlib.Omega.{arith}
+use mathlib.Core.Path.{_≡_, refl, sym, _∙_, ap, ap₂, subst, fun-ext}
+use mathlib.Core.Bool.{Bool, true, false, not, _&&_}
+use mathlib.Core.Option.{Option, some}
+use mathlib.Core.List.{List, [], _∷_, map, List·Memᴰ, List·Memᴰ·head, List·Memᴰ·tail, List·Memᴰ·not-nil, Memᴰ·cast}
+use lib.Dec.{T, eqb, leb, ltb, le→leb, lit<}
+use lib.ListN.{length, getD}
+use mir.Facts.{and-yes, ltb-yes, yes-and, yes-ltb}
+use Rattle.model.specs.Base.{all, each, elem, same, andThen, only}
+use Rattle.model.specs.Text.{Line, ended, text, decimal, linesFrom, fields, numbers}
+use Rattle.model.specs.Limits.{need}
+use Rattle.model.specs.Reading.{Read, holds, fault, next, unless, from?}
+use Rattle.model.specs.LibraryText.{readLibrary}
+use Rattle.model.specs.Graph.{Graph}
+use Rattle.model.specs.GraphText.{readHeader, readGraph, numbersLine}
+use Rattle.model.specs.ArrivalsText.{Late, lateNumbers, readLate, readLateLines, readArrivals, arrivalsText, timedBy}
+use Rattle.model.specs.Mapper.{Call, Design, readTexts}
+use Rattle.model.specs.Demands.{Distinct, readUntimed, Lists, ListedFor, Listed}
+use Rattle.model.specs.declared.Cell.{Cell}
+use Rattle.model.specs.declared.Header.{Header}
+use Rattle.theory_graph.proofs.Lists.{is-true, elem-T, elem-out}
+use Rattle.theory_graph.proofs.Distinct.{front-distinct}
+use Rattle.theory_graph.specs.Accepted.{andVars}
+use Rattle.theory_graph.proofs.Timed.{timed-none, listed-for}
+use Rattle.theory_text.proofs.Steps.{holds-once, unless-out, from-out, next-out, then-out, numbers-small}
+use Rattle.theory_text.proofs.Plain.{decimal-free}
+use Rattle.theory_text.proofs.LineLaws.{lineOfBytes, line-first}
+use Rattle.theory_text.proofs.DueBack.{numbers-back, words, fields-numbers, numbers-first}
+use Rattle.theory_text.proofs.ReadGraph.{graph-known, graph-counted, graph-untimed}
+use Rattle.theory_text.proofs.ReadTexts.{texts-read}
+
+-- ---- the lines that are read
+
+-- lines that pass 25 and 26, for so many inputs and behind these indexes
+pub record LateRead (inputs : ℕ) (before : List ℕ) (es : List Late) : Type 0 where
+  pub inside : (k : ℕ) → Lists es k → k < inputs
+  pub once : Distinct (map (λ (e : Late). e .index) es)
+  pub fresh : (k : ℕ) → Lists es k → ¬ List·Memᴰ k before
+  pub small : (e : Late) → List·Memᴰ e es → e .arrival ≤ 65535
+
+none-read : (inputs : ℕ) (before : List ℕ) → LateRead inputs before []
+none-read inputs before = record { inside = λ k m. absurd (List·Memᴰ·not-nil m); once = tt; fresh = λ k m. absurd (List·Memᴰ·not-nil m); small = λ e m. absurd (List·Memᴰ·not-nil m) }
+
+second-small : (ns : List ℕ) → ((n : ℕ) → List·Memᴰ n ns → n ≤ 65535) → getD ns 1 0 ≤ 65535
+second-small [] h = zero-le
+second-small (a ∷ []) h = zero-le
+second-small (a ∷ b ∷ ns) h = h b (List·Memᴰ·tail (List·Memᴰ·head refl))
+
+arrival-small : (l : Line) (ns : List ℕ) → lateNumbers l ≡ some ns → getD ns 1 0 ≤ 65535
+unfolding lateNumbers
+arrival-small l ns e =
+    let a = then-out (only (ended l && eqb (length (fields (l .bytes))) 2) (fields (l .bytes))) numbers ns e in
+    second-small ns (numbers-small (a .0) ns (a .2))
+
+lines-late : (inputs : ℕ) (before : List ℕ) (ls : List Line) (es : List Late) → readLate inputs before ls ≡ holds es → LateRead inputs before es
+unfolding readLate
+lines-late inputs before [] es e = subst (LateRead inputs before) (holds-once e) (none-read inputs before)
+lines-late inputs before (l ∷ ls) es e =
+    let a = next-out (from? (lateNumbers l) 25 (l .offset)) _ es e in
+    let n = getD (a .0) 0 0 in
+    let b = unless-out (ltb n inputs && not (elem n before)) 26 (l .offset) _ es (a .2) in
+    let p = and-yes (ltb n inputs) (not (elem n before)) (b .0) in
+    let c = next-out (readLate inputs (n ∷ before) ls) (λ ds. holds (record { index = n; arrival = getD (a .0) 1 0 } ∷ ds)) es (b .1) in
+    subst (LateRead inputs before) (holds-once (c .2))
+    (more (record { index = n; arrival = getD (a .0) 1 0 }) (c .0) (ltb-yes (p .0)) (unheard n (p .1)) (arrival-small l (a .0) (from-out (lateNumbers l) 25 (l .offset) (a .0) (a .1)))
+    (lines-late inputs (n ∷ before) ls (c .0) (c .1)))
+  where
+    apart : (b : Bool) → T (not b) → ¬ T b
+    apart true t u = t
+    apart false t u = u
+
+    unheard : (n : ℕ) → T (not (elem n before)) → ¬ List·Memᴰ n before
+    unheard n t m = apart (elem n before) t (elem-T n before m)
+
+    more : (x : Late) (ds : List Late) → x .index < inputs → ¬ List·Memᴰ (x .index) before → x .arrival ≤ 65535 → LateRead inputs (x .index ∷ before) ds → LateRead inputs before (x ∷ ds)
+    more x ds h f s r = record {
+      inside = at-index (λ k. k < inputs) h (r .inside);
+      once = ((λ m. r .fresh (x .index) m (List·Memᴰ·head refl)), r .once);
+      fresh = at-index (λ k. ¬ List·Memᴰ k before) f (λ k m i. r .fresh k m (List·Memᴰ·tail i));
+      small = at-line;
+    }
+      where
+        at-index : (P : ℕ → Type 0) → P (x .index) → ((k : ℕ) → Lists ds k → P k) → (k : ℕ) → Lists (x ∷ ds) k → P k
+        at-index P a later k (List·Memᴰ·head q) = subst P (sym q) a
+        at-index P a later k (List·Memᴰ·tail m) = later k m
+
+        at-line : (y : Late) → List·Memᴰ y (x ∷ ds) → y .arrival ≤ 65535
+        at-line y (List·Memᴰ·head q) = subst (λ (z : Late). z .arrival ≤ 65535) (sym q) s
+        at-line y (List·Memᴰ·tail m) = r .small y m
+
+pub late-read : (inputs : ℕ) (s : List ℕ) (es : List Late) → readArrivals inputs s ≡ holds es → LateRead inputs [] es
+unfolding readArrivals readLateLines
+late-read inputs s es = go (linesFrom 0 [] s)
+  where
+    go : (ls : List Line) → readLateLines inputs ls ≡ holds es → LateRead inputs [] es
+    go [] e = subst (LateRead inputs []) (holds-once e) (none-read inputs [])
+    go (l ∷ ls) e = lines-late inputs [] ls es (unless-out (ended l && same (l .bytes) (text "input arrival")) 25 (l .offset) (readLate inputs [] ls) es e .1)
+
+-- ---- lines that are written read back
+
+abbrev lateLine : Late → List ℕ
+lateLine e = numbersLine (e .index) (e .arrival ∷ [])
+
+line-back : (at i a : ℕ) → i ≤ 65535 → a ≤ 65535 → lateNumbers (lineOfBytes at (words i (a ∷ []))) ≡ some (i ∷ a ∷ [])
+unfolding lateNumbers andThen only all
+line-back at i a h k =
+    ap (λ (ws : List (List ℕ)). andThen (only (eqb (length ws) 2) ws) numbers) (fields-numbers (decimal i) (decimal-free 32 i (lit< tt)) (a ∷ []))
+    ∙ numbers-back (i ∷ a ∷ []) (yes-and (leb i 65535) _ (le→leb i 65535 h) (yes-and (leb a 65535) true (le→leb a 65535 k) tt))
+
+lines-back : (inputs : ℕ) → inputs ≤ 65536 → (at : ℕ) (before : List ℕ) (es : List Late) → LateRead inputs before es → readLate inputs before (linesFrom at [] (each lateLine es)) ≡ holds es
+unfolding readLate linesFrom each next unless from?
+lines-back inputs few at before [] r = refl
+lines-back inputs few at before (e ∷ es) r =
+    ap (readLate inputs before) (numbers-first at (e .index) (e .arrival ∷ []) (each lateLine es))
+    ∙ ap (λ (o : Option (List ℕ)). next (from? o 25 at) read)
+    (line-back at (e .index) (e .arrival) (let q : e .index < inputs = r .inside (e .index) (List·Memᴰ·head refl) in omega arith) (r .small e (List·Memᴰ·head refl)))
+    ∙ ap (λ (b : Bool). unless b 26 at (rest (e .index) (e .arrival)))
+    (is-true (ltb (e .index) inputs && not (elem (e .index) before))
+    (yes-and (ltb (e .index) inputs) (not (elem (e .index) before)) (yes-ltb (r .inside (e .index) (List·Memᴰ·head refl))) (unheard (elem (e .index) before) (elem-out (e .index) before))))
+    ∙ ap (λ (q : Read (List Late)). next q (λ ds. holds (e ∷ ds))) (lines-back inputs few behind (e .index ∷ before) es later)
+  where
+    behind : ℕ
+    behind = at + suc (length (words (e .index) (e .arrival ∷ [])))
+
+    rest : ℕ → ℕ → Read (List Late)
+    rest i a = next (readLate inputs (i ∷ before) (linesFrom behind [] (each lateLine es))) (λ ds. holds (record { index = i; arrival = a } ∷ ds))
+
+    read : List ℕ → Read (List Late)
+    read ns = unless (ltb (getD ns 0 0) inputs && not (elem (getD ns 0 0) before)) 26 at (rest (getD ns 0 0) (getD ns 1 0))
+
+    unheard : (b : Bool) → (b ≡ true → List·Memᴰ (e .index) before) → T (not b)
+    unheard true h = r .fresh (e .index) (List·Memᴰ·head refl) (h refl)
+    unheard false h = tt
+
+    other : (k : ℕ) → Lists es k → ¬ List·Memᴰ k (e .index ∷ before)
+    other k m (List·Memᴰ·head q) = r .once .0 (Memᴰ·cast (sym q) m)
+    other k m (List·Memᴰ·tail i) = r .fresh k (List·Memᴰ·tail m) i
+
+    later : LateRead inputs (e .index ∷ before) es
+    later = record { inside = λ k m. r .inside k (List·Memᴰ·tail m); once = r .once .1; fresh = other; small = λ d m. r .small d (List·Memᴰ·tail m) }
+
+-- "first line `input arrival`, then an input's index from 0 and its arrival": what may be listed is read from the text that lists it
+pub arrivals-back : (inputs : ℕ) → inputs ≤ 65536 → (es : List Late) → LateRead inputs [] es → readArrivals inputs (arrivalsText es) ≡ holds es
+unfolding readArrivals readLateLines arrivalsText text same unless
+arrivals-back inputs few es r =
+    ap (readLateLines inputs) (line-first 0 (text "input arrival") (each lateLine es)
+    (refl, (refl, (refl, (refl, (refl, (refl, (refl, (refl, (refl, (refl, (refl, (refl, (refl, tt)))))))))))))
+    (refl, (refl, (refl, (refl, (refl, (refl, (refl, (refl, (refl, (refl, (refl, (refl, (refl, tt))))))))))))))
+    ∙ lines-back inputs few (0 + suc (length (text "input arrival"))) [] es r
+
+-- ---- what they say of the inputs
+
+-- a call's arrivals' text says so of a graph
+abbrev Said : Call → Graph → Type 0
+Said c g = (es : List Late) × (readArrivals (length (g .inputs)) (c .arrivals) ≡ holds es) × ListedFor g es
+
+said : (c : Call) (g : Graph) (es : List Late) → readArrivals (length (g .inputs)) (c .arrivals) ≡ holds es → ListedFor (timedBy g es) es → Said c (timedBy g es)
+unfolding timedBy
+said c g es q l = (es, q, l)
+
+-- each listed input arrives as its line says, and "Inputs not listed arrive at 0."
+pub texts-listed : (c : Call) → Listed c
+texts-listed c d e =
+    let t = texts-read c d e in
+    let n = graph-counted (c .graph) (t .header) (t .meant) (t .isHeader) (t .isGraph) in
+    let isLate : readArrivals (length (t .meant .inputs)) (c .arrivals) ≡ holds (t .late) = ap (λ (i : ℕ). readArrivals i (c .arrivals)) (n .inputs) ∙ t .isLate in
+    let r = late-read (length (t .meant .inputs)) (c .arrivals) (t .late) isLate in
+    subst (Said c) (t .isTimed)
+    (said c (t .meant) (t .late) isLate
+    (listed-for (t .meant) (front-distinct (t .meant .inputs) (andVars (t .meant)) (graph-known (c .graph) (t .header) (t .meant) (t .isHeader) (t .isGraph) .once .1)) (t .late) (r .inside) (r .once)))
+
+-- ---- an empty text
+
+next-same : {A B : Type 0} (r : Read A) (f k : A → Read B) → ((a : A) → r ≡ holds a → f a ≡ k a) → next r f ≡ next r k
+unfolding next
+next-same (holds a) f k e = e a refl
+next-same (fault n m) f k e = refl
+
+-- "or empty for none": a call reads what the library and the graph hold
+pub reads-untimed : (c : Call) → c .arrivals ≡ [] → readTexts c ≡ readUntimed c
+unfolding readTexts readArrivals readLateLines linesFrom next
+reads-untimed c e =
+    ap given e
+    ∙ ap₂ (λ (b : Bool) (k : List Cell → Read Design). unless (leb (length (c .library)) 65536 && b) 1 0 (next (readLibrary (c .library)) k))
+    (and-true (leb (length (c .graph)) 65536)) (fun-ext (λ cells. ap (next (readHeader (c .graph))) (fun-ext (λ h. ap (unless (leb (need (h .size) (h .outputs)) (c .words)) 10 0) (same-graph cells h)))))
+  where
+    given : List ℕ → Read Design
+    given s =
+        unless (leb (length (c .library)) 65536 && (leb (length (c .graph)) 65536 && leb (length s) 65536)) 1 0
+        (next (readLibrary (c .library)) (λ cells.
+        next (readHeader (c .graph)) (λ h.
+        unless (leb (need (h .size) (h .outputs)) (c .words)) 10 0
+        (next (readGraph (c .graph) h) (λ g.
+        next (readArrivals (h .inputs) s) (λ es. holds (record { cells = cells; graph = timedBy g es })))))))
+
+    and-true : (b : Bool) → (b && true) ≡ b
+    and-true true = refl
+    and-true false = refl
+
+    made : List Cell → Graph → Read Design
+    made cells g = holds (record { cells = cells; graph = g })
+
+    same-graph : (cells : List Cell) (h : Header) → next (readGraph (c .graph) h) (λ g. made cells (timedBy g [])) ≡ next (readGraph (c .graph) h) (made cells)
+    same-graph cells h = next-same (readGraph (c .graph) h) _ (made cells) (λ g q. ap (made cells) (timed-none g (graph-untimed (c .graph) h g q)))
+
+-- and every input arrives at 0
+pub untimed-zero : (c : Call) (d : Design) → readUntimed c ≡ holds d → (v : ℕ) → d .graph .late v ≡ 0
+untimed-zero c d e v =
+    let a = unless-out (leb (length (c .library)) 65536 && leb (length (c .graph)) 65536) 1 0 _ d e in
+    let b = next-out (readLibrary (c .library)) _ d (a .1) in
+    let k = next-out (readHeader (c .graph)) _ d (b .2) in
+    let f = unless-out (leb (need (k .0 .size) (k .0 .outputs)) (c .words)) 10 0 _ d (k .2) in
+    let g = next-out (readGraph (c .graph) (k .0)) (λ x. holds (record { cells = b .0; graph = x })) d (f .1) in
+    subst (λ (x : Design). x .graph .late v ≡ 0) (holds-once (g .2)) (ap (λ (t : ℕ → ℕ). t v) (sym (graph-untimed (c .graph) (k .0) (g .0) (g .1))))
