@@ -6,13 +6,7 @@
  *             figures of its last line; every word of work is 0
  *   refusal   number and value are the refusal's number and place (docs/GUIDE.md), the figures are 0; text is unchanged; work is unchanged
  *             for numbers up to 10 and for 19, and every word of it is 0 for any other
- * A graph of M variables and O outputs wants 124(M+1) + O words. The stack needs about 1.5 MB.
- *
- * mapper_cells writes the cell library text of a genlib text. It never reads or writes outside the two arrays, always returns, and asks nothing of
- * what they hold; they may not overlap.
- *   success   number 0, value the cell text's length; text begins with the cell text and keeps its other bytes
- *   refusal   number and value are the refusal's number and place (docs/GUIDE.md); text is unchanged
- * The figures are 0. */
+ * The call keeps nothing between calls and is safe from several threads at once, each with work and text of its own. The thread needs 1.5 MB of stack. */
 #ifndef MAPPER_H
 #define MAPPER_H
 #include <stddef.h>
@@ -21,6 +15,46 @@
 #ifdef __cplusplus
 extern "C" {
 #endif
+
+/* The words of work that a graph of M variables and O outputs needs, and bytes of text that its netlist does not exceed. M is at most 4,095 and
+ * O at most 4,096: MAPPER_WORDS(4095, 4096) and MAPPER_TEXT(4095, 4096), 1 MB and 0.6 MB, are enough for every graph. */
+#define MAPPER_WORDS(m, o) (124 * ((size_t)(m) + 1) + (size_t)(o))
+#define MAPPER_TEXT(m, o) (116 * ((size_t)(m) + 1) + 29 * (size_t)(o) + 128)
+
+/* The longest text that is read: of a longer file hand over one byte more, and the answer is MAPPER_TOO_LONG. */
+#define MAPPER_LIMIT 65536
+
+/* Numbers of the answer. What its value is: a byte's offset in the cells (3 to 6), in the graph (11 to 14, 20, 21), in the genlib text (22 to 24) or in the
+ * arrivals (25, 26), a variable (15, 16), an output's index from 0 (17), the bytes needed (18), and otherwise 0. */
+enum {
+    MAPPER_MAPPED = 0,
+    MAPPER_TOO_LONG = 1,             /* a text is longer than 65,536 bytes */
+    MAPPER_NAMES_LINE = 2,           /* the cells' first line isn't the names line */
+    MAPPER_CELLS_OVER_32 = 3,        /* a thirty-third cell line begins */
+    MAPPER_CELL_FORM = 4,            /* a cell line breaks its form */
+    MAPPER_CELL_REPEATED = 5,        /* a cell name is repeated */
+    MAPPER_CELL_BEYOND_PINS = 6,     /* a table bit or delay beyond the cell's pins isn't 0 */
+    MAPPER_HEADER_FORM = 7,          /* the graph's header breaks its form */
+    MAPPER_LATCHES = 8,              /* the graph has latches */
+    MAPPER_GRAPH_TOO_LARGE = 9,      /* M exceeds 4,095, O exceeds 4,096, or I + A exceeds M */
+    MAPPER_WORK_SHORT = 10,          /* work has fewer words than MAPPER_WORDS(M, O) */
+    MAPPER_LINE_FORM = 11,           /* a due line breaks its form or is missing */
+    MAPPER_LITERAL = 12,             /* a literal exceeds 2M+1, or an input or left literal is odd or 0 */
+    MAPPER_DEFINED_TWICE = 13,       /* an input or left variable is already defined */
+    MAPPER_UNDEFINED = 14,           /* an output or operand uses an undefined variable */
+    MAPPER_CIRCLE = 15,              /* an AND waits, directly or not, for itself */
+    MAPPER_CUTS_OVER_18 = 16,        /* an AND has more than 18 cuts */
+    MAPPER_NO_COVER = 17,            /* an output has no cover */
+    MAPPER_TEXT_SHORT = 18,          /* text is shorter than the netlist */
+    MAPPER_BINARY_HEADER = 19,       /* a binary header's M isn't I + A */
+    MAPPER_DIFFERENCE_FORM = 20,     /* a difference takes more than two bytes, or the graph ends before its end */
+    MAPPER_DIFFERENCE_TOO_LARGE = 21, /* a first difference is 0, or a difference exceeds what it is taken from */
+    MAPPER_GENLIB_FORM = 22,         /* a GATE or PIN line breaks its form, a PIN line precedes every GATE, or a pin has no PIN line */
+    MAPPER_GENLIB_PINS = 23,         /* a gate has more than four pins, or brackets more than 16 deep */
+    MAPPER_GENLIB_FIGURE = 24,       /* an area or block delay has more than three decimals or exceeds 65.535 */
+    MAPPER_ARRIVAL_FORM = 25,        /* a line of the arrivals breaks its form */
+    MAPPER_ARRIVAL_INPUT = 26        /* its input is I or more, or is repeated */
+};
 
 typedef struct {
     uint64_t number;
@@ -33,6 +67,10 @@ typedef struct {
 MapperAnswer mapper_map(const uint8_t *cells, size_t cells_len, const uint8_t *graph, size_t graph_len, const uint8_t *arrivals,
                         size_t arrivals_len, uint16_t *work, size_t work_len, uint8_t *text, size_t text_len);
 
+/* Writes the cell text of a genlib library, to be handed to mapper_map as cells.
+ *   success   number 0, value the cell text's length; text begins with it and keeps its other bytes
+ *   refusal   MAPPER_TOO_LONG, MAPPER_GENLIB_FORM, MAPPER_GENLIB_PINS or MAPPER_GENLIB_FIGURE, or MAPPER_TEXT_SHORT; text is unchanged
+ * Of both the figures are 0. */
 MapperAnswer mapper_cells(const uint8_t *genlib, size_t genlib_len, uint8_t *text, size_t text_len);
 
 #ifdef __cplusplus

@@ -1,15 +1,18 @@
 /* Maps the files that are named: `map_c CELLS GRAPH [ARRIVALS]` prints what `map` prints, with enough words lent for any graph.
- * gcc -Iinclude examples/c/map.c target/staticlib/libcapi.a */
+ * gcc -Iinclude examples/c/map.c target/staticlib/libcapi.a
+ * Status 0: the netlist or the refusal is printed; 2: it could not be written, or the command line is at fault. */
 #include "mapper.h"
+#include <inttypes.h>
 #include <stdio.h>
 
-static uint8_t cells[65537], graph[65537], arrivals[65537], text[1 << 20];
-static uint16_t work[124 * 4096 + 4096];
+static uint8_t cells[MAPPER_LIMIT + 1], graph[MAPPER_LIMIT + 1], arrivals[MAPPER_LIMIT + 1], text[MAPPER_TEXT(4095, 4096)];
+static uint16_t work[MAPPER_WORDS(4095, 4096)];
 
+/* An absent file counts as empty, as it does for `map`. */
 static size_t load(const char *path, uint8_t *to)
 {
     FILE *f = fopen(path, "rb");
-    size_t n = f ? fread(to, 1, 65537, f) : 0;
+    size_t n = f ? fread(to, 1, MAPPER_LIMIT + 1, f) : 0;
     if (f)
         fclose(f);
     return n;
@@ -17,13 +20,21 @@ static size_t load(const char *path, uint8_t *to)
 
 int main(int argc, char **argv)
 {
-    if (argc != 3 && argc != 4)
+    if (argc != 3 && argc != 4) {
+        fprintf(stderr, "usage: map_c CELLS GRAPH [ARRIVALS]\n");
         return 2;
+    }
     size_t n = load(argv[1], cells), m = load(argv[2], graph), k = argc == 4 ? load(argv[3], arrivals) : 0;
     MapperAnswer a = mapper_map(cells, n, graph, m, arrivals, k, work, sizeof work / sizeof *work, text, sizeof text);
-    if (a.number == 0)
-        fwrite(text, 1, a.value, stdout);
+    int written;
+    if (a.number == MAPPER_MAPPED)
+        written = fwrite(text, 1, a.value, stdout) == a.value;
     else
-        printf("refused %llu %llu\n", (unsigned long long)a.number, (unsigned long long)a.value);
+        written = printf("refused %" PRIu64 " %" PRIu64 "\n", a.number, a.value) > 0;
+    /* What is still in the buffer fails at the flush. */
+    if (fflush(stdout) != 0 || !written) {
+        perror("map_c: standard output");
+        return 2;
+    }
     return 0;
 }

@@ -1,14 +1,11 @@
 //! Maps graph files with one library file, through the static library or,
 //! with `--other`, through the reference mapper, and prints a line for each.
 
-use other::{ours, reference, WORDS_EACH};
+use mapper::{bytes_enough, call, words_needed, Answer};
+use other::reference;
 use std::{env, fs, process::exit};
 
 const USAGE: &str = "usage: driver [--other] [--time] [--calls N] CELLS GRAPH...";
-
-/// More than any netlist takes: a graph has at most 8,192 phases and 4,096
-/// outputs; a gate line takes at most 55 bytes, an output with its lines 29.
-const TEXT_BYTES: usize = 1_000_000;
 
 /// CPU time of this process in seconds. The standard library has wall time
 /// alone, which counts what other processes do.
@@ -29,20 +26,11 @@ fn cpu_seconds() -> f64 {
     time.seconds as f64 + time.nanoseconds as f64 * 1e-9
 }
 
-/// M, O and A of a graph's header; zeros if it has none, which the mapper
-/// then refuses.
-fn header(graph: &[u8]) -> [usize; 3] {
+/// A of a graph's header; 0 if it has none, which the mapper then refuses.
+fn ands(graph: &[u8]) -> u16 {
     let line = graph.split(|&byte| byte == b'\n').next().unwrap_or_default();
-    let fields: Vec<usize> = String::from_utf8_lossy(line)
-        .split(' ')
-        .skip(1)
-        .map_while(|field| field.parse::<u16>().ok())
-        .map(usize::from)
-        .collect();
-    match fields[..] {
-        [m, _, _, o, a] => [m, o, a],
-        _ => [0; 3],
-    }
+    let last = String::from_utf8_lossy(line).split(' ').nth(5).and_then(|field| field.parse().ok());
+    last.unwrap_or_default()
 }
 
 fn read(path: &str) -> Vec<u8> {
@@ -69,23 +57,24 @@ fn main() {
         exit(2);
     }
     let cells = read(&files[0]);
-    let mut text = vec![0; TEXT_BYTES];
     for file in &files[1..] {
         let graph = read(file);
-        let [m, o, ands] = header(&graph);
-        let mut work = vec![0; WORDS_EACH * (m + 1) + o];
-        let mut answer = reference::Answer::default();
+        let mut work = vec![0; words_needed(&graph)];
+        let mut text = vec![0; bytes_enough(&graph)];
+        let mut figures = [0; 4];
         let mut least = f64::INFINITY;
         for _ in 0..calls {
             let start = cpu_seconds();
-            answer = if through_other {
-                reference::map_without_arrivals(&cells, &graph, work.len(), text.len()).0
+            figures = if through_other {
+                let answer = reference::map_without_arrivals(&cells, &graph, work.len(), text.len()).0;
+                [answer.number, answer.gates, answer.area, answer.arrival]
             } else {
-                ours::map(&cells, &graph, &[], &mut work, &mut text)
+                let Answer { number, gates, area, arrival, .. } = call(&cells, &graph, &[], &mut work, &mut text);
+                [number as u32, gates, area, arrival]
             };
             least = least.min(cpu_seconds() - start);
         }
-        let reference::Answer { number, gates, area, arrival, .. } = answer;
+        let ([number, gates, area, arrival], ands) = (figures, ands(&graph));
         print!("{file} ands {ands} answer {number} gates {gates} area {area} arrival {arrival}");
         if timed {
             print!(" microseconds {:.1}", least * 1e6);

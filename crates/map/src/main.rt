@@ -1,4 +1,5 @@
 // The program: `cells.txt`, `graph.aag` and `arrivals.txt` of the current folder mapped, the netlist or one line of `refused`, number and place printed.
+use libc::STDERR_FILENO;
 use libc::STDOUT_FILENO;
 use model::Answer;
 ghost use mathlib.Core.Path.{_≡_};
@@ -20,12 +21,19 @@ fn load(path: &[u8], buf: &mut [u8]) -> usize
     n
 }
 
-fn refused(number: usize, place: usize) {
-    io::write_all(STDOUT_FILENO, b"refused ");
-    io::print_decimal(STDOUT_FILENO, number as u64);
-    io::write_all(STDOUT_FILENO, b" ");
-    io::print_decimal(STDOUT_FILENO, place as u64);
-    io::write_all(STDOUT_FILENO, b"\n");
+fn refused(number: usize, place: usize) -> bool {
+    io::write_all(STDOUT_FILENO, b"refused ")
+        && io::print_decimal(STDOUT_FILENO, number as u64)
+        && io::write_all(STDOUT_FILENO, b" ")
+        && io::print_decimal(STDOUT_FILENO, place as u64)
+        && io::write_all(STDOUT_FILENO, b"\n")
+}
+
+// The document fixes what is printed; that it could not be, on a full disk or a closed pipe, is said on standard error.
+fn said(written: bool) {
+    if !written {
+        io::write_all(STDERR_FILENO, b"map: standard output cannot be written\n");
+    }
 }
 
 // "It lends 32,768 words and 65,536 bytes."
@@ -34,9 +42,9 @@ fn map_files(cells: &[u8], graph: &[u8], arrivals: &[u8], work: &mut [u16], text
 {
     match mapper::map_texts(cells, graph, arrivals, work, text) {
         Answer::Mapped(n, _) => {
-            io::write_all(STDOUT_FILENO, &text[..n]);
+            said(io::write_all(STDOUT_FILENO, &text[..n]));
         }
-        Answer::Refused(number, place) => refused(number, place),
+        Answer::Refused(number, place) => said(refused(number, place)),
     }
 }
 

@@ -34,11 +34,17 @@ slice-aggregate-write-all c =
 write-all-requires : tie.Need-write-all-requires
 write-all-requires c κs = search needs
 
+said-requires : tie.Need-said-requires
+said-requires c κs = search needs
+
 enum-known-number : tie.Need-enum-known-number
 enum-known-number c = search needs
 
 refused-requires : tie.Need-refused-requires
 refused-requires c κs = search needs
+
+said-requires-2 : tie.Need-said-requires-2
+said-requires-2 c κs = search needs
 
 same-length : tie.Need-same-length
 same-length c = search needs
@@ -67,8 +73,10 @@ map-files-spec =
     slice-reshare-prefix-write-all
     slice-aggregate-write-all
     write-all-requires
+    said-requires
     enum-known-number
     refused-requires
+    said-requires-2
     same-length
     same-length-2
     returns

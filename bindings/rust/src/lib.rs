@@ -1,0 +1,128 @@
+//! The array mapper from Rust: a cell library, an AND graph (AIGER, in either form) and the arrivals of its inputs in, a BLIF netlist out.
+//!
+//! ```
+//! let cells = b"cell pins table area d0 d1 d2 d3\ninv 1 0001 1 10 0 0 0\nnand2 2 0007 2 20 20 0 0\n";
+//! let graph = b"aag 3 2 0 1 1\n2\n4\n6\n6 2 4\n";
+//! let netlist = mapper::map(cells, graph, b"")?;
+//! assert_eq!(netlist.figures, mapper::Figures { gates: 2, area: 3, arrival: 30 });
+//! assert!(netlist.text.starts_with(".model top\n"));
+//! let late = mapper::map(cells, graph, b"input arrival\n1 5\n")?;
+//! assert_eq!(late.figures.arrival, 35);
+//! # Ok::<(), mapper::Refusal>(())
+//! ```
+//!
+//! What the call answers and leaves in the memory that it is lent is proved (crates/capi of the repository); docs/GUIDE.md has both texts, the
+//! netlist and every refusal. Calls on memory of their own are safe from several threads at once. A call is given 1.5 MB of stack: a thread of
+//! the standard library has 2 MB.
+
+mod raw;
+mod refusal;
+#[doc(hidden)]
+pub mod shell;
+
+pub use raw::{call, call_cells, Answer};
+pub use refusal::{Place, Refusal};
+
+/// The longest text that is read: a longer one is refusal 1.
+pub const TEXT_LIMIT: usize = 65_536;
+
+/// The figures of the netlist's last line.
+#[derive(Clone, Copy, Debug, PartialEq, Eq)]
+pub struct Figures {
+    pub gates: u32,
+    /// The sum of the gates' areas.
+    pub area: u32,
+    /// The arrival of the latest output.
+    pub arrival: u32,
+}
+
+/// A mapped graph.
+#[derive(Clone, Debug, PartialEq, Eq)]
+pub struct Netlist {
+    /// BLIF, as document 01 fixes it.
+    pub text: String,
+    pub figures: Figures,
+}
+
+/// The five numbers M, I, L, O and A of a graph's header, where it has them.
+fn header(graph: &[u8]) -> Option<[usize; 5]> {
+    let line = graph.split(|&byte| byte == b'\n').next()?;
+    let line = std::str::from_utf8(line.strip_suffix(b"\r").unwrap_or(line)).ok()?;
+    let mut words = line.split(' ');
+    if !matches!(words.next()?, "aag" | "aig") {
+        return None;
+    }
+    let mut numbers = [0; 5];
+    for number in &mut numbers {
+        *number = words.next()?.parse::<u32>().ok()? as usize;
+    }
+    Some(numbers)
+}
+
+/// The words of work memory that mapping the graph takes, by its header: 124(M+1) + O, at most 512,000. It is 0 where the header is one that
+/// is refused before the words are looked at.
+pub fn words_needed(graph: &[u8]) -> usize {
+    match header(graph) {
+        Some([m, _, _, o, _]) if m <= 4_095 && o <= 4_096 => 124 * (m + 1) + o,
+        _ => 0,
+    }
+}
+
+/// A length that the graph's netlist does not exceed, by its header: 55 bytes for each phase's gate, 6 for an input's name, 29 for an output's
+/// name and lines, and the frame.
+pub fn bytes_enough(graph: &[u8]) -> usize {
+    match header(graph) {
+        Some([m, _, _, o, _]) if m <= 4_095 && o <= 4_096 => 116 * (m + 1) + 29 * o + 128,
+        _ => 0,
+    }
+}
+
+/// Maps the graph with the cells, on memory of its own. Empty `arrivals` are none: every input arrives at 0.
+pub fn map(cells: &[u8], graph: &[u8], arrivals: &[u8]) -> Result<Netlist, Refusal> {
+    let mut work = vec![0; words_needed(graph)];
+    let mut text = vec![0; bytes_enough(graph)];
+    let mut mapped = map_in(cells, graph, arrivals, &mut work, &mut text);
+    if let Err(Refusal { number: 18, place: length }) = mapped {
+        text = vec![0; length];
+        mapped = map_in(cells, graph, arrivals, &mut work, &mut text);
+    }
+    let (length, figures) = mapped?;
+    text.truncate(length);
+    Ok(Netlist { text: String::from_utf8(text).expect("a netlist is ASCII text"), figures })
+}
+
+/// Maps the graph with the cells over lent memory, and answers the netlist's length and its figures: `text` begins with the netlist and keeps
+/// its other bytes. A refusal leaves `text` as it is. `work` is left unchanged by the refusals 1 to 10 and 19, and is all 0 after any other
+/// refusal and after success.
+pub fn map_in(
+    cells: &[u8],
+    graph: &[u8],
+    arrivals: &[u8],
+    work: &mut [u16],
+    text: &mut [u8],
+) -> Result<(usize, Figures), Refusal> {
+    let Answer { number, value, gates, area, arrival } = call(cells, graph, arrivals, work, text);
+    // A length, an offset, a variable or an index: each is within the address space.
+    let value = value as usize;
+    match number {
+        0 => Ok((value, Figures { gates, area, arrival })),
+        number => Err(Refusal { number: number as u32, place: value }),
+    }
+}
+
+/// Writes the cell text of a genlib library.
+pub fn cells(genlib: &[u8]) -> Result<Vec<u8>, Refusal> {
+    let mut text = vec![0; 2 * genlib.len() + 64];
+    let mut answer = call_cells(genlib, &mut text);
+    if answer.number == 18 {
+        text = vec![0; answer.value as usize];
+        answer = call_cells(genlib, &mut text);
+    }
+    match answer.number {
+        0 => {
+            text.truncate(answer.value as usize);
+            Ok(text)
+        }
+        number => Err(Refusal { number: number as u32, place: answer.value as usize }),
+    }
+}

@@ -1,0 +1,56 @@
+//! The calls of the static library, as include/mapper.h has them.
+
+/// The five values that a call answers, on success and after a refusal.
+#[repr(C)]
+#[derive(Clone, Copy, Debug, PartialEq, Eq)]
+pub struct Answer {
+    /// 0, or the refusal's number.
+    pub number: u64,
+    /// The netlist's length, or the refusal's place.
+    pub value: u64,
+    pub gates: u32,
+    pub area: u32,
+    pub arrival: u32,
+}
+
+extern "C" {
+    fn mapper_map(
+        cells: *const u8,
+        cells_len: usize,
+        graph: *const u8,
+        graph_len: usize,
+        arrivals: *const u8,
+        arrivals_len: usize,
+        work: *mut u16,
+        work_len: usize,
+        text: *mut u8,
+        text_len: usize,
+    ) -> Answer;
+
+    fn mapper_cells(genlib: *const u8, genlib_len: usize, text: *mut u8, text_len: usize) -> Answer;
+}
+
+/// The call itself, answered as C has it. It asks nothing of what the slices hold.
+pub fn call(cells: &[u8], graph: &[u8], arrivals: &[u8], work: &mut [u16], text: &mut [u8]) -> Answer {
+    // Each pointer comes with the length of its own slice; the two that are written overlap nothing.
+    unsafe {
+        mapper_map(
+            cells.as_ptr(),
+            cells.len(),
+            graph.as_ptr(),
+            graph.len(),
+            arrivals.as_ptr(),
+            arrivals.len(),
+            work.as_mut_ptr(),
+            work.len(),
+            text.as_mut_ptr(),
+            text.len(),
+        )
+    }
+}
+
+/// The reading of a genlib text, answered as C has it; the figures are 0.
+pub fn call_cells(genlib: &[u8], text: &mut [u8]) -> Answer {
+    // As above.
+    unsafe { mapper_cells(genlib.as_ptr(), genlib.len(), text.as_mut_ptr(), text.len()) }
+}

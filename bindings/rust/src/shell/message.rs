@@ -1,0 +1,410 @@
+//! A refusal in the way of compilers: file and line, what is wrong, the line itself, and what to do.
+
+use super::{
+    arrivals, cells,
+    files::Source,
+    graph::{Difference, Due, Graph},
+    library::{fault, Library},
+    lines::{counted, ending, line_at, number, offset_of, shown, spacing, Line, NUMBER},
+};
+use crate::{Place, Refusal, TEXT_LIMIT};
+
+/// What is told of a refusal behind its number.
+struct Told {
+    /// Where: a file, or a file and a line.
+    at: String,
+    what: String,
+    /// The line at fault, or what stands in for it.
+    line: Option<String>,
+    help: String,
+}
+
+/// The message for a refusal of these texts.
+pub fn message(refusal: Refusal, cells: &Library, graph: &Source, arrivals: &Source) -> String {
+    let told = match refusal.place() {
+        Place::Cells(byte) if cells.is_written() => in_written(refusal, cells, byte),
+        Place::Cells(byte) => in_cells(refusal, &cells.file.name, cells.text(), byte),
+        Place::Genlib(byte) => in_genlib(refusal, &cells.file, byte),
+        Place::Graph(byte) => in_graph(refusal, graph, byte),
+        Place::Arrivals(byte) => in_arrivals(refusal, graph, arrivals, byte),
+        Place::Variable(variable) => at_variable(refusal, graph, variable),
+        Place::Output(output) => at_output(refusal, graph, output),
+        Place::Whole | Place::Length(_) => whole(refusal, &cells.file, graph, arrivals),
+    };
+    let Told { at, what, line, help } = told;
+    let line = line.map(|line| format!("    {line}\n")).unwrap_or_default();
+    let help = if help.is_empty() { help } else { format!("help: {}\n", help.replace('\n', "\n      ")) };
+    format!("{at}: refused {}: {what}\n{line}{help}", refusal.number)
+}
+
+fn whole(refusal: Refusal, cells: &Source, graph: &Source, arrivals: &Source) -> Told {
+    let mut told = Told { at: graph.name.clone(), what: refusal.what().into(), line: None, help: String::new() };
+    if refusal.number == 1 {
+        told.what = "longer than 65,536 bytes".into();
+        if cells.text.len() > TEXT_LIMIT {
+            told.at.clone_from(&cells.name);
+            told.help = "a cell library has up to 32 cells".into();
+        } else if graph.text.len() <= TEXT_LIMIT && arrivals.text.len() > TEXT_LIMIT {
+            told.at.clone_from(&arrivals.name);
+            told.help = "the arrivals have a line for each late input: a graph has 4,095 inputs at most".into();
+        } else if graph.text.starts_with(b"aag ") {
+            told.help =
+                "write the graph in the binary form, a third as long or less (yosys `write_aiger` without `-ascii`,\n\
+                         `aigtoaig graph.aag graph.aig`), or split it"
+                    .into();
+        } else {
+            told.help = "split the graph: M is at most 4,095".into();
+        }
+    }
+    told
+}
+
+/// A byte order mark, which editors do not show.
+fn marked(line: &Line) -> Option<String> {
+    line.bytes
+        .starts_with(b"\xef\xbb\xbf")
+        .then(|| "the file begins with a byte order mark (bytes ef bb bf): save it without".into())
+}
+
+fn in_cells(refusal: Refusal, file: &str, text: &[u8], byte: usize) -> Told {
+    let line = line_at(text, byte);
+    let name = line.bytes.split(|&byte| byte == b' ').next().unwrap_or_default();
+    let names_line = format!("the first line is `{}`, ended by byte 10", cells::NAMES_LINE);
+    let (what, help): (String, String) = match refusal.number {
+        2 if text.is_empty() => ("the file is empty".into(), names_line),
+        2 => {
+            let why = marked(&line).or_else(|| {
+                let names = line.bytes == cells::NAMES_LINE.as_bytes();
+                ending(&line).filter(|_| names)
+            });
+            let genlib = text.windows(6).any(|word| word == b"\nGATE ");
+            let remove = "a genlib library begins with its first GATE line: remove what stands before it".into();
+            (format!("not the names line{}", behind(why)), if genlib { remove } else { names_line })
+        }
+        3 if line.bytes.is_empty() => {
+            ("an empty line behind 32 cells".into(), "remove it: nothing follows the last cell line".into())
+        }
+        3 => ("a thirty-third cell".into(), "leave out cells: a library has 32 at most".into()),
+        4 => {
+            let why = cells::fault(text, &line);
+            let example = "a cell line is NAME PINS TABLE AREA D0 D1 D2 D3, as `nand2 2 0007 2 20 18 0 0`";
+            (
+                format!("not a cell line{}", behind(why)),
+                if line.bytes.is_empty() || line.bytes.starts_with(b"#") { "remove it".into() } else { example.into() },
+            )
+        }
+        5 => {
+            let first = cells::line_of(text, name, line.number);
+            let on = first.map(|number| format!(": line {number} has it")).unwrap_or_default();
+            (format!("the cell name `{}` is repeated{on}", shown(name)), "rename one of the two".into())
+        }
+        6 => {
+            let what = cells::beyond(text, &line).unwrap_or_else(|| refusal.what().into());
+            (what, "clear it, or correct `pins`: rows at or above 2^pins and the delays of absent pins are 0".into())
+        }
+        _ => (refusal.what().into(), String::new()),
+    };
+    let shows = (byte < text.len() && !line.bytes.is_empty()).then(|| shown(line.bytes));
+    Told { at: format!("{file}:{}", line.number), what, line: shows, help }
+}
+
+/// A cell that was written from a gate: the gate's line is the one to change.
+fn in_written(refusal: Refusal, cells: &Library, byte: usize) -> Told {
+    let mut told = in_cells(refusal, &cells.file.name, cells.text(), byte);
+    let line = line_at(cells.text(), byte);
+    let at = |number: usize| cells.gate_line(number.saturating_sub(2));
+    if let Some(number) = at(line.number) {
+        told.at = format!("{}:{number}", cells.file.name);
+        told.line = offset_of(&cells.file.text, number).map(|offset| shown(line_at(&cells.file.text, offset).bytes));
+    }
+    match refusal.number {
+        3 => told.what = "a thirty-third gate".into(),
+        4 => {
+            let why = cells::fault(cells.text(), &line);
+            told.what = format!("the gate gives no cell line{}", behind(why));
+            told.help = "rename the gate".into();
+        }
+        5 => {
+            let name = line.bytes.split(|&byte| byte == b' ').next().unwrap_or_default();
+            let first = cells::line_of(cells.text(), name, line.number).and_then(at);
+            let on = first.map(|number| format!(": line {number} has it")).unwrap_or_default();
+            told.what = format!("the gate name `{}` is repeated{on}", shown(name));
+        }
+        _ => {}
+    }
+    told
+}
+
+fn in_genlib(refusal: Refusal, file: &Source, byte: usize) -> Told {
+    let mut line = line_at(&file.text, byte);
+    let (what, help) = match refusal.number {
+        22 => {
+            let found = fault(&file.text, byte);
+            if let Some(offset) = found.as_ref().and_then(|(number, _)| offset_of(&file.text, *number)) {
+                line = line_at(&file.text, offset);
+            }
+            let what = match found {
+                Some((_, why)) => format!("not genlib as it is read: {why}"),
+                None => "the gate or one of its PIN lines breaks its form, or a pin has no PIN line".into(),
+            };
+            let form = "a gate is `GATE NAME AREA OUTPUT=EXPRESSION;` on one line, then `PIN NAME PHASE LOAD LOAD RISE FANOUT FALL FANOUT` for\n\
+                        each pin, or `PIN * ..` for all; nothing else stands in the file, no comment and no empty line";
+            (what, form)
+        }
+        23 => (
+            "the gate has more than four pins, or brackets more than 16 deep".into(),
+            "leave the gate out: a cell has up to four pins",
+        ),
+        _ => (
+            "the gate's area or a block delay has more than three decimals, or exceeds 65.535".into(),
+            "give areas and delays in another unit: they are read in thousandths, up to 65.535",
+        ),
+    };
+    let shows = (!line.bytes.is_empty()).then(|| shown(line.bytes));
+    Told { at: format!("{}:{}", file.name, line.number), what, line: shows, help: help.into() }
+}
+
+fn behind(why: Option<String>) -> String {
+    why.map(|why| format!(": {why}")).unwrap_or_default()
+}
+
+fn in_graph(refusal: Refusal, source: &Source, byte: usize) -> Told {
+    let text = &source.text;
+    let line = line_at(text, byte);
+    let graph = Graph::read(text);
+    let shows = (byte < text.len() && !line.bytes.is_empty()).then(|| shown(line.bytes));
+    let mut told = Told {
+        at: format!("{}:{}", source.name, line.number),
+        what: refusal.what().into(),
+        line: shows,
+        help: String::new(),
+    };
+    match (refusal.number, graph) {
+        (7, _) => header_form(&mut told, text, &line),
+        (_, None) => {}
+        (8, Some(graph)) => {
+            let [_, _, latches, _, _] = graph.header;
+            told.what = format!("the graph has {}", counted(latches, "latch", "latches"));
+            told.help = "map the logic between the latches: ABC's `comb` makes each latch an input and an output\n\
+                         (`berkeley-abc -c \"read graph.aig; comb; write_aiger logic.aig\"`)"
+                .into();
+        }
+        (9, Some(graph)) => {
+            let [m, inputs, _, outputs, ands] = graph.header;
+            (told.what, told.help) = if m > 4_095 {
+                let used = inputs + ands;
+                let help = if used <= 4_095 {
+                    format!("only {used} variables are defined: number them from 1 without gaps")
+                } else {
+                    "split the graph: a net between two parts is an output of one and an input of the other".into()
+                };
+                (format!("M is {m}, more than 4095"), help)
+            } else if outputs > 4_096 {
+                (format!("O is {outputs}, more than 4096"), "split the graph by its outputs".into())
+            } else {
+                let sum = inputs + ands;
+                (
+                    format!("I + A is {sum}, more than M, {m}"),
+                    "the header is `aag M I L O A`: M is the highest variable".into(),
+                )
+            }
+        }
+        (19, Some(graph)) => {
+            let [m, inputs, _, _, ands] = graph.header;
+            told.what = format!("M is {m}, and I + A is {}: in the binary form they are equal", inputs + ands);
+            told.help = "have the tool that wrote it number the variables in turn, or write the ASCII form".into();
+        }
+        (20 | 21, Some(graph)) => differences(&mut told, refusal, source, &graph, byte),
+        (_, Some(graph)) => due_line(&mut told, refusal, text, &graph, &line, byte),
+    }
+    told
+}
+
+fn header_form(told: &mut Told, text: &[u8], line: &Line) {
+    let words = ["aag", "M", "I", "L", "O", "A"];
+    let first = line.bytes.split(|&byte| byte == b' ').next().unwrap_or_default();
+    told.help =
+        "the first line is `aag M I L O A` or `aig M I L O A`: highest variable, inputs, latches, outputs, ANDs".into();
+    if text.is_empty() {
+        told.what = "the file is empty".into();
+        return;
+    }
+    let why = marked(line)
+        .or_else(|| (first != b"aag" && first != b"aig").then(|| format!("the first word is `{}`", shown(first))))
+        .or_else(|| spacing(line.bytes, &words))
+        .or_else(|| {
+            let fields = line.bytes.split(|&byte| byte == b' ').skip(1).zip(&words[1..]);
+            let bad = |(field, what): (&[u8], &&str)| {
+                number(field).is_none().then(|| format!("{what} is {NUMBER}, not `{}`", shown(field)))
+            };
+            fields.into_iter().find_map(bad)
+        })
+        .or_else(|| ending(line));
+    told.what = format!("not an AIGER header{}", behind(why));
+}
+
+fn differences(told: &mut Told, refusal: Refusal, source: &Source, graph: &Graph, byte: usize) {
+    told.at.clone_from(&source.name);
+    told.line = None;
+    let Some(difference) = graph.difference_at(&source.text, byte) else { return };
+    let Difference { variable, which, from, value } = difference;
+    let whose = format!("the {which} difference of variable {variable}");
+    let long = source.text.get(byte..byte + 2).is_some_and(|bytes| bytes.iter().all(|&byte| byte >= 128));
+    let value = value.unwrap_or_default();
+    let again = "the file is damaged, by a copy as text for instance: write it again";
+    (told.what, told.help) = match refusal.number {
+        20 if long => (format!("{whose}, at byte {byte}, takes more than two bytes"), again.into()),
+        20 => {
+            let ands = counted(graph.header[4], "AND", "ANDs");
+            (
+                format!("the file ends in {whose}, at byte {byte}"),
+                format!("the header has {ands}: the file is cut off, or A is wrong"),
+            )
+        }
+        _ if value == 0 => (format!("{whose}, at byte {byte}, is 0: an operand is below its AND"), again.into()),
+        _ => (
+            format!("{whose}, at byte {byte}, is {value}, more than the literal {from} that it is taken from"),
+            again.into(),
+        ),
+    };
+}
+
+/// An input, output or AND line (11 to 14).
+fn due_line(told: &mut Told, refusal: Refusal, text: &[u8], graph: &Graph, line: &Line, byte: usize) {
+    let [m, inputs, _, outputs, ands] = graph.header;
+    let (kind, k, of, due): (&str, usize, usize, &[&str]) = match graph.due(line.number) {
+        Due::Input(k) => ("input", k, inputs, &["literal"]),
+        Due::Output(k) => ("output", k, outputs, &["literal"]),
+        Due::And(k) => ("AND", k, ands, &["left", "first", "second"]),
+    };
+    let which = format!("{kind} line {} of {of}", k + 1);
+    let fields: Vec<&[u8]> = line.bytes.split(|&byte| byte == b' ').collect();
+    let literals: Vec<Option<usize>> = fields.iter().map(|field| number(field)).collect();
+    let asked = format!(
+        "the header asks for {}, {} and {}",
+        counted(inputs, "input", "inputs"),
+        counted(outputs, "output", "outputs"),
+        counted(ands, "AND", "ANDs")
+    );
+    match refusal.number {
+        11 if byte >= text.len() => {
+            told.what = format!("the file ends where {which} is due");
+            told.help = format!("{asked}: the file is cut off, or the header is wrong");
+        }
+        11 => {
+            let why = spacing(line.bytes, due)
+                .or_else(|| {
+                    let bad = fields.iter().zip(&literals).find(|(_, literal)| literal.is_none())?;
+                    Some(format!("a literal is {NUMBER}, not `{}`", shown(bad.0)))
+                })
+                .or_else(|| ending(line));
+            told.what = format!("{which} breaks its form{}", behind(why));
+            told.help = format!("{asked}, a line each: correct the line, or the header");
+        }
+        12 => {
+            let high = literals.iter().flatten().find(|&&literal| literal > 2 * m + 1);
+            let first = literals.first().copied().flatten();
+            told.what = match (high, first) {
+                (Some(high), _) => format!("literal {high} exceeds 2M+1, {}", 2 * m + 1),
+                (None, Some(first)) if kind != "output" => {
+                    let side = if kind == "AND" { "the left literal of an AND" } else { "an input's literal" };
+                    format!("{side} is even and not 0, and this one is {first}")
+                }
+                _ => refusal.what().into(),
+            };
+            told.help = "literal 2v is variable v, 2v+1 its complement; correct the line, or M in the header".into();
+        }
+        13 => {
+            let variable = literals.first().copied().flatten().unwrap_or_default() / 2;
+            let on = graph.defined_on(variable, line.number).map(|on| format!(" on line {on}")).unwrap_or_default();
+            told.what = format!("variable {variable} is already defined{on}");
+            told.help = "an input or AND defines its variable once: remove one of the two lines, or renumber it".into();
+        }
+        14 => {
+            let used = if kind == "AND" { literals.get(1..).unwrap_or_default() } else { &literals[..] };
+            let open = used.iter().flatten().find(|&&literal| !graph.is_defined(literal / 2));
+            if let Some(open) = open {
+                told.what = format!("literal {open} is of variable {}, which no input or AND defines", open / 2);
+            }
+            told.help = "add the input or the AND that defines it, or correct the literal".into();
+        }
+        _ => {}
+    }
+}
+
+fn in_arrivals(refusal: Refusal, graph: &Source, file: &Source, byte: usize) -> Told {
+    let line = line_at(&file.text, byte);
+    let shows = (!line.bytes.is_empty()).then(|| shown(line.bytes));
+    let form = format!(
+        "the first line is `{}`; each line after it has an input, from 0, and its arrival: `3 25`",
+        arrivals::NAMES_LINE
+    );
+    let input = arrivals::input(line.bytes).unwrap_or_default();
+    let (what, help) = match refusal.number {
+        25 => (format!("not a line of arrivals{}", behind(arrivals::fault(&line))), form),
+        _ => match arrivals::line_of(&file.text, input, line.number) {
+            Some(number) => {
+                (format!("input {input} is repeated: line {number} has it"), "remove one of the two lines".into())
+            }
+            None => {
+                let inputs = Graph::read(&graph.text).map_or(0, |graph| graph.header[1]);
+                let has = counted(inputs, "input", "inputs");
+                (
+                    format!("there is no input {input}: the graph has {has}, counted from 0"),
+                    "remove the line, or correct the input".into(),
+                )
+            }
+        },
+    };
+    Told { at: format!("{}:{}", file.name, line.number), what, line: shows, help }
+}
+
+fn at_variable(refusal: Refusal, source: &Source, variable: usize) -> Told {
+    let mut told = Told { at: source.name.clone(), what: refusal.what().into(), line: None, help: String::new() };
+    let Some(graph) = Graph::read(&source.text) else { return told };
+    if let Some(and) = graph.and(variable) {
+        match and.line {
+            Some(number) => {
+                told.at = format!("{}:{number}", source.name);
+                let offset = offset_of(&source.text, number).unwrap_or_default();
+                told.line = Some(shown(line_at(&source.text, offset).bytes));
+            }
+            None => told.line = Some(format!("{} (as a line of the ASCII form)", and.text())),
+        }
+    }
+    if refusal.number == 15 {
+        let circle = graph.circle(variable);
+        told.what = format!("the AND of variable {variable} waits, directly or not, for itself");
+        if let (Some(first), false) = (circle.first(), circle.contains(&variable)) {
+            told.what = format!("the AND of variable {variable} waits behind a circle, at variable {first}");
+        }
+        let shown: Vec<String> = circle.iter().chain(circle.first()).take(20).map(usize::to_string).collect();
+        let dots = if circle.len() > 20 { " .." } else { "" };
+        told.help = format!("break the circle: {}{dots} (each uses the next)", shown.join(" "));
+    } else {
+        told.what = format!("the AND of variable {variable} has more than 18 cuts");
+        told.help = "try another form of the same logic: `examples/verilog/map-verilog` makes many with yosys and ABC and keeps the\n\
+                     earliest that is accepted. By hand: `aigmap` after `abc -g AND,XOR`, after `abc -fast -g AND`, or after plain\n\
+                     `synth`; or split the graph there (docs/GUIDE.md, \"On 16\")"
+            .into();
+    }
+    told
+}
+
+fn at_output(refusal: Refusal, source: &Source, output: usize) -> Told {
+    let mut told = Told { at: source.name.clone(), what: refusal.what().into(), line: None, help: String::new() };
+    let Some(graph) = Graph::read(&source.text) else { return told };
+    let name = graph.output_name(output).map(|name| format!(" (`{}`)", shown(name.as_bytes()))).unwrap_or_default();
+    let literal = graph.outputs.get(output).copied();
+    let number = graph.output_line(output);
+    told.at = format!("{}:{number}", source.name);
+    told.line = offset_of(&source.text, number).map(|offset| shown(line_at(&source.text, offset).bytes));
+    told.what = format!("no cells drive output {output}{name}");
+    told.help = match literal {
+        Some(literal @ (0 | 1)) => format!(
+            "it is the constant {literal}: add a cell without pins, as `tie{literal} 0 000{literal} 1 0 0 0 0`, or the other constant and an inverter"
+        ),
+        _ => "add cells: an inverter, as `inv 1 0001 1 10 0 0 0`, and a NAND or NOR of two pins drive every AND".into(),
+    };
+    told
+}
