@@ -67,6 +67,18 @@ typedef struct {
 MapperAnswer mapper_map(const uint8_t *cells, size_t cells_len, const uint8_t *graph, size_t graph_len, const uint8_t *arrivals,
                         size_t arrivals_len, uint16_t *work, size_t work_len, uint8_t *text, size_t text_len);
 
+/* Maps two graphs over one cells text and one work memory, each with an arrivals text and a text memory of its own. work holds at least the sum of
+ * both graphs' words. Where a refusal tried up to 10 (1 to 10, 19) applies to either, both answers are that refusal, the first channel's if both have one, and
+ * work is unchanged; any other refusal is its own channel's, and the other is mapped as if alone. Else of each answer and text what mapper_map says. */
+typedef struct {
+    MapperAnswer first;
+    MapperAnswer second;
+} MapperTwo;
+
+MapperTwo mapper_map_two(const uint8_t *cells, size_t cells_len, const uint8_t *graph1, size_t graph1_len, const uint8_t *arrivals1,
+                         size_t arrivals1_len, const uint8_t *graph2, size_t graph2_len, const uint8_t *arrivals2, size_t arrivals2_len,
+                         uint16_t *work, size_t work_len, uint8_t *text1, size_t text1_len, uint8_t *text2, size_t text2_len);
+
 /* Writes the cell text of a genlib library, to be handed to mapper_map as cells.
  *   success   number 0, value the cell text's length; text begins with it and keeps its other bytes
  *   refusal   MAPPER_TOO_LONG, MAPPER_GENLIB_FORM, MAPPER_GENLIB_PINS or MAPPER_GENLIB_FIGURE, or MAPPER_TEXT_SHORT; text is unchanged

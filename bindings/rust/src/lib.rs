@@ -21,6 +21,8 @@ mod refusal;
 pub mod shell;
 
 pub use raw::{call, call_cells, Answer};
+#[cfg(feature = "two")]
+pub use raw::{call_two, AnswerTwo, Channel};
 pub use refusal::{Place, Refusal};
 
 /// The longest text that is read: a longer one is refusal 1.
@@ -86,9 +88,7 @@ pub fn map(cells: &[u8], graph: &[u8], arrivals: &[u8]) -> Result<Netlist, Refus
         text = vec![0; length];
         mapped = map_in(cells, graph, arrivals, &mut work, &mut text);
     }
-    let (length, figures) = mapped?;
-    text.truncate(length);
-    Ok(Netlist { text: String::from_utf8(text).expect("a netlist is ASCII text"), figures })
+    Ok(netlist(mapped?, text))
 }
 
 /// Maps the graph with the cells over lent memory, and answers the netlist's length and its figures: `text` begins with the netlist and keeps
@@ -101,13 +101,47 @@ pub fn map_in(
     work: &mut [u16],
     text: &mut [u8],
 ) -> Result<(usize, Figures), Refusal> {
-    let Answer { number, value, gates, area, arrival } = call(cells, graph, arrivals, work, text);
+    answered(call(cells, graph, arrivals, work, text))
+}
+
+/// The netlist's length and its figures, or the refusal.
+fn answered(Answer { number, value, gates, area, arrival }: Answer) -> Result<(usize, Figures), Refusal> {
     // A length, an offset, a variable or an index: each is within the address space.
     let value = value as usize;
     match number {
         0 => Ok((value, Figures { gates, area, arrival })),
         number => Err(Refusal { number: number as u32, place: value }),
     }
+}
+
+/// Maps two graphs with the same cells in one call, on memory of its own. A refusal 1 to 9 or 19 of either channel is returned for both, the
+/// first channel's if both have one; with any other the other channel is mapped as if alone.
+#[cfg(feature = "two")]
+pub fn map_two(cells: &[u8], first: Channel, second: Channel) -> [Result<Netlist, Refusal>; 2] {
+    let channels = [first, second];
+    let mut work = vec![0; channels.iter().map(|channel| words_needed(channel.graph)).sum()];
+    let mut texts = channels.map(|channel| vec![0; bytes_enough(channel.graph)]);
+    loop {
+        let [text1, text2] = &mut texts;
+        let AnswerTwo { first, second } = call_two(cells, first, second, &mut work, text1, text2);
+        let mut is_short = false;
+        for (answer, text) in [first, second].iter().zip(&mut texts) {
+            if answer.number == 18 {
+                is_short = true;
+                *text = vec![0; answer.value as usize];
+            }
+        }
+        if !is_short {
+            let [text1, text2] = texts;
+            return [(first, text1), (second, text2)].map(|(answer, text)| Ok(netlist(answered(answer)?, text)));
+        }
+    }
+}
+
+/// The netlist that begins a text memory.
+fn netlist((length, figures): (usize, Figures), mut text: Vec<u8>) -> Netlist {
+    text.truncate(length);
+    Netlist { text: String::from_utf8(text).expect("a netlist is ASCII text"), figures }
 }
 
 /// Writes the cell text of a genlib library.

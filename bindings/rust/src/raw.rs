@@ -13,6 +13,23 @@ pub struct Answer {
     pub arrival: u32,
 }
 
+/// The answers for both channels of one call.
+#[cfg(feature = "two")]
+#[repr(C)]
+#[derive(Clone, Copy, Debug, PartialEq, Eq)]
+pub struct AnswerTwo {
+    pub first: Answer,
+    pub second: Answer,
+}
+
+/// A channel's own texts: its graph, and the arrivals of its inputs, empty for none.
+#[cfg(feature = "two")]
+#[derive(Clone, Copy, Debug)]
+pub struct Channel<'a> {
+    pub graph: &'a [u8],
+    pub arrivals: &'a [u8],
+}
+
 extern "C" {
     fn mapper_map(
         cells: *const u8,
@@ -28,6 +45,26 @@ extern "C" {
     ) -> Answer;
 
     fn mapper_cells(genlib: *const u8, genlib_len: usize, text: *mut u8, text_len: usize) -> Answer;
+
+    #[cfg(feature = "two")]
+    fn mapper_map_two(
+        cells: *const u8,
+        cells_len: usize,
+        graph1: *const u8,
+        graph1_len: usize,
+        arrivals1: *const u8,
+        arrivals1_len: usize,
+        graph2: *const u8,
+        graph2_len: usize,
+        arrivals2: *const u8,
+        arrivals2_len: usize,
+        work: *mut u16,
+        work_len: usize,
+        text1: *mut u8,
+        text1_len: usize,
+        text2: *mut u8,
+        text2_len: usize,
+    ) -> AnswerTwo;
 }
 
 /// The call itself, answered as C has it. It asks nothing of what the slices hold.
@@ -53,4 +90,37 @@ pub fn call(cells: &[u8], graph: &[u8], arrivals: &[u8], work: &mut [u16], text:
 pub fn call_cells(genlib: &[u8], text: &mut [u8]) -> Answer {
     // As above.
     unsafe { mapper_cells(genlib.as_ptr(), genlib.len(), text.as_mut_ptr(), text.len()) }
+}
+
+/// The call on two channels over one work memory, with a text memory each, answered as C has it.
+#[cfg(feature = "two")]
+pub fn call_two(
+    cells: &[u8],
+    first: Channel,
+    second: Channel,
+    work: &mut [u16],
+    text1: &mut [u8],
+    text2: &mut [u8],
+) -> AnswerTwo {
+    // As above, of the three that are written.
+    unsafe {
+        mapper_map_two(
+            cells.as_ptr(),
+            cells.len(),
+            first.graph.as_ptr(),
+            first.graph.len(),
+            first.arrivals.as_ptr(),
+            first.arrivals.len(),
+            second.graph.as_ptr(),
+            second.graph.len(),
+            second.arrivals.as_ptr(),
+            second.arrivals.len(),
+            work.as_mut_ptr(),
+            work.len(),
+            text1.as_mut_ptr(),
+            text1.len(),
+            text2.as_mut_ptr(),
+            text2.len(),
+        )
+    }
 }

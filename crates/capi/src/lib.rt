@@ -7,6 +7,8 @@ ghost use Rattle.model.specs.Mapper.{callOf, mapTexts, returned, returnedBy, te
 ghost use Rattle.model.specs.Demands.{Values, Earliest, Twins, Sequenced, EitherEnd, Untimed, Listed};
 ghost use Rattle.model.specs.Genlib.{genlibText, writtenAnswer, writtenPair, writtenAfter};
 ghost use Rattle.model.specs.GenlibDemands.{GenlibDemand};
+ghost use Rattle.model.specs.Channels.{channelOf, twoCallOf, needsOf, mapTwo, twoWorkAfter};
+ghost use Rattle.model.specs.TwoDemands.{TogetherRefused, Independent, Each, TwinChannels, EitherEndTwo};
 ghost use Rattle.capi.specs.Answers.{answered, answeredText};
 
 // "Success returns number 0, the netlist's length and the three figures of its `# gates` line; a refusal its number, its place and zero figures".
@@ -88,4 +90,53 @@ pub extern "C" fn mapper_cells(genlib: &[u8], text: &mut [u8]) -> MapperAnswer
     ensures cells { λ _. ⌜ GenlibDemand (now (genlib .entry)) (length (now (text .entry))) ⌝ }
 {
     text_answer(genlib::convert(genlib, text))
+}
+
+// An answer for each channel.
+#[repr(C)]
+pub struct MapperTwo {
+    pub first: MapperAnswer,
+    pub second: MapperAnswer,
+}
+
+// Maps two channels over one library text and lent words: of each a graph text and an arrivals' text, with bytes lent to it. The same bytes and words may
+// not be lent twice.
+#[no_mangle]
+pub extern "C" fn mapper_map_two(
+    cells: &[u8],
+    graph1: &[u8],
+    arrivals1: &[u8],
+    graph2: &[u8],
+    arrivals2: &[u8],
+    work: &mut [u16],
+    text1: &mut [u8],
+    text2: &mut [u8],
+) -> MapperTwo
+    ensures first { λ r. ⌜ r .first ≡ answered (returnedBy (mapTwo (twoCallOf (now (cells .entry)) (channelOf (now (graph1 .entry)) (now (arrivals1 .entry)) (now (text1 .entry))) (channelOf (now (graph2 .entry)) (now (arrivals2 .entry)) (now (text2 .entry))) (now (work .entry))) .first)) ⌝ }
+    ensures second { λ r. ⌜ r .second ≡ answered (returnedBy (mapTwo (twoCallOf (now (cells .entry)) (channelOf (now (graph1 .entry)) (now (arrivals1 .entry)) (now (text1 .entry))) (channelOf (now (graph2 .entry)) (now (arrivals2 .entry)) (now (text2 .entry))) (now (work .entry))) .second)) ⌝ }
+    ensures words { λ _. ⌜ now (work .exit) ≡ twoWorkAfter (needsOf (twoCallOf (now (cells .entry)) (channelOf (now (graph1 .entry)) (now (arrivals1 .entry)) (now (text1 .entry))) (channelOf (now (graph2 .entry)) (now (arrivals2 .entry)) (now (text2 .entry))) (now (work .entry)))) (now (work .entry)) ⌝ }
+    ensures bytes1 { λ _. ⌜ now (text1 .exit) ≡ textAfter (mapTwo (twoCallOf (now (cells .entry)) (channelOf (now (graph1 .entry)) (now (arrivals1 .entry)) (now (text1 .entry))) (channelOf (now (graph2 .entry)) (now (arrivals2 .entry)) (now (text2 .entry))) (now (work .entry))) .first) (now (text1 .entry)) ⌝ }
+    ensures bytes2 { λ _. ⌜ now (text2 .exit) ≡ textAfter (mapTwo (twoCallOf (now (cells .entry)) (channelOf (now (graph1 .entry)) (now (arrivals1 .entry)) (now (text1 .entry))) (channelOf (now (graph2 .entry)) (now (arrivals2 .entry)) (now (text2 .entry))) (now (work .entry))) .second) (now (text2 .entry)) ⌝ }
+    ensures together { λ _. ⌜ TogetherRefused (twoCallOf (now (cells .entry)) (channelOf (now (graph1 .entry)) (now (arrivals1 .entry)) (now (text1 .entry))) (channelOf (now (graph2 .entry)) (now (arrivals2 .entry)) (now (text2 .entry))) (now (work .entry))) ⌝ }
+    ensures independent { λ _. ⌜ Independent (twoCallOf (now (cells .entry)) (channelOf (now (graph1 .entry)) (now (arrivals1 .entry)) (now (text1 .entry))) (channelOf (now (graph2 .entry)) (now (arrivals2 .entry)) (now (text2 .entry))) (now (work .entry))) ⌝ }
+    ensures each { λ _. ⌜ Each (twoCallOf (now (cells .entry)) (channelOf (now (graph1 .entry)) (now (arrivals1 .entry)) (now (text1 .entry))) (channelOf (now (graph2 .entry)) (now (arrivals2 .entry)) (now (text2 .entry))) (now (work .entry))) ⌝ }
+    ensures twins { λ _. ⌜ TwinChannels (twoCallOf (now (cells .entry)) (channelOf (now (graph1 .entry)) (now (arrivals1 .entry)) (now (text1 .entry))) (channelOf (now (graph2 .entry)) (now (arrivals2 .entry)) (now (text2 .entry))) (now (work .entry))) ⌝ }
+    ensures ends { λ _. ⌜ EitherEndTwo (twoCallOf (now (cells .entry)) (channelOf (now (graph1 .entry)) (now (arrivals1 .entry)) (now (text1 .entry))) (channelOf (now (graph2 .entry)) (now (arrivals2 .entry)) (now (text2 .entry))) (now (work .entry))) ⌝ }
+{
+    let r = channels::map_two(
+        cells,
+        graph1,
+        arrivals1,
+        graph2,
+        arrivals2,
+        work,
+        text1,
+        text2,
+    );
+    let first = r.first;
+    let second = r.second;
+    MapperTwo {
+        first: answer(first),
+        second: answer(second),
+    }
 }

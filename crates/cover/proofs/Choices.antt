@@ -3,6 +3,7 @@
 --     direct-held         a phase without inverters
 --     up-held             after each turn the words have what is known
 --     choose-law          the chosen phases
+--     library-sheet       the library's sheet
 -- Assumes nothing.
 use Prim.Native.Nat.{ℕ, zero, suc, _+_, _*_, _/_, _≤_, _<_}
 use native.Mathlib.Omega.{arith}
@@ -38,7 +39,9 @@ use Rattle.words.specs.Holding.{HoldsPhases}
 use Rattle.words.proofs.Chosen.{phase-none}
 use Rattle.words.proofs.Stored.{held-count, held-cut}
 use Rattle.matching.specs.Variants.{Usable}
-use Rattle.cover.specs.Choosing.{foundOn, foundAt, foundFrom, bestAt, ownPhase, directOf, directAt, chosenTurn, chosenUp, Early, Unchosen}
+use Rattle.matching.specs.Sheet.{Blank, listMatched}
+use Rattle.matching.proofs.Linking.{build-sheet}
+use Rattle.cover.specs.Choosing.{foundOn, foundAt, foundFrom, bestAt, ownPhase, directOf, directAt, chosenTurn, chosenUp, Early, SheetIn, Unchosen}
 use Rattle.cover.proofs.Keeping.{PhasesKept, graph-kept, order-kept, cuts-kept}
 use Rattle.cover.proofs.Marks.{nets-in}
 use Rattle.cover.specs.Held.{HeaderOf, Held}
@@ -256,6 +259,10 @@ choose-law w lib h g e k u z =
     })
 
 -- what is asked of the words before the choice
-pub choose-asked : (w : List ℕ) (lib : Library) (h : Header) (g : Graph) → HeaderOf h g → Held w g → Usable lib → NonePicked w (g .size)
-    → Usable lib × Unchosen w (h .size) (placedOf h)
-choose-asked w lib h g e k u z = (u, rw (e .size, placed-is h g e (k .accepted)) (unchosen lib u g w k z))
+pub choose-asked : (w : List ℕ) (lib : Library) (h : Header) (g : Graph) → HeaderOf h g → Held w g → (sheet : List ℕ) → SheetIn lib sheet → NonePicked w (g .size)
+    → SheetIn lib sheet × Unchosen w (h .size) (placedOf h)
+choose-asked w lib h g e k sheet b z = (b, rw (e .size, placed-is h g e (k .accepted)) (unchosen lib (b .usable) g w k z))
+
+-- and of the sheet: it is the library's once its cells are matched, from a sheet with nothing on it
+pub library-sheet : (lib : Library) (blank sheet : List ℕ) → Usable lib → Blank 90240 blank → sheet ≡ listMatched (cellsOf lib) 0 blank → SheetIn lib sheet
+library-sheet lib blank sheet u z e = record { usable = u; sheeted = build-sheet lib blank sheet u z e }

@@ -287,8 +287,8 @@ fn choose_variables(
     }
 }
 
-// The library's cells, lent to the matcher as a list.
-fn match_library(lib: Library, sheet: &mut [u16; matching::SHEET])
+// The library's cells, lent to the matcher as a list: what a sheet then holds serves every graph of a call.
+pub fn match_library(lib: Library, sheet: &mut [u16; matching::SHEET])
     requires { ⌜ Usable lib ⌝ }
     ensures { λ _. ⌜ now (sheet .exit) ≡ listMatched (cellsOf lib) 0 (now (sheet .entry)) ⌝ }
 {
@@ -296,15 +296,13 @@ fn match_library(lib: Library, sheet: &mut [u16; matching::SHEET])
     matching::build(&cells[..lib.n], sheet);
 }
 
-// The choice for both phases of every variable.
-pub fn choose(work: &mut [u16], lib: Library, h: Header)
-    requires { ⌜ Usable lib × Unchosen (now work) (h .size) (placedOf h) ⌝ }
+// The choice for both phases of every variable, by the library's sheet.
+pub fn choose(work: &mut [u16], lib: Library, h: Header, sheet: &[u16; matching::SHEET])
+    requires { ⌜ SheetIn lib (now sheet) × Unchosen (now work) (h .size) (placedOf h) ⌝ }
     ensures { λ _. ⌜ now (work .exit) ≡ chosenUp (cellsOf lib) (now (work .entry)) (h .size) (placedOf h) ⌝ }
 {
-    let mut sheet = matching::no_sheet();
-    match_library(lib, &mut sheet);
     let inv = matching::inverter_of(lib);
-    choose_variables(work, h.size, words::placed(h), inv, &sheet);
+    choose_variables(work, h.size, words::placed(h), inv, sheet);
 }
 
 // ---- refusal 17

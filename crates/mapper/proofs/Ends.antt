@@ -21,7 +21,7 @@ use Rattle.mapper.specs.Stages.{Told, Left, designOf, graphFor, headerFo
 use Rattle.mapper.proofs.Printing.{told-refused}
 use Rattle.mapper.proofs.Numbers.{Early, work-early, work-late, header-early, graph-for-late}
 
-header-fault : (r : Read Header) (n k : ℕ) → headerAnswer r ≡ Refused n k → r ≡ fault n k
+pub header-fault : (r : Read Header) (n k : ℕ) → headerAnswer r ≡ Refused n k → r ≡ fault n k
 unfolding headerAnswer
 header-fault (holds h) n k e = let z : _≡_ {A = ℕ} 0 1 = cc in absurd (omega arith)
 header-fault (fault m j) n k e = let x : m ≡ n = cc in let y : j ≡ k = cc in (λ i. fault (x i) (y i))
@@ -56,12 +56,12 @@ module _ (lib : Library) (s t : List ℕ) (work text : List ℕ) where
         go false y = refl
 
     -- "all zero after a later one and after success"
-    pub header-done : need (h .size) (h .outputs) ≤ length work → (a : Answer) (u y z : List ℕ) → Told (graphFor lib s t h (length text)) text a u → length y ≡ length work
-        → z ≡ replicate (length y) 0 → Left (headerFor lib s t (length work) (length text)) work text a z u
+    pub header-done : need (h .size) (h .outputs) ≤ length work → (a : Answer) (u z : List ℕ) → Told (graphFor lib s t h (length text)) text a u → z ≡ replicate (length work) 0
+        → Left (headerFor lib s t (length work) (length text)) work text a z u
     unfolding unless graphFor
-    header-done l a u y z told e c =
+    header-done l a u z told c =
         left-as (through ∙ go (leb (need (h .size) (h .outputs)) (length work)) (le→leb (need (h .size) (h .outputs)) (length work) l))
-        (record { told = told; words = c ∙ ap (λ (n : ℕ). replicate n 0) e ∙ work-late (graphFor lib s t h (length text)) work (graph-for-late lib s t h (length text)) })
+        (record { told = told; words = c ∙ work-late (graphFor lib s t h (length text)) work (graph-for-late lib s t h (length text)) })
       where
         go : (b : Bool) → T b → mapDesign (length text) (unless b 10 0 (designOf lib s t h)) ≡ graphFor lib s t h (length text)
         go true y = refl

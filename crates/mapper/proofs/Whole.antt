@@ -45,7 +45,7 @@ within-fits bytes (mapped t f) = go (leb (length t) bytes) (leb→le (length t) 
     go true y = y tt
     go false y = tt
 
-texts-fit : (c : Call) → Fits (answerOf (mapTexts c)) (c .bytes)
+pub texts-fit : (c : Call) → Fits (answerOf (mapTexts c)) (c .bytes)
 unfolding mapTexts mapDesign
 texts-fit c = go (readTexts c)
   where

@@ -6,7 +6,7 @@ use model::Library;
 use model::Verdict;
 ghost use mathlib.Core.Path.{_≡_};
 ghost use Prim.Native.Nat.{_≤_};
-ghost use lib.ListN.{length};
+ghost use lib.ListN.{length, replicate};
 ghost use Rattle.model.specs.Limits.{need};
 ghost use Rattle.model.specs.Reading.{holds};
 ghost use Rattle.model.specs.Graph.{Graph};
@@ -14,6 +14,7 @@ ghost use Rattle.model.specs.GraphText.{readHeader};
 ghost use Rattle.model.specs.Mapper.{callOf};
 ghost use Rattle.model.specs.Demands.{Memory, Values, Earliest, Twins, Sequenced, EitherEnd, Untimed, Listed};
 ghost use Rattle.netlist.specs.Mapped.{Mapped};
+ghost use Rattle.cover.specs.Choosing.{SheetIn};
 ghost use Rattle.mapper.specs.Stages.{Fits, Told, Left, LibraryOk, Loaded, Timed, Cut, printedFor, cutFor, placedFor, timesFor, graphFor, headerFor};
 
 // 18, and the netlist: "Text memory is shorter than the netlist; place, the length needed."
@@ -32,11 +33,17 @@ fn print(work: &[u16], lib: Library, h: Header, text: &mut [u8]) -> Answer
 }
 
 // The choice, 17, and the needed phases.
-fn cover_graph(work: &mut [u16], lib: Library, h: Header, text: &mut [u8]) -> Answer
-    requires { ⌜ ((g : Graph) × Cut (now work) lib h g) ⌝ }
+fn cover_graph(
+    work: &mut [u16],
+    lib: Library,
+    h: Header,
+    sheet: &[u16; matching::SHEET],
+    text: &mut [u8],
+) -> Answer
+    requires { ⌜ ((g : Graph) × Cut (now work) lib h g) × SheetIn lib (now sheet) ⌝ }
     ensures { λ r. ⌜ ((g : Graph) → Cut (now (work .entry)) lib h g → Told (cutFor lib g (length (now (text .entry)))) (now (text .entry)) r (now (text .exit))) ⌝ }
 {
-    cover::choose(work, lib, h);
+    cover::choose(work, lib, h, sheet);
     match cover::uncovered(work, h) {
         Verdict::Accepted => {
             cover::mark(work, lib, h);
@@ -47,12 +54,18 @@ fn cover_graph(work: &mut [u16], lib: Library, h: Header, text: &mut [u8]) -> An
 }
 
 // The cuts, and 16.
-fn cut_graph(work: &mut [u16], lib: Library, h: Header, text: &mut [u8]) -> Answer
-    requires { ⌜ ((g : Graph) × Timed (now work) lib h g) ⌝ }
+fn cut_graph(
+    work: &mut [u16],
+    lib: Library,
+    h: Header,
+    sheet: &[u16; matching::SHEET],
+    text: &mut [u8],
+) -> Answer
+    requires { ⌜ ((g : Graph) × Timed (now work) lib h g) × SheetIn lib (now sheet) ⌝ }
     ensures { λ r. ⌜ ((g : Graph) → Timed (now (work .entry)) lib h g → Told (placedFor lib g (length (now (text .entry)))) (now (text .entry)) r (now (text .exit))) ⌝ }
 {
     match cutting::enumerate(work, h) {
-        Verdict::Accepted => cover_graph(work, lib, h, text),
+        Verdict::Accepted => cover_graph(work, lib, h, sheet, text),
         Verdict::Refused(number, place) => Answer::Refused(number, place),
     }
 }
@@ -63,23 +76,44 @@ fn place_graph(
     work: &mut [u16],
     lib: Library,
     h: Header,
+    sheet: &[u16; matching::SHEET],
     text: &mut [u8],
 ) -> Answer
-    requires { ⌜ ((g : Graph) × Loaded (now work) lib h g) ⌝ }
+    requires { ⌜ ((g : Graph) × Loaded (now work) lib h g) × SheetIn lib (now sheet) ⌝ }
     ensures { λ r. ⌜ ((g : Graph) → Loaded (now (work .entry)) lib h g → Told (timesFor lib (now (arrivals .entry)) h g (length (now (text .entry)))) (now (text .entry)) r (now (text .exit))) ⌝ }
 {
     let placed = placing::place(work, h);
     match arrivals::read(arrivals, h, work) {
         Verdict::Accepted => match placed {
-            Verdict::Accepted => cut_graph(work, lib, h, text),
+            Verdict::Accepted => cut_graph(work, lib, h, sheet, text),
             Verdict::Refused(number, place) => Answer::Refused(number, place),
         },
         Verdict::Refused(number, place) => Answer::Refused(number, place),
     }
 }
 
-// The graph behind its header, and 11 to 14, or 11, 12, 20 and 21.
-fn load_graph(
+// All that comes behind 10, for words that hold anything: the graph behind its header, 11 to 14, or 11, 12, 20 and 21, and what follows. The words are
+// left as the last pass leaves them.
+pub fn load_graph(
+    graph: &[u8],
+    arrivals: &[u8],
+    h: Header,
+    lib: Library,
+    sheet: &[u16; matching::SHEET],
+    work: &mut [u16],
+    text: &mut [u8],
+) -> Answer
+    requires { ⌜ LibraryOk lib × (readHeader (now graph) ≡ holds h) × (need (h .size) (h .outputs) ≤ length (now work)) × SheetIn lib (now sheet) ⌝ }
+    ensures { λ r. ⌜ Told (graphFor lib (now (graph .entry)) (now (arrivals .entry)) h (length (now (text .entry)))) (now (text .entry)) r (now (text .exit)) ⌝ }
+{
+    match aiger::load(graph, h, work) {
+        Verdict::Accepted => place_graph(arrivals, work, lib, h, sheet, text),
+        Verdict::Refused(number, place) => Answer::Refused(number, place),
+    }
+}
+
+// The same with a sheet made for it, and the clearing: work memory is "all zero after a later one and after success".
+fn map_graph(
     graph: &[u8],
     arrivals: &[u8],
     h: Header,
@@ -88,15 +122,16 @@ fn load_graph(
     text: &mut [u8],
 ) -> Answer
     requires { ⌜ LibraryOk lib × (readHeader (now graph) ≡ holds h) × (need (h .size) (h .outputs) ≤ length (now work)) ⌝ }
-    ensures { λ r. ⌜ Told (graphFor lib (now (graph .entry)) (now (arrivals .entry)) h (length (now (text .entry)))) (now (text .entry)) r (now (text .exit)) ⌝ }
+    ensures { λ r. ⌜ Told (graphFor lib (now (graph .entry)) (now (arrivals .entry)) h (length (now (text .entry)))) (now (text .entry)) r (now (text .exit)) × (now (work .exit) ≡ replicate (length (now (work .entry))) 0) ⌝ }
 {
-    match aiger::load(graph, h, work) {
-        Verdict::Accepted => place_graph(arrivals, work, lib, h, text),
-        Verdict::Refused(number, place) => Answer::Refused(number, place),
-    }
+    let mut sheet = matching::no_sheet();
+    cover::match_library(lib, &mut sheet);
+    let a = load_graph(graph, arrivals, h, lib, &sheet, work, text);
+    words::clear_all(work);
+    a
 }
 
-// The header, 7 to 9 and 19, then 10, and the clearing: "Work memory is unchanged by every refusal tried up to 10, and all zero after a later one and after success."
+// The header, 7 to 9 and 19, then 10: "Work memory is unchanged by every refusal tried up to 10, and all zero after a later one and after success."
 fn map_header(
     graph: &[u8],
     arrivals: &[u8],
@@ -112,9 +147,7 @@ fn map_header(
             if work.len() < words::need_words(h.size, h.outputs) {
                 return Answer::Refused(10, 0);
             }
-            let a = load_graph(graph, arrivals, h, lib, work, text);
-            words::clear_all(work);
-            a
+            map_graph(graph, arrivals, h, lib, work, text)
         }
         HeaderAnswer::Refused(number, place) => Answer::Refused(number, place),
     }

@@ -15,7 +15,9 @@ pub mod LibraryText
 pub mod GraphText
 pub mod ArrivalsText
 pub mod Mapper
+pub mod Channels
 pub mod Demands
+pub mod TwoDemands
 pub mod GenlibWords
 pub mod GenlibFormula
 pub mod Genlib

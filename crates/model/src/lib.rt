@@ -99,3 +99,9 @@ pub enum Scan {
     Done,
     Broken,
 }
+
+// What a call for two channels answers.
+pub struct Two {
+    pub first: Answer,
+    pub second: Answer,
+}

@@ -9,3 +9,4 @@ pub mod Gated
 pub mod Demanded
 pub mod Refusals
 pub mod Sequence
+pub mod Channels

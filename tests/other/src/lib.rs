@@ -37,8 +37,12 @@ pub mod genlib;
 pub mod genlib_checks;
 pub mod genlib_gen;
 pub mod judge;
+pub mod memory;
 #[cfg(feature = "mutants")]
 pub mod mutants;
 #[cfg(feature = "boundary")]
 pub mod ours;
 pub mod reference;
+pub mod two;
+pub mod two_checks;
+pub mod two_gen;

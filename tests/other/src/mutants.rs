@@ -91,3 +91,15 @@ pub const GENLIB: [(u32, &str); 14] = [
     (52, "text memory of exactly the length is refused"),
     (53, "empty lines are passed over"),
 ];
+
+/// Those of the call on two channels.
+pub const TWO: [(u32, &str); 8] = [
+    (64, "10 compares the lent words with the larger need alone"),
+    (65, "the second channel is refused because the first is"),
+    (66, "the second channel's early refusal doesn't stop the first"),
+    (67, "where both have an early refusal, the second's is returned"),
+    (68, "10 is tried on the first need before the second channel's earlier refusals"),
+    (69, "the second channel's 18 goes by the first's text memory"),
+    (70, "the second channel takes the first's arrivals"),
+    (71, "work memory is unchanged where both channels are refused after 10"),
+];

@@ -2,6 +2,8 @@
 //! lent memories. With the feature `self` the reference stands behind it.
 
 use crate::reference::Answer;
+#[cfg(feature = "two")]
+use crate::two::Channel;
 
 /// The mapper under test. It asks nothing of what it is lent.
 #[cfg(feature = "ours")]
@@ -36,4 +38,33 @@ pub fn map(cells: &[u8], graph: &[u8], arrivals: &[u8], work: &mut [u16], text: 
         work.fill(0);
     }
     answer
+}
+
+/// The call on two channels under test.
+#[cfg(all(feature = "ours", feature = "two"))]
+pub fn map_two(cells: &[u8], channels: [Channel; 2], work: &mut [u16], texts: [&mut [u8]; 2]) -> [Answer; 2] {
+    let [first, second] = channels.map(|Channel { graph, arrivals }| mapper::Channel { graph, arrivals });
+    let [text1, text2] = texts;
+    let two = mapper::call_two(cells, first, second, work, text1, text2);
+    [two.first, two.second].map(|mapper::Answer { number, value, gates, area, arrival }| Answer {
+        number: number as u32,
+        value: value as u32,
+        gates,
+        area,
+        arrival,
+    })
+}
+
+/// The other in its place, with the memories that the document promises.
+#[cfg(all(feature = "self", feature = "two", not(feature = "ours")))]
+pub fn map_two(cells: &[u8], channels: [Channel; 2], work: &mut [u16], texts: [&mut [u8]; 2]) -> [Answer; 2] {
+    let bytes = texts.each_ref().map(|text| text.len());
+    let two = crate::two::map_two(cells, channels, work.len(), bytes);
+    for (text, netlist) in texts.into_iter().zip(&two.netlists) {
+        text[..netlist.len()].copy_from_slice(netlist);
+    }
+    if two.zeroes {
+        work.fill(0);
+    }
+    two.answers
 }

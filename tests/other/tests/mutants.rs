@@ -1,7 +1,8 @@
-//! Every mutant of the reference is caught by a check of `tests/document.rs`.
+//! Every mutant of the reference is caught by a check of `tests/document.rs`,
+//! `tests/genlib.rs` or `tests/two.rs`.
 //! `MUTANTS=28,29` in the environment tries these alone.
 
-use other::{checks, genlib_checks, mutants};
+use other::{checks, genlib_checks, mutants, two_checks};
 use std::panic::catch_unwind;
 
 type Checks = [(&'static str, fn() -> checks::Check); 10];
@@ -26,6 +27,16 @@ const GENLIB: [(&str, fn() -> checks::Check); 4] = [
     ("damage", || genlib_checks::damage(5_000, 1)),
 ];
 
+const TWO: [(&str, fn() -> checks::Check); 7] = [
+    ("sum_of_both_needs", two_checks::sum_of_both_needs),
+    ("early_in_either", two_checks::early_in_either),
+    ("library_of_both", two_checks::library_of_both),
+    ("late_in_one", two_checks::late_in_one),
+    ("a_text_memory_each", two_checks::a_text_memory_each),
+    ("own_arrivals", two_checks::own_arrivals),
+    ("pairs", || two_checks::pairs(600, 1)),
+];
+
 #[test]
 fn every_mutant_is_caught() {
     caught(&mutants::LIST, &CHECKS);
@@ -34,6 +45,11 @@ fn every_mutant_is_caught() {
 #[test]
 fn every_mutant_of_genlib_is_caught() {
     caught(&mutants::GENLIB, &GENLIB);
+}
+
+#[test]
+fn every_mutant_of_two_is_caught() {
+    caught(&mutants::TWO, &TWO);
 }
 
 /// Prints a row for each mutant.

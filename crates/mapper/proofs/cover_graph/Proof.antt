@@ -9,13 +9,13 @@ choose-requires : tie.Need-choose-requires
 choose-requires c κs =
     let s = c .before .before .before in
     let p = s .pre in
-    choose-asked (s .args .work .now) (s .args .lib) (s .args .h) (p .0) (p .1 .given .header) (p .1 .held) (p .1 .given .library .usable) (p .1 .unchosen)
+    choose-asked (s .args .work .now) (s .args .lib) (s .args .h) (p .0 .0) (p .0 .1 .given .header) (p .0 .1 .held) (s .args .sheet .now) (p .1) (p .0 .1 .unchosen)
 
 uncovered-requires : tie.Need-uncovered-requires
 uncovered-requires c κs =
     let s = c .before .before .before .before .before .before .before in
     let y = c .before .before .before .choose in
-    chosen-outputs (s .args .work .now) (s .args .lib) (s .args .h) (s .pre .0) (s .pre .1) (y .last .0) (y .ensures)
+    chosen-outputs (s .args .work .now) (s .args .lib) (s .args .h) (s .pre .0 .0) (s .pre .0 .1) (y .last .0) (y .ensures)
 
 enum-told : tie.Need-enum-told
 enum-told c = search needs
@@ -24,7 +24,7 @@ mark-requires : tie.Need-mark-requires
 mark-requires c κs =
     let s = c .before .before .before .before .before .before .before .before .before .before .before in
     let y = c .before .before .before .before .before .before .before .choose in
-    chosen-asks (s .args .work .now) (s .args .lib) (s .args .h) (s .pre .0) (s .pre .1) (y .last .0) (y .ensures)
+    chosen-asks (s .args .work .now) (s .args .lib) (s .args .h) (s .pre .0 .0) (s .pre .0 .1) (y .last .0) (y .ensures)
 
 print-requires : tie.Need-print-requires
 print-requires c κs =
@@ -32,8 +32,8 @@ print-requires c κs =
     let y = c .before .before .before .before .before .before .before .before .before .before .before .before .choose in
     let r = c .before .before .before .before .before .before .before .before .uncovered in
     let z = c .before .before .before .before .mark in (
-      s .pre .0,
-      cover-mapped (s .args .work .now) (s .args .lib) (s .args .h) (s .pre .0) (s .pre .1) (y .last .0) (y .ensures) (r .result) (r .ensures) (c .before .before .before .before .before .before .enum-told .given .1) (z .last .0) (z .ensures),
+      s .pre .0 .0,
+      cover-mapped (s .args .work .now) (s .args .lib) (s .args .h) (s .pre .0 .0) (s .pre .0 .1) (y .last .0) (y .ensures) (r .result) (r .ensures) (c .before .before .before .before .before .before .enum-told .given .1) (z .last .0) (z .ensures),
     )
 
 enum-known-number : tie.Need-enum-known-number

@@ -7,7 +7,7 @@ use Rattle.mapper.proofs.cut_graph.Tie as tie
 enumerate-requires : tie.Need-enumerate-requires
 enumerate-requires c κs =
     let s = c .before .before .before in
-    timed-asks (s .args .work .now) (s .args .lib) (s .args .h) (s .pre .0) (s .pre .1)
+    timed-asks (s .args .work .now) (s .args .lib) (s .args .h) (s .pre .0 .0) (s .pre .0 .1)
 
 enum-told : tie.Need-enum-told
 enum-told c = search needs
@@ -16,7 +16,7 @@ cover-graph-requires : tie.Need-cover-graph-requires
 cover-graph-requires c κs =
     let s = c .before .before .before .before .before .before .before .before .before .before in
     let r = c .before .before .before .before .before .before .enumerate in
-    (s .pre .0, cuts-cut (s .args .work .now) (s .args .lib) (s .args .h) (s .pre .0) (s .pre .1) (r .result) (r .ensures .0) (c .before .before .enum-told .given .1) (r .last .0) (r .ensures .1))
+    ((s .pre .0 .0, cuts-cut (s .args .work .now) (s .args .lib) (s .args .h) (s .pre .0 .0) (s .pre .0 .1) (r .result) (r .ensures .0) (c .before .before .enum-told .given .1) (r .last .0) (r .ensures .1)), s .pre .1)
 
 enum-known-number : tie.Need-enum-known-number
 enum-known-number c = search needs

@@ -20,7 +20,7 @@ place-graph-requires c κs =
     let r = at-load .load in
     let fit = header-fit (args .graph .now) (args .h) (args .work .now) (start .pre .1) (start .pre .2) in
     let d = reading-loaded (args .lib) (start .pre .0) (args .graph .now) (args .arrivals .now) (args .h) (args .work .now) fit (start .pre .1) (r .result) (r .ensures .0) (at-enum-told .enum-told .given .1) _ (r .ensures .1 .0) in
-    (d .graph, d .loaded)
+    ((d .graph, d .loaded), start .pre .3)
 
 enum-known-number : tie.Need-enum-known-number
 enum-known-number c = search needs

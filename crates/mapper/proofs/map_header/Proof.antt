@@ -31,15 +31,12 @@ returns c =
     let args = at-header .before .before .before .before .before .args in
     header-short (args .lib) (args .graph .now) (args .arrivals .now) (args .work .now) (args .text .now) (at-h .h .given .0 .0) (header-read _ _ (sym (at-header .header .ensures .0) ∙ at-h .h .given .1)) (omega (arith, at-need-words .need-words .ensures))
 
-load-graph-requires : tie.Need-load-graph-requires
-load-graph-requires c κs =
+map-graph-requires : tie.Need-map-graph-requires
+map-graph-requires c κs =
     let at-need-words = c .before .before .before in
     let at-h = at-need-words .before .before in
     let at-header = at-h .before .before in
     (at-header .before .before .before .before .before .pre, (header-read _ _ (sym (at-header .header .ensures .0) ∙ at-h .h .given .1)), omega (arith, at-need-words .need-words .ensures))
-
-clear-all-requires : tie.Need-clear-all-requires
-clear-all-requires c κs = search needs
 
 enum-known-number : tie.Need-enum-known-number
 enum-known-number c = search needs
@@ -52,14 +49,13 @@ same-length-2 c = search needs
 
 returns-2 : tie.Need-returns-2
 returns-2 c =
-    let at-clear-all = c .before .before in
-    let at-load-graph = at-clear-all .before .before .before .before .before .before in
-    let at-need-words = at-load-graph .before .before .before .before in
+    let at-map-graph = c .before .before .before .before in
+    let at-need-words = at-map-graph .before .before .before .before in
     let at-h = at-need-words .before .before in
     let at-header = at-h .before .before in
     let args = at-header .before .before .before .before .before .args in
-    let g = at-load-graph .load-graph in
-    header-done (args .lib) (args .graph .now) (args .arrivals .now) (args .work .now) (args .text .now) (at-h .h .given .0 .0) (header-read _ _ (sym (at-header .header .ensures .0) ∙ at-h .h .given .1)) (omega (arith, at-need-words .need-words .ensures)) _ _ (g .last .1 .1 .1 .1 .0) _ (g .ensures) (omega arith) (at-clear-all .clear-all .ensures)
+    let g = at-map-graph .map-graph in
+    header-done (args .lib) (args .graph .now) (args .arrivals .now) (args .work .now) (args .text .now) (at-h .h .given .0 .0) (header-read _ _ (sym (at-header .header .ensures .0) ∙ at-h .h .given .1)) (omega (arith, at-need-words .need-words .ensures)) _ _ _ (g .ensures .0) (g .ensures .1)
 
 returns-3 : tie.Need-returns-3
 returns-3 c =
@@ -76,8 +72,7 @@ map-header-spec =
     enum-known-h
     need-words-requires
     returns
-    load-graph-requires
-    clear-all-requires
+    map-graph-requires
     enum-known-number
     same-length
     same-length-2

@@ -8,14 +8,14 @@ use Rattle.mapper.proofs.place_graph.Tie as tie
 place-requires : tie.Need-place-requires
 place-requires c κs =
     let start = c .before .before .before .before in
-    loaded-asks (start .args .work .now) (start .args .lib) (start .args .h) (start .pre .0) (start .pre .1)
+    loaded-asks (start .args .work .now) (start .args .lib) (start .args .h) (start .pre .0 .0) (start .pre .0 .1)
 
 read-requires : tie.Need-read-requires
 read-requires c κs =
     let at-place = c .before .before .before in
     let start = at-place .before .before .before .before .before in
     let r = at-place .place in
-    placing-lists (start .args .work .now) (start .args .lib) (start .args .h) (start .pre .0) (start .pre .1) (r .result) (r .ensures .0) (r .last .0) (r .ensures .1)
+    placing-lists (start .args .work .now) (start .args .lib) (start .args .h) (start .pre .0 .0) (start .pre .0 .1) (r .result) (r .ensures .0) (r .last .0) (r .ensures .1)
 
 enum-told : tie.Need-enum-told
 enum-told c = search needs
@@ -31,8 +31,8 @@ cut-graph-requires c κs =
     let args = start .args in
     let r = at-place .place in
     let u = at-read .read in
-    let d = placing-timed (args .work .now) (args .lib) (args .h) (start .pre .0) (start .pre .1) (r .result) (r .ensures .0) (r .last .0) (r .ensures .1) (args .arrivals .now) (u .result) (u .ensures .0) (c .before .before .before .before .enum-told .given .1) (c .before .before .enum-told2 .given .1) (u .last .1 .1 .0) (u .ensures .1 .1) in
-    (d .graph, d .timed)
+    let d = placing-timed (args .work .now) (args .lib) (args .h) (start .pre .0 .0) (start .pre .0 .1) (r .result) (r .ensures .0) (r .last .0) (r .ensures .1) (args .arrivals .now) (u .result) (u .ensures .0) (c .before .before .before .before .enum-told .given .1) (c .before .before .enum-told2 .given .1) (u .last .1 .1 .0) (u .ensures .1 .1) in
+    ((d .graph, d .timed), start .pre .1)
 
 enum-known-placed : tie.Need-enum-known-placed
 enum-known-placed c = search needs

@@ -10,6 +10,7 @@
 //! `--mutant K`  with the features `self,mutants`: a mistake behind the boundary
 
 use other::gen::{self, Case, Lent, Rng};
+use other::memory::Memory;
 use other::reference::{self, Answer};
 use other::{checks, ours, WORDS_EACH};
 use std::path::{Path, PathBuf};
@@ -49,36 +50,6 @@ fn options() -> Options {
 fn usage(at: &str) -> ! {
     eprintln!("not understood: {at}\nuse: diff [--cases N] [--seed S] [--only K] [--graphs D] [--out D] [--trace] [--mutant K]");
     process::exit(2)
-}
-
-/// Memory of a wanted length, filled by chance, between two margins that no
-/// one may touch.
-struct Memory<T> {
-    all: Vec<T>,
-    before: Vec<T>,
-    length: usize,
-}
-
-const MARGIN: usize = 32;
-
-impl<T: Copy + PartialEq> Memory<T> {
-    fn new(length: usize, mut fill: impl FnMut() -> T) -> Memory<T> {
-        let all: Vec<T> = (0..length + 2 * MARGIN).map(|_| fill()).collect();
-        Memory { before: all.clone(), all, length }
-    }
-
-    fn lent(&mut self) -> &mut [T] {
-        &mut self.all[MARGIN..MARGIN + self.length]
-    }
-
-    /// The first place that isn't as it was, after `wanted` was laid at the
-    /// front of what it was; the place counts from the lent part's start.
-    fn first_change(&self, wanted: &[T]) -> Option<isize> {
-        let mut before = self.before.clone();
-        before[MARGIN..MARGIN + wanted.len()].copy_from_slice(wanted);
-        let at = (0..before.len()).find(|&at| before[at] != self.all[at]);
-        at.map(|at| at as isize - MARGIN as isize)
-    }
 }
 
 #[derive(Default)]

@@ -1,0 +1,254 @@
+-- The whole call for two channels: refusal 1 and the library's, and what comes behind; demand 1. Assumes nothing.
+use Prim.Native.Nat.{ℕ, _+_, _≤_}
+use native.Mathlib.Nat.{le-refl}
+use native.Mathlib.Omega.{arith}
+use mathlib.Core.Path.{_≡_, refl, sym, _∙_, ap, ap₂, subst}
+use mathlib.Core.Bool.{Bool, true, false, _&&_}
+use mathlib.Core.List.{List}
+use lib.Dec.{T, leb, leb→le, le→leb}
+use lib.ListN.{length}
+use mir.Facts.{and-yes, leb-yes}
+use Rattle.model.specs.Limits.{need}
+use Rattle.model.specs.Reading.{Read, holds, fault, next, unless}
+use Rattle.model.specs.Cells.{cellsOf, libraryOf, libraryAnswer}
+use Rattle.model.specs.LibraryText.{readLibrary}
+use Rattle.model.specs.GraphText.{readHeader, readGraph}
+use Rattle.model.specs.ArrivalsText.{readArrivals, timedBy}
+use Rattle.model.specs.Graph.{Graph}
+use Rattle.model.specs.Netlist.{Outcome, refused}
+use Rattle.model.specs.Mapper.{Design, short, readTexts, mapDesign, mapTexts, answerOf, returned, textAfter}
+use Rattle.model.specs.Channels.{Channel, TwoCall, twoCallOf, alone, needOf, Needs, needsOf, Outcomes, mapNeeds, mapTwo, answersOf, twoWorkAfter}
+use Rattle.model.specs.TwoDemands.{TwoMemory}
+use Rattle.model.specs.declared.Cell.{Cell}
+use Rattle.model.specs.declared.Library.{Library}
+use Rattle.model.specs.declared.Header.{Header}
+use Rattle.model.specs.declared.LibraryAnswer.{LibraryAnswer}
+use Rattle.model.specs.declared.Verdict.the-variants.{Accepted, Refused as Told2}
+use Rattle.model.specs.declared.Two.{Two}
+use Rattle.model.specs.declared.Answer.the-variants.{Refused}
+use Rattle.model.proofs.Answers.{answer-returns}
+use Rattle.theory_text.proofs.Steps.{holds-once, unless-out, next-out}
+use Rattle.mapper.specs.Stages.{Fits, LibraryOk, designOf, graphFor}
+use Rattle.mapper.proofs.Libraries.{cells-back, library-ok}
+use Rattle.mapper.proofs.Whole.{texts-fit}
+use Rattle.channels.specs.Pairs.{Heads, sumFor, secondFor, firstFor, pairFor, workFor, PairLeft}
+use Rattle.channels.proofs.Leaving.{pair-as}
+
+-- the answers are within the text memories
+pub two-fit : (c : TwoCall) → Fits (answerOf (mapTwo c .first)) (c .first .bytes) × Fits (answerOf (mapTwo c .second)) (c .second .bytes)
+unfolding mapTwo mapNeeds
+two-fit c = go (needsOf c)
+  where
+    go : (r : Read Needs) → Fits (answerOf (mapNeeds c r .first)) (c .first .bytes) × Fits (answerOf (mapNeeds c r .second)) (c .second .bytes)
+    go (fault n k) = unfold answerOf in (tt, tt)
+    go (holds n) = (texts-fit (alone (c .library) (c .first) (n .first)), texts-fit (alone (c .library) (c .second) (n .second)))
+
+pub memory-fits : (c : TwoCall) (work first second : List ℕ) (answer : Two) (y u w : List ℕ) → TwoMemory c work first second answer y u w
+    → Fits (answer .first) (c .first .bytes) × Fits (answer .second) (c .second .bytes)
+unfolding answersOf
+memory-fits c work first second answer y u w m =
+    subst (λ (x : Two). Fits (x .first) (c .first .bytes) × Fits (x .second) (c .second .bytes)) (sym (m .answers)) (two-fit c)
+
+-- the needs of these headers
+needsIn : Read Heads → Read Needs
+needsIn (fault n k) = fault n k
+needsIn (holds x) = holds (record { first = need (x .first .size) (x .first .outputs); second = need (x .second .size) (x .second .outputs) })
+
+module _ (library : List ℕ) (a b : Channel) (work first second : List ℕ) where
+  abbrev call : TwoCall
+  call = twoCallOf library a b work
+
+  -- what is left by a reading that the call comes to is what demand 1 asks
+  of-pair : (lib : Library) (r : Read Heads) → needsOf call ≡ needsIn r → mapTwo call ≡ pairFor lib a b r → (answer : Two) (y u w : List ℕ)
+      → PairLeft lib a b r work first second answer y u w → TwoMemory call work first second answer y u w
+  unfolding answersOf
+  of-pair lib r n o answer y u w l =
+      let is : answer ≡ answersOf (mapTwo call) = l .answers ∙ ap answersOf (sym o) in
+      record {
+        answers = is;
+        returnsFirst = ap (λ (x : Two). returned (x .first)) is ∙ answer-returns (mapTwo call .first);
+        returnsSecond = ap (λ (x : Two). returned (x .second)) is ∙ answer-returns (mapTwo call .second);
+        words = l .words ∙ works r ∙ ap (λ (x : Read Needs). twoWorkAfter x work) (sym n);
+        firstBytes = l .firstBytes ∙ ap (λ (x : Outcomes). textAfter (x .first) first) (sym o);
+        secondBytes = l .secondBytes ∙ ap (λ (x : Outcomes). textAfter (x .second) second) (sym o);
+      }
+    where
+      works : (x : Read Heads) → workFor x work ≡ twoWorkAfter (needsIn x) work
+      works (fault m k) = unfold workFor twoWorkAfter needsIn in refl
+      works (holds x) = unfold workFor twoWorkAfter needsIn in refl
+
+  -- a refusal of the first channel that is tried before its header's
+  early : (n k : ℕ) → needOf library a ≡ fault n k → (answer : Two) → answer ≡ record { first = Refused n k; second = Refused n k }
+      → TwoMemory call work first second answer work first second
+  unfolding needsOf next mapTwo mapNeeds answersOf answerOf textAfter twoWorkAfter
+  early n k e answer q =
+      let d : needsOf call ≡ fault n k = ap (λ (r : Read ℕ). next r (λ x. next (needOf library b) (λ y. unless (leb (x + y) (length work)) 10 0 (holds (record { first = x; second = y }))))) e in
+      let o : mapTwo call ≡ record { first = refused n k; second = refused n k } = ap (mapNeeds call) d in
+      let is : answer ≡ answersOf (mapTwo call) = q ∙ ap answersOf (sym o) in
+      record {
+        answers = is;
+        returnsFirst = ap (λ (x : Two). returned (x .first)) is ∙ answer-returns (mapTwo call .first);
+        returnsSecond = ap (λ (x : Two). returned (x .second)) is ∙ answer-returns (mapTwo call .second);
+        words = ap (λ (x : Read Needs). twoWorkAfter x work) (sym d);
+        firstBytes = ap (λ (x : Outcomes). textAfter (x .first) first) (sym o);
+        secondBytes = ap (λ (x : Outcomes). textAfter (x .second) second) (sym o);
+      }
+
+  -- "A text is longer than 65,536 bytes": the library, or one of the first channel's
+  pub long-text : (length library ≤ 65536 → length (a .graph) ≤ 65536 → length (a .arrivals) ≤ 65536 → ⊥) → (answer : Two) → answer ≡ record { first = Refused 1 0; second = Refused 1 0 }
+      → TwoMemory call work first second answer work first second
+  unfolding needOf unless
+  long-text l = early 1 0 (go (leb (length library) 65536) (leb (length (a .graph)) 65536) (leb (length (a .arrivals)) 65536) (leb→le (length library) 65536) (leb→le (length (a .graph)) 65536) (leb→le (length (a .arrivals)) 65536))
+    where
+      go : (x y z : Bool) → (T x → length library ≤ 65536) → (T y → length (a .graph) ≤ 65536) → (T z → length (a .arrivals) ≤ 65536)
+          → unless (x && (y && z)) 1 0 (next (readLibrary library) (λ _. next (readHeader (a .graph)) (λ h. holds (need (h .size) (h .outputs))))) ≡ fault 1 0
+      go true true true f g h = absurd (l (f tt) (g tt) (h tt))
+      go true true false f g h = refl
+      go true false z f g h = refl
+      go false y z f g h = refl
+
+  module _ (shortLibrary : length library ≤ 65536) (shortGraph : length (a .graph) ≤ 65536) (shortArrivals : length (a .arrivals) ≤ 65536) (l : LibraryAnswer) (told : l ≡ libraryAnswer (readLibrary library)) where
+    needed : Read (List Cell) → Channel → Read ℕ
+    needed r ch = next r (λ _. next (readHeader (ch .graph)) (λ h. holds (need (h .size) (h .outputs))))
+
+    first-need : needOf library a ≡ needed (readLibrary library) a
+    unfolding needOf needed unless
+    first-need = go (leb (length library) 65536) (leb (length (a .graph)) 65536) (leb (length (a .arrivals)) 65536) (le→leb (length library) 65536 shortLibrary) (le→leb (length (a .graph)) 65536 shortGraph) (le→leb (length (a .arrivals)) 65536 shortArrivals)
+      where
+        go : (x y z : Bool) → T x → T y → T z → unless (x && (y && z)) 1 0 (needed (readLibrary library) a) ≡ needed (readLibrary library) a
+        go true true true f g h = refl
+        go true true false f g h = absurd h
+        go true false z f g h = absurd g
+        go false y z f g h = absurd f
+
+    second-need : needOf library b ≡ unless (leb (length (b .graph)) 65536 && leb (length (b .arrivals)) 65536) 1 0 (needed (readLibrary library) b)
+    unfolding needOf needed
+    second-need = go (leb (length library) 65536) (le→leb (length library) 65536 shortLibrary)
+      where
+        rest : Bool
+        rest = leb (length (b .graph)) 65536 && leb (length (b .arrivals)) 65536
+
+        go : (x : Bool) → T x → unless (x && rest) 1 0 (needed (readLibrary library) b) ≡ unless rest 1 0 (needed (readLibrary library) b)
+        go true f = refl
+        go false f = absurd f
+
+    -- 2 to 6
+    pub library-stops : (n k : ℕ) → l .verdict ≡ Told2 n k → (answer : Two) → answer ≡ record { first = Refused n k; second = Refused n k } → TwoMemory call work first second answer work first second
+    unfolding libraryAnswer next needed
+    library-stops n k e = go (readLibrary library) refl (sym (ap (λ (x : LibraryAnswer). x .verdict) told) ∙ e)
+      where
+        go : (r : Read (List Cell)) → readLibrary library ≡ r → libraryAnswer r .verdict ≡ Told2 n k → (answer : Two) → answer ≡ record { first = Refused n k; second = Refused n k }
+            → TwoMemory call work first second answer work first second
+        go (holds cs) q z = absurd (let x : _≡_ {A = ℕ} 0 1 = cc in omega arith)
+        go (fault m j) q z =
+            let x : m ≡ n = cc in let y : j ≡ k = cc in
+            early n k (first-need ∙ ap (λ (r : Read (List Cell)). needed r a) (q ∙ (λ i. fault (x i) (y i))))
+
+    module _ (cs : List Cell) (isLibrary : readLibrary library ≡ holds cs) (lib : Library) (isCells : cellsOf lib ≡ cs) where
+      -- a channel alone, once its texts are short and its header is read
+      alone-is : (ch : Channel) → short (alone library ch 0) ≡ true → (h : Header) → readHeader (ch .graph) ≡ holds h
+          → mapTexts (alone library ch (need (h .size) (h .outputs))) ≡ graphFor lib (ch .graph) (ch .arrivals) h (ch .bytes)
+      unfolding mapTexts readTexts unless next graphFor
+      alone-is ch s h e =
+          ap (mapDesign (ch .bytes))
+          (ap (λ (x : Bool). unless x 1 0 (next (readLibrary library) read)) s
+          ∙ ap (λ (r : Read (List Cell)). next r read) (isLibrary ∙ ap holds (sym isCells))
+          ∙ ap (λ (r : Read Header). next r (lent (cellsOf lib))) e
+          ∙ ap (λ (x : Bool). unless x 10 0 (behind (cellsOf lib) h)) (enough (leb words words) (le→leb words words (le-refl words))))
+        where
+          words : ℕ
+          words = need (h .size) (h .outputs)
+
+          behind : List Cell → Header → Read Design
+          behind cells k = next (readGraph (ch .graph) k) (λ g. next (readArrivals (k .inputs) (ch .arrivals)) (λ es. holds (record { cells = cells; graph = timedBy g es })))
+
+          lent : List Cell → Header → Read Design
+          lent cells k = unless (leb (need (k .size) (k .outputs)) words) 10 0 (behind cells k)
+
+          read : List Cell → Read Design
+          read cells = next (readHeader (ch .graph)) (lent cells)
+
+          enough : (x : Bool) → T x → x ≡ true
+          enough true t = refl
+          enough false t = absurd t
+
+      -- the needs are those of the headers
+      needs-are : needsOf call ≡ needsIn (firstFor (length work) a b)
+      unfolding needsOf needed firstFor secondFor sumFor needsIn next unless
+      needs-are =
+          ap₂ (λ (x y : Read ℕ). next x (λ p. next y (lent p))) (first-need ∙ ap (λ (r : Read (List Cell)). needed r a) isLibrary) (second-need ∙ ap (λ (r : Read (List Cell)). unless rest 1 0 (needed r b)) isLibrary)
+          ∙ go (readHeader (a .graph)) rest (readHeader (b .graph))
+        where
+          rest : Bool
+          rest = leb (length (b .graph)) 65536 && leb (length (b .arrivals)) 65536
+
+          lent : ℕ → ℕ → Read Needs
+          lent p q = unless (leb (p + q) (length work)) 10 0 (holds (record { first = p; second = q }))
+
+          both : Header → Header → Needs
+          both h k = record { first = need (h .size) (h .outputs); second = need (k .size) (k .outputs) }
+
+          sum : (h k : Header) (x : Bool) → unless x 10 0 (holds (both h k)) ≡ needsIn (unless x 10 0 (holds (record { first = h; second = k })))
+          sum h k true = refl
+          sum h k false = refl
+
+          go : (r : Read Header) (x : Bool) (s : Read Header)
+              → next (next r (λ h. holds (need (h .size) (h .outputs)))) (λ p. next (unless x 1 0 (next s (λ h. holds (need (h .size) (h .outputs))))) (lent p))
+              ≡ needsIn (next r (λ h. unless x 1 0 (next s (sumFor (length work) h))))
+          go (fault n k) x s = refl
+          go (holds h) false s = refl
+          go (holds h) true (fault n k) = refl
+          go (holds h) true (holds k) = sum h k (leb (need (h .size) (h .outputs) + need (k .size) (k .outputs)) (length work))
+
+      -- the first channel's texts are short, and where both headers are read the second's are
+      first-short : short (alone library a 0) ≡ true
+      first-short = go (leb (length library) 65536) (leb (length (a .graph)) 65536) (leb (length (a .arrivals)) 65536) (le→leb (length library) 65536 shortLibrary) (le→leb (length (a .graph)) 65536 shortGraph) (le→leb (length (a .arrivals)) 65536 shortArrivals)
+        where
+          go : (x y z : Bool) → T x → T y → T z → (x && (y && z)) ≡ true
+          go true true true f g h = refl
+          go true true false f g h = absurd h
+          go true false z f g h = absurd g
+          go false y z f g h = absurd f
+
+      second-short : T (leb (length (b .graph)) 65536 && leb (length (b .arrivals)) 65536) → short (alone library b 0) ≡ true
+      second-short t = go (leb (length library) 65536) (leb (length (b .graph)) 65536 && leb (length (b .arrivals)) 65536) (le→leb (length library) 65536 shortLibrary) t
+        where
+          go : (x y : Bool) → T x → T y → (x && y) ≡ true
+          go true true f g = refl
+          go true false f g = absurd g
+          go false y f g = absurd f
+
+      -- and the outcomes are those of the passes
+      outcomes-are : mapTwo call ≡ pairFor lib a b (firstFor (length work) a b)
+      unfolding mapTwo mapNeeds needsIn pairFor firstFor secondFor sumFor
+      outcomes-are = ap (mapNeeds call) needs-are ∙ go (firstFor (length work) a b) refl
+        where
+          go : (r : Read Heads) → firstFor (length work) a b ≡ r → mapNeeds call (needsIn r) ≡ pairFor lib a b r
+          go (fault n k) e = refl
+          go (holds x) e =
+              let f = next-out (readHeader (a .graph)) (secondFor (length work) b) x e in
+              let s = unless-out (leb (length (b .graph)) 65536 && leb (length (b .arrivals)) 65536) 1 0 (next (readHeader (b .graph)) (sumFor (length work) (f .0))) x (f .2) in
+              let k = next-out (readHeader (b .graph)) (sumFor (length work) (f .0)) x (s .1) in
+              let m = unless-out (leb (need (f .0 .size) (f .0 .outputs) + need (k .0 .size) (k .0 .outputs)) (length work)) 10 0 (holds (record { first = f .0; second = k .0 })) x (k .2) in
+              let is : _≡_ {A = Heads} (record { first = f .0; second = k .0 }) x = holds-once (m .1) in
+              ap₂ (λ (o p : Outcome). record { first = o; second = p })
+              (alone-is a first-short (x .first) (f .1 ∙ ap (λ (y : Heads). holds (y .first)) is))
+              (alone-is b (second-short (s .0)) (x .second) (k .1 ∙ ap (λ (y : Heads). holds (y .second)) is))
+
+    pub record IsRead : Type 0 where
+      pub ok : LibraryOk (l .library)
+      pub goes : (answer : Two) (y u w : List ℕ) → PairLeft (l .library) a b (firstFor (length work) a b) work first second answer y u w → TwoMemory call work first second answer y u w
+
+    pub library-read : l .verdict ≡ Accepted → IsRead
+    unfolding libraryAnswer
+    library-read e = go (readLibrary library) refl (sym (ap (λ (x : LibraryAnswer). x .verdict) told) ∙ e)
+      where
+        go : (r : Read (List Cell)) → readLibrary library ≡ r → libraryAnswer r .verdict ≡ Accepted → IsRead
+        go (fault m j) q z = absurd (let x : _≡_ {A = ℕ} 0 1 = cc in omega arith)
+        go (holds cs) q z =
+            let is : l .library ≡ libraryOf cs = ap (λ (x : LibraryAnswer). x .library) (told ∙ ap libraryAnswer q) in
+            let same : cellsOf (l .library) ≡ cs = ap cellsOf is ∙ cells-back cs in
+            record {
+              ok = subst LibraryOk (sym is) (library-ok library cs q);
+              goes = of-pair (l .library) (firstFor (length work) a b) (needs-are cs q (l .library) same) (outcomes-are cs q (l .library) same);
+            }

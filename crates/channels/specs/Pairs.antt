@@ -1,0 +1,60 @@
+-- What comes of two channels once the library is read, from each refusal tried up to 10 on. Assumes nothing.
+use mathlib.Core.Path.{_≡_}
+use mathlib.Core.Bool.{_&&_}
+use mathlib.Core.List.{List}
+use Prim.Native.Nat.{ℕ, _+_}
+use lib.Dec.{leb}
+use lib.ListN.{length, replicate}
+use Rattle.model.specs.Limits.{need}
+use Rattle.model.specs.Reading.{Read, holds, fault, next, unless}
+use Rattle.model.specs.GraphText.{readHeader}
+use Rattle.model.specs.Netlist.{refused}
+use Rattle.model.specs.Mapper.{textAfter}
+use Rattle.model.specs.Channels.{Channel, Outcomes, answersOf}
+use Rattle.model.specs.declared.Library.{Library}
+use Rattle.model.specs.declared.Header.{Header}
+use Rattle.model.specs.declared.Two.{Two}
+use Rattle.mapper.specs.Stages.{graphFor}
+
+-- the headers of both
+pub record Heads : Type 0 where
+  pub first : Header
+  pub second : Header
+
+-- ---- the refusals tried up to 10
+
+-- 10: "the sum of both needs"
+unfoldable pub sumFor : ℕ → Header → Header → Read Heads
+unfolding unless need
+sumFor words h k = unless (leb (need (h .size) (h .outputs) + need (k .size) (k .outputs)) words) 10 0 (holds (record { first = h; second = k }))
+
+-- the second channel's before it: 1, 7 to 9 and 19
+unfoldable pub secondFor : ℕ → Channel → Header → Read Heads
+unfolding unless next readHeader sumFor
+secondFor words b h = unless (leb (length (b .graph)) 65536 && leb (length (b .arrivals)) 65536) 1 0 (next (readHeader (b .graph)) (sumFor words h))
+
+-- the first channel's before them: 7 to 9 and 19
+unfoldable pub firstFor : ℕ → Channel → Channel → Read Heads
+unfolding next readHeader secondFor
+firstFor words a b = next (readHeader (a .graph)) (secondFor words b)
+
+-- ---- the outcomes
+
+unfoldable pub pairFor : Library → Channel → Channel → Read Heads → Outcomes
+unfolding graphFor
+pairFor lib a b (fault n k) = record { first = refused n k; second = refused n k }
+pairFor lib a b (holds x) = record {
+  first = graphFor lib (a .graph) (a .arrivals) (x .first) (a .bytes);
+  second = graphFor lib (b .graph) (b .arrivals) (x .second) (b .bytes);
+}
+
+unfoldable pub workFor : Read Heads → List ℕ → List ℕ
+workFor (fault n k) work = work
+workFor (holds x) work = replicate (length work) 0
+
+-- both answers, and what is left of the memory lent
+pub record PairLeft (lib : Library) (a b : Channel) (r : Read Heads) (work first second : List ℕ) (answer : Two) (workLeft firstLeft secondLeft : List ℕ) : Type 0 where
+  pub answers : answer ≡ answersOf (pairFor lib a b r)
+  pub words : workLeft ≡ workFor r work
+  pub firstBytes : firstLeft ≡ textAfter (pairFor lib a b r .first) first
+  pub secondBytes : secondLeft ≡ textAfter (pairFor lib a b r .second) second

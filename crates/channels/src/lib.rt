@@ -1,0 +1,214 @@
+// Two channels in one call: two graphs mapped over one cell list and one work memory, "with a text memory each".
+use model::Answer;
+use model::Header;
+use model::HeaderAnswer;
+use model::Library;
+use model::Two;
+use model::Verdict;
+ghost use mathlib.Core.Path.{_≡_};
+ghost use Prim.Native.Nat.{_≤_};
+ghost use lib.ListN.{length};
+ghost use Rattle.model.specs.Limits.{need};
+ghost use Rattle.model.specs.Reading.{holds};
+ghost use Rattle.model.specs.GraphText.{readHeader};
+ghost use Rattle.model.specs.Channels.{channelOf, twoCallOf};
+ghost use Rattle.model.specs.TwoDemands.{TwoMemory, Independent, TogetherRefused, Each, TwinChannels, EitherEndTwo};
+ghost use Rattle.model.specs.declared.Answer.the-variants.{Refused};
+ghost use Rattle.mapper.specs.Stages.{Fits, LibraryOk};
+ghost use Rattle.channels.specs.Pairs.{PairLeft, sumFor, secondFor, firstFor};
+
+// "both return that number and place"
+fn both(number: usize, place: usize) -> Two
+    ensures { λ r. ⌜ r ≡ record { first = Refused number place; second = Refused number place } ⌝ }
+{
+    Two {
+        first: Answer::Refused(number, place),
+        second: Answer::Refused(number, place),
+    }
+}
+
+// Each channel as if alone: a pass asks nothing of what the words hold, so the second may find there what the first left. The sheet is made once for both,
+// and the words are cleared once.
+fn map_both(
+    graph1: &[u8],
+    arrivals1: &[u8],
+    h1: Header,
+    graph2: &[u8],
+    arrivals2: &[u8],
+    h2: Header,
+    lib: Library,
+    work: &mut [u16],
+    text1: &mut [u8],
+    text2: &mut [u8],
+) -> Two
+    requires { ⌜ LibraryOk lib × (readHeader (now graph1) ≡ holds h1) × (readHeader (now graph2) ≡ holds h2) × (need (h1 .size) (h1 .outputs) ≤ length (now work)) × (need (h2 .size) (h2 .outputs) ≤ length (now work)) ⌝ }
+    ensures { λ r. ⌜ PairLeft lib (channelOf (now (graph1 .entry)) (now (arrivals1 .entry)) (now (text1 .entry))) (channelOf (now (graph2 .entry)) (now (arrivals2 .entry)) (now (text2 .entry))) (holds (record { first = h1; second = h2 })) (now (work .entry)) (now (text1 .entry)) (now (text2 .entry)) r (now (work .exit)) (now (text1 .exit)) (now (text2 .exit)) ⌝ }
+{
+    let mut sheet = matching::no_sheet();
+    cover::match_library(lib, &mut sheet);
+    let first = mapper::load_graph(graph1, arrivals1, h1, lib, &sheet, work, text1);
+    let second = mapper::load_graph(graph2, arrivals2, h2, lib, &sheet, work, text2);
+    words::clear_all(work);
+    Two {
+        first: first,
+        second: second,
+    }
+}
+
+// 10: "compares the lent words with the sum of both needs".
+fn map_pair(
+    graph1: &[u8],
+    arrivals1: &[u8],
+    h1: Header,
+    graph2: &[u8],
+    arrivals2: &[u8],
+    h2: Header,
+    lib: Library,
+    work: &mut [u16],
+    text1: &mut [u8],
+    text2: &mut [u8],
+) -> Two
+    requires { ⌜ LibraryOk lib × (readHeader (now graph1) ≡ holds h1) × (readHeader (now graph2) ≡ holds h2) ⌝ }
+    ensures { λ r. ⌜ PairLeft lib (channelOf (now (graph1 .entry)) (now (arrivals1 .entry)) (now (text1 .entry))) (channelOf (now (graph2 .entry)) (now (arrivals2 .entry)) (now (text2 .entry))) (sumFor (length (now (work .entry))) h1 h2) (now (work .entry)) (now (text1 .entry)) (now (text2 .entry)) r (now (work .exit)) (now (text1 .exit)) (now (text2 .exit)) ⌝ }
+{
+    let first = words::need_words(h1.size, h1.outputs);
+    let second = words::need_words(h2.size, h2.outputs);
+    if work.len() < first + second {
+        return both(10, 0);
+    }
+    map_both(
+        graph1,
+        arrivals1,
+        h1,
+        graph2,
+        arrivals2,
+        h2,
+        lib,
+        work,
+        text1,
+        text2,
+    )
+}
+
+// The second channel's refusals tried before 10, once the first has none: 1, 7 to 9 and 19.
+fn map_second(
+    graph1: &[u8],
+    arrivals1: &[u8],
+    h1: Header,
+    graph2: &[u8],
+    arrivals2: &[u8],
+    lib: Library,
+    work: &mut [u16],
+    text1: &mut [u8],
+    text2: &mut [u8],
+) -> Two
+    requires { ⌜ LibraryOk lib × (readHeader (now graph1) ≡ holds h1) ⌝ }
+    ensures { λ r. ⌜ PairLeft lib (channelOf (now (graph1 .entry)) (now (arrivals1 .entry)) (now (text1 .entry))) (channelOf (now (graph2 .entry)) (now (arrivals2 .entry)) (now (text2 .entry))) (secondFor (length (now (work .entry))) (channelOf (now (graph2 .entry)) (now (arrivals2 .entry)) (now (text2 .entry))) h1) (now (work .entry)) (now (text1 .entry)) (now (text2 .entry)) r (now (work .exit)) (now (text1 .exit)) (now (text2 .exit)) ⌝ }
+{
+    if graph2.len() > 65536 {
+        return both(1, 0);
+    }
+    if arrivals2.len() > 65536 {
+        return both(1, 0);
+    }
+    match aiger::header(graph2) {
+        HeaderAnswer::Read(h2) => {
+            map_pair(
+                graph1,
+                arrivals1,
+                h1,
+                graph2,
+                arrivals2,
+                h2,
+                lib,
+                work,
+                text1,
+                text2,
+            )
+        }
+        HeaderAnswer::Refused(number, place) => both(number, place),
+    }
+}
+
+// The first channel's header, 7 to 9 and 19.
+fn map_first(
+    graph1: &[u8],
+    arrivals1: &[u8],
+    graph2: &[u8],
+    arrivals2: &[u8],
+    lib: Library,
+    work: &mut [u16],
+    text1: &mut [u8],
+    text2: &mut [u8],
+) -> Two
+    requires { ⌜ LibraryOk lib ⌝ }
+    ensures { λ r. ⌜ PairLeft lib (channelOf (now (graph1 .entry)) (now (arrivals1 .entry)) (now (text1 .entry))) (channelOf (now (graph2 .entry)) (now (arrivals2 .entry)) (now (text2 .entry))) (firstFor (length (now (work .entry))) (channelOf (now (graph1 .entry)) (now (arrivals1 .entry)) (now (text1 .entry))) (channelOf (now (graph2 .entry)) (now (arrivals2 .entry)) (now (text2 .entry)))) (now (work .entry)) (now (text1 .entry)) (now (text2 .entry)) r (now (work .exit)) (now (text1 .exit)) (now (text2 .exit)) ⌝ }
+{
+    match aiger::header(graph1) {
+        HeaderAnswer::Read(h1) => {
+            map_second(
+                graph1,
+                arrivals1,
+                h1,
+                graph2,
+                arrivals2,
+                lib,
+                work,
+                text1,
+                text2,
+            )
+        }
+        HeaderAnswer::Refused(number, place) => both(number, place),
+    }
+}
+
+// Two channels mapped: each netlist at the start of its text memory, or its refusal. The clauses carry the names of the demands: `memory` both answers and
+// all memory, `independent` that "a channel's netlist or refusal depends on the library, its own graph, arrivals and text length, and nothing of the
+// other's", `together` the exception for "a refusal tried up to 10", `each` that "what is promised of one netlist holds for each", `twins` and `ends` that
+// texts which mean the same graph, or are alike but for line ends, give the same netlists, `fits` that a netlist is within its text memory.
+pub fn map_two(
+    cells: &[u8],
+    graph1: &[u8],
+    arrivals1: &[u8],
+    graph2: &[u8],
+    arrivals2: &[u8],
+    work: &mut [u16],
+    text1: &mut [u8],
+    text2: &mut [u8],
+) -> Two
+    ensures memory { λ r. ⌜ TwoMemory (twoCallOf (now (cells .entry)) (channelOf (now (graph1 .entry)) (now (arrivals1 .entry)) (now (text1 .entry))) (channelOf (now (graph2 .entry)) (now (arrivals2 .entry)) (now (text2 .entry))) (now (work .entry))) (now (work .entry)) (now (text1 .entry)) (now (text2 .entry)) r (now (work .exit)) (now (text1 .exit)) (now (text2 .exit)) ⌝ }
+    ensures together { λ _. ⌜ TogetherRefused (twoCallOf (now (cells .entry)) (channelOf (now (graph1 .entry)) (now (arrivals1 .entry)) (now (text1 .entry))) (channelOf (now (graph2 .entry)) (now (arrivals2 .entry)) (now (text2 .entry))) (now (work .entry))) ⌝ }
+    ensures independent { λ _. ⌜ Independent (twoCallOf (now (cells .entry)) (channelOf (now (graph1 .entry)) (now (arrivals1 .entry)) (now (text1 .entry))) (channelOf (now (graph2 .entry)) (now (arrivals2 .entry)) (now (text2 .entry))) (now (work .entry))) ⌝ }
+    ensures each { λ _. ⌜ Each (twoCallOf (now (cells .entry)) (channelOf (now (graph1 .entry)) (now (arrivals1 .entry)) (now (text1 .entry))) (channelOf (now (graph2 .entry)) (now (arrivals2 .entry)) (now (text2 .entry))) (now (work .entry))) ⌝ }
+    ensures twins { λ _. ⌜ TwinChannels (twoCallOf (now (cells .entry)) (channelOf (now (graph1 .entry)) (now (arrivals1 .entry)) (now (text1 .entry))) (channelOf (now (graph2 .entry)) (now (arrivals2 .entry)) (now (text2 .entry))) (now (work .entry))) ⌝ }
+    ensures ends { λ _. ⌜ EitherEndTwo (twoCallOf (now (cells .entry)) (channelOf (now (graph1 .entry)) (now (arrivals1 .entry)) (now (text1 .entry))) (channelOf (now (graph2 .entry)) (now (arrivals2 .entry)) (now (text2 .entry))) (now (work .entry))) ⌝ }
+    ensures fits { λ r. ⌜ Fits (r .first) (length (now (text1 .entry))) × Fits (r .second) (length (now (text2 .entry))) ⌝ }
+{
+    if cells.len() > 65536 {
+        return both(1, 0);
+    }
+    if graph1.len() > 65536 {
+        return both(1, 0);
+    }
+    if arrivals1.len() > 65536 {
+        return both(1, 0);
+    }
+    let l = library::read(cells);
+    let v = l.verdict;
+    match v {
+        Verdict::Accepted => {
+            let lib = l.library;
+            map_first(
+                graph1,
+                arrivals1,
+                graph2,
+                arrivals2,
+                lib,
+                work,
+                text1,
+                text2,
+            )
+        }
+        Verdict::Refused(number, place) => both(number, place),
+    }
+}

@@ -1,0 +1,88 @@
+-- Request N8, "Two channels, one library and one store": two graphs mapped in one call over one cell list and one work memory, "with a text memory each".
+-- Assumes nothing.
+use Prim.Native.Nat.{ℕ, _+_}
+use mathlib.Core.List.{List}
+use lib.Dec.{leb}
+use lib.ListN.{length, replicate}
+use Rattle.model.specs.Limits.{need}
+use Rattle.model.specs.Reading.{Read, holds, fault, next, unless}
+use Rattle.model.specs.LibraryText.{readLibrary}
+use Rattle.model.specs.GraphText.{readHeader}
+use Rattle.model.specs.Netlist.{Outcome, refused}
+use Rattle.model.specs.Mapper.{Call, short, mapTexts, answerOf}
+use Rattle.model.specs.declared.Two.{Two}
+
+-- what is a channel's own: "its own graph, arrivals and text length"
+pub record Channel : Type 0 where
+  pub graph : List ℕ
+  pub arrivals : List ℕ
+  pub bytes : ℕ
+
+-- what a call for two channels is given
+pub record TwoCall : Type 0 where
+  pub library : List ℕ
+  pub words : ℕ
+  pub first : Channel
+  pub second : Channel
+
+-- a channel's texts, with its text memory lent
+abbrev pub channelOf : List ℕ → List ℕ → List ℕ → Channel
+channelOf graph arrivals text = record { graph = graph; arrivals = arrivals; bytes = length text }
+
+-- the call on a library and two channels, with work memory lent
+abbrev pub twoCallOf : List ℕ → Channel → Channel → List ℕ → TwoCall
+twoCallOf library first second work = record { library = library; words = length work; first = first; second = second }
+
+-- a channel "alone": the call on the library and its own texts, with so many words
+abbrev pub alone : List ℕ → Channel → ℕ → Call
+alone library ch words = record { library = library; graph = ch .graph; arrivals = ch .arrivals; words = words; bytes = ch .bytes }
+
+-- how many words a channel needs, or the first refusal tried before 10 that applies to its texts: 1 to 9 and 19
+unfoldable pub needOf : List ℕ → Channel → Read ℕ
+unfolding next unless readLibrary readHeader need
+needOf library ch =
+    unless (short (alone library ch 0)) 1 0
+    (next (readLibrary library) (λ _.
+    next (readHeader (ch .graph)) (λ h. holds (need (h .size) (h .outputs)))))
+
+-- how many words each channel needs
+pub record Needs : Type 0 where
+  pub first : ℕ
+  pub second : ℕ
+
+-- the refusals tried up to 10: "the first channel's, if both have one"; "10, once neither channel has an earlier refusal, compares the lent words with
+-- the sum of both needs"
+unfoldable pub needsOf : TwoCall → Read Needs
+unfolding next unless needOf
+needsOf c =
+    next (needOf (c .library) (c .first)) (λ a.
+    next (needOf (c .library) (c .second)) (λ b.
+    unless (leb (a + b) (c .words)) 10 0 (holds (record { first = a; second = b }))))
+
+-- what comes of each channel
+pub record Outcomes : Type 0 where
+  pub first : Outcome
+  pub second : Outcome
+
+-- "where a refusal tried up to 10 applies to either, both return that number and place .., neither is mapped"; "Any other refusal in one leaves the other
+-- mapped as if alone."
+unfoldable pub mapNeeds : TwoCall → Read Needs → Outcomes
+unfolding mapTexts
+mapNeeds c (fault n k) = record { first = refused n k; second = refused n k }
+mapNeeds c (holds n) = record { first = mapTexts (alone (c .library) (c .first) (n .first)); second = mapTexts (alone (c .library) (c .second) (n .second)) }
+
+-- the outcomes of a call
+unfoldable pub mapTwo : TwoCall → Outcomes
+unfolding mapNeeds needsOf
+mapTwo c = mapNeeds c (needsOf c)
+
+-- ---- the answers, and the lent memory: each text memory is left as `textAfter` says of its channel's outcome
+
+unfoldable pub answersOf : Outcomes → Two
+unfolding answerOf
+answersOf o = record { first = answerOf (o .first); second = answerOf (o .second) }
+
+-- where a refusal tried up to 10 applies, "work memory is unchanged"; else it is "all zero after a later one and after success"
+unfoldable pub twoWorkAfter : Read Needs → List ℕ → List ℕ
+twoWorkAfter (fault n k) memory = memory
+twoWorkAfter (holds n) memory = replicate (length memory) 0

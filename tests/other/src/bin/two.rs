@@ -1,0 +1,130 @@
+//! Compares the call on two channels with the reference: both answers, both text
+//! memories and the work memory, each whole and with margins, over pairs of texts and
+//! four lengths of work memory: the sum of both needs, one word short of it, more, and
+//! fewer by chance.
+//!
+//! `--pairs N`   so many pairs of texts
+//! `--seed S`    where they come from
+//! `--only K`    the pair number K alone
+//! `--out D`     where the texts of the first difference go
+//! `--mutant K`  with the features `self,mutants`: a mistake behind the boundary
+
+use other::gen::Rng;
+use other::memory::Memory;
+use other::ours;
+use other::reference::Answer;
+use other::two::{self, Outcome, Two};
+use other::two_checks::Kinds;
+use other::two_gen::{self, Pair};
+use std::time::{Duration, Instant};
+use std::{env, fs, process};
+
+fn usage(at: &str) -> ! {
+    eprintln!("not understood: {at}\nuse: two [--pairs N] [--seed S] [--only K] [--out D] [--mutant K]");
+    process::exit(2)
+}
+
+/// What is wrong with so many words, if something is, and what is wanted.
+fn compare(
+    pair: &Pair,
+    alone: &[Outcome; 2],
+    words: usize,
+    rng: &mut Rng,
+    mutant: u32,
+    ours: &mut Duration,
+) -> (Two, Option<String>) {
+    let bytes = [0, 1].map(|side| {
+        let length = alone[side].as_ref().map_or(64, |printed| printed.text.len());
+        pair.channels[side].text.of(length)
+    });
+    let wanted = two::answers(two::together(alone.clone(), pair.needs(), words), bytes);
+    let mut work = Memory::new(words, || rng.word() as u16);
+    let mut texts = bytes.map(|length| Memory::new(length, || rng.word() as u8));
+    let start = Instant::now();
+    let got = behind_the_boundary(pair, work.lent(), texts.each_mut().map(Memory::lent), mutant);
+    *ours += start.elapsed();
+    let zeros = if wanted.zeroes { words } else { 0 };
+    let wrong = if got != wanted.answers {
+        Some("the answers differ".to_string())
+    } else if let Some(side) = (0..2).find(|&side| texts[side].first_change(&wanted.netlists[side]).is_some()) {
+        let at = texts[side].first_change(&wanted.netlists[side]);
+        Some(format!("text memory {} differs at {at:?}", side + 1))
+    } else {
+        work.first_change(&vec![0; zeros]).map(|at| format!("work memory differs at {at}"))
+    };
+    let wrong = wrong.map(|wrong| {
+        format!("{wrong}\nlent {words} words, {bytes:?} bytes\nwanted {:?}\ngot    {got:?}\n", wanted.answers)
+    });
+    (wanted, wrong)
+}
+
+#[cfg(not(feature = "mutants"))]
+fn behind_the_boundary(pair: &Pair, work: &mut [u16], texts: [&mut [u8]; 2], _: u32) -> [Answer; 2] {
+    ours::map_two(&pair.cells, pair.texts(), work, texts)
+}
+
+/// The mistake is switched on only behind the boundary.
+#[cfg(feature = "mutants")]
+fn behind_the_boundary(pair: &Pair, work: &mut [u16], texts: [&mut [u8]; 2], mutant: u32) -> [Answer; 2] {
+    other::mutants::switch(mutant);
+    let answers = ours::map_two(&pair.cells, pair.texts(), work, texts);
+    other::mutants::switch(0);
+    answers
+}
+
+fn main() {
+    let (mut pairs, mut seed, mut only, mut out, mut mutant) = (10_000, 1, None, String::from("two-out"), 0);
+    let mut arguments = env::args().skip(1);
+    while let Some(name) = arguments.next() {
+        let next = arguments.next().unwrap_or_else(|| usage(&name));
+        let number = || next.parse::<u64>().unwrap_or_else(|_| usage(&name));
+        match name.as_str() {
+            "--pairs" => pairs = number(),
+            "--seed" => seed = number(),
+            "--only" => only = Some(number()),
+            "--out" => out = next,
+            "--mutant" if cfg!(feature = "mutants") => mutant = number() as u32,
+            _ => usage(&name),
+        }
+    }
+    let (mut kinds, mut counts) = (Kinds::default(), [0u64; 27]);
+    let (start, mut ours) = (Instant::now(), Duration::ZERO);
+    for number in only.map_or(0..pairs, |only| only..only + 1) {
+        // A pair depends on its number alone, so that it can be run alone.
+        let mut rng = Rng::new(seed.wrapping_mul(0x1_0000_0001).wrapping_add(number));
+        let pair = two_gen::pair(&mut rng);
+        let alone = two::alone(&pair.cells, pair.texts());
+        let early = alone.each_ref().map(|outcome| two::early(outcome).map(|refusal| refusal.number));
+        for words in pair.words(&mut rng) {
+            let (wanted, wrong) = compare(&pair, &alone, words, &mut rng, mutant, &mut ours);
+            kinds.count(early, &wanted);
+            wanted.answers.iter().for_each(|answer| counts[answer.number as usize] += 1);
+            let Some(wrong) = wrong else { continue };
+            fs::create_dir_all(&out).expect("the folder for the difference");
+            let write = |name: &str, bytes: &[u8]| fs::write(format!("{out}/{name}"), bytes).expect("a text");
+            write("cells.txt", &pair.cells);
+            for (side, made) in pair.channels.iter().enumerate() {
+                write(&format!("graph{}.aag", side + 1), &made.graph);
+                write(&format!("arrivals{}.txt", side + 1), &made.arrivals);
+            }
+            let whats = pair.channels.each_ref().map(|made| made.what.as_str()).join("; ");
+            let told = format!("seed {seed} pair {number}, {whats}\n{wrong}");
+            write("difference.txt", told.as_bytes());
+            println!("{told}texts in {out}");
+            process::exit(1);
+        }
+    }
+    let numbers = (0..22).chain([25, 26]).map(|number: usize| format!("{number}:{}", counts[number]));
+    let told = kinds.every();
+    if only.is_none() && pairs >= 1_000 && told.is_err() {
+        println!("{told:?}");
+        process::exit(1);
+    }
+    println!(
+        "{pairs} pairs of texts, {}, answers by number {}, 0 differences; {:.1} s, under test {:.1} s",
+        told.unwrap_or_default(),
+        numbers.collect::<Vec<_>>().join(" "),
+        start.elapsed().as_secs_f64(),
+        ours.as_secs_f64()
+    );
+}
