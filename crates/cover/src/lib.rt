@@ -29,7 +29,7 @@ ghost use Rattle.matching.specs.Best.{timeOf};
 ghost use Rattle.matching.specs.Inverters.{inverted};
 ghost use Rattle.model.specs.declared.Library.{Library};
 ghost use Rattle.matching.specs.declared.Inverter.the-variants.{Is};
-ghost use Rattle.cover.specs.Choosing.{leafTime, timesAt, foundOn, foundAt, bestAt, ownPhase, directAt, chosenTurn, chosenUp, Early, SheetIn, ToolsIn, Choosable, Unchosen};
+ghost use Rattle.cover.specs.Choosing.{leafTime, timesAt, foundOn, foundAt, bestAt, ownPhase, directAt, chosenTurn, chosenUp, SheetIn, ToolsIn, Choosable, Unchosen};
 ghost use Rattle.cover.specs.Missing.{missing};
 ghost use Rattle.cover.specs.Marking.{putAll, putOutputs, feedsAt, fedOnce, fedTurn, fedDown, marked};
 
@@ -85,14 +85,13 @@ fn size(cut: Cut) -> usize
     if cut.count < 4 { cut.count } else { 4 }
 }
 
-// Whether a cut is "the variable alone".
-fn alone(cut: Cut, v: usize) -> bool
-    requires { ⌜ length (cut .leaves) ≡ 4 ⌝ }
-    ensures { λ r. ⌜ r ≡ same (leavesOf cut) (v ∷ []) ⌝ }
+// Whether cut number k of v is "the variable alone". "The matcher should scan sizes alone": the leaf is looked at where it is the only one.
+fn alone(work: &[u16], m: usize, v: usize, k: usize) -> bool
+    requires { ⌜ Room (now work) m × (v ≤ m) × (k < cutLimit) ⌝ }
+    ensures { λ r. ⌜ r ≡ same (leavesAt (now (work .entry)) m v k) (v ∷ []) ⌝ }
 {
-    let leaves = cut.leaves;
-    if cut.count == 1 {
-        wide(leaves[0]) == v
+    if words::cut_size(work, m, v, k) == 1 {
+        wide(words::leaf(work, m, v, k, 0)) == v
     } else {
         false
     }
@@ -136,22 +135,22 @@ fn times(work: &[u16], m: usize, cut: Cut) -> [u32; 16]
     ]
 }
 
-// The best match on a cut, f its function in the phase. Most functions are no cell's: then the leaves are not looked at.
+// The best match on cut number k of v, f its function in the phase. Most functions are no cell's: then the leaves are not looked at.
 fn match_cut(
     work: &[u16],
     m: usize,
+    v: usize,
     k: usize,
-    cut: Cut,
     f: u16,
     sheet: &[u16; matching::SHEET],
 ) -> Phase
-    requires { ⌜ ((lib : Library) × SheetIn lib (now sheet)) × LeavesIn (now work) m cut × Early (now work) m 1073741823 ⌝ }
-    ensures { λ r. ⌜ ((lib : Library) → SheetIn lib (now (sheet .entry)) → r ≡ choose (foundOn (cellsOf lib) (now (work .entry)) m k (leavesOf cut) f)) ⌝ }
+    requires { ⌜ ((lib : Library) × SheetIn lib (now sheet)) × Choosable (now work) m × (v ≤ m) × (k < countAt (now work) m v) ⌝ }
+    ensures { λ r. ⌜ ((lib : Library) → SheetIn lib (now (sheet .entry)) → r ≡ choose (foundOn (cellsOf lib) (now (work .entry)) m k (leavesAt (now (work .entry)) m v k) f)) ⌝ }
 {
     if !matching::is_listed(sheet, f) {
         return nothing();
     }
-    let t = times(work, m, cut);
+    let t = times(work, m, words::load_cut(work, m, v, k));
     matching::phase_as(k, matching::best_match(sheet, f, &t))
 }
 
@@ -175,12 +174,11 @@ fn cut_phase(
     requires { ⌜ ((lib : Library) × SheetIn lib (now sheet)) × Choosable (now work) m × (v ≤ m) × (k < countAt (now work) m v) ⌝ }
     ensures { λ r. ⌜ ((lib : Library) → SheetIn lib (now (sheet .entry)) → r ≡ choose (foundAt (cellsOf lib) (now (work .entry)) m v neg k)) ⌝ }
 {
-    let cut = words::load_cut(work, m, v, k);
-    if alone(cut, v) {
+    if alone(work, m, v, k) {
         return nothing();
     }
     let f = truth::in_phase(neg, table(work, m, v, k));
-    match_cut(work, m, k, cut, f, sheet)
+    match_cut(work, m, v, k, f, sheet)
 }
 
 // The best match of v, from its last cut to its first: of equal arrivals the lowest cut's.

@@ -8,7 +8,7 @@ ghost use Prim.Native.Nat.{ℕ, _+_, _*_, _/_, _≤_, _<_, min, max};
 ghost use lib.ListN.{length, take, getD};
 ghost use Rattle.model.specs.Limits.{cutLimit};
 ghost use Rattle.words.specs.Layout.{Room, leftAt, rightAt};
-ghost use Rattle.words.specs.Record.{leavesOf, Good, Sound, cutsAt, nodeAt};
+ghost use Rattle.words.specs.Record.{leavesOf, cutOf, Good, Sound, cutsAt, nodeAt};
 ghost use Rattle.cuts.specs.Keys.{keyRoom, keyFrom, key, keyWords, Building, added, rowKeys, crossKeys, nodeKeys, putKeys, bump, Head};
 ghost use Rattle.cuts.specs.Listing.{Ready, Operands, few, listed, listing, stored};
 
@@ -27,6 +27,18 @@ fn head(leaves: &[u16], n: usize, p: usize) -> u32
     ensures { λ r. ⌜ Head (now (leaves .entry)) n p r ⌝ }
 {
     if p < n { wide(leaves[p]) } else { 65536 }
+}
+
+// Leaf p of cut k of v, or 65536 past the last of n.
+fn leaf_head(work: &[u16], m: usize, v: usize, k: usize, n: usize, p: usize) -> u32
+    requires { ⌜ Room (now work) m × (v ≤ m) × (k < cutLimit) × (n ≤ 4) ⌝ }
+    ensures { λ r. ⌜ Head (cutOf (now (work .entry)) m v k .leaves) n p r ⌝ }
+{
+    if p < n {
+        wide(words::leaf(work, m, v, k, p))
+    } else {
+        65536
+    }
 }
 
 fn lesser(u: u32, w: u32) -> u32
@@ -110,7 +122,8 @@ fn insert(keys: &mut [u64], n: usize, k: u64) -> usize
 }
 
 // The unions of the cut x with each cut of v, from the last to the first, put to the keys that were there. "A union is dropped the moment a fifth
-// leaf turns up": what is left of either cut is in the union too, so that it turns up as soon as there is no room for that. Then on to the next pair.
+// leaf turns up": what is left of either cut is in the union too, so that it turns up as soon as there is no room for that. Then on to the next pair,
+// and the leaves of this one that were not reached are not read.
 fn row(work: &[u16], m: usize, x: Cut, v: usize, keys: &mut [u64], had: usize) -> usize
     requires { ⌜ Room (now work) m × (v ≤ m) × Sound (now work) m v × (x .count ≤ 4) × Good (leavesOf x) × Building (now keys) had ⌝ }
     ensures { λ r. ⌜ (take r (now (keys .exit)) ≡ rowKeys (leavesOf x) (cutsAt (now (work .entry)) m v) (take had (now (keys .entry)))) × (r ≤ keyRoom) ⌝ }
@@ -121,16 +134,14 @@ fn row(work: &[u16], m: usize, x: Cut, v: usize, keys: &mut [u64], had: usize) -
     let mut j = words::count(work, m, v);
     'pairs: while 0 < j {
         j -= 1;
-        let y = words::load_cut(work, m, v, j);
-        let ys = y.leaves;
-        let yn = y.count;
+        let yn = words::cut_size(work, m, v, j);
         let mut out = [0u16; 4];
         let mut k: usize = 0;
         let mut p: usize = 0;
         let mut q: usize = 0;
         loop {
             let u = head(&xs, xn, p);
-            let w = head(&ys, yn, q);
+            let w = leaf_head(work, m, v, j, yn, q);
             let leaf = lesser(u, w);
             if leaf == 65536 {
                 break;

@@ -2,6 +2,8 @@
 --     whole                       the columns take exactly the words that are asked for
 --     inside                      every record lies inside them
 --     never-meet                  two records have no word in common
+--     cut-from, cut-to            the words of the cuts lie in the lists
+--     cut-words-apart             and no two of them meet
 --     room-need, room-for         enough words are asked for
 -- Assumes nothing.
 use mathlib.Core.Path.{_≡_, refl, sym, ap, subst, _∙_}
@@ -12,9 +14,9 @@ use native.Mathlib.Omega.{arith}
 use lib.Dec.{eqb, ltb}
 use lib.ListN.{length, getD}
 use borrow.Author.Tests.{eqb-true, eqb-false, ltb-true, ltb-false}
-use Rattle.model.specs.Limits.{need}
-use Rattle.words.specs.Layout.{Room, RoomFor, outputAddr}
-use Rattle.words.specs.Places.{Column, kinds, lefts, rights, order, places, counts, needs, lates, positives, negatives, cuts, functions, outputs, columns, rank, edge, addressOf, sizeOf, Listed}
+use Rattle.model.specs.Limits.{cutLimit, need}
+use Rattle.words.specs.Layout.{Room, RoomFor, cutAddr, listsFrom, listsTo, outputAddr}
+use Rattle.words.specs.Places.{Column, kinds, lefts, rights, order, places, counts, needs, lates, positives, negatives, sizes, firsts, seconds, thirds, fourths, functions, outputs, cutColumn, columns, rank, edge, addressOf, sizeOf, Listed}
 use Rattle.words.proofs.Parts.{Apart}
 
 -- "124(M+1) + O 16-bit words" are what the columns take
@@ -45,7 +47,11 @@ begins m o needs v k h = omega arith
 begins m o lates v k h = omega arith
 begins m o positives v k h = omega arith
 begins m o negatives v k h = omega arith
-begins m o cuts v k h = omega arith
+begins m o sizes v k h = omega arith
+begins m o firsts v k h = omega arith
+begins m o seconds v k h = omega arith
+begins m o thirds v k h = omega arith
+begins m o fourths v k h = omega arith
 begins m o functions v k h = omega arith
 begins m o outputs v k h = omega arith
 
@@ -60,7 +66,11 @@ ends m o needs v k h = omega arith
 ends m o lates v k h = omega arith
 ends m o positives v k h = omega arith
 ends m o negatives v k h = omega arith
-ends m o cuts v k h = omega arith
+ends m o sizes v k h = omega arith
+ends m o firsts v k h = omega arith
+ends m o seconds v k h = omega arith
+ends m o thirds v k h = omega arith
+ends m o fourths v k h = omega arith
 ends m o functions v k h = omega arith
 ends m o outputs v k h = omega arith
 
@@ -83,7 +93,11 @@ below-end needs = omega arith
 below-end lates = omega arith
 below-end positives = omega arith
 below-end negatives = omega arith
-below-end cuts = omega arith
+below-end sizes = omega arith
+below-end firsts = omega arith
+below-end seconds = omega arith
+below-end thirds = omega arith
+below-end fourths = omega arith
 below-end functions = omega arith
 below-end outputs = omega arith
 
@@ -102,7 +116,11 @@ found needs = refl
 found lates = refl
 found positives = refl
 found negatives = refl
-found cuts = refl
+found sizes = refl
+found firsts = refl
+found seconds = refl
+found thirds = refl
+found fourths = refl
 found functions = refl
 found outputs = refl
 
@@ -118,7 +136,11 @@ other-index m o needs v k u j h l n = omega arith
 other-index m o lates v k u j h l n = omega arith
 other-index m o positives v k u j h l n = omega arith
 other-index m o negatives v k u j h l n = omega arith
-other-index m o cuts v k u j h l n = omega arith
+other-index m o sizes v k u j h l n = omega arith
+other-index m o firsts v k u j h l n = omega arith
+other-index m o seconds v k u j h l n = omega arith
+other-index m o thirds v k u j h l n = omega arith
+other-index m o fourths v k u j h l n = omega arith
 other-index m o functions v k u j h l n = omega arith
 other-index m o outputs v k u j h l n = omega arith
 
@@ -133,7 +155,11 @@ other-number m o needs v k j h l n = omega arith
 other-number m o lates v k j h l n = omega arith
 other-number m o positives v k j h l n = omega arith
 other-number m o negatives v k j h l n = omega arith
-other-number m o cuts v k j h l n = omega arith
+other-number m o sizes v k j h l n = omega arith
+other-number m o firsts v k j h l n = omega arith
+other-number m o seconds v k j h l n = omega arith
+other-number m o thirds v k j h l n = omega arith
+other-number m o fourths v k j h l n = omega arith
 other-number m o functions v k j h l n = omega arith
 other-number m o outputs v k j h l n = omega arith
 
@@ -169,3 +195,39 @@ never-meet m o c d v k u j h l n = by (ltb (rank c) (rank d)) refl
     by : (t : Bool) → ltb (rank c) (rank d) ≡ t → Apart (addressOf m c v k) (sizeOf c) (addressOf m d u j) (sizeOf d)
     by true e = let o′ = in-order m o c d v k u j h l (ltb-true (rank c) (rank d) e) in record { apart = λ i i′ x y z. omega arith }
     by false e = after (ltb (rank d) (rank c)) refl (ltb-false (rank c) (rank d) e)
+
+-- ---- the columns of the cuts, by their number
+
+record OfCut (m c v k : ℕ) : Type 0 where
+  number : rank (cutColumn c) ≡ 10 + c
+  place : addressOf m (cutColumn c) v k ≡ cutAddr m c v k
+  one : sizeOf (cutColumn c) ≡ 1
+  listed : v ≤ m → k < cutLimit → Listed m 0 (cutColumn c) v k
+
+of-cut : (m c v k : ℕ) → c < 5 → OfCut m c v k
+of-cut m zero v k h = record { number = refl; place = refl; one = refl; listed = λ a b. (a, b) }
+of-cut m (suc zero) v k h = record { number = refl; place = refl; one = refl; listed = λ a b. (a, b) }
+of-cut m (suc (suc zero)) v k h = record { number = refl; place = refl; one = refl; listed = λ a b. (a, b) }
+of-cut m (suc (suc (suc zero))) v k h = record { number = refl; place = refl; one = refl; listed = λ a b. (a, b) }
+of-cut m (suc (suc (suc (suc zero)))) v k h = record { number = refl; place = refl; one = refl; listed = λ a b. (a, b) }
+of-cut m (suc (suc (suc (suc (suc c))))) v k h = absurd (omega arith)
+
+module _ (m c v k : ℕ) (column : c < 5) (inside : v ≤ m) (few : k < cutLimit) where
+  pub cut-from : listsFrom m ≤ cutAddr m c v k
+  cut-from =
+      let o = of-cut m c v k column in
+      omega (arith, o .place, begins m 0 (cutColumn c) v k (o .listed inside few), edges m 0 (rank sizes) (rank (cutColumn c)) (omega (arith, o .number)))
+
+  pub cut-to : cutAddr m c v k < listsTo m
+  cut-to =
+      let o = of-cut m c v k column in
+      omega
+      (arith, o .place, o .one, ends m 0 (cutColumn c) v k (o .listed inside few), edges m 0 (suc (rank (cutColumn c))) (rank functions) (omega (arith, o .number)))
+
+  pub cut-words-apart : (d u j : ℕ) → d < 5 → u ≤ m → j < cutLimit → (c ≡ d → v ≡ u → k ≡ j → ⊥) → cutAddr m c v k ≡ cutAddr m d u j → ⊥
+  cut-words-apart d u j other within low n e =
+      let o = of-cut m c v k column in
+      let p = of-cut m d u j other in
+      never-meet m 0 (cutColumn c) (cutColumn d) v k u j (o .listed inside few) (p .listed within low)
+      (λ same. n (let r : rank (cutColumn c) ≡ rank (cutColumn d) = ap rank same in omega (arith, r, o .number, p .number))) .apart 0 0
+      (omega (arith, o .one)) (omega (arith, p .one)) (omega (arith, o .place, p .place, e))

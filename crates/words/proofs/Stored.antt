@@ -1,6 +1,9 @@
 -- The laws of cuts in words, which callers of `load_cut` and `store_cut` cite. Each says what is read, and none where it lies:
 --     cut-stored, cut-apart       what was stored is loaded, and every other cut stays
+--     word-stored, word-stays     so for each word of a cut
 --     put-cut-..                  so does every word outside the lists
+--     same-cut                    a cut is its five words
+--     leaf-word, five-stores      the words that `leaf` reads and `store_cut` stores
 --     four-leaves                 a cut has four words for its leaves
 --     cuts-more                   a loop that stores one cut a turn
 --     count-listed, cut-listed    a list that is read, and a cut of it
@@ -12,8 +15,8 @@
 -- Assumes nothing.
 use mathlib.Core.Path.{_≡_, refl, sym, ap, _∙_, subst}
 use mathlib.Core.List.{List, [], _∷_, _++_, map}
-use Prim.Native.Nat.{ℕ, zero, suc, _+_, _≤_, _<_}
-use native.Mathlib.Nat.{add-zero, not-suc-le-zero, le-of-suc-le-suc}
+use Prim.Native.Nat.{ℕ, zero, suc, _+_, _*_, _≤_, _<_}
+use native.Mathlib.Nat.{add-zero, zero-add, not-suc-le-zero, le-of-suc-le-suc}
 use native.Mathlib.Omega.{arith}
 use lib.ListN.{length, getD, length-append, length-take}
 use Rattle.model.specs.Limits.{cutLimit}
@@ -22,12 +25,11 @@ use Rattle.model.specs.Cuts.{cutsOf}
 use Rattle.model.specs.declared.Cut.{Cut}
 use Rattle.words.specs.Put.{putAt}
 use Rattle.words.specs.Layout.{Room, countAt, countAddr, countsFrom, countsTo, cutAddr, listsFrom, listsTo}
-use Rattle.words.specs.Places.{cuts}
-use Rattle.words.specs.Record.{leavesOf, cutIn, cutOf, leavesAt, leavesFrom, cutsAt, padded, cutWords, putCut, putCuts, putList, Good, AllGood, Sound}
+use Rattle.words.specs.Record.{leavesOf, cutBy, cutIn, cutOf, leavesAt, leavesFrom, cutsAt, padded, cutWords, putFrom, putCut, putCuts, putList, Good, AllGood, Sound}
 use Rattle.words.specs.Holding.{HoldsCuts}
-use Rattle.words.proofs.Putting.{length-put, get-put-below, get-put-above}
-use Rattle.words.proofs.Parts.{Apart, OfWords, of-words, read-put, read-apart, word-put, word-apart}
-use Rattle.words.proofs.Columns.{never-meet}
+use Rattle.words.proofs.Putting.{length-put}
+use Rattle.words.proofs.Parts.{word-put, word-apart}
+use Rattle.words.proofs.Columns.{cut-from, cut-to, cut-words-apart}
 
 -- ---- one cut
 
@@ -39,23 +41,19 @@ unfolding cutWords
 length-words c = ap suc (length-padded c)
 
 -- a cut is its five words
-same-cut : (v w : List ℕ) (at to : ℕ) → ((k : ℕ) → k < 5 → getD v (at + k) 0 ≡ getD w (to + k) 0) → cutIn v at ≡ cutIn w to
-unfolding cutIn
-same-cut v w at to h =
-    let e₀ : getD v at 0 ≡ getD w to 0 = simp add-zero at (h 0 (omega arith)) in
-    let e₁ : getD v (at + 1) 0 ≡ getD w (to + 1) 0 = h 1 (omega arith) in
-    let e₂ : getD v (at + 2) 0 ≡ getD w (to + 2) 0 = h 2 (omega arith) in
-    let e₃ : getD v (at + 3) 0 ≡ getD w (to + 3) 0 = h 3 (omega arith) in
-    let e₄ : getD v (at + 4) 0 ≡ getD w (to + 4) 0 = h 4 (omega arith) in
+pub same-cut : (f g : ℕ → ℕ) → ((c : ℕ) → c < 5 → f c ≡ g c) → cutBy f ≡ cutBy g
+unfolding cutBy
+same-cut f g h =
+    let e₀ : f 0 ≡ g 0 = h 0 (omega arith) in
+    let e₁ : f 1 ≡ g 1 = h 1 (omega arith) in
+    let e₂ : f 2 ≡ g 2 = h 2 (omega arith) in
+    let e₃ : f 3 ≡ g 3 = h 3 (omega arith) in
+    let e₄ : f 4 ≡ g 4 = h 4 (omega arith) in
     λ i. record { leaves = e₁ i ∷ e₂ i ∷ e₃ i ∷ e₄ i ∷ []; count = e₀ i }
 
--- a cut is read out of five words
-cut-of-words : OfWords cutIn 5
-cut-of-words = of-words cutIn 5 same-cut
-
 -- the words of a cut read back
-words-back : (c : List ℕ) → length c ≤ 4 → leavesOf (cutIn (cutWords c) 0) ≡ c
-unfolding cutIn cutWords
+words-back : (c : List ℕ) → length c ≤ 4 → leavesOf (cutIn (cutWords c)) ≡ c
+unfolding cutIn cutBy cutWords
 words-back [] h = refl
 words-back (a ∷ []) h = refl
 words-back (a ∷ b ∷ []) h = refl
@@ -64,38 +62,135 @@ words-back (a ∷ b ∷ c ∷ d ∷ []) h = refl
 words-back (a ∷ b ∷ c ∷ d ∷ e ∷ ls) h = absurd (omega arith)
 
 pub four-leaves : (w : List ℕ) (m v k : ℕ) → length (cutOf w m v k .leaves) ≡ 4
-unfolding cutOf cutIn
+unfolding cutOf cutBy
 four-leaves w m v k = refl
+
+-- a leaf is the word of its column
+pub leaf-word : (w : List ℕ) (m v k i at next : ℕ) → i < 4 → at ≡ cutAddr m 0 v k → next ≡ cutLimit * (m + 1)
+    → getD w (at + (i + 1) * next) 0 ≡ getD (cutOf w m v k .leaves) i 0
+unfolding cutOf cutBy
+leaf-word w m v k zero at next h e n = let here : at + 1 * next ≡ cutAddr m 1 v k = omega arith in ap (λ (j : ℕ). getD w j 0) here
+leaf-word w m v k (suc zero) at next h e n = let here : at + 2 * next ≡ cutAddr m 2 v k = omega arith in ap (λ (j : ℕ). getD w j 0) here
+leaf-word w m v k (suc (suc zero)) at next h e n = let here : at + 3 * next ≡ cutAddr m 3 v k = omega arith in ap (λ (j : ℕ). getD w j 0) here
+leaf-word w m v k (suc (suc (suc zero))) at next h e n = let here : at + 4 * next ≡ cutAddr m 4 v k = omega arith in ap (λ (j : ℕ). getD w j 0) here
+leaf-word w m v k (suc (suc (suc (suc i)))) at next h e n = absurd (omega arith)
+
+-- five words are a cut's
+five-words : (ws : List ℕ) → length ws ≡ 5 → ws ≡ getD ws 0 0 ∷ getD ws 1 0 ∷ getD ws 2 0 ∷ getD ws 3 0 ∷ getD ws 4 0 ∷ []
+five-words [] h = absurd (omega arith)
+five-words (a ∷ []) h = absurd (omega arith)
+five-words (a ∷ b ∷ []) h = absurd (omega arith)
+five-words (a ∷ b ∷ c ∷ []) h = absurd (omega arith)
+five-words (a ∷ b ∷ c ∷ d ∷ []) h = absurd (omega arith)
+five-words (a ∷ b ∷ c ∷ d ∷ e ∷ []) h = refl
+five-words (a ∷ b ∷ c ∷ d ∷ e ∷ f ∷ ws) h = absurd (omega arith)
+
+-- the size of cut k of v at a word, and each leaf a column further
+pub five-stores : (w : List ℕ) (m v k at next : ℕ) (ws : List ℕ) → at ≡ cutAddr m 0 v k → next ≡ cutLimit * (m + 1) → length ws ≡ 5
+    → putAt
+    (putAt (putAt (putAt (putAt w at (getD ws 0 0 ∷ [])) (at + next) (getD ws 1 0 ∷ [])) (at + 2 * next) (getD ws 2 0 ∷ [])) (at + 3 * next) (getD ws 3 0 ∷ []))
+    (at + 4 * next) (getD ws 4 0 ∷ [])
+    ≡ putCut w m v k ws
+unfolding putCut putFrom
+five-stores w m v k at next ws e n five =
+    let e₁ : at + next ≡ cutAddr m 1 v k = omega arith in
+    let e₂ : at + 2 * next ≡ cutAddr m 2 v k = omega arith in
+    let e₃ : at + 3 * next ≡ cutAddr m 3 v k = omega arith in
+    let e₄ : at + 4 * next ≡ cutAddr m 4 v k = omega arith in
+    (λ i.
+    putAt
+    (putAt (putAt (putAt (putAt w (e i) (getD ws 0 0 ∷ [])) (e₁ i) (getD ws 1 0 ∷ [])) (e₂ i) (getD ws 2 0 ∷ [])) (e₃ i) (getD ws 3 0 ∷ []))
+    (e₄ i) (getD ws 4 0 ∷ []))
+    ∙ ap (putCut w m v k) (sym (five-words ws five))
+
+-- words stored for cut k of v, one in each column of the cuts from number c on
+module _ (m v k : ℕ) (inside : v ≤ m) (few : k < cutLimit) where
+  room-word : (w : List ℕ) (c : ℕ) → Room w m → c < 5 → cutAddr m c v k < length w
+  room-word w c fits h = omega (arith, fits .room, cut-to m c v k h inside few)
+
+  length-word : (w : List ℕ) (c x : ℕ) → Room w m → c < 5 → length (putAt w (cutAddr m c v k) (x ∷ [])) ≡ length w
+  length-word w c x fits h = length-put w (cutAddr m c v k) (x ∷ []) (omega (arith, room-word w c fits h))
+
+  room-more : (w : List ℕ) (c x : ℕ) → Room w m → c < 5 → Room (putAt w (cutAddr m c v k) (x ∷ [])) m
+  room-more w c x fits h = record { small = fits .small; room = omega (arith, fits .room, length-word w c x fits h) }
+
+  from-length : (w : List ℕ) (c : ℕ) (ws : List ℕ) → Room w m → c + length ws ≤ 5 → length (putFrom w m c v k ws) ≡ length w
+  unfolding putFrom
+  from-length w c [] fits h = refl
+  from-length w c (x ∷ ws) fits h =
+      let here : c < 5 = omega arith in
+      from-length (putAt w (cutAddr m c v k) (x ∷ [])) (suc c) ws (room-more w c x fits here) (omega arith)
+      ∙ length-word w c x fits here
+
+  -- a word that none of them is
+  from-apart : (w : List ℕ) (c : ℕ) (ws : List ℕ) → Room w m → c + length ws ≤ 5 → (i : ℕ)
+      → ((d : ℕ) → c ≤ d → d < 5 → i ≡ cutAddr m d v k → ⊥) → getD (putFrom w m c v k ws) i 0 ≡ getD w i 0
+  unfolding putFrom
+  from-apart w c [] fits h i n = refl
+  from-apart w c (x ∷ ws) fits h i n =
+      let here : c < 5 = omega arith in
+      from-apart (putAt w (cutAddr m c v k) (x ∷ [])) (suc c) ws (room-more w c x fits here) (omega arith) i (λ d a b. n d (omega arith) b)
+      ∙ word-apart w (cutAddr m c v k) x (room-word w c fits here) i (n c (omega arith) here)
+
+  -- the word stored in a column
+  from-stored : (w : List ℕ) (c : ℕ) (ws : List ℕ) → Room w m → c + length ws ≤ 5 → (j : ℕ) → j < length ws
+      → getD (putFrom w m c v k ws) (cutAddr m (c + j) v k) 0 ≡ getD ws j 0
+  unfolding putFrom
+  from-stored w c [] fits h j l = absurd (not-suc-le-zero l)
+  from-stored w c (x ∷ ws) fits h zero l =
+      let here : c < 5 = omega arith in
+      let w′ : List ℕ = putAt w (cutAddr m c v k) (x ∷ []) in
+      ap (λ (d : ℕ). getD (putFrom w′ m (suc c) v k ws) (cutAddr m d v k) 0) (add-zero c)
+      ∙ from-apart w′ (suc c) ws (room-more w c x fits here) (omega arith) (cutAddr m c v k)
+      (λ d a b. cut-words-apart m c v k here inside few d v k b inside few (λ e s t. omega arith))
+      ∙ word-put w (cutAddr m c v k) x (room-word w c fits here)
+  from-stored w c (x ∷ ws) fits h (suc j) l =
+      let here : c < 5 = omega arith in
+      let w′ : List ℕ = putAt w (cutAddr m c v k) (x ∷ []) in
+      let e : c + suc j ≡ suc c + j = omega arith in
+      ap (λ (d : ℕ). getD (putFrom w′ m (suc c) v k ws) (cutAddr m d v k) 0) e
+      ∙ from-stored w′ (suc c) ws (room-more w c x fits here) (omega arith) j (le-of-suc-le-suc l)
 
 -- one cut stored
 module _ (w : List ℕ) (m v k : ℕ) (ws : List ℕ) (fits : Room w m) (inside : v ≤ m) (few : k < cutLimit) (five : length ws ≡ 5) where
-  room-cut : cutAddr m v k + length ws ≤ length w
-  room-cut = omega (arith, fits .room)
+  wide : 0 + length ws ≤ 5
+  wide = omega arith
 
   pub put-cut-length : length (putCut w m v k ws) ≡ length w
   unfolding putCut
-  put-cut-length = length-put w (cutAddr m v k) ws room-cut
+  put-cut-length = from-length m v k inside few w 0 ws fits wide
 
   -- all words before the lists and behind them stay
   pub put-cut-before : (i : ℕ) → i < listsFrom m → getD (putCut w m v k ws) i 0 ≡ getD w i 0
   unfolding putCut
-  put-cut-before i h = get-put-below w (cutAddr m v k) ws room-cut i (omega arith)
+  put-cut-before i h = from-apart m v k inside few w 0 ws fits wide i (λ d a b e. omega (arith, cut-from m d v k b inside few))
 
   pub put-cut-behind : (i : ℕ) → listsTo m ≤ i → getD (putCut w m v k ws) i 0 ≡ getD w i 0
   unfolding putCut
-  put-cut-behind i h = get-put-above w (cutAddr m v k) ws room-cut i (omega arith)
+  put-cut-behind i h = from-apart m v k inside few w 0 ws fits wide i (λ d a b e. omega (arith, cut-to m d v k b inside few))
 
-  -- what was stored is loaded
-  pub cut-stored : cutOf (putCut w m v k ws) m v k ≡ cutIn ws 0
-  unfolding cutOf putCut
-  cut-stored = read-put cutIn 5 cut-of-words w (cutAddr m v k) ws room-cut five
+  -- what was stored is loaded, word for word
+  pub word-stored : (c : ℕ) → c < 5 → getD (putCut w m v k ws) (cutAddr m c v k) 0 ≡ getD ws c 0
+  unfolding putCut
+  word-stored c h =
+      ap (λ (d : ℕ). getD (putCut w m v k ws) (cutAddr m d v k) 0) (sym (zero-add c))
+      ∙ from-stored m v k inside few w 0 ws fits wide c (omega (arith, five))
+
+  pub cut-stored : cutOf (putCut w m v k ws) m v k ≡ cutIn ws
+  unfolding cutOf cutIn
+  cut-stored = same-cut (λ c. getD (putCut w m v k ws) (cutAddr m c v k) 0) (λ c. getD ws c 0) word-stored
 
   -- every other cut stays
-  pub cut-apart : (u j : ℕ) → u ≤ m → j < cutLimit → (u ≡ v → j ≡ k → ⊥) → cutOf (putCut w m v k ws) m u j ≡ cutOf w m u j
-  unfolding cutOf putCut
-  cut-apart u j h l n =
-      let apart : Apart (cutAddr m u j) 5 (cutAddr m v k) 5 = never-meet m 0 cuts cuts u j v k (h, l) (inside, few) (λ e. n) in
-      read-apart cutIn 5 cut-of-words w (cutAddr m v k) ws room-cut (cutAddr m u j) (subst (Apart (cutAddr m u j) 5 (cutAddr m v k)) (sym five) apart)
+  module _ (u j : ℕ) (within : u ≤ m) (low : j < cutLimit) (other : u ≡ v → j ≡ k → ⊥) where
+    pub word-stays : (c : ℕ) → c < 5 → getD (putCut w m v k ws) (cutAddr m c u j) 0 ≡ getD w (cutAddr m c u j) 0
+    unfolding putCut
+    word-stays c h =
+        from-apart m v k inside few w 0 ws fits wide (cutAddr m c u j)
+        (λ d a i. cut-words-apart m c u j h within low d v k i inside few (λ e. other))
+
+    pub cut-apart : cutOf (putCut w m v k ws) m u j ≡ cutOf w m u j
+    unfolding cutOf
+    cut-apart = same-cut (λ c. getD (putCut w m v k ws) (cutAddr m c u j) 0) (λ c. getD w (cutAddr m c u j) 0) word-stays
 
 -- ---- several cuts, one after the other
 
@@ -114,7 +209,7 @@ record CutsPut (w : List ℕ) (m v k : ℕ) (cs : List (List ℕ)) (out : List �
   before : (i : ℕ) → i < listsFrom m → getD out i 0 ≡ getD w i 0
   behind : (i : ℕ) → listsTo m ≤ i → getD out i 0 ≡ getD w i 0
   other : (u j : ℕ) → u ≤ m → j < cutLimit → (u ≡ v → j < k) → cutOf out m u j ≡ cutOf w m u j
-  stored : (j : ℕ) → j < length cs → cutOf out m v (k + j) ≡ cutIn (cutWords (getD cs j [])) 0
+  stored : (j : ℕ) → j < length cs → cutOf out m v (k + j) ≡ cutIn (cutWords (getD cs j []))
 
 -- one cut stored, and then those behind it
 module _ (w : List ℕ) (m v k : ℕ) (c : List ℕ) (cs : List (List ℕ)) (fits : Room w m) (inside : v ≤ m) (few : k < cutLimit) where
@@ -142,7 +237,7 @@ module _ (w : List ℕ) (m v k : ℕ) (c : List ℕ) (cs : List (List ℕ)) (fit
         stored = at;
       }
     where
-      at : (j : ℕ) → j < length (c ∷ cs) → cutOf out m v (k + j) ≡ cutIn (cutWords (getD (c ∷ cs) j [])) 0
+      at : (j : ℕ) → j < length (c ∷ cs) → cutOf out m v (k + j) ≡ cutIn (cutWords (getD (c ∷ cs) j []))
       at zero h =
           ap (cutOf out m v) (add-zero k)
           ∙ rest .other v k inside few (λ e. omega arith)
@@ -235,7 +330,9 @@ module _ (v w : List ℕ) (m u : ℕ) (count : countAt v m u ≡ countAt w m u) 
 module _ (v w : List ℕ) (m : ℕ) (lists : (i : ℕ) → listsFrom m ≤ i → i < listsTo m → getD v i 0 ≡ getD w i 0) (u : ℕ) (within : u ≤ m) where
   pub cut-same : (k : ℕ) → k < cutLimit → cutOf v m u k ≡ cutOf w m u k
   unfolding cutOf
-  cut-same k h = same-cut v w (cutAddr m u k) (cutAddr m u k) (λ i b. lists (cutAddr m u k + i) (omega arith) (omega arith))
+  cut-same k h =
+      same-cut (λ c. getD v (cutAddr m c u k) 0) (λ c. getD w (cutAddr m c u k) 0)
+      (λ c b. lists (cutAddr m c u k) (cut-from m c u k b within h) (cut-to m c u k b within h))
 
   pub cuts-same : countAt v m u ≡ countAt w m u → countAt w m u ≤ cutLimit → cutsAt v m u ≡ cutsAt w m u
   cuts-same count h = list-by-cuts v w m u count cut-same h
@@ -291,7 +388,7 @@ module _ (w : List ℕ) (m v : ℕ) (cs : List (List ℕ)) (fits : Room w m) (in
       (λ k h. ap leavesOf (done .stored k h) ∙ words-back (getD cs k []) (good-get cs k good h .0))
 
   pub put-list-sound : AllGood cs → Sound (putList w m v cs) m v
-  unfolding cutIn cutWords
+  unfolding cutIn cutBy cutWords
   put-list-sound good =
       record {
         few = omega (arith, put-list-count);

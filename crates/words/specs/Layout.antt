@@ -1,6 +1,7 @@
--- What lies where in the lent words: a column for each property of a variable, then the cut lists, the functions and the outputs.
--- With W = M + 1 variables a column of one word for each variable takes W words. No other crate writes a number for an address,
--- and none names the address of a cut or of its function. Assumes nothing.
+-- What lies where in the lent words: a column for each property of a variable, then the cuts by columns, "all sizes together, then all first leaves,
+-- and so on, then all functions", and the outputs.
+-- With W = M + 1 variables a column of one word for each variable takes W words, one of a word for each cut 18 W. No other crate writes a number for an
+-- address, and none names the address of a cut or of its function. Assumes nothing.
 use mathlib.Core.List.{List, [], _∷_}
 use Prim.Native.Nat.{ℕ, _+_, _*_, _/_, _%_, _≤_}
 use lib.ListN.{length, getD}
@@ -72,13 +73,13 @@ negativeAddr m v = 12 * (m + 1) + 4 * v
 abbrev pub noteAddr : ℕ → ℕ → ℕ
 noteAddr m v = positiveAddr m v
 
--- the words of a variable's cut list: five to a cut
+-- cut k of v in column c of the cuts: its size in column 0, its leaf j in column 1 + j
+abbrev pub cutAddr : ℕ → ℕ → ℕ → ℕ → ℕ
+cutAddr m c v k = 16 * (m + 1) + c * (cutLimit * (m + 1)) + (cutLimit * v + k)
+
+-- the words of those five columns, for each variable
 abbrev pub block : ℕ
 block = 5 * cutLimit
-
--- cut k of v
-abbrev pub cutAddr : ℕ → ℕ → ℕ → ℕ
-cutAddr m v k = 16 * (m + 1) + block * v + 5 * k
 
 -- the functions of v's cuts, one word for each
 abbrev pub functionAddr : ℕ → ℕ → ℕ → ℕ

@@ -16,13 +16,17 @@ use Rattle.words.specs.Layout.{constantKind, inputKind, andKind, kindAdd
 abbrev pub leavesOf : Cut → List ℕ
 leavesOf c = take (c .count) (c .leaves)
 
--- the cut in the five words from `at` on
-unfoldable pub cutIn : List ℕ → ℕ → Cut
-cutIn w at = record { leaves = getD w (at + 1) 0 ∷ getD w (at + 2) 0 ∷ getD w (at + 3) 0 ∷ getD w (at + 4) 0 ∷ []; count = getD w at 0 }
+-- a cut by its five words
+unfoldable pub cutBy : (ℕ → ℕ) → Cut
+cutBy word = record { leaves = word 1 ∷ word 2 ∷ word 3 ∷ word 4 ∷ []; count = word 0 }
+
+-- the cut in five words
+unfoldable pub cutIn : List ℕ → Cut
+cutIn ws = cutBy (λ c. getD ws c 0)
 
 -- cut k of variable v
 unfoldable pub cutOf : List ℕ → ℕ → ℕ → ℕ → Cut
-cutOf w m v k = cutIn w (cutAddr m v k)
+cutOf w m v k = cutBy (λ c. getD w (cutAddr m c v k) 0)
 
 -- its leaves
 abbrev pub leavesAt : List ℕ → ℕ → ℕ → ℕ → List ℕ
@@ -49,9 +53,14 @@ padded ls = take 4 (ls ++ 0 ∷ 0 ∷ 0 ∷ 0 ∷ [])
 unfoldable pub cutWords : List ℕ → List ℕ
 cutWords c = length c ∷ padded c
 
+-- the words with a word for each column of the cuts, from column c on, stored for cut k of v
+unfoldable pub putFrom : List ℕ → ℕ → ℕ → ℕ → ℕ → List ℕ → List ℕ
+putFrom w m c v k [] = w
+putFrom w m c v k (x ∷ xs) = putFrom (putAt w (cutAddr m c v k) (x ∷ [])) m (suc c) v k xs
+
 -- the words with a cut's five stored as cut k of v
 unfoldable pub putCut : List ℕ → ℕ → ℕ → ℕ → List ℕ → List ℕ
-putCut w m v k ws = putAt w (cutAddr m v k) ws
+putCut w m v k ws = putFrom w m 0 v k ws
 
 -- those of several cuts, as the cuts of v from number k on
 unfoldable pub putCuts : List ℕ → ℕ → ℕ → ℕ → List (List ℕ) → List ℕ

@@ -5,15 +5,15 @@ use model::Match;
 use model::Phase;
 use model::Source;
 ghost use mathlib.Core.Path.{_≡_};
-ghost use Prim.Native.Nat.{_+_, _-_, _/_, _≤_, _<_};
+ghost use Prim.Native.Nat.{_+_, _-_, _*_, _/_, _≤_, _<_};
 ghost use mathlib.Core.List.{_∷_, []};
 ghost use lib.ListN.{length, getD, replicate};
 ghost use Rattle.model.specs.Limits.{cutLimit, need};
 ghost use Rattle.model.specs.Choice.{absent};
 ghost use Rattle.model.specs.Netlist.{isOwn, isInverted};
 ghost use Rattle.words.specs.Put.{putAt, zeros};
-ghost use Rattle.words.specs.Layout.{placedOf, Room, RoomFor, kindAt, kindAddr, leftAt, leftAddr, rightAt, rightAddr, slotAt, slotAddr, placeAt, placeAddr, countAt, countAddr, neededAt, neededAddr, lateAt, lateAddr, positiveAddr, negativeAddr, listsFrom, outputAt, outputAddr, notesFrom, notesTo, noteAddr, notedAt, walkAt, noteWords};
-ghost use Rattle.words.specs.Record.{cutIn, cutOf, functionOf, putCut, putFunctions, putNode};
+ghost use Rattle.words.specs.Layout.{placedOf, Room, RoomFor, kindAt, kindAddr, leftAt, leftAddr, rightAt, rightAddr, slotAt, slotAddr, placeAt, placeAddr, countAt, countAddr, neededAt, neededAddr, lateAt, lateAddr, positiveAddr, negativeAddr, cutAddr, listsFrom, outputAt, outputAddr, notesFrom, notesTo, noteAddr, notedAt, walkAt, noteWords};
+ghost use Rattle.words.specs.Record.{cutOf, functionOf, putCut, putFunctions, putNode};
 ghost use Rattle.words.specs.Phases.{MatchFits, matchWord, PhaseFits, kindSource, phaseWords, phaseIn, positiveAt, negativeAt, phaseAt, makesGate, isNeeded, putNeeded};
 
 // "more than 18 cuts": the code's one constant for the cut limit, `cutLimit` of model.
@@ -285,14 +285,36 @@ pub fn clear_notes(work: &mut [u16], m: usize)
 
 // ---- cuts and their functions
 
-// The cut in the five words from `at` on.
-fn cut_in(work: &[u16], at: usize) -> Cut
-    requires { ⌜ at + 5 ≤ length (now work) ⌝ }
-    ensures { λ r. ⌜ r ≡ cutIn (now (work .entry)) at ⌝ }
+// Where the size of cut k of variable v lies; each of its leaves lies a column further.
+fn size_at(m: usize, v: usize, k: usize) -> usize
+    requires { ⌜ (m ≤ 4095) × (v ≤ m) × (k < cutLimit) ⌝ }
+    ensures { λ r. ⌜ r ≡ cutAddr m 0 v k ⌝ }
 {
-    let count = work[at] as usize;
-    let leaves = [work[at + 1], work[at + 2], work[at + 3], work[at + 4]];
-    Cut { leaves, count }
+    16 * (m + 1) + LIMIT * v + k
+}
+
+// The words of a column of the cuts.
+fn column(m: usize) -> usize
+    requires { ⌜ m ≤ 4095 ⌝ }
+    ensures { λ r. ⌜ r ≡ cutLimit * (m + 1) ⌝ }
+{
+    LIMIT * (m + 1)
+}
+
+// The size of cut k of variable v: "scan sizes alone".
+pub fn cut_size(work: &[u16], m: usize, v: usize, k: usize) -> usize
+    requires { ⌜ Room (now work) m × (v ≤ m) × (k < cutLimit) ⌝ }
+    ensures { λ r. ⌜ r ≡ cutOf (now (work .entry)) m v k .count ⌝ }
+{
+    word(work, size_at(m, v, k))
+}
+
+// Leaf i of cut k of variable v.
+pub fn leaf(work: &[u16], m: usize, v: usize, k: usize, i: usize) -> u16
+    requires { ⌜ Room (now work) m × (v ≤ m) × (k < cutLimit) × (i < 4) ⌝ }
+    ensures { λ r. ⌜ r ≡ getD (cutOf (now (work .entry)) m v k .leaves) i 0 ⌝ }
+{
+    work[size_at(m, v, k) + (i + 1) * column(m)]
 }
 
 // Cut k of variable v.
@@ -300,7 +322,14 @@ pub fn load_cut(work: &[u16], m: usize, v: usize, k: usize) -> Cut
     requires { ⌜ Room (now work) m × (v ≤ m) × (k < cutLimit) ⌝ }
     ensures { λ r. ⌜ r ≡ cutOf (now (work .entry)) m v k ⌝ }
 {
-    cut_in(work, 16 * (m + 1) + BLOCK * v + 5 * k)
+    let at = size_at(m, v, k);
+    let next = column(m);
+    let count = word(work, at);
+    let a = at + next;
+    let b = a + next;
+    let c = b + next;
+    let leaves = [work[a], work[b], work[c], work[c + next]];
+    Cut { leaves, count }
 }
 
 // The five words of cut k of variable v.
@@ -308,7 +337,13 @@ pub fn store_cut(work: &mut [u16], m: usize, v: usize, k: usize, ws: [u16; 5])
     requires { ⌜ Room (now work) m × (v ≤ m) × (k < cutLimit) ⌝ }
     ensures { λ _. ⌜ now (work .exit) ≡ putCut (now (work .entry)) m v k ws ⌝ }
 {
-    put(work, 16 * (m + 1) + BLOCK * v + 5 * k, &ws);
+    let at = size_at(m, v, k);
+    let next = column(m);
+    set_word(work, at, ws[0]);
+    set_word(work, at + next, ws[1]);
+    set_word(work, at + 2 * next, ws[2]);
+    set_word(work, at + 3 * next, ws[3]);
+    set_word(work, at + 4 * next, ws[4]);
 }
 
 // The function of cut k of v.

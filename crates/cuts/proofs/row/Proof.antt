@@ -11,7 +11,8 @@ use lib.ListN.{length, take, drop, set, length-append}
 use Rattle.model.specs.Base.{union}
 use Rattle.model.specs.declared.Cut.{Cut}
 use Rattle.words.specs.Layout.{countAt}
-use Rattle.words.specs.Record.{leavesOf, padded, cutsAt, Good}
+use Rattle.model.specs.Limits.{cutLimit}
+use Rattle.words.specs.Record.{leavesOf, cutOf, padded, cutsAt, Good}
 use Rattle.words.proofs.Stored.{four-leaves}
 use Rattle.cuts.specs.Keys.{added, rowKeys, bump, keyRoom, Rising}
 use Rattle.cuts.proofs.Merging.{step-at, rising-drop, ended, set-padded}
@@ -21,12 +22,12 @@ use Rattle.cuts.proofs.row.Statement.{statement}
 use Rattle.cuts.proofs.row.Tie as tie
 
 abbrev Inv-loop : tie.InvT-loop
-Inv-loop work m v keys had xs xn n j ys yn out₀ k₀ p₀ q₀ out k p q =
+Inv-loop work m v keys had xs xn n j yn out₀ k₀ p₀ q₀ out k p q =
     (ls : List ℕ) × (length ls ≡ k) × (k + xn ≤ 4 + p) × (k + yn ≤ 4 + q) × (p ≤ xn) × (q ≤ yn) × (out ≡ padded ls)
-    × (union compare (take xn xs) (take yn ys) ≡ ls ++ union compare (drop p (take xn xs)) (drop q (take yn ys)))
+    × (union compare (take xn xs) (take yn (cutOf work m v j .leaves)) ≡ ls ++ union compare (drop p (take xn xs)) (drop q (take yn (cutOf work m v j .leaves))))
 
 abbrev μ-loop : tie.MeasureT-loop
-μ-loop work m v keys had xs xn n j ys yn out₀ k₀ p₀ q₀ out k p q = 4 - k
+μ-loop work m v keys had xs xn n j yn out₀ k₀ p₀ q₀ out k p q = 4 - k
 
 abbrev Inv-pairs : tie.InvT-pairs
 Inv-pairs work m v keys₀ had xs xn n₀ j₀ keys n j =
@@ -39,33 +40,52 @@ none-yet : (c : List ℕ) (ds : List (List ℕ)) (ks : List ℕ) → ds ≡ [] �
 unfolding rowKeys
 none-yet c ds ks e = rw e
 
--- the leaves of a cut that is passed, and of one that is loaded, are four words
+-- the leaves of a cut that is passed are four words
 x-four : (s : tie.Start Inv-loop μ-loop Inv-pairs μ-pairs) → length (s .args .x .leaves) ≡ 4
 x-four s = search needs
 
-y-four : (y : tie.After-load-cut Inv-loop μ-loop Inv-pairs μ-pairs) → length (y .load-cut .result .leaves) ≡ 4
-y-four y = ap (λ (z : Cut). length (z .leaves)) (y .load-cut .ensures) ∙ four-leaves _ _ _ _
+-- the cut of v whose size is read in a turn
+abbrev at-turn : tie.After-cut-size Inv-loop μ-loop Inv-pairs μ-pairs → Cut
+at-turn y =
+    let t = y .before .before in
+    let s = t .before .before .before .before .before in
+    cutOf (s .args .work .now) (s .args .m) (s .args .v) (t .pairs .j - 1)
 
--- the cut that is loaded in a turn: one of v's
-y-count : (y : tie.After-load-cut Inv-loop μ-loop Inv-pairs μ-pairs) → y .load-cut .result .count ≤ 4
+-- its leaves
+abbrev leavesFor : tie.After-cut-size Inv-loop μ-loop Inv-pairs μ-pairs → List ℕ
+leavesFor y = take (y .cut-size .result) (at-turn y .leaves)
+
+y-four : (y : tie.After-cut-size Inv-loop μ-loop Inv-pairs μ-pairs) → length (at-turn y .leaves) ≡ 4
+y-four y = four-leaves _ _ _ _
+
+y-is : (y : tie.After-cut-size Inv-loop μ-loop Inv-pairs μ-pairs) → leavesFor y ≡ leavesOf (at-turn y)
+y-is y = ap (λ (n : ℕ). take n (at-turn y .leaves)) (y .cut-size .ensures)
+
+y-low : (y : tie.After-cut-size Inv-loop μ-loop Inv-pairs μ-pairs) → y .before .before .pairs .j - 1 < cutLimit
+y-low y =
+    let t = y .before .before in
+    let s = t .before .before .before .before .before in
+    omega (arith, t .pairs .inv .0, s .pre .2 .few)
+
+y-count : (y : tie.After-cut-size Inv-loop μ-loop Inv-pairs μ-pairs) → y .cut-size .result ≤ 4
 y-count y =
     let t = y .before .before in
     let s = t .before .before .before .before .before in
-    subst (λ (z : Cut). z .count ≤ 4) (sym (y .load-cut .ensures)) (s .pre .2 .narrow (t .pairs .j - 1) (omega arith))
+    omega (arith, y .cut-size .ensures, s .pre .2 .narrow (t .pairs .j - 1) (omega arith))
 
-y-good : (y : tie.After-load-cut Inv-loop μ-loop Inv-pairs μ-pairs) → Good (leavesOf (y .load-cut .result))
+y-good : (y : tie.After-cut-size Inv-loop μ-loop Inv-pairs μ-pairs) → Good (leavesFor y)
 y-good y =
     let t = y .before .before in
     let s = t .before .before .before .before .before in
-    subst (λ (z : Cut). Good (leavesOf z)) (sym (y .load-cut .ensures)) (cut-good (s .args .work .now) (s .args .m) (s .args .v) (s .pre .2) (t .pairs .j - 1) (omega arith))
+    subst Good (sym (y-is y)) (cut-good (s .args .work .now) (s .args .m) (s .args .v) (s .pre .2) (t .pairs .j - 1) (omega arith))
 
 -- the pairs from that cut on are its own and those of the cuts behind it
-pair-more : (y : tie.After-load-cut Inv-loop μ-loop Inv-pairs μ-pairs) →
+pair-more : (y : tie.After-cut-size Inv-loop μ-loop Inv-pairs μ-pairs) →
     let t = y .before .before in
     let s = t .before .before .before .before .before in
     let ds : List (List ℕ) = cutsAt (s .args .work .now) (s .args .m) (s .args .v) in
     rowKeys (leavesOf (s .args .x)) (drop (t .pairs .j - 1) ds) (take (s .args .had) (s .args .keys .now))
-    ≡ rowKeys (leavesOf (s .args .x)) (leavesOf (y .load-cut .result) ∷ drop (t .pairs .j) ds) (take (s .args .had) (s .args .keys .now))
+    ≡ rowKeys (leavesOf (s .args .x)) (leavesFor y ∷ drop (t .pairs .j) ds) (take (s .args .had) (s .args .keys .now))
 pair-more y =
     let t = y .before .before in
     let s = t .before .before .before .before .before in
@@ -73,68 +93,66 @@ pair-more y =
     let e : suc (t .pairs .j - 1) ≡ t .pairs .j = omega arith in
     ap (λ (q : List (List ℕ)). rowKeys (leavesOf (s .args .x)) q (take (s .args .had) (s .args .keys .now)))
     (at-hand (s .args .work .now) (s .args .m) (s .args .v) (t .pairs .j - 1) (omega arith)
-    ∙ (λ i. leavesOf (sym (y .load-cut .ensures) i) ∷ drop (e i) ds))
+    ∙ (λ i. sym (y-is y) i ∷ drop (e i) ds))
 
 x-rising : (s : tie.Start Inv-loop μ-loop Inv-pairs μ-pairs) → Rising 0 (leavesOf (s .args .x))
 x-rising s = leaves-rising 0 (leavesOf (s .args .x)) (s .pre .4 .1)
 
-y-rising : (y : tie.After-load-cut Inv-loop μ-loop Inv-pairs μ-pairs) → Rising 0 (leavesOf (y .load-cut .result))
-y-rising y = leaves-rising 0 (leavesOf (y .load-cut .result)) (y-good y .1)
+y-rising : (y : tie.After-cut-size Inv-loop μ-loop Inv-pairs μ-pairs) → Rising 0 (leavesFor y)
+y-rising y = leaves-rising 0 (leavesFor y) (y-good y .1)
 
 -- past the test for the end, the union of what is left begins with the lesser head
 next : (c : tie.Else1 Inv-loop μ-loop Inv-pairs μ-pairs) →
-    let l = c .before .before .before .before .before .before in
-    let y = l .before .before in
+    let l = c .before .before .before .before .before in
+    let y = l .before in
     let x : Cut = y .before .before .before .before .before .before .before .args .x in
-    let z : Cut = y .load-cut .result in
-    let u : ℕ = c .before .before .before .before .head .result in
-    let w : ℕ = c .before .before .head2 .result in
+    let u : ℕ = c .before .before .before .head .result in
+    let w : ℕ = c .before .before .leaf-head .result in
     let v : ℕ = c .before .lesser .result in
-    union compare (drop (l .loop .p) (leavesOf x)) (drop (l .loop .q) (leavesOf z))
-    ≡ v ∷ union compare (drop (l .loop .p + bump u v) (leavesOf x)) (drop (l .loop .q + bump w v) (leavesOf z))
+    union compare (drop (l .loop .p) (leavesOf x)) (drop (l .loop .q) (leavesFor y))
+    ≡ v ∷ union compare (drop (l .loop .p + bump u v) (leavesOf x)) (drop (l .loop .q + bump w v) (leavesFor y))
 next c =
     let h₂ = c .before .before in
-    let h₁ = h₂ .before .before in
+    let h₁ = h₂ .before in
     let l = h₁ .before .before in
-    let y = l .before .before in
+    let y = l .before in
     let s = y .before .before .before .before .before .before .before in
-    step-at (leavesOf (s .args .x)) (leavesOf (y .load-cut .result)) (l .loop .p) (l .loop .q) _ _ _ (x-rising s) (y-rising y)
-    (h₁ .head .ensures .is) (h₂ .head2 .ensures .is) (c .before .lesser .ensures) (omega arith)
+    step-at (leavesOf (s .args .x)) (leavesFor y) (l .loop .p) (l .loop .q) _ _ _ (x-rising s) (y-rising y)
+    (h₁ .head .ensures .is) (h₂ .leaf-head .ensures .is) (c .before .lesser .ensures) (omega arith)
 
 -- the union, once that leaf is done
 whole : (c : tie.After-past2 Inv-loop μ-loop Inv-pairs μ-pairs) →
-    let l = c .before .before .before .before .before .before .before .before in
-    let y = l .before .before in
+    let l = c .before .before .before .before .before .before .before in
+    let y = l .before in
     let x : Cut = y .before .before .before .before .before .before .before .args .x in
-    let z : Cut = y .load-cut .result in
-    union compare (leavesOf x) (leavesOf z)
-    ≡ l .loop .inv .0 ++ (c .before .before .before .lesser .result ∷ union compare (drop (c .before .past .result) (leavesOf x)) (drop (c .past2 .result) (leavesOf z)))
+    union compare (leavesOf x) (leavesFor y)
+    ≡ l .loop .inv .0 ++ (c .before .before .before .lesser .result ∷ union compare (drop (c .before .past .result) (leavesOf x)) (drop (c .past2 .result) (leavesFor y)))
 whole c =
-    let l = c .before .before .before .before .before .before .before .before in
+    let l = c .before .before .before .before .before .before .before in
     l .loop .inv .7 ∙ ap (λ (r : List ℕ). l .loop .inv .0 ++ r) (next (c .before .before) ∙ rw (← c .before .past .ensures, ← c .past2 .ensures))
 
 -- no place goes past its cut
 p-within : (c : tie.After-past2 Inv-loop μ-loop Inv-pairs μ-pairs) →
-    let y = c .before .before .before .before .before .before .before .before .before .before in
+    let y = c .before .before .before .before .before .before .before .before in
     c .before .past .result ≤ y .before .before .before .before .before .before .before .args .x .count
 p-within c =
     let e = c .before .before in
     let h₂ = e .before .before in
-    let h₁ = h₂ .before .before in
+    let h₁ = h₂ .before in
     let l = h₁ .before .before in
-    let s = l .before .before .before .before .before .before .before .before .before in
+    let s = l .before .before .before .before .before .before .before .before in
     head-past (l .loop .p) (s .args .x .count) _ _ _ (h₁ .head .ensures) (omega (arith, s .pre .3, x-four s)) (l .loop .inv .4) (c .before .past .ensures)
-    (omega (arith, e .if1 .left, h₁ .head .ensures .small, h₂ .head2 .ensures .small, e .before .lesser .ensures))
+    (omega (arith, e .if1 .left, h₁ .head .ensures .small, h₂ .leaf-head .ensures .small, e .before .lesser .ensures))
 
-q-within : (c : tie.After-past2 Inv-loop μ-loop Inv-pairs μ-pairs) → c .past2 .result ≤ c .before .before .before .before .before .before .before .before .before .before .load-cut .result .count
+q-within : (c : tie.After-past2 Inv-loop μ-loop Inv-pairs μ-pairs) → c .past2 .result ≤ c .before .before .before .before .before .before .before .before .cut-size .result
 q-within c =
     let e = c .before .before in
     let h₂ = e .before .before in
-    let h₁ = h₂ .before .before in
+    let h₁ = h₂ .before in
     let l = h₁ .before .before in
-    let y = l .before .before in
-    head-past (l .loop .q) (y .load-cut .result .count) _ _ _ (h₂ .head2 .ensures) (omega (arith, y-count y, y-four y)) (l .loop .inv .5) (c .past2 .ensures)
-    (omega (arith, e .if1 .left, h₁ .head .ensures .small, h₂ .head2 .ensures .small, e .before .lesser .ensures))
+    let y = l .before in
+    head-past (l .loop .q) (y .cut-size .result) _ _ _ (h₂ .leaf-head .ensures) (omega (arith, y-count y, y-four y)) (l .loop .inv .5) (c .past2 .ensures)
+    (omega (arith, e .if1 .left, h₁ .head .ensures .small, h₂ .leaf-head .ensures .small, e .before .lesser .ensures))
 
 count-requires : tie.Need-count-requires Inv-loop μ-loop Inv-pairs μ-pairs
 count-requires c κs = search needs
@@ -149,12 +167,12 @@ pairs-holds c =
 sub-j : tie.Need-sub-j Inv-loop μ-loop Inv-pairs μ-pairs
 sub-j c = omega (arith, c .pairs-test .taken)
 
-load-cut-requires : tie.Need-load-cut-requires Inv-loop μ-loop Inv-pairs μ-pairs
-load-cut-requires c κs = search needs
+cut-size-requires : tie.Need-cut-size-requires Inv-loop μ-loop Inv-pairs μ-pairs
+cut-size-requires c κs = search needs
 
 loop-holds : tie.Need-loop-holds Inv-loop μ-loop Inv-pairs μ-pairs
 loop-holds c =
-    let y = c .before in
+    let y = c in
     let s = y .before .before .before .before .before .before .before in
     ([], refl, omega (arith, s .pre .3), omega (arith, y-count y), omega arith, omega arith, refl, refl)
 
@@ -163,51 +181,49 @@ slice-aggregate-head c = search needs
 
 head-requires : tie.Need-head-requires Inv-loop μ-loop Inv-pairs μ-pairs
 head-requires c κs =
-    let s = c .before .before .before .before .before .before .before .before .before .before in
+    let s = c .before .before .before .before .before .before .before .before .before in
     omega (arith, s .pre .3, x-four s)
 
-slice-aggregate-head-2 : tie.Need-slice-aggregate-head-2 Inv-loop μ-loop Inv-pairs μ-pairs
-slice-aggregate-head-2 c = search needs
-
-head-requires-2 : tie.Need-head-requires-2 Inv-loop μ-loop Inv-pairs μ-pairs
-head-requires-2 c κs =
-    let y = c .before .before .before .before .before in
-    omega (arith, y-count y, y-four y)
+leaf-head-requires : tie.Need-leaf-head-requires Inv-loop μ-loop Inv-pairs μ-pairs
+leaf-head-requires c κs =
+    let y = c .before .before .before in
+    let s = y .before .before .before .before .before .before .before in
+    (s .pre .0, s .pre .1, y-low y, y-count y)
 
 lesser-requires : tie.Need-lesser-requires Inv-loop μ-loop Inv-pairs μ-pairs
 lesser-requires c κs = search needs
 
 past-requires : tie.Need-past-requires Inv-loop μ-loop Inv-pairs μ-pairs
 past-requires c κs =
-    let l = c .before .before .before .before .before .before in
-    let s = l .before .before .before .before .before .before .before .before .before in
+    let l = c .before .before .before .before .before in
+    let s = l .before .before .before .before .before .before .before .before in
     omega (arith, l .loop .inv .4, s .pre .3)
 
 past-requires-2 : tie.Need-past-requires-2 Inv-loop μ-loop Inv-pairs μ-pairs
 past-requires-2 c κs =
-    let l = c .before .before .before .before .before .before .before in
-    omega (arith, l .loop .inv .5, y-count (l .before .before))
+    let l = c .before .before .before .before .before .before in
+    omega (arith, l .loop .inv .5, y-count (l .before))
 
 add-if2 : tie.Need-add-if2 Inv-loop μ-loop Inv-pairs μ-pairs
 add-if2 c =
-    let l = c .before .before .before .before .before .before .before .before in
-    let s = l .before .before .before .before .before .before .before .before .before in
+    let l = c .before .before .before .before .before .before .before in
+    let s = l .before .before .before .before .before .before .before .before in
     omega (arith, l .loop .inv .2, l .loop .inv .4, s .pre .3)
 
 add-if2-2 : tie.Need-add-if2-2 Inv-loop μ-loop Inv-pairs μ-pairs
-add-if2-2 c = omega (arith, p-within c, c .before .before .before .before .before .before .before .before .before .before .before .before .before .before .before .before .before .pre .3)
+add-if2-2 c = omega (arith, p-within c, c .before .before .before .before .before .before .before .before .before .before .before .before .before .before .before .pre .3)
 
 pairs-less : tie.Need-pairs-less Inv-loop μ-loop Inv-pairs μ-pairs
-pairs-less c = omega (arith, c .before .before .before .before .before .before .before .before .before .before .before .before .pairs-test .taken)
+pairs-less c = omega (arith, c .before .before .before .before .before .before .before .before .before .before .pairs-test .taken)
 
 pairs-again : tie.Need-pairs-again Inv-loop μ-loop Inv-pairs μ-pairs
 pairs-again c =
-    let l = c .before .before .before .before .before .before .before .before .before in
-    let y = l .before .before in
+    let l = c .before .before .before .before .before .before .before .before in
+    let y = l .before in
     let t = y .before .before in
     let s = t .before .before .before .before .before in
     let X : List ℕ = leavesOf (s .args .x) in
-    let Y : List ℕ = leavesOf (y .load-cut .result) in
+    let Y : List ℕ = leavesFor y in
     let p : ℕ = c .before .before .past .result in
     let n : length (drop p X) ≡ s .args .x .count - p = left-of (s .args .x .leaves) (s .args .x .count) p (omega (arith, x-four s, s .pre .3)) in
     let wide = left-wide (union compare X Y) (l .loop .inv .0) _ (drop p X) (drop (c .before .past2 .result) Y) (whole (c .before)) (rising-drop 0 p X (x-rising s)) (rising-drop 0 (c .before .past2 .result) Y (y-rising y))
@@ -216,38 +232,38 @@ pairs-again c =
 
 add-if3 : tie.Need-add-if3 Inv-loop μ-loop Inv-pairs μ-pairs
 add-if3 c =
-    let l = c .before .before .before .before .before .before .before .before .before in
-    omega (arith, l .loop .inv .3, l .loop .inv .5, y-count (l .before .before))
+    let l = c .before .before .before .before .before .before .before .before in
+    omega (arith, l .loop .inv .3, l .loop .inv .5, y-count (l .before))
 
 add-if3-2 : tie.Need-add-if3-2 Inv-loop μ-loop Inv-pairs μ-pairs
-add-if3-2 c = omega (arith, q-within (c .before), y-count (c .before .before .before .before .before .before .before .before .before .before .before))
+add-if3-2 c = omega (arith, q-within (c .before), y-count (c .before .before .before .before .before .before .before .before .before))
 
 pairs-less-2 : tie.Need-pairs-less-2 Inv-loop μ-loop Inv-pairs μ-pairs
-pairs-less-2 c = omega (arith, c .before .before .before .before .before .before .before .before .before .before .before .before .before .pairs-test .taken)
+pairs-less-2 c = omega (arith, c .before .before .before .before .before .before .before .before .before .before .before .pairs-test .taken)
 
 pairs-again-2 : tie.Need-pairs-again-2 Inv-loop μ-loop Inv-pairs μ-pairs
 pairs-again-2 c =
-    let l = c .before .before .before .before .before .before .before .before .before .before in
-    let y = l .before .before in
+    let l = c .before .before .before .before .before .before .before .before .before in
+    let y = l .before in
     let t = y .before .before in
     let s = t .before .before .before .before .before in
     let X : List ℕ = leavesOf (s .args .x) in
-    let Y : List ℕ = leavesOf (y .load-cut .result) in
+    let Y : List ℕ = leavesFor y in
     let q : ℕ = c .before .before .past2 .result in
-    let n : length (drop q Y) ≡ y .load-cut .result .count - q = left-of (y .load-cut .result .leaves) (y .load-cut .result .count) q (omega (arith, y-four y, y-count y)) in
+    let n : length (drop q Y) ≡ y .cut-size .result - q = left-of (at-turn y .leaves) (y .cut-size .result) q (omega (arith, y-four y, y-count y)) in
     let wide = right-wide (union compare X Y) (l .loop .inv .0) _ (drop (c .before .before .before .past .result) X) (drop q Y) (whole (c .before .before)) (rising-drop 0 (c .before .before .before .past .result) X (x-rising s)) (rising-drop 0 q Y (y-rising y))
     (omega (arith, l .loop .inv .1, c .if3 .taken, q-within (c .before .before))) in
     (omega (arith, t .pairs .inv .0), t .pairs .inv .1, t .pairs .inv .2, t .pairs .inv .3 ∙ sym (pair-more y ∙ row-wide X Y _ _ wide))
 
 -- a leaf has room
-k-small : (c : tie.Else3 Inv-loop μ-loop Inv-pairs μ-pairs) → c .before .before .before .before .before .before .before .before .before .before .loop .k < 4
+k-small : (c : tie.Else3 Inv-loop μ-loop Inv-pairs μ-pairs) → c .before .before .before .before .before .before .before .before .before .loop .k < 4
 k-small c = omega (arith, c .before .if2 .left, p-within (c .before .before))
 
 cast-out : tie.Need-cast-out Inv-loop μ-loop Inv-pairs μ-pairs
 cast-out c =
     let e = c .before .before .before .before in
     let h₂ = e .before .before in
-    omega (arith, e .if1 .left, h₂ .before .before .head .ensures .small, h₂ .head2 .ensures .small, e .before .lesser .ensures)
+    omega (arith, e .if1 .left, h₂ .before .head .ensures .small, h₂ .leaf-head .ensures .small, e .before .lesser .ensures)
 
 mul-out : tie.Need-mul-out Inv-loop μ-loop Inv-pairs μ-pairs
 mul-out c = omega (arith, k-small c)
@@ -263,7 +279,7 @@ loop-less c = omega (arith, k-small c)
 
 loop-again : tie.Need-loop-again Inv-loop μ-loop Inv-pairs μ-pairs
 loop-again c =
-    let l = c .before .before .before .before .before .before .before .before .before .before .loop in
+    let l = c .before .before .before .before .before .before .before .before .before .loop in
     let v : ℕ = c .before .before .before .before .before .lesser .result in
     let ls : List ℕ = l .inv .0 in
     let k : length ls ≡ l .k = l .inv .1 in (
@@ -281,42 +297,42 @@ loop-again c =
 
 key-of-requires : tie.Need-key-of-requires Inv-loop μ-loop Inv-pairs μ-pairs
 key-of-requires c κs =
-    let l = c .before .before .before .before .before .before .before in
+    let l = c .before .before .before .before .before .before in
     omega (arith, l .loop .inv .2, l .loop .inv .4)
 
 insert-requires : tie.Need-insert-requires Inv-loop μ-loop Inv-pairs μ-pairs
 insert-requires c κs =
-    let t = c .before .before .before .before .before .before .before .before .before .before .before .before in
+    let t = c .before .before .before .before .before .before .before .before .before .before in
     let s = t .before .before .before .before .before in
     record { room = t .pairs .inv .2; fits = t .pairs .inv .1; rising = rw (t .pairs .inv .3) (row-rising _ _ _ (s .pre .5 .rising)) }
 
 pairs-less-3 : tie.Need-pairs-less-3 Inv-loop μ-loop Inv-pairs μ-pairs
-pairs-less-3 c = omega (arith, c .before .before .before .before .before .before .before .before .before .before .before .before .before .before .pairs-test .taken)
+pairs-less-3 c = omega (arith, c .before .before .before .before .before .before .before .before .before .before .before .before .pairs-test .taken)
 
 pairs-again-3 : tie.Need-pairs-again-3 Inv-loop μ-loop Inv-pairs μ-pairs
 pairs-again-3 c =
     let e = c .before .before .before .before .before in
     let h₂ = e .before .before in
-    let h₁ = h₂ .before .before in
+    let h₁ = h₂ .before in
     let l = h₁ .before .before .loop in
-    let y = h₁ .before .before .before .before in
+    let y = h₁ .before .before .before in
     let t = y .before .before in
     let s = t .before .before .before .before .before in
     let ends : e .before .lesser .result ≡ 65536 = omega (arith, e .if1 .taken) in
     let x : Cut = s .args .x in
-    let z : Cut = y .load-cut .result in
+    let z : ℕ = y .cut-size .result in
     let ls : List ℕ = l .inv .0 in
     let x-ends : x .count ≤ l .p = h₁ .head .ensures .ends (omega (arith, h₁ .head .ensures .small, e .before .lesser .ensures)) in
-    let y-ends : z .count ≤ l .q = h₂ .head2 .ensures .ends (omega (arith, h₂ .head2 .ensures .small, e .before .lesser .ensures)) in
-    let all : union compare (leavesOf x) (leavesOf z) ≡ ls ++ [] =
-    l .inv .7 ∙ ap (λ (r : List ℕ). ls ++ r) (ended (x .leaves) (z .leaves) (x .count) (z .count) (l .p) (l .q) x-ends y-ends) in
+    let y-ends : z ≤ l .q = h₂ .leaf-head .ensures .ends (omega (arith, h₂ .leaf-head .ensures .small, e .before .lesser .ensures)) in
+    let all : union compare (leavesOf x) (leavesFor y) ≡ ls ++ [] =
+    l .inv .7 ∙ ap (λ (r : List ℕ). ls ++ r) (ended (x .leaves) (at-turn y .leaves) (x .count) z (l .p) (l .q) x-ends y-ends) in
     let made = key-is _ ls (l .out) (l .k) all (l .inv .1) (omega (arith, l .inv .2, l .inv .4)) (l .inv .6) in (
       omega (arith, t .pairs .inv .0),
       c .before .before .insert .ensures .1,
       c .before .before .insert .kept .0 ∙ t .pairs .inv .2,
       c .before .before .insert .ensures .0
           ∙ (λ i. added ((c .before .before .before .key-of .ensures ∙ made .0) i) (t .pairs .inv .3 i))
-          ∙ sym (pair-more y ∙ row-narrow (leavesOf x) (leavesOf z) _ _ (made .1)),
+          ∙ sym (pair-more y ∙ row-narrow (leavesOf x) (leavesFor y) _ _ (made .1)),
     )
 
 same-length : tie.Need-same-length Inv-loop μ-loop Inv-pairs μ-pairs
@@ -340,12 +356,11 @@ row-spec =
     count-requires
     pairs-holds
     sub-j
-    load-cut-requires
+    cut-size-requires
     loop-holds
     slice-aggregate-head
     head-requires
-    slice-aggregate-head-2
-    head-requires-2
+    leaf-head-requires
     lesser-requires
     past-requires
     past-requires-2
