@@ -20,9 +20,7 @@ mod refusal;
 #[doc(hidden)]
 pub mod shell;
 
-pub use raw::{call, call_cells, Answer};
-#[cfg(feature = "two")]
-pub use raw::{call_two, AnswerTwo, Channel};
+pub use raw::{call, call_cells, call_two, Answer, AnswerTwo, Channel};
 pub use refusal::{Place, Refusal};
 
 /// The longest text that is read: a longer one is refusal 1.
@@ -116,7 +114,6 @@ fn answered(Answer { number, value, gates, area, arrival }: Answer) -> Result<(u
 
 /// Maps two graphs with the same cells in one call, on memory of its own. A refusal 1 to 9 or 19 of either channel is returned for both, the
 /// first channel's if both have one; with any other the other channel is mapped as if alone.
-#[cfg(feature = "two")]
 pub fn map_two(cells: &[u8], first: Channel, second: Channel) -> [Result<Netlist, Refusal>; 2] {
     let channels = [first, second];
     let mut work = vec![0; channels.iter().map(|channel| words_needed(channel.graph)).sum()];

@@ -14,7 +14,6 @@ pub struct Answer {
 }
 
 /// The answers for both channels of one call.
-#[cfg(feature = "two")]
 #[repr(C)]
 #[derive(Clone, Copy, Debug, PartialEq, Eq)]
 pub struct AnswerTwo {
@@ -23,7 +22,6 @@ pub struct AnswerTwo {
 }
 
 /// A channel's own texts: its graph, and the arrivals of its inputs, empty for none.
-#[cfg(feature = "two")]
 #[derive(Clone, Copy, Debug)]
 pub struct Channel<'a> {
     pub graph: &'a [u8],
@@ -46,7 +44,6 @@ extern "C" {
 
     fn mapper_cells(genlib: *const u8, genlib_len: usize, text: *mut u8, text_len: usize) -> Answer;
 
-    #[cfg(feature = "two")]
     fn mapper_map_two(
         cells: *const u8,
         cells_len: usize,
@@ -93,7 +90,6 @@ pub fn call_cells(genlib: &[u8], text: &mut [u8]) -> Answer {
 }
 
 /// The call on two channels over one work memory, with a text memory each, answered as C has it.
-#[cfg(feature = "two")]
 pub fn call_two(
     cells: &[u8],
     first: Channel,
