@@ -11,7 +11,7 @@
 //! # Ok::<(), mapper::Refusal>(())
 //! ```
 //!
-//! What the call answers and leaves in the memory that it is lent is proved (crates/capi of the repository); docs/GUIDE.md has both texts, the
+//! What the call answers and leaves in the memory that it is lent is proved (crates/capi of the repository); docs/GUIDE.md has the texts, the
 //! netlist and every refusal. Calls on memory of their own are safe from several threads at once. A call is given 1.5 MB of stack: a thread of
 //! the standard library has 2 MB.
 
