@@ -1,26 +1,136 @@
--- The table of a leaf, found along the list of leaves.
---     leaf-here, leaf-past        the leaf at hand is v, or is not
---     leaf-none                   there are no more leaves
+-- The leaves' tables among the notes.
+--     leaf-begin, leaf-turn       none noted yet, and one more, from the last to the first
+--     fresh-noted, fresh-early    what a walk with a new number begins from
+--     four-same                   four leaves are equal one by one
+--     leaves-small                a leaf is a variable, so that it has a note
+--     cut-..., begun              a cut that is loaded, and the notes with its leaves
 -- Assumes nothing.
-use mathlib.Core.Path.{_≡_, sym}
-use mathlib.Core.List.{List}
-use Prim.Native.Nat.{ℕ, _+_, _≤_, _<_}
-use native.Mathlib.Numerals.{add-one}
-use lib.ListN.{length, drop, getD, drop-of-length-le}
-use lib.Seq.{drop-cons}
-use borrow.Author.Tests.{eq-eqb, ne-eqb}
+use mathlib.Core.Path.{_≡_, refl, sym, ap, _∙_, subst}
+use mathlib.Core.Bool.{Bool, true, false, cond}
+use mathlib.Core.List.{List, [], _∷_}
+use Prim.Native.Nat.{ℕ, zero, suc, _+_, _≤_, _<_}
+use native.Mathlib.Nat.{not-suc-le-zero, le-of-suc-le-suc}
+use native.Mathlib.Omega.{arith}
+use lib.Dec.{eqb, ltb}
+use lib.ListN.{length, drop, getD, set, length-set, drop-of-length-le}
+use lib.Seq.{drop-cons, getD-set-same, getD-set-other, ext-getD, length-take-le, getD-take}
+use borrow.Author.Tests.{lt-ltb, ltb-true, ltb-false, eq-eqb, ne-eqb, eqb-true, eqb-false}
 use Rattle.truth.specs.Variant.{leafTable}
-use Rattle.cones.specs.Table.{leafWord}
+use Rattle.model.specs.declared.Cut.{Cut}
+use Rattle.words.specs.Layout.{placeAt, countAt}
+use Rattle.words.specs.Record.{nodeAt, leavesOf, leavesAt, cutOf, cutsAt, Leaves, Sound}
+use Rattle.words.proofs.Stored.{four-leaves, count-listed, cut-listed, good-get}
+use Rattle.cones.specs.Table.{leafWord, walkWord, leafNotes, Early, Noted}
+use Rattle.cones.proofs.Truth.{leaf-small}
+use Rattle.cones.proofs.Walks.{walk-leaf}
 
-module _ (l : List ℕ) (i v : ℕ) (h : i < length l) where
-  pub leaf-here : v ≡ getD l i 0 → leafWord (drop i l) i v ≡ leafTable i
-  unfolding leafWord
-  leaf-here e = rw (drop-cons l i 0 h, eq-eqb v (getD l i 0) e)
+pub leaf-turn : (ls : List ℕ) (i j base : ℕ) (start notes : List ℕ) (u x : ℕ) → i ≡ suc j → j < length ls → notes ≡ leafNotes (drop i ls) i base start
+    → u ≡ getD ls j 0 → x ≡ leafTable j → set notes u (base + x) ≡ leafNotes (drop j ls) j base start
+unfolding leafNotes
+leaf-turn ls i j base start notes u x ei h en eu ex =
+    let before : notes ≡ leafNotes (drop (suc j) ls) (suc j) base start = en ∙ ap (λ (q : ℕ). leafNotes (drop q ls) q base start) ei in
+    (λ k. set (before k) (eu k) (base + ex k)) ∙ sym (ap (λ (l : List ℕ). leafNotes l j base start) (drop-cons ls j 0 h))
 
-  pub leaf-past : (v ≡ getD l i 0 → ⊥) → leafWord (drop i l) i v ≡ leafWord (drop (i + 1) l) (i + 1) v
-  unfolding leafWord
-  leaf-past n = rw (drop-cons l i 0 h, ne-eqb v (getD l i 0) n) (λ j. leafWord (drop (sym (add-one i) j) l) (sym (add-one i) j) v)
+-- none noted yet
+pub leaf-begin : (ls : List ℕ) (i base : ℕ) (start : List ℕ) → length ls ≤ i → start ≡ leafNotes (drop i ls) i base start
+unfolding leafNotes
+leaf-begin ls i base start h = sym (ap (λ (l : List ℕ). leafNotes l i base start) (drop-of-length-le ls h))
 
-pub leaf-none : (l : List ℕ) (i v : ℕ) → length l ≤ i → leafWord (drop i l) i v ≡ 65536
-unfolding leafWord
-leaf-none l i v h = rw (drop-of-length-le l h)
+pub length-noted : (ls : List ℕ) (i base : ℕ) (notes : List ℕ) → length (leafNotes ls i base notes) ≡ length notes
+unfolding leafNotes
+length-noted [] i base notes = refl
+length-noted (x ∷ xs) i base notes = length-set (leafNotes xs (suc i) base notes) x (base + leafTable i) ∙ length-noted xs (suc i) base notes
+
+-- a note behind the leaves' is the leaf's, or what it was
+note-at : (ls : List ℕ) (i base : ℕ) (notes : List ℕ) → ((j : ℕ) → j < length ls → getD ls j 0 < length notes) → (u : ℕ)
+    → getD (leafNotes ls i base notes) u 0 ≡ cond (ltb (leafWord ls i u) 65536) (base + leafWord ls i u) (getD notes u 0)
+unfolding leafNotes leafWord
+note-at [] i base notes h u = refl
+note-at (x ∷ xs) i base notes h u = by (eqb u x) refl (note-at xs (suc i) base notes (λ j l. h (suc j) (omega arith)) u)
+  where
+    rest : List ℕ
+    rest = leafNotes xs (suc i) base notes
+
+    by : (t : Bool) → eqb u x ≡ t → getD rest u 0 ≡ cond (ltb (leafWord xs (suc i) u) 65536) (base + leafWord xs (suc i) u) (getD notes u 0)
+        → getD (set rest x (base + leafTable i)) u 0
+        ≡ cond (ltb (cond t (leafTable i) (leafWord xs (suc i) u)) 65536) (base + cond t (leafTable i) (leafWord xs (suc i) u)) (getD notes u 0)
+    by true e before =
+        let same : u ≡ x = eqb-true u x e in
+        ap (λ (q : ℕ). getD (set rest x (base + leafTable i)) q 0) same
+        ∙ getD-set-same rest x (base + leafTable i) 0 (omega (arith, length-noted xs (suc i) base notes, h 0 (omega arith)))
+        ∙ sym (rw (lt-ltb (leafTable i) 65536 (leaf-small i)))
+    by false e before = getD-set-other rest x u (base + leafTable i) 0 (eqb-false u x e) ∙ before
+
+-- a walk that begins has noted the leaves alone
+module _ (m base : ℕ) (notes : List ℕ) (early : Early m base notes) (ls : List ℕ) (inside : (j : ℕ) → j < length ls → getD ls j 0 < length notes) where
+  pub fresh-noted : (w : List ℕ) → Noted w m ls base (leafNotes ls 0 base notes)
+  fresh-noted w = record { right = right-at; leaves = λ u h l. omega (arith, is-leaf u l) }
+    where
+      is-leaf : (u : ℕ) → leafWord ls 0 u < 65536 → getD (leafNotes ls 0 base notes) u 0 ≡ base + leafWord ls 0 u
+      is-leaf u l = note-at ls 0 base notes inside u ∙ rw (lt-ltb (leafWord ls 0 u) 65536 l)
+
+      right-at : (u : ℕ) → u ≤ m → base ≤ getD (leafNotes ls 0 base notes) u 0 → (f : ℕ) → placeAt w m u ≤ suc f
+          → getD (leafNotes ls 0 base notes) u 0 ≡ base + walkWord (suc f) (nodeAt w m) ls u
+      right-at u h b f p = by (ltb (leafWord ls 0 u) 65536) refl
+        where
+          by : (t : Bool) → ltb (leafWord ls 0 u) 65536 ≡ t → getD (leafNotes ls 0 base notes) u 0 ≡ base + walkWord (suc f) (nodeAt w m) ls u
+          by true e =
+              let l : leafWord ls 0 u < 65536 = ltb-true (leafWord ls 0 u) 65536 e in
+              is-leaf u l ∙ ap (λ (x : ℕ). base + x) (sym (walk-leaf f (nodeAt w m) ls u l))
+          by false e =
+              let none : getD (leafNotes ls 0 base notes) u 0 ≡ getD notes u 0 = note-at ls 0 base notes inside u ∙ rw e in
+              absurd (omega (arith, early .before u h))
+
+  pub fresh-early : Early m (base + 65536) (leafNotes ls 0 base notes)
+  fresh-early = record { long = length-noted ls 0 base notes ∙ early .long; before = λ u h. by u h (ltb (leafWord ls 0 u) 65536) refl }
+    where
+      by : (u : ℕ) → u ≤ m → (t : Bool) → ltb (leafWord ls 0 u) 65536 ≡ t → getD (leafNotes ls 0 base notes) u 0 < base + 65536
+      by u h true e =
+          let is : getD (leafNotes ls 0 base notes) u 0 ≡ base + leafWord ls 0 u = note-at ls 0 base notes inside u ∙ rw e in
+          omega (arith, ltb-true (leafWord ls 0 u) 65536 e)
+      by u h false e =
+          let none : getD (leafNotes ls 0 base notes) u 0 ≡ getD notes u 0 = note-at ls 0 base notes inside u ∙ rw e in
+          omega (arith, early .before u h)
+
+pub leaves-small : (lo : ℕ) (ls : List ℕ) → Leaves lo ls → (j : ℕ) → j < length ls → getD ls j 0 < 4096
+leaves-small lo [] good j h = absurd (not-suc-le-zero h)
+leaves-small lo (x ∷ xs) good zero h = good .1
+leaves-small lo (x ∷ xs) good (suc j) h = leaves-small (suc x) xs (good .2) j (le-of-suc-le-suc h)
+
+pub four-same : (a b : List ℕ) → length a ≡ 4 → length b ≡ 4 → getD a 0 0 ≡ getD b 0 0 → getD a 1 0 ≡ getD b 1 0 → getD a 2 0 ≡ getD b 2 0 → getD a 3 0 ≡ getD b 3 0 → a ≡ b
+four-same a b la lb e₀ e₁ e₂ e₃ =
+    ext-getD 0 a b (la ∙ sym lb) by
+  where
+    by : (i : ℕ) → i < length a → getD a i 0 ≡ getD b i 0
+    by zero h = e₀
+    by (suc zero) h = e₁
+    by (suc (suc zero)) h = e₂
+    by (suc (suc (suc zero))) h = e₃
+    by (suc (suc (suc (suc i)))) h = absurd (omega arith)
+
+-- a cut that is loaded: at most four leaves, each a variable
+module _ (w : List ℕ) (m v k : ℕ) (s : Sound w m v) (h : k < countAt w m v) (c : Cut) (e : c ≡ cutOf w m v k) where
+  pub cut-narrow : c .count ≤ 4
+  cut-narrow = subst (λ (z : Cut). z .count ≤ 4) (sym e) (s .narrow k h)
+
+  leaves-long : length (leavesOf c) ≡ c .count
+  leaves-long = length-take-le (c .count) (c .leaves) (omega (arith, cut-narrow, ap (λ (z : Cut). length (z .leaves)) e, four-leaves w m v k))
+
+  pub cut-leaves : leavesOf c ≡ leavesAt w m v k
+  cut-leaves = ap leavesOf e
+
+  leaf-small-at : (j : ℕ) → j < length (leavesOf c) → getD (leavesOf c) j 0 < 4096
+  leaf-small-at =
+      leaves-small 0 (leavesOf c)
+      (subst (Leaves 0) (cut-listed w m v k h ∙ sym cut-leaves) (good-get (cutsAt w m v) k (s .good) (omega (arith, count-listed w m v)) .1))
+
+  pub cut-small : (j : ℕ) → j < c .count → getD (c .leaves) j 0 < 4096
+  cut-small j l = omega (arith, getD-take (c .count) (c .leaves) j 0 l, leaf-small-at j (omega (arith, leaves-long)))
+
+  pub begun : (base : ℕ) (notes : List ℕ) → Early m base notes → (out : List ℕ) → out ≡ leafNotes (leavesOf c) 0 base notes
+      → Noted w m (leavesOf c) base out × Early m (base + 65536) out
+  begun base notes early out eo =
+      let inside : (j : ℕ) → j < length (leavesOf c) → getD (leavesOf c) j 0 < length notes = λ j l. omega (arith, leaf-small-at j l, early .long) in (
+        subst (Noted w m (leavesOf c) base) (sym eo) (fresh-noted m base notes early (leavesOf c) inside w),
+        subst (Early m (base + 65536)) (sym eo) (fresh-early m base notes early (leavesOf c) inside),
+      )

@@ -23,7 +23,7 @@ use Rattle.truth.proofs.Tables.{table-small, tabulate-same, tabulate-value, val
 use Rattle.cones.specs.Table.{leafWord, literalWord, nodeWord, orWord, walkWord}
 
 -- a leaf's table is a word, and its rows are the leaf's bits
-leaf-small : (j : ℕ) → leafTable j < 65536
+pub leaf-small : (j : ℕ) → leafTable j < 65536
 unfolding leafTable
 leaf-small j = table-small (λ r. bit r j)
 

@@ -1,44 +1,25 @@
 -- What a walk over a cut's cone goes by:
---     known-..                    what is known of a variable before its operands are
---     placed-kept, same-walk      what walks note changes nothing of the graph, nor what a walk finds
---     walked-known, walked-and    a walk that ends at once, and one that goes on to both operands
+--     placed-kept, same-walk      what a walk finds hangs on the graph alone
+--     fuel                        a walk finds the same with any fuel that is enough
+--     noted-more, early-more      a table noted
+--     walked-known, walked-none, walked-and   a walk that ends at what is noted, at no AND, and one that goes on to both operands
 -- Assumes nothing.
 use mathlib.Core.Path.{_≡_, refl, sym, ap, _∙_, subst}
 use mathlib.Core.Bool.{Bool, true, false, cond}
 use mathlib.Core.List.{List}
-use Prim.Native.Nat.{ℕ, zero, suc, _+_, _/_, _≤_, _<_}
+use Prim.Native.Nat.{ℕ, zero, suc, _+_, _-_, _/_, _≤_, _<_}
 use native.Mathlib.Omega.{arith}
 use lib.Dec.{eqb, ltb}
-use lib.ListN.{length, getD}
-use borrow.Author.Tests.{lt-ltb, le-ltb, ltb-true, ltb-false, eq-eqb, ne-eqb, eqb-true, eqb-false}
+use lib.ListN.{length, getD, set, length-set}
+use lib.Seq.{getD-set-same, getD-set-other}
+use borrow.Author.Tests.{lt-ltb, le-ltb, ltb-true, ltb-false, ne-eqb, eqb-true, eqb-false}
 use Rattle.model.specs.Graph.{Node, constant, input, undefined, varOf}
-use Rattle.words.specs.Put.{putAt}
-use Rattle.words.specs.Layout.{Room, constantKind, inputKind, andKind, kindAt, leftAt, rightAt, placeAt, notedAt, walkAt, noteAddr, noteWords, leftAddr, rightAddr, placeAddr, countsFrom}
+use Rattle.words.specs.Layout.{constantKind, inputKind, andKind, kindAt, leftAt, rightAt, placeAt, leftAddr, rightAddr, placeAddr, countsFrom}
 use Rattle.words.specs.Record.{nodeOf, nodeAt}
-use Rattle.words.proofs.Putting.{length-put, get-put-below, get-put-above}
-use Rattle.words.proofs.Chosen.{note-table, note-walk}
-use Rattle.cones.specs.Table.{leafWord, literalWord, nodeWord, orWord, walkWord, knownWord, joined, Noted, Placed, Kept, Walked}
-
-module _ (w : List ℕ) (m : ℕ) (ls : List ℕ) (walk v : ℕ) where
-  pub known-leaf : leafWord ls 0 v < 65536 → knownWord w m ls walk v ≡ leafWord ls 0 v
-  unfolding knownWord
-  known-leaf h = rw (lt-ltb (leafWord ls 0 v) 65536 h)
-
-  module _ (no-leaf : 65536 ≤ leafWord ls 0 v) where
-    pub known-noted : walkAt w m v ≡ walk → knownWord w m ls walk v ≡ notedAt w m v
-    unfolding knownWord
-    known-noted e = rw (le-ltb (leafWord ls 0 v) 65536 no-leaf, eq-eqb (walkAt w m v) walk e)
-
-    pub known-and : (walkAt w m v ≡ walk → ⊥) → kindAt w m v ≡ andKind → knownWord w m ls walk v ≡ 65536
-    unfolding knownWord
-    known-and n e = rw (le-ltb (leafWord ls 0 v) 65536 no-leaf, ne-eqb (walkAt w m v) walk n, eq-eqb (kindAt w m v) andKind e)
-
-    pub known-none : (walkAt w m v ≡ walk → ⊥) → (kindAt w m v ≡ andKind → ⊥) → knownWord w m ls walk v ≡ 0
-    unfolding knownWord
-    known-none n e = rw (le-ltb (leafWord ls 0 v) 65536 no-leaf, ne-eqb (walkAt w m v) walk n, ne-eqb (kindAt w m v) andKind e)
+use Rattle.cones.specs.Table.{leafWord, literalWord, nodeWord, orWord, walkWord, joined, Early, Noted, Placed, Walked}
 
 -- the walk at one variable, with fuel
-walk-leaf : (f : ℕ) (node : ℕ → Node) (ls : List ℕ) (v : ℕ) → leafWord ls 0 v < 65536 → walkWord (suc f) node ls v ≡ leafWord ls 0 v
+pub walk-leaf : (f : ℕ) (node : ℕ → Node) (ls : List ℕ) (v : ℕ) → leafWord ls 0 v < 65536 → walkWord (suc f) node ls v ≡ leafWord ls 0 v
 unfolding walkWord
 walk-leaf f node ls v h = rw (lt-ltb (leafWord ls 0 v) 65536 h)
 
@@ -59,58 +40,7 @@ pub an-and : (look : ℕ → ℕ) (k l r : ℕ) → k ≡ andKind → nodeWord l
 unfolding nodeWord joined literalWord varOf
 an-and look k l r e = rw e
 
--- what is known and no sign to go on is what the walk finds
-module _ (w : List ℕ) (m : ℕ) (ls : List ℕ) (walk v : ℕ) (noted : Noted w m ls walk) (inside : v ≤ m) where
-  known-right : 0 < placeAt w m v → knownWord w m ls walk v < 65536 → (f : ℕ) → placeAt w m v ≤ f → knownWord w m ls walk v ≡ walkWord f (nodeAt w m) ls v
-  unfolding nodeAt
-  known-right alive h zero l = absurd (omega arith)
-  known-right alive h (suc f) l = by-leaf (ltb (leafWord ls 0 v) 65536) refl
-    where
-      by-kind : 65536 ≤ leafWord ls 0 v → (walkAt w m v ≡ walk → ⊥) → (t : Bool) → eqb (kindAt w m v) andKind ≡ t → knownWord w m ls walk v ≡ walkWord (suc f) (nodeAt w m) ls v
-      by-kind nl n true e = absurd (omega (arith, known-and w m ls walk v nl n (eqb-true (kindAt w m v) andKind e)))
-      by-kind nl n false e =
-          known-none w m ls walk v nl n (eqb-false (kindAt w m v) andKind e)
-          ∙ sym (walk-node f (nodeAt w m) ls v nl ∙ no-and (walkWord f (nodeAt w m) ls) (kindAt w m v) (leftAt w m v) (rightAt w m v) (eqb-false (kindAt w m v) andKind e))
-
-      by-walk : 65536 ≤ leafWord ls 0 v → (t : Bool) → eqb (walkAt w m v) walk ≡ t → knownWord w m ls walk v ≡ walkWord (suc f) (nodeAt w m) ls v
-      by-walk nl true e = known-noted w m ls walk v nl (eqb-true (walkAt w m v) walk e) ∙ noted .right v inside (eqb-true (walkAt w m v) walk e) (suc f) l
-      by-walk nl false e = by-kind nl (eqb-false (walkAt w m v) walk e) (eqb (kindAt w m v) andKind) refl
-
-      by-leaf : (t : Bool) → ltb (leafWord ls 0 v) 65536 ≡ t → knownWord w m ls walk v ≡ walkWord (suc f) (nodeAt w m) ls v
-      by-leaf true e =
-          let yes-leaf : leafWord ls 0 v < 65536 = ltb-true (leafWord ls 0 v) 65536 e in
-          known-leaf w m ls walk v yes-leaf ∙ sym (walk-leaf f (nodeAt w m) ls v yes-leaf)
-      by-leaf false e = by-walk (ltb-false (leafWord ls 0 v) 65536 e) (eqb (walkAt w m v) walk) refl
-
-  -- the sign to go on: an AND that is no leaf
-  pub known-on : notedAt w m v < 65536 → 65536 ≤ knownWord w m ls walk v → (kindAt w m v ≡ andKind) × (65536 ≤ leafWord ls 0 v)
-  known-on word h = by-leaf (ltb (leafWord ls 0 v) 65536) refl
-    where
-      by-kind : 65536 ≤ leafWord ls 0 v → (walkAt w m v ≡ walk → ⊥) → (t : Bool) → eqb (kindAt w m v) andKind ≡ t → (kindAt w m v ≡ andKind) × (65536 ≤ leafWord ls 0 v)
-      by-kind nl n true e = (eqb-true (kindAt w m v) andKind e, nl)
-      by-kind nl n false e = absurd (omega (arith, known-none w m ls walk v nl n (eqb-false (kindAt w m v) andKind e)))
-
-      by-walk : 65536 ≤ leafWord ls 0 v → (t : Bool) → eqb (walkAt w m v) walk ≡ t → (kindAt w m v ≡ andKind) × (65536 ≤ leafWord ls 0 v)
-      by-walk nl true e = absurd (omega (arith, known-noted w m ls walk v nl (eqb-true (walkAt w m v) walk e)))
-      by-walk nl false e = by-kind nl (eqb-false (walkAt w m v) walk e) (eqb (kindAt w m v) andKind) refl
-
-      by-leaf : (t : Bool) → ltb (leafWord ls 0 v) 65536 ≡ t → (kindAt w m v ≡ andKind) × (65536 ≤ leafWord ls 0 v)
-      by-leaf true e = let l : leafWord ls 0 v < 65536 = ltb-true (leafWord ls 0 v) 65536 e in absurd (omega (arith, known-leaf w m ls walk v l))
-      by-leaf false e = by-walk (ltb-false (leafWord ls 0 v) 65536 e) (eqb (walkAt w m v) walk) refl
-
-  pub walked-known : 0 < placeAt w m v → (r : ℕ) → r ≡ knownWord w m ls walk v → r < 65536 → Walked w m ls walk v w r
-  walked-known alive r e h =
-      record { table = λ f l. e ∙ known-right alive (omega arith) f l; kept = record { long = refl; below = λ i b. refl; above = λ i b. refl }; noted = noted }
-
-pub kept-then : {w v u : List ℕ} {m : ℕ} → Kept w m v → Kept v m u → Kept w m u
-kept-then a b =
-    record { long = b .long ∙ a .long; below = λ i h. b .below i h ∙ a .below i h; above = λ i h. b .above i h ∙ a .above i h }
-
--- what a walk reads of the graph stands below the notes
-pub low : {w v : List ℕ} {m : ℕ} → Kept w m v → (i : ℕ) → i < countsFrom m → getD v i 0 ≡ getD w i 0
-low kept i h = kept .below i (omega arith)
-
--- notes change nothing of the graph
+-- words that agree in the graph
 module _ (w : List ℕ) (m : ℕ) (v : List ℕ) (p : Placed w m) (long : length v ≡ length w) (below : (i : ℕ) → i < countsFrom m → getD v i 0 ≡ getD w i 0) where
   pub same-place : (u : ℕ) → u ≤ m → placeAt v m u ≡ placeAt w m u
   same-place u h = below (placeAddr m u) (omega arith)
@@ -176,110 +106,108 @@ module _ (w : List ℕ) (m : ℕ) (v : List ℕ) (p : Placed w m) (long : length
           cases false e =
               no-and (walkWord f (nodeAt v m) ls) k l r (eqb-false k andKind e) ∙ sym (no-and (walkWord f (nodeAt w m) ls) k l r (eqb-false k andKind e))
 
--- a note of v: three words
-module _ (w : List ℕ) (m v x walk : ℕ) (room : Room w m) (inside : v ≤ m) where
-  fits : noteAddr m v + 3 ≤ length w
-  fits = omega (arith, room .small, room .room)
+-- a node's word hangs on the words of its operands alone
+pub node-word : (a b : ℕ → ℕ) (k l r : ℕ) → (k ≡ andKind → a (l / 2) ≡ b (l / 2)) → (k ≡ andKind → a (r / 2) ≡ b (r / 2)) → nodeWord a (nodeOf k l r) ≡ nodeWord b (nodeOf k l r)
+node-word a b k l r hl hr = by (eqb k andKind) refl
+  where
+    by : (t : Bool) → eqb k andKind ≡ t → nodeWord a (nodeOf k l r) ≡ nodeWord b (nodeOf k l r)
+    by true e =
+        let three : k ≡ andKind = eqb-true k andKind e in
+        an-and a k l r three ∙ (λ i. joined l (hl three i) r (hr three i)) ∙ sym (an-and b k l r three)
+    by false e = no-and a k l r (eqb-false k andKind e) ∙ sym (no-and b k l r (eqb-false k andKind e))
 
-  pub note-kept : Kept w m (putAt w (noteAddr m v) (noteWords x walk))
-  note-kept =
-      record {
-        long = length-put w (noteAddr m v) (noteWords x walk) fits;
-        below = λ i h. get-put-below w (noteAddr m v) (noteWords x walk) fits i (omega arith);
-        above = λ i h. get-put-above w (noteAddr m v) (noteWords x walk) fits i (omega arith);
-      }
+module _ (w : List ℕ) (m : ℕ) (p : Placed w m) (ls : List ℕ) where
+  pub fuel : (f g u : ℕ) → u ≤ m → 0 < placeAt w m u → placeAt w m u ≤ f → placeAt w m u ≤ g → walkWord f (nodeAt w m) ls u ≡ walkWord g (nodeAt w m) ls u
+  unfolding walkWord nodeAt
+  fuel zero g u h alive hf hg = absurd (omega arith)
+  fuel (suc f) zero u h alive hf hg = absurd (omega arith)
+  fuel (suc f) (suc g) u h alive hf hg =
+      ap (orWord (leafWord ls 0 u))
+      (node-word (walkWord f (nodeAt w m) ls) (walkWord g (nodeAt w m) ls) (kindAt w m u) (leftAt w m u) (rightAt w m u)
+      (λ k. fuel f g (leftAt w m u / 2) (omega (arith, p .lefts u h)) (p .left-placed u h k) (omega (arith, p .left-first u h k)) (omega (arith, p .left-first u h k)))
+      (λ k. fuel f g (rightAt w m u / 2) (omega (arith, p .rights u h)) (p .right-placed u h k) (omega (arith, p .right-first u h k)) (omega (arith, p .right-first u h k))))
 
-  module _ (u : ℕ) (other : u ≡ v → ⊥) where
-    elsewhere : (i : ℕ) → i < 3 → getD (putAt w (noteAddr m v) (noteWords x walk)) (noteAddr m u + i) 0 ≡ getD w (noteAddr m u + i) 0
-    elsewhere i h = by (ltb u v) refl
-      where
-        by : (t : Bool) → ltb u v ≡ t → getD (putAt w (noteAddr m v) (noteWords x walk)) (noteAddr m u + i) 0 ≡ getD w (noteAddr m u + i) 0
-        by true e = let l : u < v = ltb-true u v e in get-put-below w (noteAddr m v) (noteWords x walk) fits (noteAddr m u + i) (omega arith)
-        by false e =
-            let l : v ≤ u = ltb-false u v e in
-            let n : v < u = omega (arith, other) in
-            get-put-above w (noteAddr m v) (noteWords x walk) fits (noteAddr m u + i) (omega arith)
+-- a table z noted of v
+module _ (w : List ℕ) (m base v z : ℕ) (notes : List ℕ) (room : v < length notes) where
+  here : getD (set notes v (base + z)) v 0 ≡ base + z
+  here = getD-set-same notes v (base + z) 0 room
 
-    note-table-other : notedAt (putAt w (noteAddr m v) (noteWords x walk)) m u ≡ notedAt w m u
-    note-table-other =
-        let e : noteAddr m u + 0 ≡ noteAddr m u = omega arith in
-        rw e at (elsewhere 0 (omega arith))
+  other : (u : ℕ) → (u ≡ v → ⊥) → getD (set notes v (base + z)) u 0 ≡ getD notes u 0
+  other u n = getD-set-other notes v u (base + z) 0 n
 
-    note-walk-other : walkAt (putAt w (noteAddr m v) (noteWords x walk)) m u ≡ walkAt w m u
-    note-walk-other = omega (arith, elsewhere 1 (omega arith), elsewhere 2 (omega arith))
-
--- a walk that goes on to both operands, and notes what it found
-module _ (w : List ℕ) (m : ℕ) (ls : List ℕ) (walk v : ℕ) (p : Placed w m) (inside : v ≤ m) (kind : kindAt w m v ≡ andKind) (no-leaf : 65536 ≤ leafWord ls 0 v)
-    (one two out : List ℕ) (x y z : ℕ) (a : Walked w m ls walk (leftAt w m v / 2) one x) (b : Walked one m ls walk (rightAt w m v / 2) two y)
-    (ez : z ≡ joined (leftAt w m v) x (rightAt w m v) y) (eo : out ≡ putAt two (noteAddr m v) (noteWords z walk)) where
-  both-kept : Kept w m two
-  both-kept = kept-then (a .kept) (b .kept)
-
-  room-two : Room two m
-  room-two = placed-kept w m two p (both-kept .long) (low both-kept) .room
-
-  all-kept : Kept w m out
-  all-kept = kept-then both-kept (rw eo (note-kept two m v z walk room-two inside))
-
-  right-inside : rightAt w m v / 2 ≤ m
-  right-inside = omega (arith, p .rights v inside)
-
-  found : (f : ℕ) → placeAt w m v ≤ f → z ≡ walkWord f (nodeAt w m) ls v
-  unfolding nodeAt
-  found zero h = absurd (omega (arith, p .left-first v inside kind))
-  found (suc f) h =
-      let xs : x ≡ walkWord f (nodeAt w m) ls (leftAt w m v / 2) = a .table f (omega (arith, p .left-first v inside kind)) in
-      let place : placeAt one m (rightAt w m v / 2) ≡ placeAt w m (rightAt w m v / 2) = same-place w m one p (a .kept .long) (low (a .kept)) (rightAt w m v / 2) right-inside in
-      let ys : y ≡ walkWord f (nodeAt w m) ls (rightAt w m v / 2) =
-      b .table f (omega (arith, p .right-first v inside kind)) ∙ same-walk w m one p (a .kept .long) (low (a .kept)) ls f (rightAt w m v / 2) right-inside in
-      ez
-      ∙ (λ i. joined (leftAt w m v) (xs i) (rightAt w m v) (ys i))
-      ∙ sym (walk-node f (nodeAt w m) ls v no-leaf ∙ an-and (walkWord f (nodeAt w m) ls) (kindAt w m v) (leftAt w m v) (rightAt w m v) kind)
-
-  -- what the walk finds is the same over the words at the end
-  over-out : (f u : ℕ) → u ≤ m → walkWord f (nodeAt out m) ls u ≡ walkWord f (nodeAt w m) ls u
-  over-out f u h = same-walk w m out p (all-kept .long) (low all-kept) ls f u h
-
-  over-two : (f u : ℕ) → u ≤ m → walkWord f (nodeAt two m) ls u ≡ walkWord f (nodeAt w m) ls u
-  over-two f u h = same-walk w m two p (both-kept .long) (low both-kept) ls f u h
-
-  place-out : (u : ℕ) → u ≤ m → placeAt out m u ≡ placeAt w m u
-  place-out u h = same-place w m out p (all-kept .long) (low all-kept) u h
-
-  place-two : (u : ℕ) → u ≤ m → placeAt two m u ≡ placeAt w m u
-  place-two u h = same-place w m two p (both-kept .long) (low both-kept) u h
-
-  now-noted : Noted out m ls walk
-  now-noted = record { right = λ u h. right-by u h (eqb u v) refl; old = λ u h. old-by u h (eqb u v) refl }
+  pub noted-more : (ls : List ℕ) → Noted w m ls base notes → ((f : ℕ) → placeAt w m v ≤ suc f → z ≡ walkWord (suc f) (nodeAt w m) ls v)
+      → Noted w m ls base (set notes v (base + z))
+  noted-more ls noted found = record { right = λ u h. right-by u h (eqb u v) refl; leaves = λ u h. leaves-by u h (eqb u v) refl }
     where
-      right-by : (u : ℕ) → u ≤ m → (t : Bool) → eqb u v ≡ t → walkAt out m u ≡ walk → (f : ℕ) → placeAt out m u ≤ f → notedAt out m u ≡ walkWord f (nodeAt out m) ls u
-      right-by u h true e s f l =
+      right-by : (u : ℕ) → u ≤ m → (t : Bool) → eqb u v ≡ t → base ≤ getD (set notes v (base + z)) u 0 → (f : ℕ) → placeAt w m u ≤ suc f
+          → getD (set notes v (base + z)) u 0 ≡ base + walkWord (suc f) (nodeAt w m) ls u
+      right-by u h true e b f l =
           let same : u ≡ v = eqb-true u v e in
-          let long : placeAt w m u ≤ f = omega (arith, place-out u h) in
-          ap (λ (q : List ℕ). notedAt q m u) eo
-          ∙ ap (notedAt (putAt two (noteAddr m v) (noteWords z walk)) m) same
-          ∙ note-table two m v z walk room-two inside
-          ∙ found f (subst (λ (q : ℕ). placeAt w m q ≤ f) same long)
-          ∙ ap (walkWord f (nodeAt w m) ls) (sym same)
-          ∙ sym (over-out f u h)
-      right-by u h false e s f l =
-          let other : (u ≡ v) → ⊥ = eqb-false u v e in
-          let old-walk : walkAt two m u ≡ walk = sym (ap (λ (q : List ℕ). walkAt q m u) eo ∙ note-walk-other two m v z walk room-two inside u other) ∙ s in
-          let long : placeAt two m u ≤ f = omega (arith, place-out u h, place-two u h) in
-          ap (λ (q : List ℕ). notedAt q m u) eo
-          ∙ note-table-other two m v z walk room-two inside u other
-          ∙ b .noted .right u h old-walk f long
-          ∙ over-two f u h
-          ∙ sym (over-out f u h)
+          subst (λ (q : ℕ). getD (set notes v (base + z)) q 0 ≡ base + walkWord (suc f) (nodeAt w m) ls q) (sym same)
+          (here ∙ ap (λ (q : ℕ). base + q) (found f (subst (λ (q : ℕ). placeAt w m q ≤ suc f) same l)))
+      right-by u h false e b f l =
+          let stays : getD (set notes v (base + z)) u 0 ≡ getD notes u 0 = other u (eqb-false u v e) in
+          stays ∙ noted .right u h (omega arith) f l
 
-      old-by : (u : ℕ) → u ≤ m → (t : Bool) → eqb u v ≡ t → walkAt out m u ≤ walk
-      old-by u h true e =
-          let s : walkAt out m u ≡ walk =
-          ap (λ (q : List ℕ). walkAt q m u) eo ∙ ap (walkAt (putAt two (noteAddr m v) (noteWords z walk)) m) (eqb-true u v e) ∙ note-walk two m v z walk room-two inside in
-          omega arith
-      old-by u h false e =
-          let s : walkAt out m u ≡ walkAt two m u = ap (λ (q : List ℕ). walkAt q m u) eo ∙ note-walk-other two m v z walk room-two inside u (eqb-false u v e) in
-          omega (arith, b .noted .old u h)
+      leaves-by : (u : ℕ) → u ≤ m → (t : Bool) → eqb u v ≡ t → leafWord ls 0 u < 65536 → base ≤ getD (set notes v (base + z)) u 0
+      leaves-by u h true e l = subst (λ (q : ℕ). base ≤ getD (set notes v (base + z)) q 0) (sym (eqb-true u v e)) (omega (arith, here))
+      leaves-by u h false e l = omega (arith, other u (eqb-false u v e), noted .leaves u h l)
 
-  pub walked-and : Walked w m ls walk v out z
-  walked-and = record { table = found; kept = all-kept; noted = now-noted }
+  pub early-more : Early m (base + 65536) notes → z < 65536 → Early m (base + 65536) (set notes v (base + z))
+  early-more early small = record { long = length-set notes v (base + z) ∙ early .long; before = λ u h. by u h (eqb u v) refl }
+    where
+      by : (u : ℕ) → u ≤ m → (t : Bool) → eqb u v ≡ t → getD (set notes v (base + z)) u 0 < base + 65536
+      by u h true e = subst (λ (q : ℕ). getD (set notes v (base + z)) q 0 < base + 65536) (sym (eqb-true u v e)) (omega (arith, here))
+      by u h false e = omega (arith, other u (eqb-false u v e), early .before u h)
+
+module _ (w : List ℕ) (m base v : ℕ) (notes : List ℕ) (inside : v ≤ m) where
+  -- what is noted is what the walk finds
+  pub walked-known : 0 < placeAt w m v → Early m (base + 65536) notes → base ≤ getD notes v 0 → (r : ℕ) → r ≡ getD notes v 0 - base → Walked w m base v notes notes r
+  walked-known alive early known r er = record { table = λ ls noted. at ls noted; noted = λ ls noted. noted; early = early }
+    where
+      at : (ls : List ℕ) → Noted w m ls base notes → (f : ℕ) → placeAt w m v ≤ f → r ≡ walkWord f (nodeAt w m) ls v
+      at ls noted zero h = absurd (omega arith)
+      at ls noted (suc f) h = omega (arith, noted .right v inside known f h)
+
+  -- what is not noted is no leaf
+  no-leaf : (ls : List ℕ) → Noted w m ls base notes → getD notes v 0 < base → 65536 ≤ leafWord ls 0 v
+  no-leaf ls noted unnoted = by (ltb (leafWord ls 0 v) 65536) refl
+    where
+      by : (t : Bool) → ltb (leafWord ls 0 v) 65536 ≡ t → 65536 ≤ leafWord ls 0 v
+      by true e = absurd (omega (arith, noted .leaves v inside (ltb-true (leafWord ls 0 v) 65536 e)))
+      by false e = ltb-false (leafWord ls 0 v) 65536 e
+
+  -- "variable 0 gives 0"
+  pub walked-none : 0 < placeAt w m v → Early m (base + 65536) notes → getD notes v 0 < base → (kindAt w m v ≡ andKind → ⊥) → (r : ℕ) → r ≡ 0 → Walked w m base v notes notes r
+  unfolding nodeAt
+  walked-none alive early unnoted kind r er = record { table = λ ls noted. at ls noted; noted = λ ls noted. noted; early = early }
+    where
+      at : (ls : List ℕ) → Noted w m ls base notes → (f : ℕ) → placeAt w m v ≤ f → r ≡ walkWord f (nodeAt w m) ls v
+      at ls noted zero h = absurd (omega arith)
+      at ls noted (suc f) h =
+          er
+          ∙ sym (walk-node f (nodeAt w m) ls v (no-leaf ls noted unnoted) ∙ no-and (walkWord f (nodeAt w m) ls) (kindAt w m v) (leftAt w m v) (rightAt w m v) kind)
+
+  -- a walk that goes on to both operands, and notes what it found
+  module _ (p : Placed w m) (kind : kindAt w m v ≡ andKind) (unnoted : getD notes v 0 < base) (one two out : List ℕ) (x y z : ℕ)
+      (a : Walked w m base (leftAt w m v / 2) notes one x) (b : Walked w m base (rightAt w m v / 2) one two y)
+      (ez : z ≡ joined (leftAt w m v) x (rightAt w m v) y) (small : z < 65536) (room : v < length two) (eo : out ≡ set two v (base + z)) where
+    found : (ls : List ℕ) → Noted w m ls base notes → (f : ℕ) → placeAt w m v ≤ f → z ≡ walkWord f (nodeAt w m) ls v
+    unfolding nodeAt
+    found ls noted zero h = absurd (omega (arith, p .left-first v inside kind))
+    found ls noted (suc f) h =
+        let xs : x ≡ walkWord f (nodeAt w m) ls (leftAt w m v / 2) = a .table ls noted f (omega (arith, p .left-first v inside kind)) in
+        let ys : y ≡ walkWord f (nodeAt w m) ls (rightAt w m v / 2) = b .table ls (a .noted ls noted) f (omega (arith, p .right-first v inside kind)) in
+        ez
+        ∙ (λ i. joined (leftAt w m v) (xs i) (rightAt w m v) (ys i))
+        ∙ sym (walk-node f (nodeAt w m) ls v (no-leaf ls noted unnoted) ∙ an-and (walkWord f (nodeAt w m) ls) (kindAt w m v) (leftAt w m v) (rightAt w m v) kind)
+
+    pub walked-and : Walked w m base v notes out z
+    walked-and =
+        record {
+          table = found;
+          noted =
+              λ ls noted.
+              subst (Noted w m ls base) (sym eo) (noted-more w m base v z two room ls (b .noted ls (a .noted ls noted)) (λ f h. found ls noted (suc f) h));
+          early = subst (Early m (base + 65536)) (sym eo) (early-more w m base v z two room (b .early) small);
+        }

@@ -1,11 +1,11 @@
 -- The functions of all cuts, in placing order, and the words that hold them. Assumes nothing.
 use mathlib.Core.Path.{_≡_}
-use mathlib.Core.List.{List, [], _∷_, map}
-use Prim.Native.Nat.{ℕ, zero, suc, _+_, _≤_, _<_}
-use lib.ListN.{getD}
-use Rattle.words.specs.Layout.{placeAt, slotAt, walkAt, notesFrom, notesTo}
-use Rattle.words.specs.Record.{nodeAt, cutsAt, putFunctions, Sound}
-use Rattle.cones.specs.Table.{walkWord, Placed, Kept}
+use mathlib.Core.List.{List, map}
+use Prim.Native.Nat.{ℕ, zero, suc, _+_, _/_, _≤_, _<_}
+use Rattle.model.specs.Limits.{cutLimit}
+use Rattle.words.specs.Layout.{andKind, kindAt, leftAt, rightAt, placeAt, slotAt, countAt}
+use Rattle.words.specs.Record.{nodeAt, leavesAt, cutsAt, functionOf, putFunctions, Sound}
+use Rattle.cones.specs.Table.{walkWord, Placed}
 
 -- the function of the cut of v that has these leaves
 unfoldable pub cutWord : List ℕ → ℕ → ℕ → List ℕ → ℕ
@@ -23,25 +23,36 @@ unfolding functionsOf
 filled w m zero = w
 filled w m (suc i) = putFunctions (filled w m i) m (slotAt w m i) 0 (functionsOf w m (slotAt w m i))
 
--- every walk that noted something has a number below this
-pub record Fresh (w : List ℕ) (m walk : ℕ) : Type 0 where
-  pub before : (u : ℕ) → u ≤ m → walkAt w m u < walk
+-- cut r of u, if it is one, has the leaves ls
+pub record SameCut (w : List ℕ) (m u : ℕ) (ls : List ℕ) (r : ℕ) : Type 0 where
+  pub listed : r < cutLimit → r < countAt w m u
+  pub same : r < cutLimit → leavesAt w m u r ≡ ls
 
--- cut k of v has its function, and the walk its notes
-pub record FilledOne (w : List ℕ) (m v k walk : ℕ) (out : List ℕ) : Type 0 where
-  pub kept : Kept (putFunctions w m v k (cutWord w m v (getD (cutsAt w m v) k []) ∷ [])) m out
-  pub fresh : Fresh out m (walk + 1)
+-- every cut of u has its function
+pub record Done (w : List ℕ) (m u : ℕ) : Type 0 where
+  pub stored : (k : ℕ) → k < countAt w m u → functionOf w m u k ≡ cutWord w m u (leavesAt w m u k)
 
--- all cuts of v have their functions
-pub record FilledNode (w : List ℕ) (m v : ℕ) (out : List ℕ) (next : ℕ) : Type 0 where
-  pub kept : Kept (putFunctions w m v 0 (functionsOf w m v)) m out
-  pub fresh : Fresh out m next
+-- it is v's turn: the functions of its operands are stored
+pub record Reached (w : List ℕ) (m v : ℕ) : Type 0 where
+  pub placed : Placed w m
+  pub inside : v ≤ m
+  pub alive : 0 < placeAt w m v
+  pub sound : (u : ℕ) → u ≤ m → Sound w m u
+  pub left-done : kindAt w m v ≡ andKind → Done w m (leftAt w m v / 2)
+  pub right-done : kindAt w m v ≡ andKind → Done w m (rightAt w m v / 2)
 
--- the words hold a placed graph with its cut lists, of which n variables are placed, and no notes
+-- the variable u stands in a slot before slot i
+pub record Earlier (w : List ℕ) (m i u : ℕ) : Type 0 where
+  pub slot : ℕ
+  pub before : slot < i
+  pub there : slotAt w m slot ≡ u
+
+-- the words hold a placed graph with its cut lists, of which n variables are placed
 pub record Ready (w : List ℕ) (m n : ℕ) : Type 0 where
   pub placed : Placed w m
   pub within : n ≤ m + 1
   pub slots : (i : ℕ) → i < n → slotAt w m i ≤ m
   pub alive : (i : ℕ) → i < n → 0 < placeAt w m (slotAt w m i)
   pub sound : (u : ℕ) → u ≤ m → Sound w m u
-  pub clean : (i : ℕ) → notesFrom m ≤ i → i < notesTo m → getD w i 0 ≡ 0
+  pub left-earlier : (i : ℕ) → i < n → kindAt w m (slotAt w m i) ≡ andKind → Earlier w m i (leftAt w m (slotAt w m i) / 2)
+  pub right-earlier : (i : ℕ) → i < n → kindAt w m (slotAt w m i) ≡ andKind → Earlier w m i (rightAt w m (slotAt w m i) / 2)

@@ -1,15 +1,15 @@
--- The function of a cut as a word of 16 rows, by the walk from the root down, and what a walk has noted in the words. Assumes nothing.
+-- The function of a cut as a word of 16 rows, by the walk from the root down, and what a walk has noted. Assumes nothing.
 use mathlib.Core.Path.{_≡_}
 use mathlib.Core.Bool.{cond}
 use mathlib.Core.List.{List, [], _∷_}
-use Prim.Native.Nat.{ℕ, zero, suc, _+_, _-_, _*_, _/_, _≤_, _<_}
+use Prim.Native.Nat.{ℕ, zero, suc, _+_, _*_, _/_, _≤_, _<_}
 use lib.Bits.{bitAnd}
 use lib.Dec.{eqb, ltb}
-use lib.ListN.{length, getD}
+use lib.ListN.{length, getD, set}
 use Rattle.model.specs.Graph.{Node, constant, input, undefined, both, varOf, negated}
 use Rattle.model.specs.Matching.{phaseTable}
 use Rattle.truth.specs.Variant.{leafTable}
-use Rattle.words.specs.Layout.{Room, andKind, kindAt, leftAt, rightAt, placeAt, notedAt, walkAt, notesFrom, notesTo}
+use Rattle.words.specs.Layout.{Room, andKind, kindAt, leftAt, rightAt, placeAt}
 use Rattle.words.specs.Record.{nodeAt}
 
 -- "leaf number i (ascending, from 0) is bit i of the row"; 65536 where v is none
@@ -40,16 +40,22 @@ unfolding leafWord nodeWord
 walkWord zero node ls v = 0
 walkWord (suc f) node ls v = orWord (leafWord ls 0 v) (nodeWord (walkWord f node ls) (node v))
 
--- what is known of v before its operands are: a leaf's table, what the walk noted, or 0; 65536 where the walk must go on
-unfoldable pub knownWord : List ℕ → ℕ → List ℕ → ℕ → ℕ → ℕ
-unfolding leafWord
-knownWord w m ls walk v =
-    orWord (leafWord ls 0 v) (cond (eqb (walkAt w m v) walk) (notedAt w m v) (cond (eqb (kindAt w m v) andKind) 65536 0))
+-- A walk notes of each variable 65536 times its own number, which is `base` below, and the variable's table: so what an earlier walk noted is below `base`.
 
--- what a walk has noted is right, at any fuel that is enough
-pub record Noted (w : List ℕ) (m : ℕ) (ls : List ℕ) (walk : ℕ) : Type 0 where
-  pub right : (u : ℕ) → u ≤ m → walkAt w m u ≡ walk → (f : ℕ) → placeAt w m u ≤ f → notedAt w m u ≡ walkWord f (nodeAt w m) ls u
-  pub old : (u : ℕ) → u ≤ m → walkAt w m u ≤ walk
+-- the notes with the leaves' tables, that of the first over those behind it
+unfoldable pub leafNotes : List ℕ → ℕ → ℕ → List ℕ → List ℕ
+leafNotes [] i base notes = notes
+leafNotes (x ∷ xs) i base notes = set (leafNotes xs (suc i) base notes) x (base + leafTable i)
+
+-- there is a note for each variable, and all are below this
+pub record Early (m base : ℕ) (notes : List ℕ) : Type 0 where
+  pub long : length notes ≡ 4096
+  pub before : (u : ℕ) → u ≤ m → getD notes u 0 < base
+
+-- what a walk over the leaves ls has noted is right, at any fuel that is enough, and each leaf is noted
+pub record Noted (w : List ℕ) (m : ℕ) (ls : List ℕ) (base : ℕ) (notes : List ℕ) : Type 0 where
+  pub right : (u : ℕ) → u ≤ m → base ≤ getD notes u 0 → (f : ℕ) → placeAt w m u ≤ suc f → getD notes u 0 ≡ base + walkWord (suc f) (nodeAt w m) ls u
+  pub leaves : (u : ℕ) → u ≤ m → leafWord ls 0 u < 65536 → base ≤ getD notes u 0
 
 -- the words hold a placed graph
 pub record Placed (w : List ℕ) (m : ℕ) : Type 0 where
@@ -61,17 +67,11 @@ pub record Placed (w : List ℕ) (m : ℕ) : Type 0 where
   pub left-first : (v : ℕ) → v ≤ m → kindAt w m v ≡ andKind → placeAt w m (leftAt w m v / 2) < placeAt w m v
   pub right-first : (v : ℕ) → v ≤ m → kindAt w m v ≡ andKind → placeAt w m (rightAt w m v / 2) < placeAt w m v
 
--- the words v are those of w but for what walks note
-pub record Kept (w : List ℕ) (m : ℕ) (v : List ℕ) : Type 0 where
-  pub long : length v ≡ length w
-  pub below : (i : ℕ) → i < notesFrom m → getD v i 0 ≡ getD w i 0
-  pub above : (i : ℕ) → notesTo m ≤ i → getD v i 0 ≡ getD w i 0
-
--- what a walk from v down leaves, and its answer r
-pub record Walked (w : List ℕ) (m : ℕ) (ls : List ℕ) (walk v : ℕ) (out : List ℕ) (r : ℕ) : Type 0 where
-  pub table : (f : ℕ) → placeAt w m v ≤ f → r ≡ walkWord f (nodeAt w m) ls v
-  pub kept : Kept w m out
-  pub noted : Noted out m ls walk
+-- what a walk from v down answers, r, and leaves, out, whichever the leaves are that are noted
+pub record Walked (w : List ℕ) (m base v : ℕ) (notes out : List ℕ) (r : ℕ) : Type 0 where
+  pub table : (ls : List ℕ) → Noted w m ls base notes → (f : ℕ) → placeAt w m v ≤ f → r ≡ walkWord f (nodeAt w m) ls v
+  pub noted : (ls : List ℕ) → Noted w m ls base notes → Noted w m ls base out
+  pub early : Early m (base + 65536) out
 
 -- the AND of two literals whose variables have the tables x and y
 unfoldable pub joined : ℕ → ℕ → ℕ → ℕ → ℕ

@@ -1,7 +1,7 @@
 -- In the words that represent an accepted graph each AND is placed behind its operands:
 --     and-placed, operands-in     an AND and its operands' variables are placed
 --     place-of                    a variable's place is 1 and its index in the placing order
---     placed                      what the walks over cones ask for
+--     placed, earlier-slot        what the walks over cones ask for
 -- Assumes nothing.
 use mathlib.Core.Path.{_≡_, refl, sym, ap, _∙_, subst}
 use mathlib.Core.Logic.{_⊎_, inl, inr}
@@ -17,10 +17,12 @@ use Rattle.theory_graph.proofs.Lists.{map-in, each-in}
 use Rattle.theory_graph.proofs.Placing.{order-once, order-small, defined-placed}
 use Rattle.theory_graph.proofs.Values.{Found, node-and, Closed, order-closed, operands-before}
 use Rattle.theory_order.proofs.Splits.{split-at}
-use Rattle.words.specs.Layout.{andKind, kindAt, leftAt, rightAt, placeAt}
+use Rattle.words.specs.Layout.{andKind, kindAt, leftAt, rightAt, slotAt, placeAt}
 use Rattle.words.specs.Record.{nodeOf, nodeAt}
 use Rattle.cuts.specs.Represents.{Represents}
+use Rattle.cuts.proofs.Model.{slot-inside}
 use Rattle.cones.specs.Table.{Placed}
+use Rattle.cones.specs.Filling.{Earlier}
 
 -- an AND of an accepted graph
 module _ (g : Graph) (ok : Accepted g) (v l r : ℕ) (e : node g v ≡ both l r) where
@@ -105,3 +107,30 @@ module _ (w : List ℕ) (m n : ℕ) (g : Graph) (rep : Represents w m n g) (ok :
         left-first = λ v h k. operands-placed v (leftAt w m v) (rightAt w m v) (and-here v h k) .0 .1;
         right-first = λ v h k. operands-placed v (leftAt w m v) (rightAt w m v) (and-here v h k) .1 .1;
       }
+
+  -- a variable of the placing order stands in the slot of its place
+  in-slot : (u : ℕ) → List·Memᴰ u (placingOrder g) → (i : ℕ) → i < n → placeAt w m u < placeAt w m (slotAt w m i) → Earlier w m i u
+  in-slot u there i h first =
+      let s = split-at (placingOrder g) there in
+      let j : ℕ = length (s .0) in
+      let long : length (placingOrder g) ≡ j + length (u ∷ s .1) = ap length (s .2) ∙ length-append (s .0) (u ∷ s .1) in
+      let zero-more : j ≡ j + 0 = omega arith in
+      let place : placeAt w m u ≡ j + 1 = place-of (s .0) u (s .1) (s .2) in
+      let mine : placeAt w m (slotAt w m i) ≡ i + 1 = ap (placeAt w m) (rep .order i h) ∙ rep .places i h in
+      record {
+        slot = j;
+        before = omega arith;
+        there = rep .order j (omega (arith, rep .long)) ∙ (λ q. getD (s .2 q) (zero-more q) 0) ∙ getD-append-add (s .0) (u ∷ s .1) 0 0;
+      }
+
+  -- the operands of the AND in slot i stand in earlier slots
+  pub earlier-slot : (i : ℕ) → i < n → kindAt w m (slotAt w m i) ≡ andKind
+      → Earlier w m i (leftAt w m (slotAt w m i) / 2) × Earlier w m i (rightAt w m (slotAt w m i) / 2)
+  unfolding varOf
+  earlier-slot i h k =
+      let v : ℕ = slotAt w m i in
+      let inside : v ≤ m = slot-inside w m n g rep ok i h in
+      let e : node g v ≡ both (leftAt w m v) (rightAt w m v) = and-here v inside k in
+      let there = operands-in g ok v (leftAt w m v) (rightAt w m v) e in
+      let first = operands-placed v (leftAt w m v) (rightAt w m v) e in
+      (in-slot (leftAt w m v / 2) (there .0) i h (first .0 .1), in-slot (rightAt w m v / 2) (there .1) i h (first .1 .1))

@@ -30,7 +30,7 @@ use Rattle.cones.proofs.Meaning.{functions-of}
 use Rattle.cutting.specs.Enumerated.{Ready, enumerated}
 use Rattle.cutting.specs.Listed.{Listed}
 use Rattle.cutting.proofs.Passes.{ready-filling, after-accepted}
-use Rattle.cutting.proofs.Places.{place-of, placed}
+use Rattle.cutting.proofs.Places.{place-of, placed, earlier-slot}
 
 module _ (w : List ℕ) (m n : ℕ) (g : Graph) (rep : Represents w m n g) (ok : accepted.Accepted g) (fresh : Uncut w m) where
   pub enumerate-ready : Ready w m n
@@ -39,7 +39,8 @@ module _ (w : List ℕ) (m n : ℕ) (g : Graph) (rep : Represents w m n g) (ok :
         lists = ready-listing w m n g rep ok fresh;
         placed = placed w m n g rep ok;
         alive = λ i h. let e : placeAt w m (slotAt w m i) ≡ i + 1 = ap (placeAt w m) (rep .order i h) ∙ rep .places i h in omega arith;
-        clean = fresh .clean;
+        left-earlier = λ i h k. earlier-slot w m n g rep ok i h k .0;
+        right-earlier = λ i h k. earlier-slot w m n g rep ok i h k .1;
       }
 
   pub enumerate-verdict : lists.listing w m n .answer ≡ cutsVerdict g

@@ -2,21 +2,21 @@
 -- Assumes nothing.
 use mathlib.Core.Path.{_≡_}
 use mathlib.Core.List.{List}
-use Prim.Native.Nat.{ℕ, _≤_, _<_}
-use lib.ListN.{getD}
+use Prim.Native.Nat.{ℕ, _/_, _<_}
 use Rattle.model.specs.declared.Verdict.{Verdict}
 use Rattle.model.specs.declared.Verdict.the-variants.{Accepted, Refused}
-use Rattle.words.specs.Layout.{placeAt, slotAt, notesFrom, notesTo}
+use Rattle.words.specs.Layout.{andKind, kindAt, leftAt, rightAt, placeAt, slotAt}
 use Rattle.cuts.specs.Listing as lists
 use Rattle.cones.specs.Table.{Placed}
-use Rattle.cones.specs.Filling.{filled}
+use Rattle.cones.specs.Filling.{Earlier, filled}
 
--- the words hold a placed graph of which n variables are placed, no cuts, and no notes
+-- the words hold a placed graph of which n variables are placed, each AND behind its operands, and no cuts
 pub record Ready (w : List ℕ) (m n : ℕ) : Type 0 where
   pub lists : lists.Ready w m n
   pub placed : Placed w m
   pub alive : (i : ℕ) → i < n → 0 < placeAt w m (slotAt w m i)
-  pub clean : (i : ℕ) → notesFrom m ≤ i → i < notesTo m → getD w i 0 ≡ 0
+  pub left-earlier : (i : ℕ) → i < n → kindAt w m (slotAt w m i) ≡ andKind → Earlier w m i (leftAt w m (slotAt w m i) / 2)
+  pub right-earlier : (i : ℕ) → i < n → kindAt w m (slotAt w m i) ≡ andKind → Earlier w m i (rightAt w m (slotAt w m i) / 2)
 
 -- the functions join the lists, unless there was a refusal
 unfoldable pub filledAfter : Verdict → List ℕ → ℕ → ℕ → List ℕ

@@ -1,63 +1,60 @@
--- `cones::fill_node` meets its contract. The invariant: the first k functions are stored, and the words differ from that in notes alone. The measure is the cuts that are left.
+-- `cones::fill_node` meets its contract. The invariant: the first k functions are stored, and the notes are below those of the next walk. The measure is the cuts that are left.
 -- Assumes nothing.
-use mathlib.Core.Path.{_≡_, refl, _∙_, subst}
+use mathlib.Core.Path.{_≡_, refl, sym, ap, _∙_, subst}
 use mathlib.Core.List.{List}
-use Prim.Native.Nat.{ℕ, _+_, _-_, _≤_}
+use Prim.Native.Nat.{ℕ, _+_, _-_, _*_, _≤_, _<_}
 use native.Mathlib.Omega.{arith}
 use borrow.Author.Needs.{needs}
 use lib.ListN.{length}
-use Rattle.model.specs.Limits.{cutLimit}
-use Rattle.words.specs.Layout.{countAt, placeAddr, countAddr}
-use Rattle.cones.specs.Table.{Kept}
-use Rattle.cones.specs.Filling.{Fresh}
-use Rattle.cones.proofs.Fills.{part, Under, under-placed, under-sound, node-begin, node-under, node-turn, node-end}
+use Rattle.words.specs.Layout.{countAt}
+use Rattle.cones.specs.Table.{Early}
+use Rattle.cones.specs.Filling.{Reached}
+use Rattle.cones.proofs.Fills.{part, node-begin, node-reached, node-count, node-turn, node-end}
 use Rattle.cones.proofs.fill_node.Statement.{statement}
 use Rattle.cones.proofs.fill_node.Tie as tie
 
 abbrev Inv-loop : tie.InvT-loop
-Inv-loop work₀ m v walk n k₀ work k = (k ≤ n) × (n ≡ countAt work₀ m v) × (length work ≡ length work₀) × Kept (part work₀ m v k) m work × Fresh work m (walk + k)
+Inv-loop work₀ m notes₀ base v n next₀ k₀ work notes next k =
+    (k ≤ n) × (n ≡ countAt work₀ m v) × (length work ≡ length work₀) × (work ≡ part work₀ m v k) × Early m next notes × (next ≡ base + 65536 * k)
 
 abbrev μ-loop : tie.MeasureT-loop
-μ-loop work₀ m v walk n k₀ work k = n - k
+μ-loop work₀ m notes₀ base v n next₀ k₀ work notes next k = n - k
 
 count-requires : tie.Need-count-requires Inv-loop μ-loop
-count-requires c κs = search needs
+count-requires c κs =
+    let s = c .before .before in
+    (s .pre .0 .placed .room, s .pre .0 .inside)
 
 loop-holds : tie.Need-loop-holds Inv-loop μ-loop
 loop-holds c =
     let s = c .before .before .before in
-    let here : s .args .walk ≡ s .args .walk + 0 = omega arith in (
-      omega arith,
-      c .count .ensures,
-      refl,
-      node-begin (s .args .work .now) (s .args .m) (s .args .v) (s .pre .0) (s .pre .3) (s .pre .1),
-      subst (Fresh (s .args .work .now) (s .args .m)) here (s .pre .2),
-    )
-
-add-fill-one : tie.Need-add-fill-one Inv-loop μ-loop
-add-fill-one c =
-    let l = c .before .before in
-    let s = l .before .before .before .before in
-    omega (arith, s .pre .1 .few, l .loop .inv .1, s .pre .4)
+    (omega arith, c .count .ensures, refl, node-begin (s .args .work .now) (s .args .m) (s .args .v) (s .pre .0), s .pre .1, omega arith)
 
 fill-one-requires : tie.Need-fill-one-requires Inv-loop μ-loop
 fill-one-requires c κs =
-    let l = c .before .before in
+    let turn = c .before .before in
+    let l = turn .before in
     let s = l .before .before .before .before in
     let a = s .args in
     let w : List ℕ = a .work .now in
-    let few : countAt w (a .m) (a .v) ≤ cutLimit = s .pre .1 .few in
-    let under : Under w (a .m) (l .loop .work) =
-    node-under w (a .m) (a .v) (s .pre .0) (s .pre .3) (s .pre .1) (l .loop .k) (omega (arith, l .loop .inv .1)) (l .loop .work) (l .loop .inv .3) in
-    let same : countAt (l .loop .work) (a .m) (a .v) ≡ countAt w (a .m) (a .v) = under .graph (countAddr (a .m) (a .v)) (omega (arith, s .pre .3)) in (
-      under-placed w (l .loop .work) (a .m) under (s .pre .0),
-      under-sound w (l .loop .work) (a .m) under (s .pre .0) (a .v) (s .pre .3) (s .pre .1),
-      l .loop .inv .4,
-      s .pre .3,
-      omega (arith, c .before .loop-test .taken, l .loop .inv .1),
-      omega (arith, l .loop .inv .1, s .pre .4),
-      omega (arith, under .graph (placeAddr (a .m) (a .v)) (omega (arith, s .pre .3)), s .pre .5),
+    let r = s .pre .0 in
+    let inv = l .loop .inv in
+    let within : l .loop .k < countAt w (a .m) (a .v) = omega (arith, inv .1, turn .loop-test .taken) in
+    let few = r .sound (a .v) (r .inside) .few in
+    let same : countAt (l .loop .work) (a .m) (a .v) ≡ countAt w (a .m) (a .v) =
+    ap (λ (q : List ℕ). countAt q (a .m) (a .v)) (inv .3) ∙ node-count w (a .m) (a .v) r (l .loop .k) (omega arith) in (
+      subst (λ (q : List ℕ). Reached q (a .m) (a .v)) (sym (inv .3)) (node-reached w (a .m) (a .v) r (l .loop .k) (omega arith)),
+      inv .4,
+      omega (arith, inv .5, s .pre .2, few),
+      omega arith,
     )
+
+add-next : tie.Need-add-next Inv-loop μ-loop
+add-next c =
+    let l = c .before .before .before .before .before .before in
+    let s = l .before .before .before .before in
+    let few = s .pre .0 .sound (s .args .v) (s .pre .0 .inside) .few in
+    omega (arith, l .loop .inv .5, l .loop .inv .0, l .loop .inv .1, s .pre .2, few)
 
 add-k : tie.Need-add-k Inv-loop μ-loop
 add-k c = search needs
@@ -68,24 +65,19 @@ loop-less c = search needs
 loop-again : tie.Need-loop-again Inv-loop μ-loop
 loop-again c =
     let done = c .before .before in
-    let l = done .before .before .before in
+    let turn = done .before .before .before in
+    let l = turn .before in
     let s = l .before .before .before .before in
     let a = s .args in
-    let w : List ℕ = a .work .now in
-    let next : a .walk + l .loop .k + 1 ≡ a .walk + (l .loop .k + 1) = omega arith in (
-      omega arith,
-      l .loop .inv .1,
-      done .fill-one .kept .0 ∙ l .loop .inv .2,
-      node-turn w (a .m) (a .v) (s .pre .0) (s .pre .3) (s .pre .1) (l .loop .k) (a .walk + l .loop .k) (omega (arith, l .loop .inv .1)) (l .loop .work) (done .fill-one .last .0)
-          (l .loop .inv .3) (done .fill-one .ensures),
-      subst (Fresh (done .fill-one .last .0) (a .m)) next (done .fill-one .ensures .fresh),
+    let inv = l .loop .inv in
+    let within : l .loop .k < countAt (a .work .now) (a .m) (a .v) = omega (arith, inv .1, turn .loop-test .taken) in (
+      omega (arith, turn .loop-test .taken),
+      inv .1,
+      done .fill-one .kept .0 ∙ inv .2,
+      node-turn (a .work .now) (a .m) (a .v) (s .pre .0) (l .loop .k) within (l .loop .work) (inv .3) (done .fill-one .last .0) (done .fill-one .ensures .0),
+      done .fill-one .ensures .1,
+      omega (arith, inv .5),
     )
-
-add-result : tie.Need-add-result Inv-loop μ-loop
-add-result c =
-    let l = c .before in
-    let s = l .before .before .before .before in
-    omega (arith, s .pre .1 .few, l .loop .inv .1, s .pre .4)
 
 same-length : tie.Need-same-length Inv-loop μ-loop
 same-length c = search needs
@@ -95,15 +87,10 @@ returns c =
     let l = c .before in
     let s = l .before .before .before .before in
     let a = s .args in
-    let w : List ℕ = a .work .now in
-    let done : l .loop .k ≡ l .before .count .result = omega arith in
-    let all = node-end w (a .m) (a .v) (s .pre .0) (s .pre .3) (s .pre .1) (l .loop .k) (done ∙ l .loop .inv .1) in (
-      record {
-        kept = subst (λ (q : List ℕ). Kept q (a .m) (l .loop .work)) all (l .loop .inv .3);
-        fresh = subst (λ (q : ℕ). Fresh (l .loop .work) (a .m) (a .walk + q)) done (l .loop .inv .4);
-      },
-      omega (arith, s .pre .1 .few, l .loop .inv .1),
-    )
+    let inv = l .loop .inv in
+    let all : l .loop .k ≡ countAt (a .work .now) (a .m) (a .v) = omega (arith, inv .0, inv .1, c .loop-test .left) in
+    let few = s .pre .0 .sound (a .v) (s .pre .0 .inside) .few in
+    (inv .3 ∙ node-end (a .work .now) (a .m) (a .v) (s .pre .0) (l .loop .k) all, (inv .4, omega (arith, inv .5, few)))
 
 pub fill-node-spec : {M : Type 1} → statement M
 fill-node-spec =
@@ -113,11 +100,10 @@ fill-node-spec =
     μ-loop
     count-requires
     loop-holds
-    add-fill-one
     fill-one-requires
+    add-next
     add-k
     loop-less
     loop-again
-    add-result
     same-length
     returns)
