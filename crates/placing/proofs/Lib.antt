@@ -1,7 +1,9 @@
--- `Slots`: a slot of the placing order that is filled. `Seeking`: the first number that passes a test. `Users`: the lowest user of each variable.
--- `Placed`: placing, as the words have it. `Orders`: placing is the model's placing order.
+-- `Slots`: a slot of the placing order that is filled. `Seeking`: the first number that passes a test. `Placed`: placing, as the words have it.
+-- `Uses`: the ANDs that wait, listed by their operands, and the marks of those that are ready. `Filled`: the loop that goes by these.
+-- `Orders`: placing is the model's placing order.
 pub mod Slots
 pub mod Seeking
-pub mod Users
 pub mod Placed
+pub mod Uses
+pub mod Filled
 pub mod Orders

@@ -2,13 +2,11 @@
 --     waits-kind, waits-place     what waits is an AND, and not placed
 --     ready-waits      what is ready waits
 --     operands-placed  placing leaves the operands as they are
---     users-placed     and their users
---     waits-less, ready-less     what does not wait, or is not ready, after one more is placed
+--     waits-less, ready-apart, ready-more     what waits or is ready after one more is placed
 --     order-..         the loop, a slot at a time
 --     mark-..          no AND below the mark `low` waits
---     scan-..          no AND below `scan` is ready, so that what is found from there is what is found from the mark
---     filled-..        the loop that goes by `scan`
---     answer-..        what is answered behind it
+--     next-first       what is found from the mark is what is found from the first variable
+--     answer-..        what is answered behind the loop
 -- Assumes nothing.
 use mathlib.Core.Path.{_≡_, refl, sym, ap, _∙_, subst}
 use mathlib.Core.Bool.{Bool, true, false, _&&_, and-false}
@@ -17,17 +15,15 @@ use Prim.Native.Nat.{ℕ, zero, suc, _+_, _-_, _/_, _≤_, _<_}
 use native.Mathlib.Omega.{arith}
 use lib.Dec.{T, eqb, leb}
 use mir.Facts.{and-yes}
-use lib.ListN.{length, getD}
-use borrow.Author.Tests.{eqb-true, ne-eqb, leb-true, le-leb, lt-leb, lt-ltb, le-ltb}
+use borrow.Author.Tests.{eqb-true, ne-eqb, leb-true, le-leb, lt-leb}
 use Rattle.model.specs.declared.Header.{Header}
 use Rattle.model.specs.declared.Verdict.the-variants.{Accepted, Refused}
-use Rattle.words.specs.Layout.{placedOf, Room, andKind, kindAddr, leftAddr, rightAddr, placeAddr, kindAt, leftAt, rightAt, placeAt}
+use Rattle.words.specs.Layout.{Room, andKind, kindAddr, leftAddr, rightAddr, placeAddr, kindAt, leftAt, rightAt, placeAt}
 use Rattle.theory_graph.proofs.Lists.{by-eqb, is-true}
 use Rattle.placing.specs.Loaded.{Fit}
 use Rattle.placing.specs.Placing.{pickN, pickWords, putPlaced, Operands, isWaiting, isPlaced, isReady, seek, waitingFrom, readyFrom, nextAnd, orderWords, orderLow, placedWords, placedVerdict}
-use Rattle.placing.specs.Users.{Users, seekOn}
-use Rattle.placing.proofs.Slots.{fit-length, fit-room, placed-apart, placed-long, place-stored}
-use Rattle.placing.proofs.Seeking.{by-leb, seek-to, Below, below-first, below-on, below-skip}
+use Rattle.placing.proofs.Slots.{fit-room, placed-apart, placed-long, place-stored}
+use Rattle.placing.proofs.Seeking.{seek-to, Below, below-first, below-on, below-skip}
 
 -- both of two tests
 both-true : (a b : Bool) → (a && b) ≡ true → (a ≡ true) × (b ≡ true)
@@ -70,10 +66,10 @@ module _ (w : List ℕ) (m i v : ℕ) (fits : Room w m) (slot : i ≤ m) (within
   kind-placed : (u : ℕ) → u ≤ m → kindAt (putPlaced w m i v) m u ≡ kindAt w m u
   kind-placed u h = placed-apart w m i v fits slot within (kindAddr m u) (omega arith) (omega arith)
 
-  left-placed : (u : ℕ) → u ≤ m → leftAt (putPlaced w m i v) m u ≡ leftAt w m u
+  pub left-placed : (u : ℕ) → u ≤ m → leftAt (putPlaced w m i v) m u ≡ leftAt w m u
   left-placed u h = placed-apart w m i v fits slot within (leftAddr m u) (omega arith) (omega arith)
 
-  right-placed : (u : ℕ) → u ≤ m → rightAt (putPlaced w m i v) m u ≡ rightAt w m u
+  pub right-placed : (u : ℕ) → u ≤ m → rightAt (putPlaced w m i v) m u ≡ rightAt w m u
   right-placed u h = placed-apart w m i v fits slot within (rightAddr m u) (omega arith) (omega arith)
 
   pub operands-placed : Operands w m → Operands (putPlaced w m i v) m
@@ -82,22 +78,14 @@ module _ (w : List ℕ) (m i v : ℕ) (fits : Room w m) (slot : i ≤ m) (within
     right = λ u h k. omega (arith, right-placed u h, o .right u h (sym (kind-placed u h) ∙ k));
   }
 
-  users-placed : (us : List ℕ) → Users w m 0 us → Users (putPlaced w m i v) m 0 us
-  users-placed us r = record {
-    long = r .long;
-    some = r .some;
-    left = λ u p h k. rw (left-placed u h) (r .left u p h (sym (kind-placed u h) ∙ k));
-    right = λ u p h k. rw (right-placed u h) (r .right u p h (sym (kind-placed u h) ∙ k));
-  }
-
   place-apart : (u : ℕ) → ¬ (u ≡ v) → placeAt (putPlaced w m i v) m u ≡ placeAt w m u
   place-apart u d = placed-apart w m i v fits slot within (placeAddr m u) (omega arith) (λ e. d (omega arith))
 
-  placed-waits : isWaiting (putPlaced w m i v) m v ≡ false
+  pub placed-waits : isWaiting (putPlaced w m i v) m v ≡ false
   unfolding isWaiting
   placed-waits = rw (ne-eqb (placeAt (putPlaced w m i v) m v) 0 (omega (arith, place-stored w m i v fits slot within))) (and-false (eqb (kindAt (putPlaced w m i v) m v) andKind))
 
-  waits-apart : (u : ℕ) → u ≤ m → ¬ (u ≡ v) → isWaiting (putPlaced w m i v) m u ≡ isWaiting w m u
+  pub waits-apart : (u : ℕ) → u ≤ m → ¬ (u ≡ v) → isWaiting (putPlaced w m i v) m u ≡ isWaiting w m u
   unfolding isWaiting
   waits-apart u l d = rw (kind-placed u l, place-apart u d)
 
@@ -106,22 +94,23 @@ module _ (w : List ℕ) (m i v : ℕ) (fits : Room w m) (slot : i ≤ m) (within
   waits-less u l e = by-eqb u v (λ q. ap (isWaiting (putPlaced w m i v) m) q ∙ placed-waits) (λ d. waits-apart u l d ∙ e)
 
   -- an AND that does not use v is as ready as before
-  ready-apart : (u : ℕ) → u ≤ m → ¬ (u ≡ v) → ¬ (leftAt w m u / 2 ≡ v) → ¬ (rightAt w m u / 2 ≡ v) → isReady (putPlaced w m i v) m u ≡ isReady w m u
+  pub ready-apart : (u : ℕ) → u ≤ m → ¬ (u ≡ v) → ¬ (leftAt w m u / 2 ≡ v) → ¬ (rightAt w m u / 2 ≡ v) → isReady (putPlaced w m i v) m u ≡ isReady w m u
   unfolding isReady isPlaced
   ready-apart u h d l r = rw (waits-apart u h d, left-placed u h, right-placed u h, place-apart (leftAt w m u / 2) l, place-apart (rightAt w m u / 2) r)
 
-  -- so is one below v's users
-  ready-less : (us : List ℕ) → Users w m 0 us → (u : ℕ) → 1 ≤ u → u < v → u < getD us v 0 → isReady w m u ≡ false → isReady (putPlaced w m i v) m u ≡ false
-  ready-less us r u p l k e = go (isWaiting w m u) refl
-    where
-      used : (x : ℕ) → getD us x 0 ≤ u → ¬ (x ≡ v)
-      used x b q = let f : getD us x 0 ≡ getD us v 0 = ap (λ (y : ℕ). getD us y 0) q in omega arith
+  placed-more : (l : ℕ) → isPlaced w m l ≡ true → isPlaced (putPlaced w m i v) m l ≡ true
+  unfolding isPlaced
+  placed-more l e = by-eqb (l / 2) v
+      (λ q. rw (q, ne-eqb (placeAt (putPlaced w m i v) m v) 0 (omega (arith, place-stored w m i v fits slot within))))
+      (λ d. rw (place-apart (l / 2) d) e)
 
-      go : (t : Bool) → isWaiting w m u ≡ t → isReady (putPlaced w m i v) m u ≡ false
-      go true q =
-          let three = waits-kind w m u q in
-          ready-apart u (omega arith) (omega arith) (used (leftAt w m u / 2) (r .left u (omega arith) (omega arith) three)) (used (rightAt w m u / 2) (r .right u (omega arith) (omega arith) three)) ∙ e
-      go false q = not-ready (putPlaced w m i v) m u (waits-less u (omega arith) q)
+  -- an AND that was ready is, unless it is the one that was placed
+  pub ready-more : (u : ℕ) → u ≤ m → ¬ (u ≡ v) → isReady w m u ≡ true → isReady (putPlaced w m i v) m u ≡ true
+  unfolding isReady
+  ready-more u h d e =
+      let a = both-true (isWaiting w m u) (isPlaced w m (leftAt w m u) && isPlaced w m (rightAt w m u)) e in
+      let b = both-true (isPlaced w m (leftAt w m u)) (isPlaced w m (rightAt w m u)) (a .1) in
+      rw (waits-apart u h d, a .0, left-placed u h, placed-more (leftAt w m u) (b .0), right-placed u h, placed-more (rightAt w m u) (b .1))
 
 -- ---- the loop
 
@@ -141,111 +130,23 @@ unfolding orderWords orderLow
 order-end m slot low w j e = (ap (λ (x : ℕ). orderWords m x slot low w) e, ap (λ (x : ℕ). orderLow m x slot low w) e)
 
 -- the mark that the definitions go by
-mark-on : (m : ℕ) (x : List ℕ) (low : ℕ) → Below (isWaiting x m) m low → Below (isWaiting x m) m (waitingFrom x m low)
+pub mark-on : (m : ℕ) (x : List ℕ) (low : ℕ) → Below (isWaiting x m) m low → Below (isWaiting x m) m (waitingFrom x m low)
 unfolding waitingFrom
 mark-on m x low = below-on (isWaiting x m) m low
 
-mark-placed : (m : ℕ) (x : List ℕ) (low : ℕ) → Below (isWaiting x m) m low → (i v : ℕ) → Room x m → i ≤ m → v ≤ m → Below (isWaiting (putPlaced x m i v) m) m low
+pub mark-placed : (m : ℕ) (x : List ℕ) (low : ℕ) → Below (isWaiting x m) m low → (i v : ℕ) → Room x m → i ≤ m → v ≤ m → Below (isWaiting (putPlaced x m i v) m) m low
 mark-placed m x low k i v fits slot within = record {
   first = k .first;
   under = k .under;
   below = λ u a b. waits-less x m i v fits slot within u (omega (arith, k .under)) (k .below u a b);
 }
 
--- the number that the code goes by, from which it finds the same AND
-module _ (m : ℕ) (x us : List ℕ) (fits : Room x m) (r : Users x m 0 us) (scan v : ℕ) (isV : v ≡ readyFrom x m scan) (s : Below (isReady x m) m scan) where
-  scan-next : (low : ℕ) → Below (isWaiting x m) m low → v ≡ nextAnd x m low
-  unfolding nextAnd readyFrom
-  scan-next low k =
-      let n = mark-on m x low k in
-      let idle : Below (isReady x m) m (waitingFrom x m low) = record { first = n .first; under = n .under; below = λ u a b. not-ready x m u (n .below u a b) } in
-      isV ∙ sym (below-skip (isReady x m) m scan s) ∙ below-skip (isReady x m) m (waitingFrom x m low) idle
-
-  scan-before : (u : ℕ) → 1 ≤ u → u < v → isReady x m u ≡ false
-  unfolding readyFrom
-  scan-before u a b = below-on (isReady x m) m scan s .below u a (omega (arith, isV))
-
-  -- once v is placed, no AND is ready below its lowest user, where that one stands below v, and none up to v otherwise
-  scan-on : (i n : ℕ) → i ≤ m → v ≤ m → n ≡ seekOn us v → Below (isReady (putPlaced x m i v) m) m n
-  unfolding seekOn
-  scan-on i n slot within e = by-leb v (getD us v 0)
-      (λ l.
-      let q : n ≡ v + 1 = e ∙ rw (le-ltb (getD us v 0) v l) in
-      record {
-        first = omega arith;
-        under = omega arith;
-        below = λ u a b. by-eqb u v
-            (λ f. ap (isReady (putPlaced x m i v) m) f ∙ not-ready (putPlaced x m i v) m v (placed-waits x m i v fits slot within))
-            (λ d. ready-less x m i v fits slot within us r u a (omega arith) (omega arith) (scan-before u a (omega arith)));
-      })
-      (λ l.
-      let q : n ≡ getD us v 0 = e ∙ rw (lt-ltb (getD us v 0) v l) in
-      record {
-        first = omega (arith, r .some v (omega (arith, fits .small)));
-        under = omega arith;
-        below = λ u a b. ready-less x m i v fits slot within us r u a (omega arith) (omega arith) (scan-before u a (omega arith));
-      })
-
--- what the slots from here on give is what all slots give; the definitions are at the mark `low`
-pub record Filled (h : Header) (w us : List ℕ) (slot scan : ℕ) (x : List ℕ) : Type 0 where
-  pub from : h .inputs + 1 ≤ slot
-  pub upto : slot ≤ placedOf h
-  pub long : length x ≡ length w
-  pub operands : Operands x (h .size)
-  pub users : Users x (h .size) 0 us
-  pub sought : Below (isReady x (h .size)) (h .size) scan
-  pub low : ℕ
-  pub mark : Below (isWaiting x (h .size)) (h .size) low
-  pub words : placedWords w h ≡ orderWords (h .size) (placedOf h - slot) slot low x
-
-pub filled-first : (h : Header) (w us : List ℕ) → Operands w (h .size) → Users w (h .size) 0 us → Filled h w us (h .inputs + 1) 1 w
-unfolding placedWords
-filled-first h w us o r =
-    let e : h .ands ≡ placedOf h - (h .inputs + 1) = omega arith in
-    record {
-      from = omega arith;
-      upto = omega arith;
-      long = refl;
-      operands = o;
-      users = r;
-      sought = below-first (isReady w (h .size)) (h .size);
-      low = 1;
-      mark = below-first (isWaiting w (h .size)) (h .size);
-      words = ap (λ (n : ℕ). orderWords (h .size) n (h .inputs + 1) 1 w) e;
-    }
-
-module _ (h : Header) (w us : List ℕ) (fit : Fit h w) (slot scan : ℕ) (x : List ℕ) (f : Filled h w us slot scan x) (b : ℕ) (isB : b ≡ readyFrom x (h .size) scan) where
-  room : Room x (h .size)
-  room = fit-room h x (fit-length h w x fit (f .long))
-
-  next-is : b ≡ nextAnd x (h .size) (f .low)
-  next-is = scan-next (h .size) x us room (f .users) scan b isB (f .sought) (f .low) (f .mark)
-
-  pub filled-on : slot < placedOf h → b ≤ h .size → (y : List ℕ) → y ≡ putPlaced x (h .size) slot b → (n : ℕ) → n ≡ seekOn us b → Filled h w us (slot + 1) n y
-  filled-on l c y e n isN =
-      let k : placedOf h - slot ≡ suc (placedOf h - (slot + 1)) = omega arith in
-      let t = order-on (h .size) (placedOf h - (slot + 1)) slot (f .low) x (placedOf h - slot) k (omega (arith, next-is)) in
-      let s : slot ≤ h .size = omega (arith, fit .lines) in
-      let i : putPlaced x (h .size) slot (nextAnd x (h .size) (f .low)) ≡ y = ap (putPlaced x (h .size) slot) (sym next-is) ∙ sym e in
-      record {
-        from = omega (arith, f .from);
-        upto = omega arith;
-        long = ap length e ∙ placed-long x (h .size) slot b room s c ∙ f .long;
-        operands = rw e (operands-placed x (h .size) slot b room s c (f .operands));
-        users = rw e (users-placed x (h .size) slot b room s c us (f .users));
-        sought = rw e (scan-on (h .size) x us room (f .users) scan b isB (f .sought) slot n s c isN);
-        low = waitingFrom x (h .size) (f .low);
-        mark = rw e (mark-placed (h .size) x (waitingFrom x (h .size) (f .low)) (mark-on (h .size) x (f .low) (f .mark)) slot b room s c);
-        words = f .words ∙ t .0 ∙ rw i;
-      }
-
-  pub filled-off : slot < placedOf h → h .size < b → x ≡ placedWords w h
-  filled-off l c =
-      let k : placedOf h - slot ≡ suc (placedOf h - (slot + 1)) = omega arith in
-      sym (f .words ∙ order-off (h .size) (placedOf h - (slot + 1)) slot (f .low) x (placedOf h - slot) k (omega (arith, next-is)) .0)
-
-pub filled-end : (h : Header) (w us : List ℕ) (slot scan : ℕ) (x : List ℕ) → Filled h w us slot scan x → placedOf h ≤ slot → x ≡ placedWords w h
-filled-end h w us slot scan x f l = sym (f .words ∙ order-end (h .size) slot (f .low) x (placedOf h - slot) (omega arith) .0)
+-- the AND that is placed next, from wherever none below waits
+pub next-first : (m : ℕ) (x : List ℕ) (low : ℕ) → Below (isWaiting x m) m low → readyFrom x m 1 ≡ nextAnd x m low
+unfolding nextAnd readyFrom
+next-first m x low k =
+    let n = mark-on m x low k in
+    below-skip (isReady x m) m (waitingFrom x m low) (record { first = n .first; under = n .under; below = λ u a b. not-ready x m u (n .below u a b) })
 
 -- ---- the answer
 

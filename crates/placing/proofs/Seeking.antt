@@ -1,6 +1,6 @@
 -- The first number that passes a test, and the lowest of a list:
 --     seek-here, seek-past, seek-end     a turn of the loop that seeks
---     seek-from, seek-to, seek-found, seek-before, seek-under     what is known of the number that is found
+--     seek-from, seek-to, seek-found, seek-before, seek-under, seek-is     what is known of the number that is found
 --     below-first, below-on, below-skip     what does not pass may be skipped
 --     seek-lowest, seek-nothing     it is the lowest of a list that the test describes
 -- Assumes nothing.
@@ -14,17 +14,15 @@ use lib.Dec.{leb}
 use borrow.Author.Tests.{leb-true, leb-false}
 use Rattle.model.specs.Base.{lowest, smaller}
 use Rattle.theory_graph.proofs.Lists.{by-eqb, lowest-in}
+use Rattle.marks.proofs.Marks.{by-leb}
 use Rattle.placing.specs.Placing.{pickN, seek}
 
--- an order, by its test
-pub by-leb {ℓ} : {X : Type ℓ} (a b : ℕ) → (a ≤ b → X) → (b < a → X) → X
-by-leb {X} a b y n = go (leb a b) refl
-  where
-    go : (t : Bool) → leb a b ≡ t → X
-    go true e = y (leb-true a b e)
-    go false e = n (leb-false a b e)
+-- a test, by its answer
+pub by-truth {ℓ} : {X : Type ℓ} (b : Bool) → (b ≡ true → X) → (b ≡ false → X) → X
+by-truth true y n = y refl
+by-truth false y n = n refl
 
-true-false : {b : Bool} → b ≡ true → b ≡ false → ⊥
+pub true-false : {b : Bool} → b ≡ true → b ≡ false → ⊥
 true-false {b} p q = let z : _≡_ {A = ℕ} 0 1 = cc in omega arith
 
 -- ---- the first number that passes
@@ -88,6 +86,10 @@ module _ (p : ℕ → Bool) where
   skip : (d j n i k : ℕ) → j ≡ n + d → k ≡ i + d → ((u : ℕ) → i ≤ u → u < k → p u ≡ false) → seek p j i ≡ seek p n k
   skip zero j n i k e f h = let a : j ≡ n = omega arith in let b : i ≡ k = omega arith in rw (a, b)
   skip (suc d) j n i k e f h = seek-past j (n + d) i (omega arith) (h i (omega arith) (omega arith)) ∙ skip d (n + d) n (i + 1) k refl (omega arith) (λ u a. h u (omega arith))
+
+  -- the first that passes is found
+  pub seek-is : (n i v : ℕ) → i ≤ v → v < i + n → p v ≡ true → ((u : ℕ) → i ≤ u → u < v → p u ≡ false) → seek p n i ≡ v
+  seek-is n i v a b e f = skip (v - i) n (n - (v - i)) i v (omega arith) (omega arith) f ∙ seek-here (n - (v - i)) (n - (v - i) - 1) v (omega arith) e
 
 -- no variable below `low` passes, variable 0 aside
 pub record Below (p : ℕ → Bool) (m low : ℕ) : Type 0 where

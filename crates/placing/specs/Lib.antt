@@ -1,5 +1,5 @@
 -- `Loaded`: words that hold a graph, every word of them said. `Placing`: what placing the ANDs answers and leaves in the words.
--- `Users`: the lowest user of each variable.
+-- `Uses`: the ANDs that wait, listed by their operands, and those of them that are ready.
 pub mod Loaded
 pub mod Placing
-pub mod Users
+pub mod Uses

@@ -1,16 +1,20 @@
 // The placing order, in the lent words: "variable 0 and the inputs first, then again and again the lowest-numbered AND whose operands are both placed."
 ghost use mathlib.Core.Path.{_≡_};
-ghost use Prim.Native.Nat.{ℕ, _+_, _*_, _≤_, _<_};
-ghost use mathlib.Core.List.{List};
+ghost use Prim.Native.Nat.{_+_, _*_, _≤_, _<_};
+ghost use lib.ListN.{getD, set};
+ghost use Rattle.marks.specs.Marks.{added};
 ghost use Rattle.words.specs.Layout.{Room};
 ghost use Rattle.placing.specs.Loaded.{Fit};
-ghost use Rattle.placing.specs.Placing.{putPlaced, Operands, isWaiting, isPlaced, isReady, waitingFrom, readyFrom, placedWords, placedVerdict};
-ghost use Rattle.placing.specs.Users.{userPut, Users, seekOn};
+ghost use Rattle.placing.specs.Placing.{pickWords, putPlaced, Operands, isWaiting, isPlaced, isReady, waitingFrom, readyFrom, placedWords, placedVerdict};
+ghost use Rattle.placing.specs.Uses.{Passed, Kept, Waked, Ready, Next, passedTo, takenFrom};
 use model::Header;
 use model::Verdict;
 
 // "M exceeds 4,095" is refused, and variable 0 is one more.
 const VARIABLES: usize = 4096;
+
+// Two for each variable.
+const USES: usize = 2 * VARIABLES;
 
 // A variable in a slot of the placing order.
 pub fn place_at(work: &mut [u16], m: usize, i: usize, v: usize)
@@ -68,85 +72,143 @@ fn first_waiting(work: &[u16], m: usize, from: usize) -> usize
     v
 }
 
-// The first AND from a variable on that can be placed, or M + 1.
-fn first_ready(work: &[u16], m: usize, from: usize) -> usize
-    requires { ⌜ Room (now work) m × Operands (now work) m × (from ≤ m + 1) ⌝ }
-    ensures { λ r. ⌜ r ≡ readyFrom (now (work .entry)) m from ⌝ }
+// A use put before the others of a variable.
+fn link(heads: &mut [u16; VARIABLES], links: &mut [u16; USES], x: usize, o: usize)
+    requires { ⌜ (x < 4096) × (o < 8192) ⌝ }
+    ensures heads { λ _. ⌜ now (heads .exit) ≡ set (now (heads .entry)) x o ⌝ }
+    ensures links { λ _. ⌜ now (links .exit) ≡ set (now (links .entry)) o (getD (now (heads .entry)) x 0) ⌝ }
+{
+    links[o] = heads[x];
+    heads[x] = o as u16;
+}
+
+// An AND that waits, listed by both its operands.
+fn list(work: &[u16], m: usize, v: usize, heads: &mut [u16; VARIABLES], links: &mut [u16; USES])
+    requires { ⌜ Room (now work) m × Operands (now work) m × (v ≤ m) × Passed m (now work) v (now heads) (now links) ⌝ }
+    ensures passed { λ _. ⌜ Passed m (now (work .entry)) (v + 1) (now (heads .exit)) (now (links .exit)) ⌝ }
+    ensures kept { λ _. ⌜ Kept (2 * v) (now (links .entry)) (now (links .exit)) ⌝ }
+{
+    if words::kind(work, m, v) == words::AND {
+        link(heads, links, words::left(work, m, v) / 2, 2 * v);
+        link(heads, links, words::right(work, m, v) / 2, 2 * v + 1);
+    }
+}
+
+// The first AND from a variable on that can be placed, or M + 1. What waits below it is listed.
+fn first_ready(
+    work: &[u16],
+    m: usize,
+    from: usize,
+    heads: &mut [u16; VARIABLES],
+    links: &mut [u16; USES],
+) -> usize
+    requires { ⌜ Room (now work) m × Operands (now work) m × Passed m (now work) from (now heads) (now links) ⌝ }
+    ensures answer { λ r. ⌜ r ≡ readyFrom (now (work .entry)) m from ⌝ }
+    ensures passed { λ r. ⌜ Passed m (now (work .entry)) r (now (heads .exit)) (now (links .exit)) ⌝ }
+    ensures kept { λ _. ⌜ Kept (2 * from) (now (links .entry)) (now (links .exit)) ⌝ }
 {
     let mut u = from;
     while u <= m {
         if ready(work, m, u) {
             return u;
         }
+        list(work, m, u, heads, links);
         u += 1;
     }
     u
 }
 
-// For each variable the lowest AND that uses it, or a number above every AND's, as here, where none is put down yet.
-fn no_users() -> [u16; VARIABLES]
-    ensures { λ r. ⌜ ((w : List ℕ) (m : ℕ) → Users w m m r) ⌝ }
+// The lowest AND that is ready, or M + 1: below `scan` those that are ready have marks.
+fn next_ready(
+    work: &[u16],
+    m: usize,
+    scan: usize,
+    heads: &mut [u16; VARIABLES],
+    links: &mut [u16; USES],
+    marks: &[u64; marks::WORDS],
+) -> usize
+    requires { ⌜ Room (now work) m × Operands (now work) m × Passed m (now work) scan (now heads) (now links) × Ready m (now work) (now links) (now marks) ⌝ }
+    ensures { λ r. ⌜ Next m (now (work .entry)) scan (now (heads .exit)) (now (links .exit)) (now (marks .entry)) r ⌝ }
 {
-    [4096u16; VARIABLES]
+    let low = marks::lowest(marks);
+    if low < scan {
+        return low;
+    }
+    first_ready(work, m, scan, heads, links)
 }
 
-// An AND put down as the user of its operands.
-fn put_user(work: &[u16], m: usize, v: usize, users: &mut [u16; VARIABLES])
+// v no longer has a mark, which it has below `scan`; from there on it is the first that is ready, and passed now. How far they are passed.
+fn take(marks: &mut [u64; marks::WORDS], v: usize, scan: usize) -> usize
+    requires { ⌜ v < 4096 ⌝ }
+    ensures answer { λ r. ⌜ r ≡ passedTo scan v ⌝ }
+    ensures left { λ _. ⌜ now (marks .exit) ≡ takenFrom scan v (now (marks .entry)) ⌝ }
+{
+    if v < scan {
+        marks::remove(marks, v);
+        return scan;
+    }
+    v + 1
+}
+
+// A mark for an AND that is ready.
+fn wake(work: &[u16], m: usize, v: usize, marks: &mut [u64; marks::WORDS])
     requires { ⌜ Room (now work) m × Operands (now work) m × (v ≤ m) ⌝ }
-    ensures { λ _. ⌜ now (users .exit) ≡ userPut (now (work .entry)) m v (now (users .entry)) ⌝ }
+    ensures { λ _. ⌜ now (marks .exit) ≡ pickWords (isReady (now (work .entry)) m v) (added (now (marks .entry)) v) (now (marks .entry)) ⌝ }
 {
-    if words::kind(work, m, v) == words::AND {
-        let left = words::left(work, m, v) / 2;
-        let right = words::right(work, m, v) / 2;
-        users[left] = v as u16;
-        users[right] = v as u16;
+    if ready(work, m, v) {
+        marks::add(marks, v);
     }
 }
 
-// All ANDs put down, from the highest down, so that the lowest user stays.
-fn put_users(work: &[u16], m: usize, users: &mut [u16; VARIABLES])
-    requires { ⌜ Room (now work) m × Operands (now work) m × Users (now work) m m (now users) ⌝ }
-    ensures { λ _. ⌜ Users (now (work .entry)) m 0 (now (users .exit)) ⌝ }
-{
-    let mut v = m;
-    while v > 0 {
-        put_user(work, m, v, users);
-        v -= 1;
-    }
-}
-
-// A word as a variable's number.
+// A word as a number.
 fn wide(x: u16) -> usize
     ensures { λ r. ⌜ r ≡ x ⌝ }
 {
     x as usize
 }
 
-// Where the next AND is sought once v is placed, below which none was ready: what that made ready uses v.
-fn seek_on(users: &[u16; VARIABLES], v: usize) -> usize
-    requires { ⌜ v < 4096 ⌝ }
-    ensures { λ r. ⌜ r ≡ seekOn (now (users .entry)) v ⌝ }
+// Marks for the users of a variable that are ready now that it is placed.
+fn wake_users(
+    work: &[u16],
+    m: usize,
+    v: usize,
+    heads: &[u16; VARIABLES],
+    links: &[u16; USES],
+    marks: &mut [u64; marks::WORDS],
+)
+    requires { ⌜ Room (now work) m × Operands (now work) m × (v ≤ m) × Waked m (now work) v (now heads) (now links) (now marks) ⌝ }
+    ensures { λ _. ⌜ Ready m (now (work .entry)) (now (links .entry)) (now (marks .exit)) ⌝ }
 {
-    let u = wide(users[v]);
-    if u < v { u } else { v + 1 }
+    let mut o = wide(heads[v]);
+    while o != 0 {
+        wake(work, m, o / 2, marks);
+        o = wide(links[o]);
+    }
 }
 
-// "again and again the lowest-numbered AND whose operands are both placed". Below `scan` none is ready, so a chain of ANDs costs one pass,
-// whichever way it is numbered.
-fn place_ands(work: &mut [u16], h: Header, users: &[u16; VARIABLES])
-    requires { ⌜ Fit h (now work) × Operands (now work) (h .size) × Users (now work) (h .size) 0 (now users) ⌝ }
+// "again and again the lowest-numbered AND whose operands are both placed". An AND that waits when it is passed is looked at again once for
+// each operand, when that is placed: so the numbering does not matter.
+fn place_ands(
+    work: &mut [u16],
+    h: Header,
+    heads: &mut [u16; VARIABLES],
+    links: &mut [u16; USES],
+    marks: &mut [u64; marks::WORDS],
+)
+    requires { ⌜ Fit h (now work) × Operands (now work) (h .size) × Passed (h .size) (now work) 1 (now heads) (now links) × Ready (h .size) (now work) (now links) (now marks) ⌝ }
     ensures { λ _. ⌜ now (work .exit) ≡ placedWords (now (work .entry)) h ⌝ }
 {
     let end = words::placed(h);
     let mut slot = h.inputs + 1;
     let mut scan = 1;
     while slot < end {
-        let v = first_ready(work, h.size, scan);
+        let v = next_ready(work, h.size, scan, heads, links, marks);
         if v > h.size {
             return;
         }
+        scan = take(marks, v, scan);
         place_at(work, h.size, slot, v);
-        scan = seek_on(users, v);
+        wake_users(work, h.size, v, heads, links, marks);
         slot += 1;
     }
 }
@@ -157,9 +219,10 @@ pub fn place(work: &mut [u16], h: Header) -> Verdict
     ensures answer { λ r. ⌜ r ≡ placedVerdict (now (work .entry)) h ⌝ }
     ensures left { λ _. ⌜ now (work .exit) ≡ placedWords (now (work .entry)) h ⌝ }
 {
-    let mut users = no_users();
-    put_users(work, h.size, &mut users);
-    place_ands(work, h, &users);
+    let mut heads = [0u16; VARIABLES];
+    let mut links = [8192u16; USES];
+    let mut marks = marks::none();
+    place_ands(work, h, &mut heads, &mut links, &mut marks);
     let v = first_waiting(work, h.size, 1);
     if v > h.size {
         Verdict::Accepted

@@ -1,23 +1,26 @@
--- `placing::first_ready` meets its contract. The invariant: what is sought from here on is what is sought; the measure is what is left.
+-- `placing::first_ready` meets its contract. The invariant: what is sought from here on is what is sought, and what waits below is listed; the measure is what is left.
 -- Assumes nothing.
 use borrow.Author.Needs.{needs}
-use mathlib.Core.Path.{_≡_, sym, _∙_}
-use Prim.Native.Nat.{_+_, _-_, _≤_}
+use mathlib.Core.Path.{_≡_, refl, sym, _∙_}
+use Prim.Native.Nat.{_+_, _-_, _*_, _≤_}
 use native.Mathlib.Omega.{arith}
 use Rattle.placing.specs.Placing.{isReady, seek, readyFrom}
+use Rattle.placing.specs.Uses.{Passed, Kept}
 use Rattle.placing.proofs.Seeking.{seek-here, seek-past, seek-end}
 use Rattle.placing.proofs.Placed.{ready-is-seek}
+use Rattle.placing.proofs.Uses.{kept-on}
 use Rattle.placing.proofs.first_ready.Statement.{statement}
 use Rattle.placing.proofs.first_ready.Tie as tie
 
 abbrev Inv-loop : tie.InvT-loop
-Inv-loop work m from u₀ u = (u ≤ m + 1) × (readyFrom work m from ≡ seek (isReady work m) (m + 1 - u) u)
+Inv-loop work m from heads₀ links₀ u₀ heads links u =
+    (from ≤ u) × (readyFrom work m from ≡ seek (isReady work m) (m + 1 - u) u) × Passed m work u heads links × Kept (2 * from) links₀ links
 
 abbrev μ-loop : tie.MeasureT-loop
-μ-loop work m from u₀ u = m + 1 - u
+μ-loop work m from heads₀ links₀ u₀ heads links u = m + 1 - u
 
 loop-holds : tie.Need-loop-holds Inv-loop μ-loop
-loop-holds c = (c .before .pre .2, ready-is-seek _ _ _)
+loop-holds c = (omega arith, ready-is-seek _ _ _, c .before .pre .2, λ o h. refl)
 
 ready-requires : tie.Need-ready-requires Inv-loop μ-loop
 ready-requires c κs = search needs
@@ -26,7 +29,14 @@ returns : tie.Need-returns Inv-loop μ-loop
 returns c =
     let at-loop = c .before .before .before in
     let start = at-loop .before .before in
-    sym (at-loop .loop .inv .1 ∙ seek-here (isReady (start .args .work .now) (start .args .m)) _ (start .args .m - at-loop .loop .u) _ (omega arith) (sym (c .before .ready .ensures) ∙ c .if1 .taken))
+    let i = at-loop .loop .inv in
+    (sym (i .1 ∙ seek-here (isReady (start .args .work .now) (start .args .m)) _ (start .args .m - at-loop .loop .u) _ (omega arith) (sym (c .before .ready .ensures) ∙ c .if1 .taken)), (i .2, i .3))
+
+list-requires : tie.Need-list-requires Inv-loop μ-loop
+list-requires c κs =
+    let at-loop = c .before .before .before .before .before in
+    let start = at-loop .before .before in
+    (start .pre .0, start .pre .1, omega arith, at-loop .loop .inv .2)
 
 add-u : tie.Need-add-u Inv-loop μ-loop
 add-u c = search needs
@@ -36,14 +46,21 @@ loop-less c = search needs
 
 loop-again : tie.Need-loop-again Inv-loop μ-loop
 loop-again c =
-    let at-loop = c .before .before .before in
+    let at-ready = c .before .before .before .before in
+    let at-loop = at-ready .before .before in
     let start = at-loop .before .before in
-    (omega arith, at-loop .loop .inv .1 ∙ seek-past (isReady (start .args .work .now) (start .args .m)) _ (start .args .m + 1 - (at-loop .loop .u + 1)) _ (omega arith) (sym (c .before .ready .ensures) ∙ c .if1 .left))
+    let i = at-loop .loop .inv in (
+      omega arith,
+      i .1 ∙ seek-past (isReady (start .args .work .now) (start .args .m)) _ (start .args .m + 1 - (at-loop .loop .u + 1)) _ (omega arith) (sym (at-ready .ready .ensures) ∙ c .before .before .before .if1 .left),
+      c .list .ensures .0,
+      kept-on (2 * start .args .from) (2 * at-loop .loop .u) (start .args .links .now) (at-loop .loop .links) (c .list .last .1 .1 .1 .1 .0) (omega arith) (i .3) (c .list .ensures .1),
+    )
 
 returns-2 : tie.Need-returns-2 Inv-loop μ-loop
 returns-2 c =
     let start = c .before .before .before in
-    sym (c .before .loop .inv .1 ∙ seek-end (isReady (start .args .work .now) (start .args .m)) _ _ (omega arith))
+    let i = c .before .loop .inv in
+    (sym (i .1 ∙ seek-end (isReady (start .args .work .now) (start .args .m)) _ _ (omega arith)), (i .2, i .3))
 
 pub first-ready-spec : {M : Type 1} → statement M
 first-ready-spec =
@@ -54,6 +71,7 @@ first-ready-spec =
     loop-holds
     ready-requires
     returns
+    list-requires
     add-u
     loop-less
     loop-again

@@ -1,0 +1,2 @@
+-- `Marks`: a set of numbers below 4,096 in 65 words.
+pub mod Marks

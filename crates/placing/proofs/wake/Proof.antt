@@ -1,0 +1,21 @@
+-- `placing::wake` meets its contract, whether the AND is ready or not.
+-- Assumes nothing.
+use mathlib.Core.Path.{sym}
+use borrow.Author.Needs.{needs}
+use Rattle.placing.proofs.wake.Statement.{statement}
+use Rattle.placing.proofs.wake.Tie as tie
+
+ready-requires : tie.Need-ready-requires
+ready-requires c κs = search needs
+
+add-requires : tie.Need-add-requires
+add-requires c κs = search needs
+
+returns : tie.Need-returns
+returns c = rw (sym (c .before .before .before .ready .ensures), c .before .before .if1 .taken) (c .add .ensures)
+
+returns-2 : tie.Need-returns-2
+returns-2 c = rw (sym (c .before .ready .ensures), c .if1 .left)
+
+pub wake-spec : {M : Type 1} → statement M
+wake-spec = tie.close (tie.spec ready-requires add-requires returns returns-2)
