@@ -3,9 +3,10 @@
 
 A family is an endless list of ANDs over a few shared inputs; a graph is its first ANDs, and its outputs are those that no other AND uses.
 So every size has the same structure, and the largest stays within M of 4,095 and a text of 65,536 bytes. Each family stays within 18 cuts
-an AND. Nothing is left to chance: the same files come out every time."""
+an AND. Nothing is left to chance: the same files come out every time, the ones numbered at random too, whose seed is their size."""
 import itertools
 import pathlib
+import random
 import sys
 
 SIZES = (50, 100, 250, 500, 1000, 2000, 4000)
@@ -76,19 +77,52 @@ def rotate(ands):
         yield
 
 
-def turned(literal, size):
-    """The literal in a graph whose ANDs are numbered backwards."""
-    return literal if literal >> 1 <= INPUTS else 2 * (2 * INPUTS + size + 1) - (literal & ~1) | literal & 1
+def chain(ands):
+    """Each AND is the one before, complemented at every second, with the next of four inputs. Depth grows with the size, and below each AND
+    are no more than five variables in a row: a cut of four leaves has all that is below it for its cone."""
+    last = ands.both(source(0), source(0))
+    yield
+    for k in itertools.count():
+        last = ands.both(last ^ (1 - k % 2), source((k + 1) % 4))
+        yield
 
 
-def text(family, size, backwards=False):
+def tree(ands):
+    """Trees of multiplexers, side by side: each chooses one of 32 inputs by five others. Depth stays as it is. What chooses is never
+    chosen: were it so, an AND would have more than 18 cuts."""
+    for k in itertools.count():
+        level = [source((7 * k + j) % 48) for j in range(32)]
+        for depth in range(5):
+            s = source(48 + (5 * k + depth) % 16)
+            level = [ands.choose(s, a, b) for a, b in zip(level[::2], level[1::2])]
+        yield
+
+
+def in_order(size):
+    return range(size)
+
+
+def backwards(size):
+    return range(size - 1, -1, -1)
+
+
+def at_random(size):
+    numbers = list(range(size))
+    random.Random(size).shuffle(numbers)
+    return numbers
+
+
+def text(family, size, numbering):
     ands = Ands()
     for _ in family(ands):
         if len(ands.lines) >= size:
             break
-    lines = ands.lines[:size]
-    if backwards:
-        lines = [tuple(turned(literal, size) for literal in line) for line in lines]
+    numbers = numbering(size)
+
+    def literal(x):
+        return x if x >> 1 <= INPUTS else 2 * (INPUTS + numbers[(x >> 1) - INPUTS - 1] + 1) | x & 1
+
+    lines = [tuple(map(literal, line)) for line in ands.lines[:size]]
     used = {operand >> 1 for _, a, b in lines for operand in (a, b)}
     outputs = [left for left, _, _ in lines if left >> 1 not in used]
     rows = [("aag", INPUTS + size, INPUTS, 0, len(outputs), size)]
@@ -96,11 +130,22 @@ def text(family, size, backwards=False):
     return "".join(" ".join(map(str, row)) + "\n" for row in rows)
 
 
+FAMILIES = (
+    ("hold", hold, in_order),
+    ("carry", carry, in_order),
+    ("rotate", rotate, in_order),
+    ("back", rotate, backwards),
+    ("chain", chain, in_order),
+    ("tree", tree, in_order),
+    ("random", tree, at_random),
+)
+
+
 def write(folder):
     folder.mkdir(parents=True, exist_ok=True)
-    for name, family, backwards in (("hold", hold, False), ("carry", carry, False), ("rotate", rotate, False), ("back", rotate, True)):
+    for name, family, numbering in FAMILIES:
         for size in SIZES:
-            made = text(family, size, backwards)
+            made = text(family, size, numbering)
             assert len(made) <= 65536, (name, size, len(made))
             (folder / f"{name}_{size}.aag").write_text(made)
 
