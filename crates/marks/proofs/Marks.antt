@@ -10,14 +10,14 @@ use mathlib.Core.List.{List}
 use Prim.Native.Nat.{ℕ, _+_, _*_, _/_, _%_, _^_, _≤_, _<_}
 use native.Mathlib.Omega.{arith}
 use lib.Bits.{bitOr, bitXor}
-use lib.Count.{trailingZeros, trailing-le}
+use lib.Count.{trailingZeros}
 use lib.Dec.{eqb, leb}
 use lib.ListN.{length, getD, set, length-set, replicate, length-replicate, getD-replicate, List·getD-eq-default}
 use lib.Seq.{getD-set-same, getD-set-other, set-getD}
 use borrow.Author.Tests.{eq-eqb, ne-eqb, leb-true, leb-false}
 use Rattle.model.specs.Base.{bit}
 use Rattle.theory_graph.proofs.Lists.{by-eqb}
-use Rattle.marks.specs.Marks.{has, Marks, added, emptied, removed, lowestIn, lowestOf}
+use Rattle.marks.specs.Marks.{has, Marks, added, removed, lowestIn, lowestOf}
 use Rattle.marks.proofs.Bits.{or-same, or-other, or-small, xor-same, xor-other, xor-small, zero-bit, bit-some, trailing-in, trailing-before}
 
 -- an order, by its test

@@ -1,6 +1,5 @@
 -- `placing::next_ready` meets its contract: the lowest mark, or none below where the ANDs are passed to.
 -- Assumes nothing.
-use mathlib.Core.Path.{sym, _∙_}
 use native.Mathlib.Omega.{arith}
 use borrow.Author.Needs.{needs}
 use Rattle.placing.proofs.Uses.{next-marked, next-passed}

@@ -1,6 +1,5 @@
 -- `placing::place` meets its contract: the words are those of `place_ands`, and the first AND that waits is the first at or behind the mark.
 -- Assumes nothing.
-use mathlib.Core.Path.{sym}
 use Rattle.placing.proofs.Placed.{answer-all, answer-some}
 use Rattle.placing.proofs.Uses.{passed-none, ready-none}
 use borrow.Author.Needs.{needs}

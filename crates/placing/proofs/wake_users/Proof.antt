@@ -1,7 +1,7 @@
 -- `placing::wake_users` meets its contract. The invariant: the users with a use of v above o have their marks, and o is a use of v, or 0; the measure is o, for links lead down.
 -- Assumes nothing.
 use borrow.Author.Needs.{needs}
-use mathlib.Core.Path.{_≡_, refl, sym, _∙_}
+use mathlib.Core.Path.{_≡_, _∙_}
 use Prim.Native.Nat.{_<_}
 use native.Mathlib.Omega.{arith}
 use Rattle.placing.specs.Uses.{useOf, Listed, Waking}
