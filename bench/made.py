@@ -78,8 +78,8 @@ def rotate(ands):
 
 
 def chain(ands):
-    """Each AND is the one before, complemented at every second, with the next of four inputs. Depth grows with the size, and below each AND
-    are no more than five variables in a row: a cut of four leaves has all that is below it for its cone."""
+    """Each AND is the one before, complemented at every second, with the next of four inputs. Depth grows with the size. The four inputs are a cut
+    of each AND, and all ANDs below stand in its cone."""
     last = ands.both(source(0), source(0))
     yield
     for k in itertools.count():
