@@ -19,14 +19,10 @@ use Rattle.theory_graph.proofs.Lists.{keep-append}
 use Rattle.words.specs.Record.{Leaves, Good, AllGood}
 use Rattle.cuts.specs.Keys.{key, added, addedCut, rowKeys, crossKeys, nodeKeys, keyRoom}
 use Rattle.cuts.proofs.Merging.{three, insert-first, insert-same, insert-past}
-use Rattle.cuts.proofs.Rows.{leaves-rising}
+use Rattle.cuts.proofs.Rows.{leaves-from, leaves-rising}
 use Rattle.cuts.proofs.Ordering.{keys-insert}
 
 -- good cuts stay good
-leaves-from : {lo hi : ℕ} (xs : List ℕ) → lo ≤ hi → Leaves hi xs → Leaves lo xs
-leaves-from [] h g = tt
-leaves-from (x ∷ xs) h g = (omega (arith, g .0), g .1, g .2)
-
 insert-leaves : (lo x : ℕ) (l : List ℕ) → lo ≤ x → x < 4096 → Leaves lo l → Leaves lo (insert compare x l)
 unfolding insert
 insert-leaves lo x [] h b g = (h, b, tt)

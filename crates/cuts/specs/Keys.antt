@@ -1,10 +1,10 @@
 -- A cut as one number, its key: its size and its four leaves, the first highest, so that "by size, then by ascending leaves compared left to right" is the order of the keys.
 -- A list being built has room for one cut more than the limit; what comes after that is left out. Assumes nothing.
-use mathlib.Core.Bool.{Bool, true, false, cond}
+use mathlib.Core.Bool.{cond}
 use mathlib.Core.List.{List, [], _∷_, map}
 use Prim.Native.Nat.{ℕ, zero, suc, _+_, _*_, _/_, _%_, _≤_, compare}
-use lib.Dec.{ltb, leb, eqb}
-use lib.ListN.{length, take, getD}
+use lib.Dec.{ltb, leb}
+use lib.ListN.{length, take}
 use mathlib.Core.Path.{_≡_}
 use Rattle.model.specs.Base.{insert, union}
 use Rattle.model.specs.Graph.{Node, constant, input, undefined, both, varOf}
@@ -76,17 +76,3 @@ nodeKeys cuts v constant = key [] ∷ []
 nodeKeys cuts v input = key (v ∷ []) ∷ []
 nodeKeys cuts v undefined = []
 nodeKeys cuts v (both l r) = added (key (v ∷ [])) (crossKeys (cuts (varOf l)) (cuts (varOf r)))
-
-abbrev pub bumpBy : Bool → ℕ
-bumpBy true = 1
-bumpBy false = 0
-
--- one where the two are equal
-unfoldable pub bump : ℕ → ℕ → ℕ
-bump u v = bumpBy (eqb u v)
-
--- r is the leaf at p of the first n, or 65536 past the last
-pub record Head (leaves : List ℕ) (n p r : ℕ) : Type 0 where
-  pub is : r ≡ getD (take n leaves) p 65536
-  pub small : r ≤ 65536
-  pub ends : r ≡ 65536 → n ≤ p

@@ -3,56 +3,23 @@
 use model::Cut;
 use model::Verdict;
 ghost use mathlib.Core.Path.{_≡_};
-ghost use mathlib.Core.List.{_∷_, []};
-ghost use Prim.Native.Nat.{ℕ, _+_, _*_, _/_, _≤_, _<_, min, max};
+ghost use mathlib.Core.List.{List, _∷_, []};
+ghost use Prim.Native.Nat.{ℕ, _+_, _-_, _*_, _/_, _≤_, _<_, min, max};
 ghost use lib.ListN.{length, take, getD};
 ghost use Rattle.model.specs.Limits.{cutLimit};
 ghost use Rattle.words.specs.Layout.{Room, leftAt, rightAt};
-ghost use Rattle.words.specs.Record.{leavesOf, cutOf, Good, Sound, cutsAt, nodeAt};
-ghost use Rattle.cuts.specs.Keys.{keyRoom, keyFrom, key, keyWords, Building, added, rowKeys, crossKeys, nodeKeys, putKeys, bump, Head};
+ghost use Rattle.words.specs.Record.{leavesOf, Good, Sound, cutsAt, nodeAt};
+ghost use Rattle.cuts.specs.Keys.{keyRoom, keyFrom, key, keyWords, Building, added, rowKeys, crossKeys, nodeKeys, putKeys};
+ghost use Rattle.cuts.specs.Packs.{Digit, pack, Packed, number, Small};
 ghost use Rattle.cuts.specs.Listing.{Ready, Operands, few, listed, listing, stored};
 
 // Cuts being listed are keys in ascending order: at most one more than the limit, which then says that there are too many.
 const ROOM: usize = words::LIMIT + 1;
 
-fn wide(x: u16) -> u32
-    ensures { λ r. ⌜ (r ≡ x) × (r < 65536) ⌝ }
+fn wide(x: u16) -> u64
+    ensures { λ r. ⌜ r ≡ x ⌝ }
 {
-    x as u32
-}
-
-// The leaf at p, or 65536 past the last.
-fn head(leaves: &[u16], n: usize, p: usize) -> u32
-    requires { ⌜ n ≤ length (now leaves) ⌝ }
-    ensures { λ r. ⌜ Head (now (leaves .entry)) n p r ⌝ }
-{
-    if p < n { wide(leaves[p]) } else { 65536 }
-}
-
-// Leaf p of cut k of v, or 65536 past the last of n.
-fn leaf_head(work: &[u16], m: usize, v: usize, k: usize, n: usize, p: usize) -> u32
-    requires { ⌜ Room (now work) m × (v ≤ m) × (k < cutLimit) × (n ≤ 4) ⌝ }
-    ensures { λ r. ⌜ Head (cutOf (now (work .entry)) m v k .leaves) n p r ⌝ }
-{
-    if p < n {
-        wide(words::leaf(work, m, v, k, p))
-    } else {
-        65536
-    }
-}
-
-fn lesser(u: u32, w: u32) -> u32
-    ensures { λ r. ⌜ r ≡ min u w ⌝ }
-{
-    if u < w { u } else { w }
-}
-
-// One on from p where u is v.
-fn past(p: usize, u: u32, v: u32) -> usize
-    requires { ⌜ p < 5 ⌝ }
-    ensures { λ r. ⌜ r ≡ p + bump u v ⌝ }
-{
-    if u == v { p + 1 } else { p }
+    x as u64
 }
 
 // A cut as one number: by size, then by ascending leaves compared left to right.
@@ -121,43 +88,117 @@ fn insert(keys: &mut [u64], n: usize, k: u64) -> usize
     n + 1
 }
 
+// Leaf i of a cut of n as a digit: counted back from 4096, so that past the last there is 0, which is below every leaf's.
+fn digit(leaves: [u16; 4], n: usize, i: usize) -> u64
+    requires { ⌜ (i < 4) × (i < n → getD leaves i 0 < 4096) ⌝ }
+    ensures { λ r. ⌜ Digit leaves n i r ⌝ }
+{
+    if i < n { 4096 - wide(leaves[i]) } else { 0 }
+}
+
+// The leaves of a cut in one number, the first lowest: the merge then reads no words.
+fn packed(c: Cut) -> u64
+    requires { ⌜ (c .count ≤ 4) × Good (leavesOf c) ⌝ }
+    ensures { λ r. ⌜ r ≡ pack (leavesOf c) ⌝ }
+{
+    let leaves = c.leaves;
+    let n = c.count;
+    let a = digit(leaves, n, 0);
+    let b = digit(leaves, n, 1);
+    let c = digit(leaves, n, 2);
+    let d = digit(leaves, n, 3);
+    a + 65536 * (b + 65536 * (c + 65536 * d))
+}
+
+// The cuts of v, each packed.
+fn pack_cuts(work: &[u16], m: usize, v: usize, ys: &mut [u64])
+    requires { ⌜ Room (now work) m × (v ≤ m) × Sound (now work) m v × (length (now ys) ≡ cutLimit) ⌝ }
+    ensures { λ _. ⌜ Packed (now (work .entry)) m v (now (ys .exit)) ⌝ }
+{
+    let n = words::count(work, m, v);
+    let mut i = 0;
+    while i < n {
+        ys[i] = packed(words::load_cut(work, m, v, i));
+        i += 1;
+    }
+}
+
+// One leaf more behind those of a union: d is its digit.
+fn further(done: u64, d: u64) -> u64
+    requires { ⌜ (done < 68719476736) × (d ≤ 4096) ⌝ }
+    ensures { λ r. ⌜ r ≡ done * 4096 + (4096 - d) ⌝ }
+{
+    done * 4096 + (4096 - d)
+}
+
+// The key of a union with room for some leaves more.
+fn union_key(room: usize, done: u64) -> u64
+    requires { ⌜ ((ls : List ℕ) × (room + length ls ≡ 4) × (done ≡ number ls) × Small ls) ⌝ }
+    ensures { λ r. ⌜ ((ls : List ℕ) → room + length ls ≡ 4 → done ≡ number ls → r ≡ key ls) ⌝ }
+{
+    match room {
+        0 => 1125899906842624 + done,
+        1 => 844424930131968 + done * 4096,
+        2 => 562949953421312 + done * 16777216,
+        3 => 281474976710656 + done * 68719476736,
+        _ => 0,
+    }
+}
+
 // The unions of the cut x with each cut of v, from the last to the first, put to the keys that were there. "A union is dropped the moment a fifth
-// leaf turns up": what is left of either cut is in the union too, so that it turns up as soon as there is no room for that. Then on to the next pair,
-// and the leaves of this one that were not reached are not read.
-fn row(work: &[u16], m: usize, x: Cut, v: usize, keys: &mut [u64], had: usize) -> usize
-    requires { ⌜ Room (now work) m × (v ≤ m) × Sound (now work) m v × (x .count ≤ 4) × Good (leavesOf x) × Building (now keys) had ⌝ }
+// leaf turns up": x may have `left` leaves that the other has not, and the other `right`. With one more, on to the next pair.
+fn row(
+    work: &[u16],
+    m: usize,
+    x: Cut,
+    v: usize,
+    ys: &[u64; words::LIMIT],
+    keys: &mut [u64],
+    had: usize,
+) -> usize
+    requires { ⌜ Room (now work) m × (v ≤ m) × Sound (now work) m v × (x .count ≤ 4) × Good (leavesOf x) × Packed (now work) m v (now ys) × Building (now keys) had ⌝ }
     ensures { λ r. ⌜ (take r (now (keys .exit)) ≡ rowKeys (leavesOf x) (cutsAt (now (work .entry)) m v) (take had (now (keys .entry)))) × (r ≤ keyRoom) ⌝ }
 {
-    let xs = x.leaves;
+    let xs = packed(x);
     let xn = x.count;
     let mut n = had;
     let mut j = words::count(work, m, v);
     'pairs: while 0 < j {
         j -= 1;
-        let yn = words::cut_size(work, m, v, j);
-        let mut out = [0u16; 4];
-        let mut k: usize = 0;
-        let mut p: usize = 0;
-        let mut q: usize = 0;
+        let mut left = 4 - words::cut_size(work, m, v, j);
+        let mut right = 4 - xn;
+        let mut a = xs;
+        let mut b = ys[j];
+        let mut done: u64 = 0;
         loop {
-            let u = head(&xs, xn, p);
-            let w = leaf_head(work, m, v, j, yn, q);
-            let leaf = lesser(u, w);
-            if leaf == 65536 {
+            let p = a % 65536;
+            let q = b % 65536;
+            if q < p {
+                if left == 0 {
+                    continue 'pairs;
+                }
+                left -= 1;
+                done = further(done, p);
+                a = a / 65536;
+                continue;
+            }
+            if p < q {
+                if right == 0 {
+                    continue 'pairs;
+                }
+                right -= 1;
+                done = further(done, q);
+                b = b / 65536;
+                continue;
+            }
+            if p == 0 {
                 break;
             }
-            p = past(p, u, leaf);
-            q = past(q, w, leaf);
-            if k + xn >= 4 + p {
-                continue 'pairs;
-            }
-            if k + yn >= 4 + q {
-                continue 'pairs;
-            }
-            out[k] = leaf as u16;
-            k += 1;
+            done = further(done, p);
+            a = a / 65536;
+            b = b / 65536;
         }
-        n = insert(keys, n, key_of(k, out));
+        n = insert(keys, n, union_key(left, done));
     }
     n
 }
@@ -167,12 +208,14 @@ fn cross(work: &[u16], m: usize, a: usize, b: usize, keys: &mut [u64]) -> usize
     requires { ⌜ Room (now work) m × (a ≤ m) × (b ≤ m) × Sound (now work) m a × Sound (now work) m b × (length (now keys) ≡ keyRoom) ⌝ }
     ensures { λ r. ⌜ (take r (now (keys .exit)) ≡ crossKeys (cutsAt (now (work .entry)) m a) (cutsAt (now (work .entry)) m b)) × (r ≤ keyRoom) ⌝ }
 {
+    let mut ys = [0u64; words::LIMIT];
+    pack_cuts(work, m, b, &mut ys);
     let mut n: usize = 0;
     let mut i = words::count(work, m, a);
     while 0 < i {
         i -= 1;
         let x = words::load_cut(work, m, a, i);
-        n = row(work, m, x, b, keys, n);
+        n = row(work, m, x, b, &ys, keys, n);
     }
     n
 }

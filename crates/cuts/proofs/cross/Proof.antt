@@ -24,17 +24,23 @@ unfolding crossKeys
 cross-more c cs ds = refl
 
 abbrev Inv-loop : tie.InvT-loop
-Inv-loop work m a b keys₀ n₀ i₀ keys n i = (i ≤ countAt work m a) × (n ≤ keyRoom) × (length keys ≡ keyRoom) × (take n keys ≡ crossKeys (drop i (cutsAt work m a)) (cutsAt work m b))
+Inv-loop work m a b keys₀ ys n₀ i₀ keys n i = (i ≤ countAt work m a) × (n ≤ keyRoom) × (length keys ≡ keyRoom) × (take n keys ≡ crossKeys (drop i (cutsAt work m a)) (cutsAt work m b))
 
 abbrev μ-loop : tie.MeasureT-loop
-μ-loop work m a b keys₀ n₀ i₀ keys n i = i
+μ-loop work m a b keys₀ ys n₀ i₀ keys n i = i
+
+slice-aggregate-pack-cuts : tie.Need-slice-aggregate-pack-cuts Inv-loop μ-loop
+slice-aggregate-pack-cuts c = search needs
+
+pack-cuts-requires : tie.Need-pack-cuts-requires Inv-loop μ-loop
+pack-cuts-requires c κs = search needs
 
 count-requires : tie.Need-count-requires Inv-loop μ-loop
 count-requires c κs = search needs
 
 loop-holds : tie.Need-loop-holds Inv-loop μ-loop
 loop-holds c =
-    let s = c .before .before .before in
+    let s = c .before .before .before .before .before .before in
     let w : List ℕ = s .args .work .now in
     let e : drop (c .count .result) (cutsAt w (s .args .m) (s .args .a)) ≡ [] = rw (c .count .ensures) (none-left w (s .args .m) (s .args .a)) in
     (omega (arith, c .count .ensures), omega arith, s .pre .5, none-yet _ _ e)
@@ -47,27 +53,28 @@ load-cut-requires c κs = search needs
 
 row-requires : tie.Need-row-requires Inv-loop μ-loop
 row-requires c κs =
-    let l = c .before .before .before in
-    let s = l .before .before .before .before in
+    let l = c .before .before .before .before in
+    let s = l .before .before .before .before .before .before .before in
     let w : List ℕ = s .args .work .now in
     let i : ℕ = l .loop .i - 1 in
-    let loaded = sym (c .before .load-cut .ensures) in (
+    let loaded = sym (c .before .before .load-cut .ensures) in (
       s .pre .0,
       s .pre .2,
       s .pre .4,
       subst (λ (z : Cut). z .count ≤ 4) loaded (s .pre .3 .narrow i (omega arith)),
       subst (λ (z : Cut). Good (leavesOf z)) loaded (cut-good w (s .args .m) (s .args .a) (s .pre .3) i (omega arith)),
+      l .before .before .before .pack-cuts .ensures,
       record { room = l .loop .inv .2; fits = l .loop .inv .1; rising = rw (l .loop .inv .3) (cross-rising _ _) },
     )
 
 loop-less : tie.Need-loop-less Inv-loop μ-loop
-loop-less c = omega (arith, c .before .before .before .before .before .loop-test .taken)
+loop-less c = omega (arith, c .before .before .before .before .before .before .loop-test .taken)
 
 loop-again : tie.Need-loop-again Inv-loop μ-loop
 loop-again c =
-    let y = c .before .before .before .before in
+    let y = c .before .before .before .before .before in
     let l = y .before .before in
-    let s = l .before .before .before .before in
+    let s = l .before .before .before .before .before .before .before in
     let w : List ℕ = s .args .work .now in
     let i : ℕ = l .loop .i - 1 in
     let e : suc i ≡ l .loop .i = omega arith in
@@ -77,7 +84,7 @@ loop-again c =
     at-hand w (s .args .m) (s .args .a) i (omega arith) ∙ (λ j. leavesOf (sym (y .load-cut .ensures) j) ∷ drop (e j) cs) in (
       omega arith,
       c .before .before .row .ensures .1,
-      c .before .before .row .kept .1 .1 .1 .1 .0 ∙ l .loop .inv .2,
+      c .before .before .row .kept .1 .1 .1 .1 .1 .0 ∙ l .loop .inv .2,
       c .before .before .row .ensures .0
           ∙ ap (rowKeys (leavesOf (y .load-cut .result)) ds) (l .loop .inv .3)
           ∙ cross-more _ _ _
@@ -85,12 +92,12 @@ loop-again c =
     )
 
 same-length : tie.Need-same-length Inv-loop μ-loop
-same-length c = c .before .loop .inv .2 ∙ sym (c .before .before .before .before .before .pre .5)
+same-length c = c .before .loop .inv .2 ∙ sym (c .before .before .before .before .before .before .before .before .pre .5)
 
 returns : tie.Need-returns Inv-loop μ-loop
 returns c =
     let l = c .before in
-    let s = l .before .before .before .before in
+    let s = l .before .before .before .before .before .before .before in
     let w : List ℕ = s .args .work .now in
     let zero-left : l .loop .i ≡ 0 = omega (arith, c .loop-test .left) in
     (l .loop .inv .3 ∙ ap (λ (i : ℕ). crossKeys (drop i (cutsAt w (s .args .m) (s .args .a))) (cutsAt w (s .args .m) (s .args .b))) zero-left, l .loop .inv .1)
@@ -101,6 +108,8 @@ cross-spec =
     (tie.spec
     Inv-loop
     μ-loop
+    slice-aggregate-pack-cuts
+    pack-cuts-requires
     count-requires
     loop-holds
     sub-i
