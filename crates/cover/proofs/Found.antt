@@ -1,14 +1,15 @@
 -- What the matches on a cut give, as the code finds it:
+--     few-leaves, table-..        a cut has at most four leaves, and a table fits in either phase
 --     on-best, on-none            the best of the chain of its function, or none where the chain is empty
 --     at-alone, at-cut            nothing on the variable alone
 --     from-more, from-none        one cut more, from the last to the first
 -- Assumes nothing.
 use Prim.Native.Nat.{ℕ, suc, _-_, _≤_, _<_}
 use native.Mathlib.Omega.{arith}
-use mathlib.Core.Path.{_≡_, sym, ap, _∙_}
+use mathlib.Core.Path.{_≡_, refl, sym, ap, _∙_}
 use mathlib.Core.Bool.{Bool, true, false, cond}
 use mathlib.Core.List.{List, [], _∷_}
-use lib.ListN.{length, getD}
+use lib.ListN.{length, getD, length-take}
 use Rattle.model.specs.Base.{same}
 use Rattle.model.specs.Cells.{cellsOf}
 use Rattle.model.specs.Matching.{phaseTable}
@@ -16,7 +17,8 @@ use Rattle.model.specs.Choice.{noPhase, choose, earlier}
 use Rattle.model.specs.declared.Cell.{Cell}
 use Rattle.model.specs.declared.Library.{Library}
 use Rattle.words.specs.Layout.{countAt}
-use Rattle.words.specs.Record.{leavesAt, functionOf}
+use Rattle.words.specs.Record.{cutOf, leavesAt, functionOf}
+use Rattle.words.proofs.Stored.{four-leaves}
 use Rattle.words.specs.Phases.{phasesAt}
 use Rattle.matching.specs.Sheet.{isListed}
 use Rattle.matching.specs.Best.{lastTime, unmatched, bestOf, phaseAs}
@@ -26,6 +28,17 @@ use Rattle.matching.proofs.Walking.{walking-none}
 use Rattle.matching.proofs.Matching.{best-match-chosen}
 use Rattle.cover.specs.Choosing.{timesAt, foundOn, foundAt, foundFrom, bestAt, Early, SheetIn}
 use Rattle.cover.proofs.Leaves.{times-of, times-quick}
+
+pub few-leaves : (w : List ℕ) (m v k : ℕ) → length (leavesAt w m v k) ≤ 4
+few-leaves w m v k = omega (arith, length-take (cutOf w m v k .count) (cutOf w m v k .leaves), four-leaves w m v k)
+
+pub table-small : (f : ℕ) → phaseTable true f < 65536
+unfolding phaseTable
+table-small f = omega arith
+
+pub table-straight : (f : ℕ) → phaseTable false f ≡ f
+unfolding phaseTable
+table-straight f = refl
 
 module _ (lib : Library) (sheet : List ℕ) (h : SheetIn lib sheet) (w : List ℕ) (m t : ℕ) (e : Early w m t) (small : t ≤ lastTime)
     (cut : List ℕ) (few : length cut ≤ 4) (inside : (j : ℕ) → j < length cut → getD cut j 0 ≤ m) (k f : ℕ) (table : f < 65536) where

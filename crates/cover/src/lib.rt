@@ -16,7 +16,7 @@ ghost use mathlib.Core.List.{_∷_, []};
 ghost use Rattle.model.specs.Base.{same};
 ghost use Rattle.model.specs.Cells.{cellsOf};
 ghost use Rattle.model.specs.Choice.{absent, noPhase, earlier, choose};
-ghost use Rattle.model.specs.Matching.{matchNets, fedNets};
+ghost use Rattle.model.specs.Matching.{phaseTable, matchNets, fedNets};
 ghost use Rattle.model.specs.Limits.{cutLimit};
 ghost use Rattle.words.specs.Layout.{placedOf, Room, outputAt, countAt};
 ghost use Rattle.words.specs.Record.{leavesOf, leavesAt, functionOf};
@@ -24,8 +24,8 @@ ghost use Rattle.words.specs.Phases.{phaseAt};
 ghost use Rattle.truth.specs.Variant.{placesOf};
 ghost use Rattle.cover.specs.Asked.{PinsIn, LeavesIn, OutputsIn, SlotsIn, CutsIn, MatchIn, MatchesIn};
 ghost use Rattle.matching.specs.Variants.{Usable};
-ghost use Rattle.matching.specs.Sheet.{listMatched};
-ghost use Rattle.matching.specs.Best.{timeOf};
+ghost use Rattle.matching.specs.Sheet.{isListed, listMatched};
+ghost use Rattle.matching.specs.Best.{Timely, timeOf, bestOf, phaseAs};
 ghost use Rattle.matching.specs.Inverters.{inverted};
 ghost use Rattle.model.specs.declared.Library.{Library};
 ghost use Rattle.matching.specs.declared.Inverter.the-variants.{Is};
@@ -135,7 +135,42 @@ fn times(work: &[u16], m: usize, cut: Cut) -> [u32; 16]
     ]
 }
 
-// The best match on cut number k of v, f its function in the phase. Most functions are no cell's: then the leaves are not looked at.
+// Both phases of a variable.
+struct Both {
+    positive: Phase,
+    negative: Phase,
+}
+
+fn neither() -> Both
+    ensures { λ r. ⌜ (r .positive ≡ noPhase) × (r .negative ≡ noPhase) ⌝ }
+{
+    let p = nothing();
+    Both {
+        positive: p,
+        negative: p,
+    }
+}
+
+// Whether a function is a cell's in either phase: most are in none, and then the leaves are not looked at.
+fn is_matched(sheet: &[u16; matching::SHEET], f: u16) -> bool
+    ensures { λ r. ⌜ (r ≡ false → (isListed (now (sheet .entry)) f ≡ false) × (isListed (now (sheet .entry)) (phaseTable true f) ≡ false)) ⌝ }
+{
+    if matching::is_listed(sheet, f) {
+        true
+    } else {
+        matching::is_listed(sheet, truth::in_phase(true, f))
+    }
+}
+
+// The best match on cut number k, f its function in the phase and t the arrivals of its leaves.
+fn match_phase(sheet: &[u16; matching::SHEET], k: usize, f: u16, t: &[u32; 16]) -> Phase
+    requires { ⌜ ((lib : Library) × SheetIn lib (now sheet)) × Timely (now t) ⌝ }
+    ensures { λ r. ⌜ ((lib : Library) → SheetIn lib (now (sheet .entry)) → r ≡ phaseAs k (bestOf (cellsOf lib) f (now (t .entry)))) ⌝ }
+{
+    matching::phase_as(k, matching::best_match(sheet, f, t))
+}
+
+// The best matches on cut number k of v, f its function.
 fn match_cut(
     work: &[u16],
     m: usize,
@@ -143,15 +178,14 @@ fn match_cut(
     k: usize,
     f: u16,
     sheet: &[u16; matching::SHEET],
-) -> Phase
+) -> Both
     requires { ⌜ ((lib : Library) × SheetIn lib (now sheet)) × Choosable (now work) m × (v ≤ m) × (k < countAt (now work) m v) ⌝ }
-    ensures { λ r. ⌜ ((lib : Library) → SheetIn lib (now (sheet .entry)) → r ≡ choose (foundOn (cellsOf lib) (now (work .entry)) m k (leavesAt (now (work .entry)) m v k) f)) ⌝ }
+    ensures { λ r. ⌜ ((lib : Library) → SheetIn lib (now (sheet .entry)) → (r .positive ≡ choose (foundOn (cellsOf lib) (now (work .entry)) m k (leavesAt (now (work .entry)) m v k) f)) × (r .negative ≡ choose (foundOn (cellsOf lib) (now (work .entry)) m k (leavesAt (now (work .entry)) m v k) (phaseTable true f)))) ⌝ }
 {
-    if !matching::is_listed(sheet, f) {
-        return nothing();
-    }
     let t = times(work, m, words::load_cut(work, m, v, k));
-    matching::phase_as(k, matching::best_match(sheet, f, &t))
+    let positive = match_phase(sheet, k, f, &t);
+    let negative = match_phase(sheet, k, truth::in_phase(true, f), &t);
+    Both { positive, negative }
 }
 
 // The function of cut number k of v.
@@ -162,63 +196,62 @@ fn table(work: &[u16], m: usize, v: usize, k: usize) -> u16
     words::function(work, m, v, k) as u16
 }
 
-// The best match on cut number k of v, "a cut other than the variable alone".
-fn cut_phase(
-    work: &[u16],
-    m: usize,
-    v: usize,
-    neg: bool,
-    k: usize,
-    sheet: &[u16; matching::SHEET],
-) -> Phase
+// The best matches on cut number k of v, "a cut other than the variable alone".
+fn cut_phases(work: &[u16], m: usize, v: usize, k: usize, sheet: &[u16; matching::SHEET]) -> Both
     requires { ⌜ ((lib : Library) × SheetIn lib (now sheet)) × Choosable (now work) m × (v ≤ m) × (k < countAt (now work) m v) ⌝ }
-    ensures { λ r. ⌜ ((lib : Library) → SheetIn lib (now (sheet .entry)) → r ≡ choose (foundAt (cellsOf lib) (now (work .entry)) m v neg k)) ⌝ }
+    ensures { λ r. ⌜ ((lib : Library) → SheetIn lib (now (sheet .entry)) → (r .positive ≡ choose (foundAt (cellsOf lib) (now (work .entry)) m v false k)) × (r .negative ≡ choose (foundAt (cellsOf lib) (now (work .entry)) m v true k))) ⌝ }
 {
     if alone(work, m, v, k) {
-        return nothing();
+        return neither();
     }
-    let f = truth::in_phase(neg, table(work, m, v, k));
+    let f = table(work, m, v, k);
+    if !is_matched(sheet, f) {
+        return neither();
+    }
     match_cut(work, m, v, k, f, sheet)
 }
 
-// The best match of v, from its last cut to its first: of equal arrivals the lowest cut's.
-fn best_phase(work: &[u16], m: usize, v: usize, neg: bool, sheet: &[u16; matching::SHEET]) -> Phase
+// The best matches of v, from its last cut to its first: of equal arrivals the lowest cut's.
+fn best_phases(work: &[u16], m: usize, v: usize, sheet: &[u16; matching::SHEET]) -> Both
     requires { ⌜ ((lib : Library) × SheetIn lib (now sheet)) × Choosable (now work) m × (v ≤ m) ⌝ }
-    ensures { λ r. ⌜ ((lib : Library) → SheetIn lib (now (sheet .entry)) → r ≡ bestAt (cellsOf lib) (now (work .entry)) m v neg) ⌝ }
+    ensures { λ r. ⌜ ((lib : Library) → SheetIn lib (now (sheet .entry)) → (r .positive ≡ bestAt (cellsOf lib) (now (work .entry)) m v false) × (r .negative ≡ bestAt (cellsOf lib) (now (work .entry)) m v true)) ⌝ }
 {
-    let mut b = nothing();
+    let mut positive = nothing();
+    let mut negative = nothing();
     let mut k = words::count(work, m, v);
     while k > 0 {
         k -= 1;
-        b = sooner(cut_phase(work, m, v, neg, k, sheet), b);
+        let b = cut_phases(work, m, v, k, sheet);
+        let p = b.positive;
+        let n = b.negative;
+        positive = sooner(p, positive);
+        negative = sooner(n, negative);
     }
-    b
+    Both { positive, negative }
 }
 
 // "an input's own positive net": "every arrival starts from it".
-fn own(work: &[u16], m: usize, v: usize, neg: bool) -> Phase
+fn own(work: &[u16], m: usize, v: usize) -> Both
     requires { ⌜ Room (now work) m × (v ≤ m) ⌝ }
-    ensures { λ r. ⌜ r ≡ ownPhase (now (work .entry)) m v neg ⌝ }
+    ensures { λ r. ⌜ (r .positive ≡ ownPhase (now (work .entry)) m v false) × (r .negative ≡ ownPhase (now (work .entry)) m v true) ⌝ }
 {
-    if neg {
-        nothing()
-    } else {
-        Phase {
-            source: Source::Input,
-            arrival: words::late(work, m, v),
-        }
-    }
+    let positive = Phase {
+        source: Source::Input,
+        arrival: words::late(work, m, v),
+    };
+    let negative = nothing();
+    Both { positive, negative }
 }
 
-// A phase of v without inverters: "for an input's positive phase its own net, otherwise earliest arrival".
-fn direct(work: &[u16], m: usize, v: usize, neg: bool, sheet: &[u16; matching::SHEET]) -> Phase
+// The phases of v without inverters: "for an input's positive phase its own net, otherwise earliest arrival".
+fn direct(work: &[u16], m: usize, v: usize, sheet: &[u16; matching::SHEET]) -> Both
     requires { ⌜ ((lib : Library) × SheetIn lib (now sheet)) × Choosable (now work) m × (v ≤ m) ⌝ }
-    ensures { λ r. ⌜ ((lib : Library) → SheetIn lib (now (sheet .entry)) → r ≡ directAt (cellsOf lib) (now (work .entry)) m v neg) ⌝ }
+    ensures { λ r. ⌜ ((lib : Library) → SheetIn lib (now (sheet .entry)) → (r .positive ≡ directAt (cellsOf lib) (now (work .entry)) m v false) × (r .negative ≡ directAt (cellsOf lib) (now (work .entry)) m v true)) ⌝ }
 {
     match words::kind(work, m, v) {
-        words::CONSTANT | words::AND => best_phase(work, m, v, neg, sheet),
-        words::INPUT => own(work, m, v, neg),
-        _ => nothing(),
+        words::CONSTANT | words::AND => best_phases(work, m, v, sheet),
+        words::INPUT => own(work, m, v),
+        _ => neither(),
     }
 }
 
@@ -258,8 +291,9 @@ fn choose_variable(
     requires { ⌜ ((lib : Library) × ToolsIn lib (now sheet) inv) × Choosable (now work) m × (v ≤ m) ⌝ }
     ensures { λ _. ⌜ ((lib : Library) → ToolsIn lib (now (sheet .entry)) inv → now (work .exit) ≡ chosenTurn (cellsOf lib) (now (work .entry)) m v) ⌝ }
 {
-    let p = direct(work, m, v, false, sheet);
-    let n = direct(work, m, v, true, sheet);
+    let b = direct(work, m, v, sheet);
+    let p = b.positive;
+    let n = b.negative;
     let positive = sooner(p, invert(inv, n));
     let negative = sooner(n, invert(inv, p));
     words::set_positive(work, m, v, positive);

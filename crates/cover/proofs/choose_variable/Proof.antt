@@ -23,45 +23,60 @@ use Rattle.cover.proofs.choose_variable.Tie as tie
 direct-requires : tie.Need-direct-requires
 direct-requires c κs = let p = c .before .before .pre in ((p .0 .0, p .0 .1 .built), p .1, p .2)
 
-direct-requires-2 : tie.Need-direct-requires-2
-direct-requires-2 c κs = let p = c .before .before .before .before .pre in ((p .0 .0, p .0 .1 .built), p .1, p .2)
-
 invert-requires : tie.Need-invert-requires
 invert-requires c κs =
-    let s = c .before .before .before .before .before in
+    let d = c .before .before in
+    let s = d .before .before .before in
     let a = s .args in
     let f : Fitting (1073741823 + 65535) (directAt (cellsOf (s .pre .0 .0)) (a .work .now) (a .m) (a .v) true) = direct-fit (s .pre .0 .0) (s .pre .0 .1 .built .usable) (a .work .now) (a .m) 1073741823 (s .pre .1 .early) (s .pre .1 .cuts) (s .pre .1 .late) (a .v) (s .pre .2) true in
-    omega (arith, ap (λ (p : Phase). p .arrival) (c .direct2 .ensures (s .pre .0 .0) (s .pre .0 .1 .built)), f .soon)
+    omega (arith, ap (λ (p : Phase). p .arrival) (d .direct .ensures (s .pre .0 .0) (s .pre .0 .1 .built) .1), f .soon)
 
 sooner-requires : tie.Need-sooner-requires
 sooner-requires c κs = search needs
 
 invert-requires-2 : tie.Need-invert-requires-2
 invert-requires-2 c κs =
-    let s = c .before .before .before .before .before .before .before in
+    let d = c .before .before .before .before in
+    let s = d .before .before .before in
     let a = s .args in
     let f : Fitting (1073741823 + 65535) (directAt (cellsOf (s .pre .0 .0)) (a .work .now) (a .m) (a .v) false) = direct-fit (s .pre .0 .0) (s .pre .0 .1 .built .usable) (a .work .now) (a .m) 1073741823 (s .pre .1 .early) (s .pre .1 .cuts) (s .pre .1 .late) (a .v) (s .pre .2) false in
-    omega (arith, ap (λ (p : Phase). p .arrival) (c .before .before .before .before .direct .ensures (s .pre .0 .0) (s .pre .0 .1 .built)), f .soon)
+    omega (arith, ap (λ (p : Phase). p .arrival) (d .direct .ensures (s .pre .0 .0) (s .pre .0 .1 .built) .0), f .soon)
 
 sooner-requires-2 : tie.Need-sooner-requires-2
 sooner-requires-2 c κs = search needs
 
 set-positive-requires : tie.Need-set-positive-requires
 set-positive-requires c κs =
-    let s = c .before .before .before .before .before .before .before .before .before .before in
+    let i2 = c .before .before in
+    let t1 = i2 .before in
+    let i1 = t1 .before in
+    let d = i1 .before .before .before in
+    let s = d .before .before .before in
     let a = s .args in
-    (s .pre .1 .cuts .room, s .pre .2, subst PhaseFits (sym (sooner-is (cellsOf (s .pre .0 .0)) (a .inv) (c .before .before .before .before .before .before .before .direct .result) (c .before .before .before .before .before .direct2 .result) (directAt (cellsOf (s .pre .0 .0)) (a .work .now) (a .m) (a .v) false) (directAt (cellsOf (s .pre .0 .0)) (a .work .now) (a .m) (a .v) true) (c .before .before .before .before .invert .result) (c .before .before .before .sooner .result) (s .pre .0 .1 .inverter) (c .before .before .before .before .before .before .before .direct .ensures (s .pre .0 .0) (s .pre .0 .1 .built)) (c .before .before .before .before .before .direct2 .ensures (s .pre .0 .0) (s .pre .0 .1 .built)) (c .before .before .before .before .invert .ensures) (c .before .before .before .sooner .ensures))) (turn-fit (s .pre .0 .0) (s .pre .0 .1 .built .usable) (a .work .now) (a .m) 1073741823 (s .pre .1 .cuts) (s .pre .1 .late) (s .pre .1 .early) (a .v) (s .pre .2) false .fit))
+    let one =
+    sooner-is (cellsOf (s .pre .0 .0)) (a .inv) (d .direct .result .positive) (d .direct .result .negative) (directAt (cellsOf (s .pre .0 .0)) (a .work .now) (a .m) (a .v) false) (directAt (cellsOf (s .pre .0 .0)) (a .work .now) (a .m) (a .v) true)
+    (i1 .invert .result) (t1 .sooner .result) (s .pre .0 .1 .inverter) (d .direct .ensures (s .pre .0 .0) (s .pre .0 .1 .built) .0) (d .direct .ensures (s .pre .0 .0) (s .pre .0 .1 .built) .1) (i1 .invert .ensures) (t1 .sooner .ensures) in
+    (s .pre .1 .cuts .room, s .pre .2, subst PhaseFits (sym one) (turn-fit (s .pre .0 .0) (s .pre .0 .1 .built .usable) (a .work .now) (a .m) 1073741823 (s .pre .1 .cuts) (s .pre .1 .late) (s .pre .1 .early) (a .v) (s .pre .2) false .fit))
 
 set-negative-requires : tie.Need-set-negative-requires
 set-negative-requires c κs =
-    let s = c .before .before .before .before .before .before .before .before .before .before .before .before .before .before in
+    let p = c .before .before .before in
+    let t2 = p .before .before in
+    let i2 = t2 .before in
+    let t1 = i2 .before in
+    let i1 = t1 .before in
+    let d = i1 .before .before .before in
+    let s = d .before .before .before in
     let a = s .args in
-    let w′ : List ℕ = c .before .before .before .set-positive .last .0 in
+    let w′ : List ℕ = p .set-positive .last .0 in
     let l : length w′ ≡ length (a .work .now) =
-    ap length (c .before .before .before .set-positive .ensures)
-    ∙ length-put (a .work .now) (positiveAddr (a .m) (a .v)) (phaseWords (c .before .before .before .before .before .before .before .sooner .result)) (omega (arith, s .pre .1 .cuts .room .room, length-phase (c .before .before .before .before .before .before .before .sooner .result))) in
+    ap length (p .set-positive .ensures)
+    ∙ length-put (a .work .now) (positiveAddr (a .m) (a .v)) (phaseWords (t1 .sooner .result)) (omega (arith, s .pre .1 .cuts .room .room, length-phase (t1 .sooner .result))) in
     let r : Room w′ (a .m) = record { small = s .pre .1 .cuts .room .small; room = omega (arith, s .pre .1 .cuts .room .room) } in
-    (r, s .pre .2, subst PhaseFits (sym (sooner-is (cellsOf (s .pre .0 .0)) (a .inv) (c .before .before .before .before .before .before .before .before .before .direct2 .result) (c .before .before .before .before .before .before .before .before .before .before .before .direct .result) (directAt (cellsOf (s .pre .0 .0)) (a .work .now) (a .m) (a .v) true) (directAt (cellsOf (s .pre .0 .0)) (a .work .now) (a .m) (a .v) false) (c .before .before .before .before .before .before .invert2 .result) (c .before .before .before .before .before .sooner2 .result) (s .pre .0 .1 .inverter) (c .before .before .before .before .before .before .before .before .before .direct2 .ensures (s .pre .0 .0) (s .pre .0 .1 .built)) (c .before .before .before .before .before .before .before .before .before .before .before .direct .ensures (s .pre .0 .0) (s .pre .0 .1 .built)) (c .before .before .before .before .before .before .invert2 .ensures) (c .before .before .before .before .before .sooner2 .ensures))) (turn-fit (s .pre .0 .0) (s .pre .0 .1 .built .usable) (a .work .now) (a .m) 1073741823 (s .pre .1 .cuts) (s .pre .1 .late) (s .pre .1 .early) (a .v) (s .pre .2) true .fit))
+    let two =
+    sooner-is (cellsOf (s .pre .0 .0)) (a .inv) (d .direct .result .negative) (d .direct .result .positive) (directAt (cellsOf (s .pre .0 .0)) (a .work .now) (a .m) (a .v) true) (directAt (cellsOf (s .pre .0 .0)) (a .work .now) (a .m) (a .v) false)
+    (i2 .invert2 .result) (t2 .sooner2 .result) (s .pre .0 .1 .inverter) (d .direct .ensures (s .pre .0 .0) (s .pre .0 .1 .built) .1) (d .direct .ensures (s .pre .0 .0) (s .pre .0 .1 .built) .0) (i2 .invert2 .ensures) (t2 .sooner2 .ensures) in
+    (r, s .pre .2, subst PhaseFits (sym two) (turn-fit (s .pre .0 .0) (s .pre .0 .1 .built .usable) (a .work .now) (a .m) 1073741823 (s .pre .1 .cuts) (s .pre .1 .late) (s .pre .1 .early) (a .v) (s .pre .2) true .fit))
 
 same-length : tie.Need-same-length
 same-length c = search needs
@@ -69,14 +84,25 @@ same-length c = search needs
 returns : tie.Need-returns
 unfolding chosenTurn putPhases joined
 returns c =
-    let s = c .before .before .before .before .before .before .before .before .before .before .before .before .before .before .before .before .before in
+    let q = c .before .before in
+    let p = q .before .before .before .before in
+    let t2 = p .before .before in
+    let i2 = t2 .before in
+    let t1 = i2 .before in
+    let i1 = t1 .before in
+    let d = i1 .before .before .before in
+    let s = d .before .before .before in
     let a = s .args in
     let w : List ℕ = a .work .now in
     λ lib tools.
-    let one = sooner-is (cellsOf lib) (a .inv) (c .before .before .before .before .before .before .before .before .before .before .before .before .before .before .direct .result) (c .before .before .before .before .before .before .before .before .before .before .before .before .direct2 .result) (directAt (cellsOf lib) (a .work .now) (a .m) (a .v) false) (directAt (cellsOf lib) (a .work .now) (a .m) (a .v) true) (c .before .before .before .before .before .before .before .before .before .before .before .invert .result) (c .before .before .before .before .before .before .before .before .before .before .sooner .result) (tools .inverter) (c .before .before .before .before .before .before .before .before .before .before .before .before .before .before .direct .ensures lib (tools .built)) (c .before .before .before .before .before .before .before .before .before .before .before .before .direct2 .ensures lib (tools .built)) (c .before .before .before .before .before .before .before .before .before .before .before .invert .ensures) (c .before .before .before .before .before .before .before .before .before .before .sooner .ensures) in
-    let two = sooner-is (cellsOf lib) (a .inv) (c .before .before .before .before .before .before .before .before .before .before .before .before .direct2 .result) (c .before .before .before .before .before .before .before .before .before .before .before .before .before .before .direct .result) (directAt (cellsOf lib) (a .work .now) (a .m) (a .v) true) (directAt (cellsOf lib) (a .work .now) (a .m) (a .v) false) (c .before .before .before .before .before .before .before .before .before .invert2 .result) (c .before .before .before .before .before .before .before .before .sooner2 .result) (tools .inverter) (c .before .before .before .before .before .before .before .before .before .before .before .before .direct2 .ensures lib (tools .built)) (c .before .before .before .before .before .before .before .before .before .before .before .before .before .before .direct .ensures lib (tools .built)) (c .before .before .before .before .before .before .before .before .before .invert2 .ensures) (c .before .before .before .before .before .before .before .before .sooner2 .ensures) in
-    c .before .before .set-negative .ensures
-    ∙ ap (λ (x : List ℕ). putAt x (negativeAddr (a .m) (a .v)) (phaseWords (c .before .before .before .before .before .before .before .before .sooner2 .result))) (c .before .before .before .before .before .before .set-positive .ensures)
+    let one =
+    sooner-is (cellsOf lib) (a .inv) (d .direct .result .positive) (d .direct .result .negative) (directAt (cellsOf lib) (a .work .now) (a .m) (a .v) false) (directAt (cellsOf lib) (a .work .now) (a .m) (a .v) true)
+    (i1 .invert .result) (t1 .sooner .result) (tools .inverter) (d .direct .ensures lib (tools .built) .0) (d .direct .ensures lib (tools .built) .1) (i1 .invert .ensures) (t1 .sooner .ensures) in
+    let two =
+    sooner-is (cellsOf lib) (a .inv) (d .direct .result .negative) (d .direct .result .positive) (directAt (cellsOf lib) (a .work .now) (a .m) (a .v) true) (directAt (cellsOf lib) (a .work .now) (a .m) (a .v) false)
+    (i2 .invert2 .result) (t2 .sooner2 .result) (tools .inverter) (d .direct .ensures lib (tools .built) .1) (d .direct .ensures lib (tools .built) .0) (i2 .invert2 .ensures) (t2 .sooner2 .ensures) in
+    q .set-negative .ensures
+    ∙ ap (λ (x : List ℕ). putAt x (negativeAddr (a .m) (a .v)) (phaseWords (t2 .sooner2 .result))) (p .set-positive .ensures)
     ∙ (λ i. putAt (putAt w (positiveAddr (a .m) (a .v)) (phaseWords (one i))) (negativeAddr (a .m) (a .v)) (phaseWords (two i)))
 
 pub choose-variable-spec : {M : Type 1} → statement M
@@ -84,7 +110,6 @@ choose-variable-spec =
     tie.close
     (tie.spec
     direct-requires
-    direct-requires-2
     invert-requires
     sooner-requires
     invert-requires-2

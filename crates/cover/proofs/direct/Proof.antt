@@ -1,6 +1,6 @@
 -- `cover::direct` meets its contract: by what the variable is. Assumes nothing.
 use mathlib.Core.Path.{_≡_, sym, ap, _∙_}
-use mathlib.Core.Bool.{Bool}
+use mathlib.Core.Bool.{Bool, true, false}
 use mathlib.Core.List.{List}
 use mathlib.Core.Logic.{⊎-elim, inl, inr}
 use Prim.Native.Nat.{ℕ}
@@ -35,43 +35,53 @@ module _ (cells : List Cell) (w : List ℕ) (m v : ℕ) (neg : Bool) where
 kind-requires : tie.Need-kind-requires
 kind-requires c κs = search needs
 
-best-phase-requires : tie.Need-best-phase-requires
-best-phase-requires c κs = search needs
+best-phases-requires : tie.Need-best-phases-requires
+best-phases-requires c κs = search needs
 
 own-requires : tie.Need-own-requires
 own-requires c κs = let s = c .before .before .before in (s .pre .1 .cuts .room, s .pre .2)
 
-nothing-requires : tie.Need-nothing-requires
-nothing-requires c κs = search needs
+neither-requires : tie.Need-neither-requires
+neither-requires c κs = search needs
 
 returns : tie.Need-returns
 returns c =
     let a = c .before .before .before .before .args in
     let k = sym (c .before .before .kind .ensures) in
-    λ lib sheet. c .best-phase .ensures lib sheet
-    ∙ ⊎-elim (λ e. of-constant (cellsOf lib) (a .work .now) (a .m) (a .v) (a .neg) (k ∙ e)) (λ e. of-and (cellsOf lib) (a .work .now) (a .m) (a .v) (a .neg) (k ∙ e)) (c .before .match .keys1)
+    λ lib sheet. (
+      c .best-phases .ensures lib sheet .0
+          ∙ ⊎-elim (λ e. of-constant (cellsOf lib) (a .work .now) (a .m) (a .v) false (k ∙ e)) (λ e. of-and (cellsOf lib) (a .work .now) (a .m) (a .v) false (k ∙ e)) (c .before .match .keys1),
+      c .best-phases .ensures lib sheet .1
+          ∙ ⊎-elim (λ e. of-constant (cellsOf lib) (a .work .now) (a .m) (a .v) true (k ∙ e)) (λ e. of-and (cellsOf lib) (a .work .now) (a .m) (a .v) true (k ∙ e)) (c .before .match .keys1),
+    )
 
 returns-2 : tie.Need-returns-2
 returns-2 c =
     let a = c .before .before .before .before .args in
-    λ lib sheet. c .own .ensures ∙ of-input (cellsOf lib) (a .work .now) (a .m) (a .v) (a .neg) (sym (c .before .before .kind .ensures) ∙ c .before .match .keys2)
+    let k = sym (c .before .before .kind .ensures) ∙ c .before .match .keys2 in
+    λ lib sheet. (
+      c .own .ensures .0 ∙ of-input (cellsOf lib) (a .work .now) (a .m) (a .v) false k,
+      c .own .ensures .1 ∙ of-input (cellsOf lib) (a .work .now) (a .m) (a .v) true k,
+    )
 
 returns-3 : tie.Need-returns-3
 returns-3 c =
     let a = c .before .before .before .before .args in
     let k = c .before .before .kind .ensures in
     let r = c .before .match .rest in
-    λ lib sheet. c .nothing .ensures
-    ∙ of-undefined (cellsOf lib) (a .work .now) (a .m) (a .v) (a .neg) (λ e. r .0 .1 (inl (k ∙ e))) (λ e. r .1 (k ∙ e)) (λ e. r .0 .1 (inr (k ∙ e)))
+    λ lib sheet. (
+      c .neither .ensures .0 ∙ of-undefined (cellsOf lib) (a .work .now) (a .m) (a .v) false (λ e. r .0 .1 (inl (k ∙ e))) (λ e. r .1 (k ∙ e)) (λ e. r .0 .1 (inr (k ∙ e))),
+      c .neither .ensures .1 ∙ of-undefined (cellsOf lib) (a .work .now) (a .m) (a .v) true (λ e. r .0 .1 (inl (k ∙ e))) (λ e. r .1 (k ∙ e)) (λ e. r .0 .1 (inr (k ∙ e))),
+    )
 
 pub direct-spec : {M : Type 1} → statement M
 direct-spec =
     tie.close
     (tie.spec
     kind-requires
-    best-phase-requires
+    best-phases-requires
     own-requires
-    nothing-requires
+    neither-requires
     returns
     returns-2
     returns-3)

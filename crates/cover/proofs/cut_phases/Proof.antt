@@ -1,0 +1,104 @@
+-- `cover::cut_phases` meets its contract: by whether the cut is the variable alone, and whether its function is a cell's in either phase. Assumes nothing.
+use mathlib.Core.Path.{sym, ap, _∙_}
+use mathlib.Core.Bool.{true, false}
+use mathlib.Core.List.{List}
+use Prim.Native.Nat.{ℕ, _<_}
+use native.Mathlib.Omega.{arith}
+use Rattle.model.specs.Cells.{cellsOf}
+use Rattle.model.specs.Choice.{choose}
+use Rattle.model.specs.Matching.{phaseTable}
+use Rattle.words.specs.Record.{leavesAt}
+use Rattle.words.proofs.Tabled.{function-fits}
+use Rattle.cover.specs.Choosing.{foundOn}
+use Rattle.cover.proofs.Found.{few-leaves, table-small, table-straight, on-none, at-alone, at-cut}
+use borrow.Author.Needs.{needs}
+use borrow.Author.Tests.{not-true}
+use Rattle.cover.proofs.cut_phases.Statement.{statement}
+use Rattle.cover.proofs.cut_phases.Tie as tie
+
+alone-requires : tie.Need-alone-requires
+alone-requires c κs =
+    let s = c .before in
+    (s .pre .1 .cuts .room, s .pre .2, omega (arith, s .pre .3, s .pre .1 .cuts .few (s .args .v) (s .pre .2)))
+
+neither-requires : tie.Need-neither-requires
+neither-requires c κs = search needs
+
+returns : tie.Need-returns
+returns c =
+    let tested = c .before .before in
+    let a = tested .before .before .args in
+    let e = sym (tested .alone .ensures) ∙ c .before .if1 .taken in
+    λ lib sheet. (
+      c .neither .ensures .0 ∙ at-alone (cellsOf lib) (a .work .now) (a .m) (a .v) false (a .k) e,
+      c .neither .ensures .1 ∙ at-alone (cellsOf lib) (a .work .now) (a .m) (a .v) true (a .k) e,
+    )
+
+table-requires : tie.Need-table-requires
+table-requires c κs =
+    let s = c .before .before .before in
+    (s .pre .1 .cuts .room, s .pre .2, omega (arith, s .pre .3, s .pre .1 .cuts .few (s .args .v) (s .pre .2)))
+
+is-matched-requires : tie.Need-is-matched-requires
+is-matched-requires c κs = search needs
+
+neither-requires-2 : tie.Need-neither-requires-2
+neither-requires-2 c κs = search needs
+
+returns-2 : tie.Need-returns-2
+returns-2 c =
+    let asked = c .before .before in
+    let read = asked .before in
+    let tested = read .before .before in
+    let s = tested .before .before in
+    let a = s .args in
+    let w : List ℕ = a .work .now in
+    let few = few-leaves w (a .m) (a .v) (a .k) in
+    let e = sym (tested .alone .ensures) ∙ read .before .if1 .left in
+    let fits : read .table .result < 65536 = omega (arith, read .table .ensures, function-fits w (a .m) (a .v) (a .k) 65536 (λ i. omega (arith, tested .before .shared-slice-known .given i))) in
+    let none = asked .is-matched .ensures (not-true _ (c .before .if2 .taken)) in
+    λ lib sheet. (
+      c .neither2 .ensures .0
+          ∙ on-none lib (a .sheet .now) sheet w (a .m) 1073741823 (s .pre .1 .early) (omega arith) (leavesAt w (a .m) (a .v) (a .k)) few
+          (λ j i. s .pre .1 .cuts .within (a .v) (a .k) j (s .pre .2) (s .pre .3) i) (a .k) (read .table .result) fits (none .0)
+          ∙ ap (λ (f : ℕ). choose (foundOn (cellsOf lib) w (a .m) (a .k) (leavesAt w (a .m) (a .v) (a .k)) f)) (read .table .ensures ∙ sym (table-straight _))
+          ∙ at-cut (cellsOf lib) w (a .m) (a .v) false (a .k) e,
+      c .neither2 .ensures .1
+          ∙ on-none lib (a .sheet .now) sheet w (a .m) 1073741823 (s .pre .1 .early) (omega arith) (leavesAt w (a .m) (a .v) (a .k)) few
+          (λ j i. s .pre .1 .cuts .within (a .v) (a .k) j (s .pre .2) (s .pre .3) i) (a .k) (phaseTable true (read .table .result)) (table-small (read .table .result)) (none .1)
+          ∙ ap (λ (f : ℕ). choose (foundOn (cellsOf lib) w (a .m) (a .k) (leavesAt w (a .m) (a .v) (a .k)) (phaseTable true f))) (read .table .ensures)
+          ∙ at-cut (cellsOf lib) w (a .m) (a .v) true (a .k) e,
+    )
+
+match-cut-requires : tie.Need-match-cut-requires
+match-cut-requires c κs = search needs
+
+returns-3 : tie.Need-returns-3
+returns-3 c =
+    let read = c .before .before .before in
+    let tested = read .before .before in
+    let a = tested .before .before .args in
+    let w : List ℕ = a .work .now in
+    let e = sym (tested .alone .ensures) ∙ read .before .if1 .left in
+    λ lib sheet. (
+      c .match-cut .ensures lib sheet .0
+          ∙ ap (λ (f : ℕ). choose (foundOn (cellsOf lib) w (a .m) (a .k) (leavesAt w (a .m) (a .v) (a .k)) f)) (read .table .ensures ∙ sym (table-straight _))
+          ∙ at-cut (cellsOf lib) w (a .m) (a .v) false (a .k) e,
+      c .match-cut .ensures lib sheet .1
+          ∙ ap (λ (f : ℕ). choose (foundOn (cellsOf lib) w (a .m) (a .k) (leavesAt w (a .m) (a .v) (a .k)) (phaseTable true f))) (read .table .ensures)
+          ∙ at-cut (cellsOf lib) w (a .m) (a .v) true (a .k) e,
+    )
+
+pub cut-phases-spec : {M : Type 1} → statement M
+cut-phases-spec =
+    tie.close
+    (tie.spec
+    alone-requires
+    neither-requires
+    returns
+    table-requires
+    is-matched-requires
+    neither-requires-2
+    returns-2
+    match-cut-requires
+    returns-3)

@@ -1,0 +1,30 @@
+-- `cover::is_matched` meets its contract. Assumes nothing.
+use mathlib.Core.Path.{sym, ap, _∙_}
+use mathlib.Core.Bool.{true≢false}
+use Prim.Native.Nat.{ℕ}
+use Rattle.matching.specs.Sheet.{isListed}
+use borrow.Author.Needs.{needs}
+use Rattle.cover.proofs.is_matched.Statement.{statement}
+use Rattle.cover.proofs.is_matched.Tie as tie
+
+is-listed-requires : tie.Need-is-listed-requires
+is-listed-requires c κs = search needs
+
+in-phase-requires : tie.Need-in-phase-requires
+in-phase-requires c κs = search needs
+
+is-listed-requires-2 : tie.Need-is-listed-requires-2
+is-listed-requires-2 c κs = search needs
+
+returns : tie.Need-returns
+returns c = λ e. absurd (true≢false e)
+
+returns-2 : tie.Need-returns-2
+returns-2 c =
+    let turned = c .before in
+    let tested = turned .before .before in
+    let a = tested .before .args in
+    λ e. (sym (tested .is-listed .ensures) ∙ turned .before .if1 .left, ap (λ (x : ℕ). isListed (a .sheet .now) x) (sym (turned .in-phase .ensures)) ∙ sym (c .is-listed2 .ensures) ∙ e)
+
+pub is-matched-spec : {M : Type 1} → statement M
+is-matched-spec = tie.close (tie.spec is-listed-requires in-phase-requires is-listed-requires-2 returns returns-2)
