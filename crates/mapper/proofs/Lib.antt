@@ -6,3 +6,4 @@ pub mod Numbers
 pub mod Ends
 pub mod Libraries
 pub mod Whole
+pub mod Unseen

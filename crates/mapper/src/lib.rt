@@ -156,7 +156,8 @@ fn map_header(
 // A library text, a graph text in either form and an arrivals' text mapped: the netlist at the start of text memory, or the first refusal that
 // applies. The clauses carry the names of the demands; `fits` says that the netlist's length is within text memory, `twins` that texts which mean the
 // same graph have the same outcome, `sequenced` that 13 to 15 refuse no binary text, `ends` that "texts alike but for line ends" have the same,
-// `untimed` that an empty third text is none, `listed` that each listed input arrives as its line says and the others at 0.
+// `untimed` that an empty third text is none, `listed` that each listed input arrives as its line says and the others at 0. How cuts are stored is in no
+// clause: `Unseen.store-unseen` says so.
 pub fn map_texts(
     cells: &[u8],
     graph: &[u8],
