@@ -1,5 +1,6 @@
 pub mod Answers
 pub mod Cases
+pub mod RangeCases
 pub mod GenlibCases
 pub mod GenlibTables
 pub mod TwoCases

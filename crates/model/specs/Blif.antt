@@ -1,5 +1,5 @@
 -- BLIF, as far as the netlist uses it: a text read, and the values and arrivals of its nets. Apart from the writer. Assumes nothing.
-use Prim.Native.Nat.{ℕ, _+_, _-_, _*_}
+use Prim.Native.Nat.{ℕ, _+_, _-_, _*_, _≤_}
 use mathlib.Core.Path.{_≡_}
 use mathlib.Core.Bool.{Bool, cond, _&&_}
 use mathlib.Core.Option.{Option, none, some}
@@ -172,6 +172,41 @@ unfoldable pub readFigures : List ℕ → Option Figures
 unfolding andThen parts behindEnd fields readFigureWords
 readFigures bytes = andThen (behindEnd (parts 10 bytes)) (λ l. readFigureWords (fields l))
 
+-- ---- the `# timing` lines
+
+-- "as `# timing o0 30 35`: a low and a high arrival"
+pub record TimingLine : Type 0 where
+  pub output : List ℕ
+  pub low : ℕ
+  pub high : ℕ
+
+-- the words `# timing NAME N N`
+unfoldable pub readTimingWords : List (List ℕ) → Option TimingLine
+unfolding andThen only same text figure
+readTimingWords ws =
+    andThen (only (eqb (length ws) 5 && (same (getD ws 0 []) (text "#") && same (getD ws 1 []) (text "timing"))) ws) (λ _.
+    andThen (figure (getD ws 3 [])) (λ low.
+    andThen (figure (getD ws 4 [])) (λ high.
+    some (record { output = getD ws 2 []; low = low; high = high }))))
+
+-- lines that are all of this form
+unfoldable pub readTimingLines : List (List ℕ) → Option (List TimingLine)
+unfolding andThen fields readTimingWords
+readTimingLines [] = some []
+readTimingLines (l ∷ ls) = let rest = readTimingLines ls in andThen (readTimingWords (fields l)) (λ x. andThen rest (λ xs. some (x ∷ xs)))
+
+-- the lines behind the `# gates` line
+unfoldable pub behindFigures : List (List ℕ) → List (List ℕ)
+unfolding same text
+behindFigures [] = []
+behindFigures (l ∷ []) = []
+behindFigures (l ∷ k ∷ ls) = let later = behindFigures (k ∷ ls) in cond (same l (text ".end")) ls later
+
+-- "The netlist is then followed by a line per output": all that follows the `# gates` line
+unfoldable pub readTimings : List ℕ → Option (List TimingLine)
+unfolding parts behindFigures readTimingLines
+readTimings bytes = readTimingLines (behindFigures (parts 10 bytes))
+
 -- ---- its meaning, with the library's cells
 
 -- the cell of a name
@@ -218,10 +253,28 @@ pub record NetValues (cells : List Cell) (n : Blif) (setting : List Bool) (w : L
   pub atGates : (t : GateLine) → List·Memᴰ t (n .gates) → w (drives t) ≡ value (named cells (t .cell) .table) (rowOf (map w (fedBy cells t)))
   pub atWires : (x : Wire) → List·Memᴰ x (n .wires) → w (x .target) ≡ w (x .source)
 
--- "A printed net's arrival follows the same rule over the gate lines, in whatever order they stand, with the library text's `d` delays."
--- An input net has its input's time, of those given in the inputs' order. The `.names` lines "aren't gates and add no delay": an output's own name
--- arrives as its net.
-pub record NetArrivals (cells : List Cell) (n : Blif) (times : List ℕ) (at : List ℕ → ℕ) : Type 0 where
+-- a choice of pin delays, "fixed separately per gate": those of each gate line, its first pin's first. No two gate lines are equal, for no net is driven
+-- twice
+abbrev pub Delays : Type 0
+Delays = GateLine → List ℕ
+
+-- the delays of a gate line's pins under a choice
+abbrev pub delaysAt : Delays → GateLine → List ℕ
+delaysAt delays t = delays t
+
+-- the arrivals of the nets under a choice of pin delays: an input net has its input's time, of those given in the inputs' order, a gate's net what the rule
+-- gives, and the `.names` lines "aren't gates and add no delay": an output's own name arrives as its net
+pub record NetTimes (cells : List Cell) (delays : Delays) (n : Blif) (times : List ℕ) (at : List ℕ → ℕ) : Type 0 where
   pub atInputs : map at (n .inputs) ≡ times
-  pub atGates : (t : GateLine) → List·Memᴰ t (n .gates) → at (drives t) ≡ latest (map at (fedBy cells t)) (named cells (t .cell) .delays)
+  pub atGates : (t : GateLine) → List·Memᴰ t (n .gates) → at (drives t) ≡ latest (map at (fedBy cells t)) (delaysAt delays t)
   pub atWires : (x : Wire) → List·Memᴰ x (n .wires) → at (x .target) ≡ at (x .source)
+
+-- "A printed net's arrival follows the same rule over the gate lines, in whatever order they stand, with the library text's `d` delays."
+abbrev pub NetArrivals : List Cell → Blif → List ℕ → (List ℕ → ℕ) → Type 0
+NetArrivals cells n times at = NetTimes cells (λ t. named cells (t .cell) .delays) n times at
+
+-- a choice of pin delays, "each within its range": from the lowest of its cell's pin to the `d` delay
+abbrev pub InRange : List Cell → Delays → Blif → Type 0
+InRange cells delays n =
+    (t : GateLine) → List·Memᴰ t (n .gates) → (j : ℕ)
+    → (getD (named cells (t .cell) .lows) j 0 ≤ getD (delaysAt delays t) j 0) × (getD (delaysAt delays t) j 0 ≤ getD (named cells (t .cell) .delays) j 0)

@@ -16,7 +16,7 @@ nameOf c = take (c .len) (c .name)
 
 -- what stands at a line that is not there: the element that Rattle's own rules take past the end of an array
 abbrev pub noCell : Cell
-noCell = record { name = []; len = 0; pins = 0; table = 0; area = 0; delays = [] }
+noCell = record { name = []; len = 0; pins = 0; table = 0; area = 0; delays = []; lows = [] }
 
 -- the cell at a line, from 0
 unfoldable pub cellAt : List Cell → ℕ → Cell
@@ -30,7 +30,7 @@ isInverter c = eqb (c .pins) 1 && eqb (c .table) 1
 
 -- the cell of zeros
 abbrev pub blank : Cell
-blank = record { name = replicate 8 0; len = 0; pins = 0; table = 0; area = 0; delays = replicate 4 0 }
+blank = record { name = replicate 8 0; len = 0; pins = 0; table = 0; area = 0; delays = replicate 4 0; lows = replicate 4 0 }
 
 -- the library that holds cells: they, and blank ones behind them
 unfoldable pub libraryOf : List Cell → Library

@@ -37,7 +37,7 @@ twoCallOf library first second work = record { library = library; words = length
 abbrev pub alone : List ℕ → Channel → ℕ → Call
 alone library ch words = record { library = library; graph = ch .graph; arrivals = ch .arrivals; words = words; bytes = ch .bytes }
 
--- how many words a channel needs, or the first refusal tried before 10 that applies to its texts: 1 to 9 and 19
+-- how many words a channel needs, or the first refusal tried before 10 that applies to its texts: 1 to 9, 19 and 27
 unfoldable pub needOf : List ℕ → Channel → Read ℕ
 unfolding next unless readLibrary readHeader need
 needOf library ch =

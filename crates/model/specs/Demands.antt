@@ -1,5 +1,6 @@
 -- The three demands as types, for every call: library text, graph text in either form, arrivals' text, number of lent words and number of lent bytes; and
--- what is promised of two texts that mean the same graph, of texts alike but for line ends, and of inputs that arrive late. Assumes nothing.
+-- what is promised of two texts that mean the same graph, of texts alike but for line ends, of inputs that arrive late, and of delays given as ranges.
+-- Assumes nothing.
 use Prim.Native.Nat.{ℕ, suc, _*_, _≤_, _<_}
 use mathlib.Core.Path.{_≡_}
 use mathlib.Core.Bool.{Bool, true, false, cond, _&&_, _||_}
@@ -15,15 +16,18 @@ use Rattle.model.specs.Text.{Line, text, linesFrom, shown, fields}
 use Rattle.model.specs.Reading.{Read, holds, fault, next, unless}
 use Rattle.model.specs.Cells.{nameOf}
 use Rattle.model.specs.Graph.{Graph, literal, varOf, negated, unplaced, placingOrder, literalValue, GraphValues}
-use Rattle.model.specs.LibraryText.{readLibrary}
+use Rattle.model.specs.LibraryText.{readLibrary, isRanged}
+use Rattle.model.specs.FormerLibrary.{formerLibrary}
 use Rattle.model.specs.GraphText.{readHeader, readGraph, asciiText}
 use Rattle.model.specs.ArrivalsText.{Late, readArrivals}
 use Rattle.model.specs.Cuts.{cutsOf, compareLeaves, crowded}
 use Rattle.model.specs.Choice.{feeds, cellOf, absent, chosen, preference}
 use Rattle.model.specs.Cover.{IsOwn, Allowed, Needed, arrivalBy, Cover, CoverArrivals}
-use Rattle.model.specs.Netlist.{Outcome, refused, mapped, gates, figuresOf, netlistText, netName, outName, sum, largest}
-use Rattle.model.specs.Blif.{GateLine, Binding, Wire, Blif, readBlif, readFigures, named, drives, fedBy, pinNames, outputName, NetValues, NetArrivals}
-use Rattle.model.specs.Mapper.{Call, Design, readTexts, mapDesign, mapTexts, answerOf, returned, returnedBy, textAfter, workAfter}
+use Rattle.model.specs.Netlist.{Outcome, refused, mapped, mapGraph, gates, figuresOf, netlistText, netName, outName, sum, largest}
+use Rattle.model.specs.Timing.{lowOf, timingLines}
+use Rattle.model.specs.Blif.{GateLine, Binding, Wire, Blif, readBlif, readFigures, TimingLine, readTimings, named, drives, fedBy, pinNames, outputName, NetValues, Delays, delaysAt, NetTimes, NetArrivals, InRange}
+use Rattle.model.specs.ArrivalsText.{timedBy}
+use Rattle.model.specs.Mapper.{Call, Design, short, readTexts, within, mapDesign, mapTexts, answerOf, returned, returnedBy, textAfter, workAfter}
 use Rattle.model.specs.declared.Cell.{Cell}
 use Rattle.model.specs.declared.Header.{Header}
 use Rattle.model.specs.declared.Source.{Source}
@@ -138,8 +142,8 @@ pub record Mappable (c : Call) (d : Design) : Type 0 where
   pub few : crowded (d .graph) ≡ []
 
 -- a statement of the outcome of a call whose texts can be mapped
-abbrev pub OfMappable : (ℕ → Outcome → List Cell → Graph → Type 0) → Call → Type 0
-OfMappable P c = (d : Design) → Mappable c d → P (c .bytes) (mapTexts c) (d .cells) (d .graph)
+abbrev pub OfMappable : (Bool → ℕ → Outcome → List Cell → Graph → Type 0) → Call → Type 0
+OfMappable P c = (d : Design) → Mappable c d → P (d .ranged) (c .bytes) (mapTexts c) (d .cells) (d .graph)
 
 -- every cover has arrivals, and on the phases that it needs no others: where there is no cover there are no sources for one. "every arrival starts from
 -- it": an input's own net has the input's arrival
@@ -149,8 +153,8 @@ pub record Timed (cells : List Cell) (g : Graph) (outs : List ℕ) (c : Cover ce
       → (l : ℕ) → Needed cells g outs (c .source) l → at l ≡ bt l
   pub starts : (at : ℕ → ℕ) → CoverArrivals cells g outs c at → (l : ℕ) → Needed cells g outs (c .source) l → IsOwn g l → at l ≡ g .late (varOf l)
 
-abbrev pub CoversTimed : ℕ → Outcome → List Cell → Graph → Type 0
-CoversTimed bytes outcome cells g = (outs : List ℕ) (c : Cover cells g outs) → Timed cells g outs c
+abbrev pub CoversTimed : Bool → ℕ → Outcome → List Cell → Graph → Type 0
+CoversTimed ranged bytes outcome cells g = (outs : List ℕ) (c : Cover cells g outs) → Timed cells g outs c
 
 -- output k is the lowest that has no cover: "a cover of one output is a cover with that as the only output"
 pub record LowestUncovered (cells : List Cell) (g : Graph) (k : ℕ) : Type 0 where
@@ -166,14 +170,18 @@ choiceFigures cells g = figuresOf g (chosen cells g) (gates cells g (chosen cell
 abbrev pub choiceText : List Cell → Graph → List ℕ
 choiceText cells g = netlistText g (gates cells g (chosen cells g)) (choiceFigures cells g)
 
+-- what is printed: the netlist, and where delays are ranges it is "followed by a line per output"
+abbrev pub printedText : Bool → List Cell → Graph → List ℕ
+printedText ranged cells g = cond ranged (choiceText cells g ++ timingLines (lowOf cells g) (λ (l : ℕ). chosen cells g l .arrival) 0 (g .outputs)) (choiceText cells g)
+
 -- "refusal 17 comes exactly when some output has no cover, and names the lowest; else the netlist of the cover that 01's choice gives is
 -- printed, or 18 exactly when it applies"
-pub record Decided (bytes : ℕ) (outcome : Outcome) (cells : List Cell) (g : Graph) : Type 0 where
+pub record Decided (ranged : Bool) (bytes : ℕ) (outcome : Outcome) (cells : List Cell) (g : Graph) : Type 0 where
   pub seventeen : (k : ℕ) → (outcome ≡ refused 17 k) ↔ LowestUncovered cells g k
-  pub prints : ((l : ℕ) → List·Memᴰ l (g .outputs) → Cover cells g (l ∷ [])) → length (choiceText cells g) ≤ bytes
-      → outcome ≡ mapped (choiceText cells g) (choiceFigures cells g)
-  pub eighteen : ((l : ℕ) → List·Memᴰ l (g .outputs) → Cover cells g (l ∷ [])) → bytes < length (choiceText cells g)
-      → outcome ≡ refused 18 (length (choiceText cells g))
+  pub prints : ((l : ℕ) → List·Memᴰ l (g .outputs) → Cover cells g (l ∷ [])) → length (printedText ranged cells g) ≤ bytes
+      → outcome ≡ mapped (printedText ranged cells g) (choiceFigures cells g)
+  pub eighteen : ((l : ℕ) → List·Memᴰ l (g .outputs) → Cover cells g (l ∷ [])) → bytes < length (printedText ranged cells g)
+      → outcome ≡ refused 18 (length (printedText ranged cells g))
 
 -- "the cover that 01's choice gives": where every output has a cover, the chosen sources and arrivals are a cover of the outputs
 pub record ChosenCover (cells : List Cell) (g : Graph) : Type 0 where
@@ -193,9 +201,32 @@ pub record Preferred (cells : List Cell) (g : Graph) (l : ℕ) : Type 0 where
       × (¬ (compareLeaves (preference (chosen cells g l)) (preference (record { source = s; arrival = arrivalBy cells g (λ x. chosen cells g x .arrival) l s })) ≡ Ordering·gt))
 
 -- what is said of the choice
-pub record Chosen (bytes : ℕ) (outcome : Outcome) (cells : List Cell) (g : Graph) : Type 0 where
+pub record Chosen (ranged : Bool) (bytes : ℕ) (outcome : Outcome) (cells : List Cell) (g : Graph) : Type 0 where
   pub covers : ((l : ℕ) → List·Memᴰ l (g .outputs) → Cover cells g (l ∷ [])) → ChosenCover cells g
   pub preferred : (l : ℕ) → List·Memᴰ (varOf l) (placingOrder g) → Preferred cells g l
+
+-- ---- "Delays given as a range"
+
+-- the `# timing` lines ts of a netlist. "a line per output": their names are the outputs', in order. "Every choice of pin delays, each within its range and
+-- fixed separately per gate, puts the output within these two, and each end is reached by some choice": a choice gives any delays to any gate line, apart from
+-- what it gives to the others; it has arrivals, from those of the graph's inputs on; within the ranges it puts every output, "read at its `o` name", between
+-- the two numbers of its line. One choice reaches the low ends of all lines, and one the high ends
+pub record WithinRanges (cells : List Cell) (g : Graph) (n : Blif) (ts : List TimingLine) : Type 0 where
+  pub names : map (λ (x : TimingLine). x .output) ts ≡ n .outputs
+  pub separate : (ds : List (List ℕ)) → length ds ≡ length (n .gates) → (delays : Delays) × (map (delaysAt delays) (n .gates) ≡ ds)
+  pub hasTimes : (delays : Delays) → (at : List ℕ → ℕ) × NetTimes cells delays n (map (g .late) (g .inputs)) at
+  pub within : (delays : Delays) → InRange cells delays n → (at : List ℕ → ℕ) → NetTimes cells delays n (map (g .late) (g .inputs)) at
+      → (x : TimingLine) → List·Memᴰ x ts → (x .low ≤ at (x .output)) × (at (x .output) ≤ x .high)
+  pub lowest : (delays : Delays) × InRange cells delays n
+      × ((at : List ℕ → ℕ) → NetTimes cells delays n (map (g .late) (g .inputs)) at → map at (n .outputs) ≡ map (λ (x : TimingLine). x .low) ts)
+  pub highest : (delays : Delays) × InRange cells delays n
+      × ((at : List ℕ → ℕ) → NetTimes cells delays n (map (g .late) (g .inputs)) at → map at (n .outputs) ≡ map (λ (x : TimingLine). x .high) ts)
+
+-- what a printed text says behind its `# gates` line, read there: under the longer names line these lines, under the shorter nothing
+pub record Ranges (c : Call) : Type 0 where
+  pub timed : (t : List ℕ) (f : Figures) (d : Design) (n : Blif) → Printed c t f d n → isRanged (c .library) ≡ true
+      → (ts : List TimingLine) × (readTimings t ≡ some ts) × WithinRanges (d .cells) (d .graph) n ts
+  pub untimed : (t : List ℕ) (f : Figures) → mapTexts c ≡ mapped t f → isRanged (c .library) ≡ false → readTimings t ≡ some []
 
 -- ---- demands 2 and 3 together, for a call
 
@@ -206,6 +237,7 @@ pub record Values (c : Call) : Type 0 where
   pub gated : OfPrinted Gated c
   pub values : OfPrinted SameValues c
   pub figures : OfPrinted SameFigures c
+  pub ranges : Ranges c
 
 -- Demand 3
 pub record Earliest (c : Call) : Type 0 where
@@ -289,9 +321,13 @@ SamePlace s t k j = ((i : ℕ) × (lineStart s i ≡ k) × (lineStart t i ≡ j)
 abbrev pub ofArrivals : ℕ → Bool
 ofArrivals n = eqb n 25 || eqb n 26
 
--- the text that a refusal's place is in: 2 to 6 are the library's, 25 and 26 the arrivals', the others tried before 15 the graph's
+-- the refusals of the library's text
+abbrev pub ofLibrary : ℕ → Bool
+ofLibrary n = leb n 6 || eqb n 27
+
+-- the text that a refusal's place is in: 2 to 6 and 27 are the library's, 25 and 26 the arrivals', the others tried before 15 the graph's
 unfoldable pub atFault : ℕ → Call → List ℕ
-atFault n c = cond (leb n 6) (c .library) (cond (ofArrivals n) (c .arrivals) (c .graph))
+atFault n c = cond (ofLibrary n) (c .library) (cond (ofArrivals n) (c .arrivals) (c .graph))
 
 -- what the one call's texts hold the other's hold, and whatever comes of that comes of both, 15 to 18 at the same place too: the same netlist is
 -- printed, with the same figures. A refusal of the one is a refusal of the other and of the same number; where it is one of the texts, at the same line
@@ -315,7 +351,7 @@ readUntimed c =
     (next (readLibrary (c .library)) (λ cells.
     next (readHeader (c .graph)) (λ h.
     unless (leb (need (h .size) (h .outputs)) (c .words)) 10 0
-    (next (readGraph (c .graph) h) (λ g. holds (record { cells = cells; graph = g }))))))
+    (next (readGraph (c .graph) h) (λ g. holds (record { cells = cells; ranged = isRanged (c .library); graph = g }))))))
 
 -- the third text is "empty for none": the outcome is then that of the library and the graph alone
 pub record Untimed (c : Call) : Type 0 where
@@ -337,3 +373,26 @@ pub record ListedFor (g : Graph) (es : List Late) : Type 0 where
 
 abbrev pub Listed : Call → Type 0
 Listed c = (d : Design) → readTexts c ≡ holds d → (es : List Late) × (readArrivals (length (d .graph .inputs)) (c .arrivals) ≡ holds es) × ListedFor (d .graph) es
+
+-- ---- the shorter names line: what was printed and refused before there were ranges is so still
+
+-- what the texts hold where the library's is read as it was before there were ranges
+abbrev pub readFormer : Call → Read Design
+readFormer c =
+    unless (short c) 1 0
+    (next (formerLibrary (c .library)) (λ cells.
+    next (readHeader (c .graph)) (λ h.
+    unless (leb (need (h .size) (h .outputs)) (c .words)) 10 0
+    (next (readGraph (c .graph) h) (λ g.
+    next (readArrivals (h .inputs) (c .arrivals)) (λ es. holds (record { cells = cells; ranged = false; graph = timedBy g es })))))))
+
+-- and what came of it
+unfoldable pub formerOutcome : ℕ → Read Design → Outcome
+unfolding within mapGraph
+formerOutcome bytes (holds d) = within bytes (mapGraph (d .cells) (d .graph))
+formerOutcome bytes (fault n k) = refused n k
+
+-- "mapping uses the `d` figures as before": without the longer names line the call reads and answers as before
+pub record Former (c : Call) : Type 0 where
+  pub reads : isRanged (c .library) ≡ false → readTexts c ≡ readFormer c
+  pub outcome : isRanged (c .library) ≡ false → mapTexts c ≡ formerOutcome (c .bytes) (readFormer c)

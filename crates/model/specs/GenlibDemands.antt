@@ -16,10 +16,10 @@ use Rattle.model.specs.GenlibFormula.{pinsOf, nameValue}
 use Rattle.model.specs.Genlib.{Gate, Group, fits, groups, lineTokens, formulaOf, readGenlib, cellsText, genlibText}
 use Rattle.model.specs.declared.Cell.{Cell}
 
--- the cell of a gate's line
+-- the cell of a gate's line, under the shorter names line: its lowest delays are its delays
 unfoldable pub cellOfGate : Gate → Cell
 unfolding nameBytes
-cellOfGate g = record { name = nameBytes (g .name); len = length (g .name); pins = g .pins; table = g .table; area = g .area; delays = g .delays }
+cellOfGate g = record { name = nameBytes (g .name); len = length (g .name); pins = g .pins; table = g .table; area = g .area; delays = g .delays; lows = g .delays }
 
 -- what 3, 4 and 5 ask of names and counts, "tried when the written text is read": at most 32 cells, names of "1 to 8 letters, digits or underscores, a
 -- letter first", none repeated

@@ -10,8 +10,10 @@ pub mod Matching
 pub mod Choice
 pub mod Cover
 pub mod Netlist
+pub mod Timing
 pub mod Blif
 pub mod LibraryText
+pub mod FormerLibrary
 pub mod GraphText
 pub mod ArrivalsText
 pub mod Mapper

@@ -6,11 +6,12 @@ use lib.Dec.{eqb, leb}
 use lib.ListN.{length, drop, replicate}
 use Rattle.model.specs.Limits.{need}
 use Rattle.model.specs.Reading.{Read, holds, fault, next, unless}
-use Rattle.model.specs.LibraryText.{readLibrary}
+use Rattle.model.specs.LibraryText.{readLibrary, isRanged}
 use Rattle.model.specs.GraphText.{readHeader, readGraph}
 use Rattle.model.specs.ArrivalsText.{readArrivals, timedBy}
 use Rattle.model.specs.Graph.{Graph}
 use Rattle.model.specs.Netlist.{Outcome, refused, mapped, mapGraph}
+use Rattle.model.specs.Timing.{followed}
 use Rattle.model.specs.declared.Cell.{Cell}
 use Rattle.model.specs.declared.Answer.{Answer}
 use Rattle.model.specs.declared.Answer.the-variants.{Mapped, Refused}
@@ -27,26 +28,27 @@ pub record Call : Type 0 where
 abbrev pub callOf : List ℕ → List ℕ → List ℕ → List ℕ → List ℕ → Call
 callOf library graph arrivals work text = record { library = library; graph = graph; arrivals = arrivals; words = length work; bytes = length text }
 
--- what the texts hold
+-- what the texts hold: the cells, whether their delays are ranges, and the graph
 pub record Design : Type 0 where
   pub cells : List Cell
+  pub ranged : Bool
   pub graph : Graph
 
 -- "A text is longer than 65,536 bytes": any of the three
 abbrev pub short : Call → Bool
 short c = leb (length (c .library)) 65536 && (leb (length (c .graph)) 65536 && leb (length (c .arrivals)) 65536)
 
--- refusals 1 to 14, 19 to 21, 25 and 26: "Work memory has fewer than 124(M+1) + O 16-bit words" stands between the header's and those of what follows
+-- refusals 1 to 14, 19 to 21 and 25 to 27: "Work memory has fewer than 124(M+1) + O 16-bit words" stands between the header's and those of what follows
 -- it, and the arrivals' come "after 14"
 unfoldable pub readTexts : Call → Read Design
-unfolding next unless readLibrary readHeader readGraph readArrivals timedBy need
+unfolding next unless readLibrary isRanged readHeader readGraph readArrivals timedBy need
 readTexts c =
     unless (short c) 1 0
     (next (readLibrary (c .library)) (λ cells.
     next (readHeader (c .graph)) (λ h.
     unless (leb (need (h .size) (h .outputs)) (c .words)) 10 0
     (next (readGraph (c .graph) h) (λ g.
-    next (readArrivals (h .inputs) (c .arrivals)) (λ es. holds (record { cells = cells; graph = timedBy g es })))))))
+    next (readArrivals (h .inputs) (c .arrivals)) (λ es. holds (record { cells = cells; ranged = isRanged (c .library); graph = timedBy g es })))))))
 
 -- "Text memory is shorter than the netlist; place, the length needed."
 unfoldable pub within : ℕ → Outcome → Outcome
@@ -55,8 +57,8 @@ within bytes (mapped t f) = cond (leb (length t) bytes) (mapped t f) (refused 18
 
 -- the outcome for what was read
 unfoldable pub mapDesign : ℕ → Read Design → Outcome
-unfolding within mapGraph
-mapDesign bytes (holds d) = within bytes (mapGraph (d .cells) (d .graph))
+unfolding within mapGraph followed
+mapDesign bytes (holds d) = within bytes (followed (d .ranged) (d .cells) (d .graph) (mapGraph (d .cells) (d .graph)))
 mapDesign bytes (fault n k) = refused n k
 
 -- the outcome of a call
@@ -94,9 +96,9 @@ unfoldable pub textAfter : Outcome → List ℕ → List ℕ
 textAfter (refused n k) memory = memory
 textAfter (mapped t f) memory = t ++ drop (length t) memory
 
--- the refusals "tried up to 10": 19 is "tried after 9"
+-- the refusals "tried up to 10": 19 is "tried after 9", and 27 "after 6 on its line"
 abbrev pub triedEarly : ℕ → Bool
-triedEarly n = leb n 10 || eqb n 19
+triedEarly n = leb n 10 || (eqb n 19 || eqb n 27)
 
 -- "Work memory is unchanged by every refusal tried up to 10, and all zero after a later one and after success."
 unfoldable pub workAfter : Outcome → List ℕ → List ℕ

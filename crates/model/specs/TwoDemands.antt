@@ -9,7 +9,7 @@ use Rattle.model.specs.Graph.{Graph}
 use Rattle.model.specs.Netlist.{refused, mapped}
 use Rattle.model.specs.Mapper.{Call, Design, mapTexts, returned, returnedBy, textAfter, workAfter, triedEarly}
 use Rattle.model.specs.Channels.{Channel, TwoCall, alone, needOf, needsOf, mapTwo, answersOf, twoWorkAfter}
-use Rattle.model.specs.Demands.{Values, Earliest, Twins, Sequenced, Untimed, Listed, Means, Decided, Mappable, AlikeTexts, EitherEnd}
+use Rattle.model.specs.Demands.{Values, Earliest, Twins, Sequenced, Untimed, Listed, Former, Means, Decided, Mappable, AlikeTexts, EitherEnd}
 use Rattle.model.specs.declared.Figures.{Figures}
 use Rattle.model.specs.declared.Two.{Two}
 
@@ -73,6 +73,7 @@ pub record Promised (c : Call) : Type 0 where
   pub ends : EitherEnd c
   pub untimed : Untimed c
   pub listed : Listed c
+  pub former : Former c
 
 -- each channel's netlist is the one that it has alone, with all the lent words, of which everything is promised; "the promise on when mapping is refused,
 -- where neither has a refusal tried up to 10"
@@ -81,8 +82,8 @@ pub record Each (c : TwoCall) : Type 0 where
   pub second : Promised (alone (c .library) (c .second) (c .words))
   pub printedFirst : (t : List ℕ) (f : Figures) → mapTwo c .first ≡ mapped t f → mapTexts (alone (c .library) (c .first) (c .words)) ≡ mapped t f
   pub printedSecond : (t : List ℕ) (f : Figures) → mapTwo c .second ≡ mapped t f → mapTexts (alone (c .library) (c .second) (c .words)) ≡ mapped t f
-  pub decidedFirst : Neither c → (d : Design) → Mappable (alone (c .library) (c .first) (c .words)) d → Decided (c .first .bytes) (mapTwo c .first) (d .cells) (d .graph)
-  pub decidedSecond : Neither c → (d : Design) → Mappable (alone (c .library) (c .second) (c .words)) d → Decided (c .second .bytes) (mapTwo c .second) (d .cells) (d .graph)
+  pub decidedFirst : Neither c → (d : Design) → Mappable (alone (c .library) (c .first) (c .words)) d → Decided (d .ranged) (c .first .bytes) (mapTwo c .first) (d .cells) (d .graph)
+  pub decidedSecond : Neither c → (d : Design) → Mappable (alone (c .library) (c .second) (c .words)) d → Decided (d .ranged) (c .second .bytes) (mapTwo c .second) (d .cells) (d .graph)
 
 -- ---- texts that mean the same graph, and texts alike but for line ends
 

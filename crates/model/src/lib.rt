@@ -1,6 +1,7 @@
 // The types that code and meaning share. What they mean stands in specs/.
 
-// A cell of the library: "cell pins table area d0 d1 d2 d3". Its name is the first `len` bytes of `name`, and the bytes after them are 0.
+// A cell of the library: "cell pins table area d0 d1 d2 d3" and, in the longer form, "l0 l1 l2 l3"; in the shorter the lowest delays are the
+// delays. Its name is the first `len` bytes of `name`, and the bytes after them are 0.
 pub struct Cell {
     pub name: [u8; 8],
     pub len: usize,
@@ -8,6 +9,7 @@ pub struct Cell {
     pub table: u16,
     pub area: u16,
     pub delays: [u16; 4],
+    pub lows: [u16; 4],
 }
 
 // "No cells and 32 cells are accepted." The first `n` are the library's, in the order of their lines.

@@ -12,11 +12,12 @@ use lib.ListN.{length, replicate}
 use mir.Facts.{leb-yes, leb-no}
 use Rattle.model.specs.Limits.{need}
 use Rattle.model.specs.Reading.{Read, holds, fault, next, unless}
-use Rattle.model.specs.LibraryText.{readLibrary}
+use Rattle.model.specs.LibraryText.{readLibrary, isRanged}
 use Rattle.model.specs.GraphText.{readHeader, readGraph}
 use Rattle.model.specs.ArrivalsText.{readArrivals, timedBy}
 use Rattle.model.specs.Graph.{Graph}
 use Rattle.model.specs.Netlist.{Outcome, refused, mapped, mapGraph}
+use Rattle.model.specs.Timing.{followed}
 use Rattle.model.specs.Mapper.{Call, Design, short, readTexts, mapDesign, mapTexts, returnedBy, triedEarly, workAfter}
 use Rattle.model.specs.Channels.{Channel, TwoCall, alone, needOf, Needs, needsOf, Outcomes, mapNeeds, mapTwo, twoWorkAfter}
 use Rattle.model.specs.Demands.{Decided, Means, AlikeTexts}
@@ -29,8 +30,9 @@ use Rattle.theory_text.proofs.Steps.{holds-once, fault-never, unless-out, next-
 use Rattle.theory_text.proofs.Faults.{Faults, in-holds, in-unless, in-next, library-faults, header-faults, graph-faults, arrivals-faults}
 use Rattle.theory_text.proofs.Arrivals.{texts-listed}
 use Rattle.theory_text.proofs.Ends.{demand-ends}
+use Rattle.theory_text.proofs.Former.{demand-former}
 use Rattle.theory.proofs.Outcomes.{refused-never}
-use Rattle.theory.proofs.Refusals.{Refusal, within-refusal, map-refusal}
+use Rattle.theory.proofs.Refusals.{Refusal, within-refusal, followed-refusal, map-refusal}
 use Rattle.theory.proofs.Sequence.{demand-sequenced}
 use Rattle.theory.proofs.Demanded.{demand-values, demand-earliest, demand-untimed, demand-twins, decided}
 
@@ -46,7 +48,7 @@ module _ (library : List ℕ) (ch : Channel) where
   abbrev behind : List Cell → Header → Read Design
   behind cells h =
       next (readGraph (ch .graph) h) (λ g.
-      next (readArrivals (h .inputs) (ch .arrivals)) (λ es. holds (record { cells = cells; graph = timedBy g es })))
+      next (readArrivals (h .inputs) (ch .arrivals)) (λ es. holds (record { cells = cells; ranged = isRanged library; graph = timedBy g es })))
 
   -- what is read where no refusal tried before 10 applies
   record Read10 (a : ℕ) : Type 0 where
@@ -119,7 +121,8 @@ module _ (library : List ℕ) (ch : Channel) where
       faults =
           in-unless Early (short (alone library ch 0)) 1 0 _ (λ _. (refl, λ q. omega arith))
           (in-next Early (readLibrary library) _
-          (library-faults Early (refl, λ q. omega arith) (λ _. (refl, λ q. omega arith)) (λ _. (refl, λ q. omega arith)) (λ _. (refl, λ q. omega arith)) (λ _. (refl, λ q. omega arith)) library)
+          (library-faults Early (refl, λ q. omega arith) (λ _. (refl, λ q. omega arith)) (λ _. (refl, λ q. omega arith)) (λ _. (refl, λ q. omega arith)) (λ _. (refl, λ q. omega arith))
+          (λ _. (refl, λ q. omega arith)) library)
           (λ cells _. in-next Early (readHeader (ch .graph)) (λ h. holds (need (h .size) (h .outputs)))
           (header-faults Early (refl, λ q. omega arith) (refl, λ q. omega arith) (refl, λ q. omega arith) (refl, λ q. omega arith) (ch .graph))
           (λ h _. in-holds Early (need (h .size) (h .outputs)))))
@@ -131,14 +134,15 @@ module _ (library : List ℕ) (ch : Channel) where
   unfolding next
   behind-late cells h =
       in-next Late10 (readGraph (ch .graph) h) _ (graph-faults Late10 (λ _. refl) (λ _. refl) (λ _. refl) (λ _. refl) (λ _. refl) (λ _. refl) (ch .graph) h)
-      (λ g _. in-next Late10 (readArrivals (h .inputs) (ch .arrivals)) (λ es. holds (record { cells = cells; graph = timedBy g es }))
+      (λ g _. in-next Late10 (readArrivals (h .inputs) (ch .arrivals)) (λ es. holds (record { cells = cells; ranged = isRanged library; graph = timedBy g es }))
       (arrivals-faults Late10 (λ _. refl) (λ _. refl) (h .inputs) (ch .arrivals))
-      (λ es _. in-holds Late10 (record { cells = cells; graph = timedBy g es })))
+      (λ es _. in-holds Late10 (record { cells = cells; ranged = isRanged library; graph = timedBy g es })))
 
   design-late : (r : Read Design) → Faults Late10 r → Refusal Late10 (mapDesign (ch .bytes) r)
   unfolding mapDesign
   design-late (holds d) f =
-      within-refusal Late10 (λ _. refl) (ch .bytes) (mapGraph (d .cells) (d .graph)) (map-refusal Late10 (d .cells) (d .graph) (λ _ _. refl) (λ _. refl) (λ _. refl))
+      within-refusal Late10 (λ _. refl) (ch .bytes) (followed (d .ranged) (d .cells) (d .graph) (mapGraph (d .cells) (d .graph)))
+      (followed-refusal Late10 (d .ranged) (d .cells) (d .graph) (mapGraph (d .cells) (d .graph)) (map-refusal Late10 (d .cells) (d .graph) (λ _ _. refl) (λ _. refl) (λ _. refl)))
   design-late (fault n k) f = f .has n k refl
 
   -- with words enough no refusal tried up to 10 comes
@@ -303,6 +307,7 @@ promised c = record {
   ends = demand-ends c;
   untimed = demand-untimed c;
   listed = texts-listed c;
+  former = demand-former c;
 }
 
 -- a channel is mapped only where neither has a refusal tried up to 10
@@ -337,9 +342,9 @@ demand-each c = record {
   printedFirst = λ t f q. sym (first-whole c (first-mapped c t f q)) ∙ q;
   printedSecond = λ t f q. sym (second-whole c (second-mapped c t f q)) ∙ q;
   decidedFirst = λ e d p.
-      subst (λ (o : Outcome). Decided (c .first .bytes) o (d .cells) (d .graph)) (sym (first-whole c e)) (decided (alone (c .library) (c .first) (c .words)) d p);
+      subst (λ (o : Outcome). Decided (d .ranged) (c .first .bytes) o (d .cells) (d .graph)) (sym (first-whole c e)) (decided (alone (c .library) (c .first) (c .words)) d p);
   decidedSecond = λ e d p.
-      subst (λ (o : Outcome). Decided (c .second .bytes) o (d .cells) (d .graph)) (sym (second-whole c e)) (decided (alone (c .library) (c .second) (c .words)) d p);
+      subst (λ (o : Outcome). Decided (d .ranged) (c .second .bytes) o (d .cells) (d .graph)) (sym (second-whole c e)) (decided (alone (c .library) (c .second) (c .words)) d p);
 }
 
 -- ---- texts that mean the same graph, and texts alike but for line ends

@@ -7,7 +7,7 @@ use mathlib.Core.Path.{_≡_, refl, sym, _∙_, ap, subst}
 use mathlib.Core.Logic.{_⊎_, inl, inr, _↔_}
 use mathlib.Core.Bool.{Bool, true, false, cond}
 use mathlib.Core.Option.{Option, some}
-use mathlib.Core.List.{List, [], _∷_, _++_, map, List·Memᴰ, List·Memᴰ·append-cases, Memᴰ·append-left}
+use mathlib.Core.List.{List, [], _∷_, _++_, map, append-nil, List·Memᴰ, List·Memᴰ·append-cases, Memᴰ·append-left}
 use lib.Dec.{T, leb, leb→le, le→leb}
 use lib.ListN.{length, getD}
 use Rattle.model.specs.Reading.{Read, holds, fault}
@@ -15,11 +15,13 @@ use Rattle.model.specs.Cells.{nameOf}
 use Rattle.model.specs.Base.{each, flip, below}
 use Rattle.model.specs.Graph.{And, Graph, literal, varOf, negated, literalValue, valueOf}
 use Rattle.model.specs.Choice.{chosen}
-use Rattle.model.specs.Cover.{output}
+use Rattle.model.specs.Cover.{Cover, output}
 use Rattle.model.specs.Netlist.{Gate, Outcome, refused, mapped, mapGraph, gates, figuresOf, netName, outName, sum, largest}
-use Rattle.model.specs.Blif.{GateLine, Wire, Blif, readBlif, readFigures, named, drives}
+use Rattle.model.specs.LibraryText.{noLower, isRanged}
+use Rattle.model.specs.Timing.{lowOf, timingLines, followed}
+use Rattle.model.specs.Blif.{GateLine, Wire, Blif, readBlif, readFigures, TimingLine, readTimings, named, drives}
 use Rattle.model.specs.Mapper.{Call, Design, readTexts, mapTexts, mapDesign, within}
-use Rattle.model.specs.Demands.{drivenNets, Printed, OfPrinted, Readable, Formed, Gated, SameValues, SameFigures, NoEarlier, OutputsNoEarlier, OfMappable, CoversTimed, Decided, Chosen, choiceText, choiceFigures, Values, Earliest, Twins, Untimed}
+use Rattle.model.specs.Demands.{drivenNets, Printed, OfPrinted, Readable, Formed, Gated, SameValues, SameFigures, NoEarlier, OutputsNoEarlier, OfMappable, CoversTimed, Decided, Chosen, choiceText, choiceFigures, printedText, WithinRanges, Ranges, Values, Earliest, Twins, Untimed}
 use Rattle.model.specs.declared.Cell.{Cell}
 use Rattle.model.specs.declared.Figures.{Figures}
 use Rattle.theory_graph.proofs.Lists.{map-out, map-map, map-same, is-true, getD-in}
@@ -30,17 +32,19 @@ use Rattle.theory_graph.proofs.GraphValue.{values-exist, values-only}
 use Rattle.theory_cover.proofs.Demand3.{choice-earliest, cover-timed, choice-cover, seventeen-iff, choice-printed}
 use Rattle.theory_cover.proofs.Preference.{choice-preferred}
 use Rattle.theory_text.proofs.ReadBack.{lineOf, inputNames, wiresFrom, blifOf}
-use Rattle.theory_text.proofs.ReadTexts.{design-library, design-accepted}
+use Rattle.theory_text.proofs.ReadTexts.{Texts, texts-read, design-library, design-ranged, design-accepted}
 use Rattle.theory_text.proofs.Names.{net-once}
 use Rattle.theory_text.proofs.Twins.{ascii-means, means-outcome}
 use Rattle.theory_text.proofs.Arrivals.{reads-untimed, untimed-zero}
-use Rattle.theory.proofs.Gates.{gate-out, line-bound, back, figures-said}
+use Rattle.theory_text.proofs.ReadTimings.{timingsFrom}
+use Rattle.theory.proofs.Gates.{gate-out, line-bound, back, figures-said, timings-said, none-said}
 use Rattle.theory.proofs.Wires.{out-net, wire-targets, at-output, at-outputs}
 use Rattle.theory.proofs.Values.{net-value, the, the-holds}
 use Rattle.theory.proofs.Arrivals.{theTime, input-time, times-hold, input-at, net-time}
 use Rattle.theory.proofs.Outcomes.{FromChoice, outcome-is, printed-choice, refused-never}
 use Rattle.theory.proofs.Formed.{line-net, gate-count, well-formed}
 use Rattle.theory.proofs.Gated.{gates-gated}
+use Rattle.theory.proofs.Ranges.{within-ranges}
 
 -- ---- what is printed
 
@@ -52,22 +56,34 @@ chosenBlif d = blifOf (d .graph) (gates (d .cells) (d .graph) (chosen (d .cells)
 record Known (t : List ℕ) (f : Figures) (d : Design) : Type 0 where
   library : T (libraryFits (d .cells))
   graph : Accepted (d .graph)
-  choice : FromChoice (d .cells) (d .graph) t f
+  choice : FromChoice (d .cells) (d .graph) (choiceText (d .cells) (d .graph)) f
+  isText : t ≡ printedText (d .ranged) (d .cells) (d .graph)
+  lows : (k : Cell) → List·Memᴰ k (d .cells) → T (noLower (k .lows) (k .delays))
   reads : readBlif t ≡ some (chosenBlif d)
   says : readFigures t ≡ some f
 
+-- what is read of the netlist whatever follows it is read with the timing lines and without
+with-timings : {X : Type 0} (read : List ℕ → X) (x : X) (r : Bool) (cells : List Cell) (g : Graph) → ((after : List ℕ) → read (choiceText cells g ++ after) ≡ x) → read (printedText r cells g) ≡ x
+with-timings read x true cells g h = h (timingLines (lowOf cells g) (λ (l : ℕ). chosen cells g l .arrival) 0 (g .outputs))
+with-timings read x false cells g h = ap read (sym (append-nil (choiceText cells g))) ∙ h []
+
 known : (c : Call) (t : List ℕ) (f : Figures) (d : Design) → readTexts c ≡ holds d → mapTexts c ≡ mapped t f → Known t f d
 known c t f d e o =
-    let k = printed-choice c d e t f o in
+    let p = printed-choice c d e t f o in
+    let k = p .choice in
     let fit = design-library c d e in
     let ok = design-accepted c d e (k .placed) in
     record {
       library = fit;
       graph = ok;
       choice = k;
-      reads = ap readBlif (k .isText) ∙ back (d .cells) fit (d .graph) ok (k .covered) (choiceFigures (d .cells) (d .graph));
-      says = ap readFigures (k .isText)
-          ∙ figures-said (d .cells) fit (d .graph) ok (k .covered) (choiceFigures (d .cells) (d .graph))
+      isText = p .isText;
+      lows = design-ranged c d e;
+      reads = ap readBlif (p .isText)
+          ∙ with-timings readBlif (some (chosenBlif d)) (d .ranged) (d .cells) (d .graph) (back (d .cells) fit (d .graph) ok (k .covered) (choiceFigures (d .cells) (d .graph)));
+      says = ap readFigures (p .isText)
+          ∙ with-timings readFigures (some (choiceFigures (d .cells) (d .graph))) (d .ranged) (d .cells) (d .graph)
+          (figures-said (d .cells) fit (d .graph) ok (k .covered) (choiceFigures (d .cells) (d .graph)))
           ∙ ap some (sym (k .areFigures));
     }
 
@@ -136,6 +152,31 @@ figures = of-printed SameFigures (λ t f d k.
         subst (λ (x : Gate). x .cell .area ≡ named (d .cells) (nameOf (x .cell)) .area) (sym (r .isGate))
         (ap (λ (c : Cell). c .area) (sym (line-bound (d .cells) (k .library) (d .graph) (k .graph) (k .choice .covered) (r .at) (r .needs) (r .notOwn) .isCell)))
 
+-- what is read behind the `# gates` line
+pub ranges : (c : Call) → Ranges c
+unfolding mapTexts mapDesign
+ranges c = record {
+  timed = λ t f d n p e.
+      let k = known c t f d (p .design) (p .outcome) in
+      let q : _≡_ {A = Option Blif} (some n) (some (chosenBlif d)) = sym (p .reads) ∙ k .reads in
+      let m : n ≡ chosenBlif d = cc in
+      let high : ℕ → ℕ = λ l. chosen (d .cells) (d .graph) l .arrival in (
+        timingsFrom (lowOf (d .cells) (d .graph)) high 0 (d .graph .outputs),
+        ap readTimings (k .isText ∙ ap (λ (r : Bool). printedText r (d .cells) (d .graph)) (sym (texts-read c d (p .design) .isRange) ∙ e))
+            ∙ timings-said (d .cells) (k .library) (d .graph) (k .graph) (k .choice .covered) (choiceFigures (d .cells) (d .graph)) (lowOf (d .cells) (d .graph)) high,
+        subst (λ (x : Blif). WithinRanges (d .cells) (d .graph) x (timingsFrom (lowOf (d .cells) (d .graph)) high 0 (d .graph .outputs))) (sym m)
+            (within-ranges (d .cells) (k .library) (k .lows) (d .graph) (k .graph) (k .choice .covered)),
+      );
+  untimed = λ t f o e. go t f (readTexts c) refl o e;
+}
+  where
+    go : (t : List ℕ) (f : Figures) (r : Read Design) → readTexts c ≡ r → mapDesign (c .bytes) r ≡ mapped t f → isRanged (c .library) ≡ false → readTimings t ≡ some []
+    go t f (fault n k) q o e = absurd (refused-never o)
+    go t f (holds d) q o e =
+        let k = known c t f d q (ap (mapDesign (c .bytes)) q ∙ o) in
+        ap readTimings (k .isText ∙ ap (λ (r : Bool). printedText r (d .cells) (d .graph)) (sym (texts-read c d q .isRange) ∙ e) ∙ sym (append-nil (choiceText (d .cells) (d .graph))))
+        ∙ none-said (d .cells) (k .library) (d .graph) (k .graph) (k .choice .covered) (choiceFigures (d .cells) (d .graph))
+
 -- ---- demand 3
 
 pub no-earlier : (c : Call) → OfPrinted NoEarlier c
@@ -173,7 +214,7 @@ no-earlier = of-printed NoEarlier at-net
             let o = map-out (λ (v : ℕ). netName (literal false v)) (d .graph .inputs) i in
             let e : literal false (o .0) ≡ l = sym (net-once l (literal false (o .0)) (o .2)) in
             le-trans
-            (le-of-eq (ap at (o .2) ∙ input-at (d .cells) (k .library) (d .graph) (k .graph) (k .choice .covered) at (d .graph .inputs) (h .atInputs) (o .0) (o .1)
+            (le-of-eq (ap at (o .2) ∙ input-at (d .graph) at (d .graph .inputs) (h .atInputs) (o .0) (o .1)
             ∙ sym (input-time (d .cells) (k .library) (d .graph) (k .graph) (k .choice .covered) (o .0) (o .1)) ∙ ap (λ (x : ℕ). chosen (d .cells) (d .graph) x .arrival) e))
             (choice-earliest (d .cells) (d .graph) (k .graph) (d .graph .outputs) c arrival times l n .1)
         go (inr i) = gate (List·Memᴰ·append-cases (map drives (map lineOf ts)) i)
@@ -210,27 +251,44 @@ within-seventeen bytes (mapped t f) k = (
     go true e = refused-never (sym e)
     go false e = let q : _≡_ {A = ℕ} 18 17 = ap numberOf e in omega arith
 
+-- nor of the timing lines
+followed-seventeen : (r : Bool) (cells : List Cell) (g : Graph) (o : Outcome) (k : ℕ) → (followed r cells g o ≡ refused 17 k) ↔ (o ≡ refused 17 k)
+unfolding followed
+followed-seventeen r cells g (refused n j) k = ((λ e. e), (λ e. e))
+followed-seventeen false cells g (mapped t f) k = ((λ e. e), (λ e. e))
+followed-seventeen true cells g (mapped t f) k = ((λ e. absurd (refused-never (sym e))), (λ e. absurd (refused-never (sym e))))
+
+followed-text : (r : Bool) (cells : List Cell) (g : Graph) → followed r cells g (mapped (choiceText cells g) (choiceFigures cells g)) ≡ mapped (printedText r cells g) (choiceFigures cells g)
+unfolding followed
+followed-text true cells g = refl
+followed-text false cells g = refl
+
 pub decided : (c : Call) → OfMappable Decided c
 decided c d p = record {
   seventeen = λ k.
       let s = seventeen-iff (d .cells) (d .graph) ok (p .few) k in
-      let w = within-seventeen (c .bytes) (mapGraph (d .cells) (d .graph)) k in
-      ((λ e. s .0 (w .0 (sym is ∙ e))), (λ u. is ∙ w .1 (s .1 u)));
-  prints = λ covers h. is ∙ ap (within (c .bytes)) (choice-printed (d .cells) (d .graph) ok (p .few) covers) ∙ fits h;
-  eighteen = λ covers h. is ∙ ap (within (c .bytes)) (choice-printed (d .cells) (d .graph) ok (p .few) covers) ∙ lacks h;
+      let w = within-seventeen (c .bytes) (followed (d .ranged) (d .cells) (d .graph) (mapGraph (d .cells) (d .graph))) k in
+      let v = followed-seventeen (d .ranged) (d .cells) (d .graph) (mapGraph (d .cells) (d .graph)) k in
+      ((λ e. s .0 (v .0 (w .0 (sym is ∙ e)))), (λ u. is ∙ w .1 (v .1 (s .1 u))));
+  prints = λ covers h. printed covers ∙ fits h;
+  eighteen = λ covers h. printed covers ∙ lacks h;
 }
   where
     ok : Accepted (d .graph)
     ok = design-accepted c d (p .design) (p .placed)
 
-    is : mapTexts c ≡ within (c .bytes) (mapGraph (d .cells) (d .graph))
+    is : mapTexts c ≡ within (c .bytes) (followed (d .ranged) (d .cells) (d .graph) (mapGraph (d .cells) (d .graph)))
     is = outcome-is c d (p .design)
 
     t : List ℕ
-    t = choiceText (d .cells) (d .graph)
+    t = printedText (d .ranged) (d .cells) (d .graph)
 
     f : Figures
     f = choiceFigures (d .cells) (d .graph)
+
+    printed : ((l : ℕ) → List·Memᴰ l (d .graph .outputs) → Cover (d .cells) (d .graph) (l ∷ [])) → mapTexts c ≡ within (c .bytes) (mapped t f)
+    printed covers =
+        is ∙ ap (within (c .bytes)) (ap (followed (d .ranged) (d .cells) (d .graph)) (choice-printed (d .cells) (d .graph) ok (p .few) covers) ∙ followed-text (d .ranged) (d .cells) (d .graph))
 
     fits : length t ≤ c .bytes → within (c .bytes) (mapped t f) ≡ mapped t f
     fits h = unfold within in ap (λ (b : Bool). cond b (mapped t f) (refused 18 (length t))) (is-true (leb (length t) (c .bytes)) (le→leb (length t) (c .bytes) h))
@@ -257,6 +315,7 @@ demand-values c = record {
   gated = gated c;
   values = values c;
   figures = figures c;
+  ranges = ranges c;
 }
 
 -- "for each net of the printed netlist, every cover of the outputs that has this net gives it an arrival no earlier"

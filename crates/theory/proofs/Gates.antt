@@ -6,7 +6,7 @@ use native.Mathlib.Omega.{arith}
 use mathlib.Core.Path.{_≡_, refl, sym, _∙_, ap, subst}
 use mathlib.Core.Bool.{Bool, true, false, not, cond, true≢false, false≢true}
 use mathlib.Core.Option.{some}
-use mathlib.Core.List.{List, [], _∷_, List·Memᴰ, List·Memᴰ·head, List·Memᴰ·tail, Memᴰ·append-left, Memᴰ·cast}
+use mathlib.Core.List.{List, [], _∷_, _++_, List·Memᴰ, List·Memᴰ·head, List·Memᴰ·tail, Memᴰ·append-left, Memᴰ·cast}
 use lib.Dec.{T, eqb, eqb→eq}
 use lib.ListN.{length, getD}
 use mir.Facts.{and-yes}
@@ -19,7 +19,8 @@ use Rattle.model.specs.Matching.{fedNets, matchNets}
 use Rattle.model.specs.Choice.{feeds, cellOf, absent, chosen}
 use Rattle.model.specs.Cover.{IsOwn, Allowed, Needed}
 use Rattle.model.specs.Netlist.{Gate, isOwn, needed, gates, netlistText, netName}
-use Rattle.model.specs.Blif.{readBlif, readFigures}
+use Rattle.model.specs.Timing.{timingLines}
+use Rattle.model.specs.Blif.{readBlif, readFigures, readTimings}
 use Rattle.model.specs.declared.Cell.{Cell}
 use Rattle.model.specs.declared.Match.{Match}
 use Rattle.model.specs.declared.Source.{Source}
@@ -36,6 +37,7 @@ use Rattle.theory_cover.proofs.Covers.{by-feeding as feeding-first}
 use Rattle.theory_cover.proofs.Sound.{chosen-fine, needed-present, chosen-cover}
 use Rattle.theory_text.proofs.ReadBack.{blifOf, read-back}
 use Rattle.theory_text.proofs.ReadFigures.{figures-back}
+use Rattle.theory_text.proofs.ReadTimings.{timingsFrom, timings-back, timings-none}
 use Rattle.theory_text.proofs.Names.{Bound, gate-bound, library-cell, cell-form, net-once}
 use Rattle.theory.proofs.Needs.{listed-needed, needed-listed}
 
@@ -181,11 +183,18 @@ module _ (cells : List Cell) (fit : T (libraryFits cells)) (g : Graph) (ok : Acc
       let r = gate-out t m in
       subst (λ (u : Gate). T (Rattle.model.specs.Text.isName (nameOf (u .cell)))) (sym (r .isGate)) (line-bound (r .at) (r .needs) (r .notOwn) .isNamed)
 
-  pub back : (f : Figures) → readBlif (netlistText g (chosenGates cells g) f) ≡ some (blifOf g (chosenGates cells g))
-  back f = read-back g (chosenGates cells g) f gate-named
+  pub back : (f : Figures) (after : List ℕ) → readBlif (netlistText g (chosenGates cells g) f ++ after) ≡ some (blifOf g (chosenGates cells g))
+  back f after = read-back g (chosenGates cells g) f after gate-named
 
-  pub figures-said : (f : Figures) → readFigures (netlistText g (chosenGates cells g) f) ≡ some f
-  figures-said f = figures-back g (chosenGates cells g) f gate-named
+  pub figures-said : (f : Figures) (after : List ℕ) → readFigures (netlistText g (chosenGates cells g) f ++ after) ≡ some f
+  figures-said f after = figures-back g (chosenGates cells g) f after gate-named
+
+  pub timings-said : (f : Figures) (low high : ℕ → ℕ)
+      → readTimings (netlistText g (chosenGates cells g) f ++ timingLines low high 0 (g .outputs)) ≡ some (timingsFrom low high 0 (g .outputs))
+  timings-said f low high = timings-back g (chosenGates cells g) f low high gate-named
+
+  pub none-said : (f : Figures) → readTimings (netlistText g (chosenGates cells g) f ++ []) ≡ some []
+  none-said f = timings-none g (chosenGates cells g) f gate-named
 
   -- ---- an input's own net
 

@@ -6,6 +6,7 @@ pub mod Arrivals
 pub mod Outcomes
 pub mod Formed
 pub mod Gated
+pub mod Ranges
 pub mod Demanded
 pub mod Refusals
 pub mod Sequence

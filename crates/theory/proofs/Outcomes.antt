@@ -1,10 +1,10 @@
 -- What a printed netlist says of the texts: the graph is accepted, no AND has too many cuts, every output is chosen a source, and the text
 -- and its figures are those of the chosen gates. Assumes nothing.
 use Prim.Native.Nat.{ℕ, suc}
-use mathlib.Core.Path.{_≡_, refl, sym, _∙_, ap}
+use mathlib.Core.Path.{_≡_, refl, sym, _∙_, ap, subst}
 use mathlib.Core.Bool.{Bool, true, false, cond, false≢true}
 use mathlib.Core.Option.{Option, none, some}
-use mathlib.Core.List.{List, [], _∷_, cons≢nil, List·Memᴰ, List·Memᴰ·head, List·Memᴰ·tail}
+use mathlib.Core.List.{List, [], _∷_, _++_, cons≢nil, List·Memᴰ, List·Memᴰ·head, List·Memᴰ·tail}
 use lib.Dec.{leb}
 use lib.ListN.{length}
 use Rattle.model.specs.Base.{lowest, smaller}
@@ -14,7 +14,8 @@ use Rattle.model.specs.Cuts.{crowded}
 use Rattle.model.specs.Choice.{absent, chosen}
 use Rattle.model.specs.Netlist.{Outcome, refused, mapped, mapGraph, mapPlaced, mapCut, mapChosen, printed, uncovered}
 use Rattle.model.specs.Mapper.{Call, Design, readTexts, mapTexts, mapDesign, within}
-use Rattle.model.specs.Demands.{choiceText, choiceFigures}
+use Rattle.model.specs.Timing.{lowOf, timingLines, followed}
+use Rattle.model.specs.Demands.{choiceText, choiceFigures, printedText}
 use Rattle.model.specs.declared.Cell.{Cell}
 use Rattle.model.specs.declared.Phase.{Phase}
 use Rattle.model.specs.declared.Figures.{Figures}
@@ -85,11 +86,32 @@ within-mapped bytes (mapped u h) t f e = go (leb (length u) bytes) e
     go true q = q
     go false q = absurd (refused-never q)
 
+-- the netlist is the graph's, and the timing lines follow it where delays are ranges
+pub record FromDesign (ranged : Bool) (cells : List Cell) (g : Graph) (t : List ℕ) (f : Figures) : Type 0 where
+  pub choice : FromChoice cells g (choiceText cells g) f
+  pub isText : t ≡ printedText ranged cells g
+
+from-design : (ranged : Bool) (cells : List Cell) (g : Graph) (t : List ℕ) (f : Figures) → followed ranged cells g (mapGraph cells g) ≡ mapped t f → FromDesign ranged cells g t f
+unfolding followed textOf figuresIn
+from-design ranged cells g t f = go ranged (mapGraph cells g) refl
+  where
+    plain : (u : List ℕ) (h : Figures) → mapGraph cells g ≡ mapped u h → h ≡ f → (u ≡ choiceText cells g) × FromChoice cells g (choiceText cells g) f
+    plain u h e q = let c = from-choice cells g u h e in (c .isText, subst (FromChoice cells g (choiceText cells g)) q (subst (λ (x : List ℕ). FromChoice cells g x h) (c .isText) c))
+
+    go : (r : Bool) (o : Outcome) → mapGraph cells g ≡ o → followed r cells g o ≡ mapped t f → FromDesign r cells g t f
+    go r (refused n k) e q = absurd (refused-never q)
+    go false (mapped u h) e q = let c = plain u h e (ap (figuresIn f) q) in record { choice = c .1; isText = sym (ap textOf q) ∙ c .0 }
+    go true (mapped u h) e q =
+        let c = plain u h e (ap (figuresIn f) q) in
+        record { choice = c .1; isText = sym (ap textOf q) ∙ ap (λ (x : List ℕ). x ++ timingLines (lowOf cells g) (λ (l : ℕ). chosen cells g l .arrival) 0 (g .outputs)) (c .0) }
+
 module _ (c : Call) (d : Design) (e : readTexts c ≡ holds d) where
   -- the outcome of texts that are read
-  pub outcome-is : mapTexts c ≡ within (c .bytes) (mapGraph (d .cells) (d .graph))
+  pub outcome-is : mapTexts c ≡ within (c .bytes) (followed (d .ranged) (d .cells) (d .graph) (mapGraph (d .cells) (d .graph)))
   unfolding mapTexts mapDesign
   outcome-is = ap (mapDesign (c .bytes)) e
 
-  pub printed-choice : (t : List ℕ) (f : Figures) → mapTexts c ≡ mapped t f → FromChoice (d .cells) (d .graph) t f
-  printed-choice t f h = from-choice (d .cells) (d .graph) t f (within-mapped (c .bytes) (mapGraph (d .cells) (d .graph)) t f (sym outcome-is ∙ h))
+  pub printed-choice : (t : List ℕ) (f : Figures) → mapTexts c ≡ mapped t f → FromDesign (d .ranged) (d .cells) (d .graph) t f
+  printed-choice t f h =
+      from-design (d .ranged) (d .cells) (d .graph) t f
+      (within-mapped (c .bytes) (followed (d .ranged) (d .cells) (d .graph) (mapGraph (d .cells) (d .graph))) t f (sym outcome-is ∙ h))

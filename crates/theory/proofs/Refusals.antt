@@ -11,6 +11,7 @@ use Rattle.model.specs.Graph.{Graph, unplaced}
 use Rattle.model.specs.Cuts.{crowded}
 use Rattle.model.specs.Choice.{chosen}
 use Rattle.model.specs.Netlist.{Outcome, refused, mapped, uncovered, printed, mapChosen, mapCut, mapPlaced, mapGraph}
+use Rattle.model.specs.Timing.{followed}
 use Rattle.model.specs.Mapper.{within}
 use Rattle.model.specs.declared.Cell.{Cell}
 
@@ -29,6 +30,13 @@ module _ (P : ℕ → ℕ → Type 0) where
       go : (b : Bool) → Refusal P (cond b (mapped t f) (refused 18 (length t)))
       go true = tt
       go false = p18 (length t)
+
+  -- the timing lines add none
+  pub followed-refusal : (ranged : Bool) (cells : List Cell) (g : Graph) (o : Outcome) → Refusal P o → Refusal P (followed ranged cells g o)
+  unfolding followed
+  followed-refusal r cells g (refused n k) l = l
+  followed-refusal true cells g (mapped t f) l = tt
+  followed-refusal false cells g (mapped t f) l = tt
 
   -- 15 to 17
   pub map-refusal : (cells : List Cell) (g : Graph) → ((v : ℕ) → lowest (unplaced g) ≡ some v → P 15 v) → ((k : ℕ) → P 16 k) → ((k : ℕ) → P 17 k) → Refusal P (mapGraph cells g)

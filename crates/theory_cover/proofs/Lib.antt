@@ -9,3 +9,4 @@ pub mod Gates
 pub mod Pins
 pub mod Pairs
 pub mod Preference
+pub mod Retime

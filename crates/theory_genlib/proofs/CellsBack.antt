@@ -6,7 +6,7 @@ use mathlib.Core.Bool.{Bool, true, false, not, cond, _&&_, _||_}
 use mathlib.Core.Option.{Option, none, some}
 use mathlib.Core.List.{List, [], _∷_, _++_, map, append-assoc, List·Memᴰ, List·Memᴰ·head, List·Memᴰ·tail, List·Memᴰ·not-nil}
 use lib.Dec.{T, eqb, leb, le→leb, ltb, ltb→lt, lt→ltb, nltb→le, lit<, not-T}
-use lib.ListN.{length, getD, drop, replicate}
+use lib.ListN.{length, getD, take, drop, replicate}
 use lib.Seq.{take-append-seam}
 use lib.Pow.{pow-mono}
 use mir.Facts.{and-yes, yes-and, yes-leb, yes-ltb}
@@ -14,7 +14,7 @@ use Rattle.model.specs.Base.{all, any, each, same, andThen, only}
 use Rattle.model.specs.Text.{text, decimal, linesFrom, closing, fields, numbers, between, hexDigit, hexFrom, hexTable, isLetter, isNameByte, isName}
 use Rattle.model.specs.Reading.{Read, holds, next, unless, from?}
 use Rattle.model.specs.Cells.{nameOf}
-use Rattle.model.specs.LibraryText.{nameBytes, cellOfFields, cellOfLine, isClean, readCells, readLibraryLines, readLibrary}
+use Rattle.model.specs.LibraryText.{nameBytes, cellOfFields, cellOfLine, isClean, noLower, isShorter, isLonger, readCells, readLibraryLines, readLibrary}
 use Rattle.model.specs.Demands.{Distinct}
 use Rattle.model.specs.Genlib.{Gate, hexByte, hexText, numberText, gateText, cellsText}
 use Rattle.model.specs.GenlibDemands.{cellOfGate, Listable}
@@ -24,6 +24,7 @@ use Rattle.theory_graph.proofs.Lists.{is-true, is-false, same-eq, map-in, any-n
 use Rattle.theory_text.proofs.Plain.{Free, above, free-append, decimal-free, bytes-free}
 use Rattle.theory_text.proofs.LineLaws.{lineOfBytes, line-first, fields-word}
 use Rattle.theory_text.proofs.DueBack.{numbers-back, fields-numbers}
+use Rattle.theory_text.proofs.Former.{none-lower}
 
 -- a gate as `readGenlib` gives it
 pub record GateFits (g : Gate) : Type 0 where
@@ -149,7 +150,8 @@ body-fields g t =
     (fields-word (hexText (g .table)) _ (hex-free 32 (g .table) (lit< tt))
     ∙ ap (λ (ws : List (List ℕ)). hexText (g .table) ∷ ws) (fields-numbers (decimal (g .area)) (decimal-free 32 (g .area) (lit< tt)) (g .delays))))
 
-cell-four : (g : Gate) → T (isName (g .name)) → GateFits g → (d0 d1 d2 d3 : ℕ) → g .delays ≡ d0 ∷ d1 ∷ d2 ∷ d3 ∷ [] → cellOfFields (g .name ∷ decimal (g .pins) ∷ hexText (g .table) ∷ map decimal (g .area ∷ d0 ∷ d1 ∷ d2 ∷ d3 ∷ [])) ≡ some (record { name = nameBytes (g .name); len = length (g .name); pins = g .pins; table = g .table; area = g .area; delays = d0 ∷ d1 ∷ d2 ∷ d3 ∷ [] })
+cell-four : (g : Gate) → T (isName (g .name)) → GateFits g → (d0 d1 d2 d3 : ℕ) → g .delays ≡ d0 ∷ d1 ∷ d2 ∷ d3 ∷ [] → cellOfFields false (g .name ∷ decimal (g .pins) ∷ hexText (g .table) ∷ map decimal (g .area ∷ d0 ∷ d1 ∷ d2 ∷ d3 ∷ []))
+    ≡ some (record { name = nameBytes (g .name); len = length (g .name); pins = g .pins; table = g .table; area = g .area; delays = d0 ∷ d1 ∷ d2 ∷ d3 ∷ []; lows = d0 ∷ d1 ∷ d2 ∷ d3 ∷ [] })
 unfolding cellOfFields andThen only all
 cell-four g t f d0 d1 d2 d3 e =
     ap (λ (b : Bool). andThen (only b ws) (λ _. read)) (is-true (isName (g .name)) t)
@@ -162,7 +164,8 @@ cell-four g t f d0 d1 d2 d3 e =
     ws = g .name ∷ decimal (g .pins) ∷ hexText (g .table) ∷ map decimal (g .area ∷ d0 ∷ d1 ∷ d2 ∷ d3 ∷ [])
 
     made : List ℕ → ℕ → Cell
-    made ns table = record { name = nameBytes (g .name); len = length (g .name); pins = getD ns 0 0; table = table; area = getD ns 1 0; delays = drop 2 ns }
+    made ns table =
+        record { name = nameBytes (g .name); len = length (g .name); pins = getD ns 0 0; table = table; area = getD ns 1 0; delays = take 4 (drop 2 ns); lows = drop 2 ns }
 
     read : Option Cell
     read = andThen (numbers (map decimal (g .pins ∷ g .area ∷ d0 ∷ d1 ∷ d2 ∷ d3 ∷ []))) (λ ns. andThen (hexTable (hexText (g .table))) (λ table. only (leb (getD ns 0 0) 4) (made ns table)))
@@ -183,19 +186,24 @@ four-are (a ∷ b ∷ c ∷ d ∷ []) e = (a, b, c, d, refl)
 four-are (a ∷ b ∷ c ∷ d ∷ x ∷ xs) e = absurd (omega arith)
 
 -- a gate's line gives its cell
-cell-back : (at : ℕ) (g : Gate) → T (isName (g .name)) → GateFits g → cellOfLine (lineOfBytes at (gateBody g)) ≡ some (cellOfGate g)
+cell-back : (at : ℕ) (g : Gate) → T (isName (g .name)) → GateFits g → cellOfLine false (lineOfBytes at (gateBody g)) ≡ some (cellOfGate g)
 unfolding cellOfLine andThen only cellOfGate
 cell-back at g t f =
     let r = four-are (g .delays) (f .four) in
-    ap cellOfFields (body-fields g t ∙ ap (λ (ds : List ℕ). g .name ∷ decimal (g .pins) ∷ hexText (g .table) ∷ map decimal (g .area ∷ ds)) (r .4))
+    ap (cellOfFields false) (body-fields g t ∙ ap (λ (ds : List ℕ). g .name ∷ decimal (g .pins) ∷ hexText (g .table) ∷ map decimal (g .area ∷ ds)) (r .4))
     ∙ cell-four g t f (r .0) (r .1) (r .2) (r .3) (r .4)
-    ∙ ap (λ (ds : List ℕ). some (record { name = nameBytes (g .name); len = length (g .name); pins = g .pins; table = g .table; area = g .area; delays = ds })) (sym (r .4))
+    ∙ ap (λ (ds : List ℕ). some (record { name = nameBytes (g .name); len = length (g .name); pins = g .pins; table = g .table; area = g .area; delays = ds; lows = ds })) (sym (r .4))
 
 cell-clean : (g : Gate) → GateFits g → isClean (cellOfGate g) ≡ true
 unfolding isClean cellOfGate
 cell-clean g f =
-    is-true (ltb (g .table) (2 ^ 2 ^ g .pins) && all (eqb 0) (drop (g .pins) (g .delays)))
-    (yes-and (ltb (g .table) (2 ^ 2 ^ g .pins)) (all (eqb 0) (drop (g .pins) (g .delays))) (yes-ltb (f .table)) (f .absent))
+    let absent = all (eqb 0) (drop (g .pins) (g .delays)) in
+    is-true (ltb (g .table) (2 ^ 2 ^ g .pins) && (absent && absent))
+    (yes-and (ltb (g .table) (2 ^ 2 ^ g .pins)) (absent && absent) (yes-ltb (f .table)) (yes-and absent absent (f .absent) (f .absent)))
+
+cell-range : (g : Gate) → noLower (cellOfGate g .lows) (cellOfGate g .delays) ≡ true
+unfolding cellOfGate
+cell-range g = none-lower (g .delays)
 
 pub cell-name : (g : Gate) → nameOf (cellOfGate g) ≡ g .name
 unfolding nameOf cellOfGate nameBytes
@@ -214,15 +222,16 @@ is-new g before h =
 
 lines-back : (k at : ℕ) (before : List Cell) (gs : List Gate) → k + length gs ≤ 32 → ((g : Gate) → List·Memᴰ g gs → GateFits g) → ((g : Gate) → List·Memᴰ g gs → T (isName (g .name)))
     → Distinct (map (λ (g : Gate). g .name) gs) → ((g : Gate) → List·Memᴰ g gs → (d : Cell) → List·Memᴰ d before → ¬ (g .name ≡ nameOf d))
-    → readCells k before (linesFrom at [] (each gateText gs)) ≡ holds (map cellOfGate gs)
+    → readCells false k before (linesFrom at [] (each gateText gs)) ≡ holds (map cellOfGate gs)
 unfolding readCells each next unless from? linesFrom
 lines-back k at before [] few fit named once new = refl
 lines-back k at before (g ∷ gs) few fit named once new =
-    ap (readCells k before) (gate-first at g (each gateText gs) t)
-    ∙ ap (λ (b : Bool). unless b 3 at (next (from? (cellOfLine (lineOfBytes at (gateBody g))) 4 at) rest)) (is-true (ltb k 32) (lt→ltb k 32 (omega arith)))
+    ap (readCells false k before) (gate-first at g (each gateText gs) t)
+    ∙ ap (λ (b : Bool). unless b 3 at (next (from? (cellOfLine false (lineOfBytes at (gateBody g))) 4 at) rest)) (is-true (ltb k 32) (lt→ltb k 32 (omega arith)))
     ∙ ap (λ (o : Option Cell). next (from? o 4 at) rest) (cell-back at g t f)
-    ∙ ap (λ (b : Bool). unless b 5 at (unless (isClean (cellOfGate g)) 6 at more)) (is-new g before (new g (List·Memᴰ·head refl)))
-    ∙ ap (λ (b : Bool). unless b 6 at more) (cell-clean g f)
+    ∙ ap (λ (b : Bool). unless b 5 at (unless (isClean (cellOfGate g)) 6 at (range (cellOfGate g)))) (is-new g before (new g (List·Memᴰ·head refl)))
+    ∙ ap (λ (b : Bool). unless b 6 at (range (cellOfGate g))) (cell-clean g f)
+    ∙ ap (λ (b : Bool). unless b 27 at more) (cell-range g)
     ∙ ap (λ (r : Read (List Cell)). next r (λ cs. holds (cellOfGate g ∷ cs)))
     (lines-back (suc k) (at + suc (length (gateBody g))) (cellOfGate g ∷ before) gs (omega arith) (λ h m. fit h (List·Memᴰ·tail m)) (λ h m. named h (List·Memᴰ·tail m)) (once .1) later)
   where
@@ -233,13 +242,16 @@ lines-back k at before (g ∷ gs) few fit named once new =
     f = fit g (List·Memᴰ·head refl)
 
     onward : Cell → Read (List Cell)
-    onward c = next (readCells (suc k) (c ∷ before) (linesFrom (at + suc (length (gateBody g))) [] (each gateText gs))) (λ cs. holds (c ∷ cs))
+    onward c = next (readCells false (suc k) (c ∷ before) (linesFrom (at + suc (length (gateBody g))) [] (each gateText gs))) (λ cs. holds (c ∷ cs))
+
+    range : Cell → Read (List Cell)
+    range c = unless (noLower (c .lows) (c .delays)) 27 at (onward c)
 
     more : Read (List Cell)
     more = onward (cellOfGate g)
 
     rest : Cell → Read (List Cell)
-    rest c = unless (not (any (λ (d : Cell). same (nameOf c) (nameOf d)) before)) 5 at (unless (isClean c) 6 at (onward c))
+    rest c = unless (not (any (λ (d : Cell). same (nameOf c) (nameOf d)) before)) 5 at (unless (isClean c) 6 at (range c))
 
     later : (h : Gate) → List·Memᴰ h gs → (d : Cell) → List·Memᴰ d (cellOfGate g ∷ before) → ¬ (h .name ≡ nameOf d)
     later h m d (List·Memᴰ·head e) q =
@@ -253,6 +265,6 @@ names-first rest = refl
 
 -- a written text whose names and counts 3 to 6 accept is read as the gates' cells
 pub cells-back : (gs : List Gate) → ((g : Gate) → List·Memᴰ g gs → GateFits g) → Listable gs → readLibrary (cellsText gs) ≡ holds (map cellOfGate gs)
-unfolding readLibrary cellsText readLibraryLines unless same text
+unfolding readLibrary cellsText readLibraryLines isShorter isLonger unless same text
 cells-back gs fit l =
     ap readLibraryLines (names-first (each gateText gs)) ∙ lines-back 0 33 [] gs (omega (arith, l .few)) fit (l .names) (l .once) (λ g m d n. absurd (List·Memᴰ·not-nil n))

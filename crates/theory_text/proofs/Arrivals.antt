@@ -17,7 +17,7 @@ use Rattle.model.specs.Base.{all, each, elem, same, andThen, only}
 use Rattle.model.specs.Text.{Line, ended, text, decimal, linesFrom, fields, numbers}
 use Rattle.model.specs.Limits.{need}
 use Rattle.model.specs.Reading.{Read, holds, fault, next, unless, from?}
-use Rattle.model.specs.LibraryText.{readLibrary}
+use Rattle.model.specs.LibraryText.{readLibrary, isRanged}
 use Rattle.model.specs.Graph.{Graph}
 use Rattle.model.specs.GraphText.{readHeader, readGraph, numbersLine}
 use Rattle.model.specs.ArrivalsText.{Late, lateNumbers, readLate, readLateLines, readArrivals, arrivalsText, timedBy}
@@ -178,7 +178,7 @@ texts-listed c d e =
 
 -- ---- an empty text
 
-next-same : {A B : Type 0} (r : Read A) (f k : A → Read B) → ((a : A) → r ≡ holds a → f a ≡ k a) → next r f ≡ next r k
+pub next-same : {A B : Type 0} (r : Read A) (f k : A → Read B) → ((a : A) → r ≡ holds a → f a ≡ k a) → next r f ≡ next r k
 unfolding next
 next-same (holds a) f k e = e a refl
 next-same (fault n m) f k e = refl
@@ -198,14 +198,14 @@ reads-untimed c e =
         next (readHeader (c .graph)) (λ h.
         unless (leb (need (h .size) (h .outputs)) (c .words)) 10 0
         (next (readGraph (c .graph) h) (λ g.
-        next (readArrivals (h .inputs) s) (λ es. holds (record { cells = cells; graph = timedBy g es })))))))
+        next (readArrivals (h .inputs) s) (λ es. holds (record { cells = cells; ranged = isRanged (c .library); graph = timedBy g es })))))))
 
     and-true : (b : Bool) → (b && true) ≡ b
     and-true true = refl
     and-true false = refl
 
     made : List Cell → Graph → Read Design
-    made cells g = holds (record { cells = cells; graph = g })
+    made cells g = holds (record { cells = cells; ranged = isRanged (c .library); graph = g })
 
     same-graph : (cells : List Cell) (h : Header) → next (readGraph (c .graph) h) (λ g. made cells (timedBy g [])) ≡ next (readGraph (c .graph) h) (made cells)
     same-graph cells h = next-same (readGraph (c .graph) h) _ (made cells) (λ g q. ap (made cells) (timed-none g (graph-untimed (c .graph) h g q)))
@@ -217,5 +217,5 @@ untimed-zero c d e v =
     let b = next-out (readLibrary (c .library)) _ d (a .1) in
     let k = next-out (readHeader (c .graph)) _ d (b .2) in
     let f = unless-out (leb (need (k .0 .size) (k .0 .outputs)) (c .words)) 10 0 _ d (k .2) in
-    let g = next-out (readGraph (c .graph) (k .0)) (λ x. holds (record { cells = b .0; graph = x })) d (f .1) in
+    let g = next-out (readGraph (c .graph) (k .0)) (λ x. holds (record { cells = b .0; ranged = isRanged (c .library); graph = x })) d (f .1) in
     subst (λ (x : Design). x .graph .late v ≡ 0) (holds-once (g .2)) (ap (λ (t : ℕ → ℕ). t v) (sym (graph-untimed (c .graph) (k .0) (g .0) (g .1))))

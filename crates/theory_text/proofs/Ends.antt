@@ -22,13 +22,13 @@ use Rattle.model.specs.Text.{Line, ended, nextOf, closing, linesFrom, shown, fi
 use Rattle.model.specs.Reading.{Read, holds, fault, next, unless, from?}
 use Rattle.model.specs.Limits.{need}
 use Rattle.model.specs.Cells.{nameOf}
-use Rattle.model.specs.LibraryText.{cellOfFields, cellOfLine, isClean, readCells, readLibraryLines, readLibrary}
+use Rattle.model.specs.LibraryText.{cellOfFields, cellOfLine, isClean, noLower, isShorter, isLonger, readCells, readLibraryLines, readLibrary, rangedLines, isRanged}
 use Rattle.model.specs.Graph.{And, Graph, varOf}
 use Rattle.model.specs.GraphText.{closed, headerOfNumbers, headerOf, inLimits, inSequence, readHeader, Kind, anInput, anOutput, anAnd, howMany, defines, due, Item, itemLiterals, readDue, readItems, uses, definedBy, checkUses, sameKind, isKind, graphOf, readGraph}
 use Rattle.model.specs.ArrivalsText.{Late, lateNumbers, readLate, readLateLines, readArrivals, timedBy}
 use Rattle.model.specs.Netlist.{Outcome, refused, mapped}
 use Rattle.model.specs.Mapper.{Call, Design, readTexts, mapDesign, mapTexts, returnedBy}
-use Rattle.model.specs.Demands.{Alike, firstWord, isBinaryText, AlikeTexts, lineStart, SamePlace, ofArrivals, atFault, SameButEnds, EitherEnd}
+use Rattle.model.specs.Demands.{Alike, firstWord, isBinaryText, AlikeTexts, lineStart, SamePlace, ofLibrary, ofArrivals, atFault, SameButEnds, EitherEnd}
 use Rattle.model.specs.declared.Cell.{Cell}
 use Rattle.model.specs.declared.Header.{Header}
 use Rattle.model.specs.declared.Figures.{Figures}
@@ -177,43 +177,69 @@ module _ (P : ℕ → ℕ → ℕ → Type 0) where
 -- ---- the library
 
 -- a line's cell, by what is shown of the line
-cell-shown : (l m : Line) → shown l ≡ shown m → cellOfLine l ≡ cellOfLine m
+cell-shown : (ranged : Bool) (l m : Line) → shown l ≡ shown m → cellOfLine ranged l ≡ cellOfLine ranged m
 unfolding cellOfLine shown
-cell-shown l m e = ap (λ (p : List ℕ × Bool). andThen (only (p .1) (fields (p .0))) cellOfFields) e
+cell-shown ranged l m e = ap (λ (p : List ℕ × Bool). andThen (only (p .1) (fields (p .0))) (cellOfFields ranged)) e
 
--- places of lines are places of refusals 2 to 6
-module _ (At : ℕ → ℕ → Type 0) (P : ℕ → ℕ → ℕ → Type 0) (put : (n : ℕ) → leb n 6 ≡ true → (k j : ℕ) → At k j → P n k j) where
-  same-cells : (end bound k : ℕ) (before : List Cell) (ls ms : List Line) → Paired At end bound ls ms → Fares _≡_ P (readCells k before ls) (readCells k before ms)
+-- the names line, by what is shown of it
+longer-shown : (l m : Line) → shown l ≡ shown m → isLonger l ≡ isLonger m
+unfolding isLonger shown
+longer-shown l m e = ap (λ (p : List ℕ × Bool). same (p .0) (text "cell pins table area d0 d1 d2 d3 l0 l1 l2 l3")) e
+
+names-shown : (l m : Line) → shown l ≡ shown m → (ended l && (isShorter l || isLonger l)) ≡ (ended m && (isShorter m || isLonger m))
+unfolding isShorter isLonger shown
+names-shown l m e =
+    ap (λ (p : List ℕ × Bool). p .1 && (same (p .0) (text "cell pins table area d0 d1 d2 d3") || same (p .0) (text "cell pins table area d0 d1 d2 d3 l0 l1 l2 l3"))) e
+
+-- places of lines are places of refusals 2 to 6 and 27
+module _ (At : ℕ → ℕ → Type 0) (P : ℕ → ℕ → ℕ → Type 0) (put : (n : ℕ) → ofLibrary n ≡ true → (k j : ℕ) → At k j → P n k j) where
+  same-cells : (ranged : Bool) (end bound k : ℕ) (before : List Cell) (ls ms : List Line) → Paired At end bound ls ms
+      → Fares _≡_ P (readCells ranged k before ls) (readCells ranged k before ms)
   unfolding readCells
-  same-cells end bound k before [] [] (noLines a) = bothHold refl
-  same-cells end bound k before (l ∷ ls) (m ∷ ms) (aLine e a more) =
+  same-cells ranged end bound k before [] [] (noLines a) = bothHold refl
+  same-cells ranged end bound k before (l ∷ ls) (m ∷ ms) (aLine e a more) =
       fares-unless P _≡_ (ltb k 32) (ltb k 32) 3 (l .offset) (m .offset) _ _ refl (put 3 refl (l .offset) (m .offset) a)
-      (fares-next P _≡_ _≡_ (from? (cellOfLine l) 4 (l .offset)) (from? (cellOfLine m) 4 (m .offset)) (read ls (l .offset)) (read ms (m .offset))
-      (fares-from P (cellOfLine l) (cellOfLine m) 4 (l .offset) (m .offset) (cell-shown l m e) (put 4 refl (l .offset) (m .offset) a))
-      (λ c d q. subst (λ (x : Cell). Fares _≡_ P (read ls (l .offset) c) (read ms (m .offset) x)) q (of c (same-cells end bound (suc k) (c ∷ before) ls ms more))))
+      (fares-next P _≡_ _≡_ (from? (cellOfLine ranged l) 4 (l .offset)) (from? (cellOfLine ranged m) 4 (m .offset)) (read ls (l .offset)) (read ms (m .offset))
+      (fares-from P (cellOfLine ranged l) (cellOfLine ranged m) 4 (l .offset) (m .offset) (cell-shown ranged l m e) (put 4 refl (l .offset) (m .offset) a))
+      (λ c d q. subst (λ (x : Cell). Fares _≡_ P (read ls (l .offset) c) (read ms (m .offset) x)) q (of c (same-cells ranged end bound (suc k) (c ∷ before) ls ms more))))
     where
       rest : List Line → Cell → Read (List Cell)
-      rest xs c = next (readCells (suc k) (c ∷ before) xs) (λ cs. holds (c ∷ cs))
+      rest xs c = next (readCells ranged (suc k) (c ∷ before) xs) (λ cs. holds (c ∷ cs))
 
       read : List Line → ℕ → Cell → Read (List Cell)
-      read xs at c = unless (not (any (λ (b : Cell). same (nameOf c) (nameOf b)) before)) 5 at (unless (isClean c) 6 at (rest xs c))
+      read xs at c =
+          unless (not (any (λ (b : Cell). same (nameOf c) (nameOf b)) before)) 5 at (unless (isClean c) 6 at (unless (noLower (c .lows) (c .delays)) 27 at (rest xs c)))
 
-      of : (c : Cell) → Fares _≡_ P (readCells (suc k) (c ∷ before) ls) (readCells (suc k) (c ∷ before) ms) → Fares _≡_ P (read ls (l .offset) c) (read ms (m .offset) c)
+      of : (c : Cell) → Fares _≡_ P (readCells ranged (suc k) (c ∷ before) ls) (readCells ranged (suc k) (c ∷ before) ms) → Fares _≡_ P (read ls (l .offset) c) (read ms (m .offset) c)
       of c f =
           fares-unless P _≡_ (not (any (λ (b : Cell). same (nameOf c) (nameOf b)) before)) (not (any (λ (b : Cell). same (nameOf c) (nameOf b)) before)) 5 (l .offset) (m .offset) _ _ refl
           (put 5 refl (l .offset) (m .offset) a)
           (fares-unless P _≡_ (isClean c) (isClean c) 6 (l .offset) (m .offset) _ _ refl (put 6 refl (l .offset) (m .offset) a)
-          (fares-next P _≡_ _≡_ (readCells (suc k) (c ∷ before) ls) (readCells (suc k) (c ∷ before) ms) (λ cs. holds (c ∷ cs)) (λ cs. holds (c ∷ cs)) f
-          (λ cs ds r. bothHold (ap (λ (xs : List Cell). c ∷ xs) r))))
+          (fares-unless P _≡_ (noLower (c .lows) (c .delays)) (noLower (c .lows) (c .delays)) 27 (l .offset) (m .offset) _ _ refl (put 27 refl (l .offset) (m .offset) a)
+          (fares-next P _≡_ _≡_ (readCells ranged (suc k) (c ∷ before) ls) (readCells ranged (suc k) (c ∷ before) ms) (λ cs. holds (c ∷ cs)) (λ cs. holds (c ∷ cs)) f
+          (λ cs ds r. bothHold (ap (λ (xs : List Cell). c ∷ xs) r)))))
 
   same-lines : At 0 0 → (end bound : ℕ) (ls ms : List Line) → Paired At end bound ls ms → Fares _≡_ P (readLibraryLines ls) (readLibraryLines ms)
   unfolding readLibraryLines shown
   same-lines z end bound [] [] (noLines a) = bothFault (put 2 refl 0 0 z)
   same-lines z end bound (l ∷ ls) (m ∷ ms) (aLine e a more) =
-      fares-unless P _≡_ (ended l && same (l .bytes) (text "cell pins table area d0 d1 d2 d3")) (ended m && same (m .bytes) (text "cell pins table area d0 d1 d2 d3")) 2 0 0 _ _
-      (ap (λ (p : List ℕ × Bool). p .1 && same (p .0) (text "cell pins table area d0 d1 d2 d3")) e) (put 2 refl 0 0 z) (same-cells end bound 0 [] ls ms more)
+      fares-unless P _≡_ (ended l && (isShorter l || isLonger l)) (ended m && (isShorter m || isLonger m)) 2 0 0 _ _ (names-shown l m e) (put 2 refl 0 0 z)
+      (subst (λ (r : Bool). Fares _≡_ P (readCells (isLonger l) 0 [] ls) (readCells r 0 [] ms)) (longer-shown l m e) (same-cells (isLonger l) end bound 0 [] ls ms more))
 
-same-library : (s t : List ℕ) (P : ℕ → ℕ → ℕ → Type 0) → ((n : ℕ) → leb n 6 ≡ true → (k j : ℕ) → SamePlace s t k j → P n k j) → Alike s t → Fares _≡_ P (readLibrary s) (readLibrary t)
+-- whether the delays are ranges, by what is shown of the lines
+same-ranged : (s t : List ℕ) → Alike s t → isRanged s ≡ isRanged t
+unfolding isRanged rangedLines isLonger shown
+same-ranged s t e = by-shown (linesFrom 0 [] s) ∙ ap firstLonger e ∙ sym (by-shown (linesFrom 0 [] t))
+  where
+    firstLonger : List (List ℕ × Bool) → Bool
+    firstLonger [] = false
+    firstLonger (p ∷ ps) = same (p .0) (text "cell pins table area d0 d1 d2 d3 l0 l1 l2 l3")
+
+    by-shown : (ls : List Line) → rangedLines ls ≡ firstLonger (map shown ls)
+    by-shown [] = refl
+    by-shown (l ∷ ls) = refl
+
+same-library : (s t : List ℕ) (P : ℕ → ℕ → ℕ → Type 0) → ((n : ℕ) → ofLibrary n ≡ true → (k j : ℕ) → SamePlace s t k j → P n k j) → Alike s t → Fares _≡_ P (readLibrary s) (readLibrary t)
 unfolding readLibrary
 same-library s t P put e =
     same-lines (SamePlace s t) P put (inl (0, start-zero s, start-zero t)) (length s) (length t) (linesFrom 0 [] s) (linesFrom 0 [] t) (pair-lines s t e)
@@ -260,7 +286,7 @@ same-graphs At size r =
     rw (a, b, c)
 
 -- places of lines are places of the refusals from 7 on
-module _ (At : ℕ → ℕ → Type 0) (P : ℕ → ℕ → ℕ → Type 0) (put : (n : ℕ) → (leb n 6 || ofArrivals n) ≡ false → (k j : ℕ) → At k j → P n k j) where
+module _ (At : ℕ → ℕ → Type 0) (P : ℕ → ℕ → ℕ → Type 0) (put : (n : ℕ) → (ofLibrary n || ofArrivals n) ≡ false → (k j : ℕ) → At k j → P n k j) where
   same-due : (end bound size : ℕ) (before : List ℕ) (ks : List Kind) (ls ms : List Line) → Paired At end bound ls ms
       → Fares (SameItems At) P (readDue (closed false) end size before ks ls) (readDue (closed false) bound size before ks ms)
   unfolding readDue
@@ -330,7 +356,7 @@ header-by l ls e =
     andThen (only (closed b l && (eqb (length (fields (l .bytes))) 6 && (b || same (getD (fields (l .bytes)) 0 []) (text "aag")))) (drop 1 (fields (l .bytes)))) (λ vs.
     andThen (numbers vs) (λ ns. some (headerOfNumbers b (nextOf l) ns)))) e
 
-module _ (At : ℕ → ℕ → Type 0) (P : ℕ → ℕ → ℕ → Type 0) (put : (n : ℕ) → (leb n 6 || ofArrivals n) ≡ false → (k j : ℕ) → At k j → P n k j) (s t : List ℕ) (z : At 0 0) where
+module _ (At : ℕ → ℕ → Type 0) (P : ℕ → ℕ → ℕ → Type 0) (put : (n : ℕ) → (ofLibrary n || ofArrivals n) ≡ false → (k j : ℕ) → At k j → P n k j) (s t : List ℕ) (z : At 0 0) where
   same-first : (p : List ℕ × Bool) (n q : ℕ) → Paired At (length s) (length t) (linesFrom n [] (drop n s)) (linesFrom q [] (drop q t))
       → Fares (Headers At s t) P (from? (headerBy p n) 7 0) (from? (headerBy p q) 7 0)
   unfolding headerBy andThen from?
@@ -415,7 +441,7 @@ unfolding lateNumbers shown
 late-shown l m e = ap (λ (p : List ℕ × Bool). andThen (only (p .1 && eqb (length (fields (p .0))) 2) (fields (p .0))) numbers) e
 
 -- places of lines are places of refusals 25 and 26
-module _ (At : ℕ → ℕ → Type 0) (P : ℕ → ℕ → ℕ → Type 0) (put : (n : ℕ) → (not (leb n 6) && ofArrivals n) ≡ true → (k j : ℕ) → At k j → P n k j) where
+module _ (At : ℕ → ℕ → Type 0) (P : ℕ → ℕ → ℕ → Type 0) (put : (n : ℕ) → (not (ofLibrary n) && ofArrivals n) ≡ true → (k j : ℕ) → At k j → P n k j) where
   same-late : (end bound inputs : ℕ) (before : List ℕ) (ls ms : List Line) → Paired At end bound ls ms → Fares _≡_ P (readLate inputs before ls) (readLate inputs before ms)
   unfolding readLate
   same-late end bound inputs before [] [] (noLines a) = bothHold refl
@@ -447,7 +473,7 @@ module _ (At : ℕ → ℕ → Type 0) (P : ℕ → ℕ → ℕ → Type 0) (put
       fares-unless P _≡_ (ended l && same (l .bytes) (text "input arrival")) (ended m && same (m .bytes) (text "input arrival")) 25 (l .offset) (m .offset) _ _
       (ap (λ (p : List ℕ × Bool). p .1 && same (p .0) (text "input arrival")) e) (put 25 refl (l .offset) (m .offset) a) (same-late end bound inputs [] ls ms more)
 
-same-arrivals : (s t : List ℕ) (P : ℕ → ℕ → ℕ → Type 0) → ((n : ℕ) → (not (leb n 6) && ofArrivals n) ≡ true → (k j : ℕ) → SamePlace s t k j → P n k j) → Alike s t
+same-arrivals : (s t : List ℕ) (P : ℕ → ℕ → ℕ → Type 0) → ((n : ℕ) → (not (ofLibrary n) && ofArrivals n) ≡ true → (k j : ℕ) → SamePlace s t k j → P n k j) → Alike s t
     → (inputs : ℕ) → Fares _≡_ P (readArrivals inputs s) (readArrivals inputs t)
 unfolding readArrivals
 same-arrivals s t P put e inputs = same-late-lines (SamePlace s t) P put (length s) (length t) inputs (linesFrom 0 [] s) (linesFrom 0 [] t) (pair-lines s t e)
@@ -463,22 +489,22 @@ module _ (c d : Call) (alike : AlikeTexts c d) where
   abbrev pick : Bool → Bool → Call → List ℕ
   pick a b x = cond a (x .library) (cond b (x .arrivals) (x .graph))
 
-  in-library : (n : ℕ) → leb n 6 ≡ true → (k j : ℕ) → SamePlace (c .library) (d .library) k j → Places n k j
+  in-library : (n : ℕ) → ofLibrary n ≡ true → (k j : ℕ) → SamePlace (c .library) (d .library) k j → Places n k j
   unfolding atFault Places
   in-library n e k j p = subst (λ (b : Bool). SamePlace (pick b (ofArrivals n) c) (pick b (ofArrivals n) d) k j) (sym e) p
 
-  in-graph : (n : ℕ) → (leb n 6 || ofArrivals n) ≡ false → (k j : ℕ) → SamePlace (c .graph) (d .graph) k j → Places n k j
+  in-graph : (n : ℕ) → (ofLibrary n || ofArrivals n) ≡ false → (k j : ℕ) → SamePlace (c .graph) (d .graph) k j → Places n k j
   unfolding atFault Places
-  in-graph n e k j p = go (leb n 6) (ofArrivals n) e
+  in-graph n e k j p = go (ofLibrary n) (ofArrivals n) e
     where
       go : (a b : Bool) → (a || b) ≡ false → SamePlace (pick a b c) (pick a b d) k j
       go true b q = absurd (true≢false q)
       go false true q = absurd (true≢false q)
       go false false q = p
 
-  in-arrivals : (n : ℕ) → (not (leb n 6) && ofArrivals n) ≡ true → (k j : ℕ) → SamePlace (c .arrivals) (d .arrivals) k j → Places n k j
+  in-arrivals : (n : ℕ) → (not (ofLibrary n) && ofArrivals n) ≡ true → (k j : ℕ) → SamePlace (c .arrivals) (d .arrivals) k j → Places n k j
   unfolding atFault Places
-  in-arrivals n e k j p = go (leb n 6) (ofArrivals n) e
+  in-arrivals n e k j p = go (ofLibrary n) (ofArrivals n) e
     where
       go : (a b : Bool) → (not a && b) ≡ true → SamePlace (pick a b c) (pick a b d) k j
       go true b q = absurd (true≢false (sym q))
@@ -487,7 +513,7 @@ module _ (c d : Call) (alike : AlikeTexts c d) where
 
   -- what is read behind the graph, for so many inputs
   timed : List ℕ → List Cell → ℕ → Graph → Read Design
-  timed s cells inputs g = next (readArrivals inputs s) (λ es. holds (record { cells = cells; graph = timedBy g es }))
+  timed s cells inputs g = next (readArrivals inputs s) (λ es. holds (record { cells = cells; ranged = isRanged (c .library); graph = timedBy g es }))
 
   -- what is read behind the header
   behindHeader : List ℕ → List ℕ → ℕ → List Cell → Header → Read Design
@@ -502,7 +528,7 @@ module _ (c d : Call) (alike : AlikeTexts c d) where
   same-timed cells inputs x y e =
       fares-next Places _≡_ _≡_ (readArrivals inputs (c .arrivals)) (readArrivals inputs (d .arrivals)) _ _
       (same-arrivals (c .arrivals) (d .arrivals) Places in-arrivals (alike .arrivals) inputs)
-      (λ es fs q. bothHold (ap₂ (λ (g : Graph) (xs : List Late). record { cells = cells; graph = timedBy g xs }) e q))
+      (λ es fs q. bothHold (ap₂ (λ (g : Graph) (xs : List Late). record { cells = cells; ranged = isRanged (c .library); graph = timedBy g xs }) e q))
 
   one-graph : c .graph ≡ d .graph → (cells : List Cell) → Fares _≡_ Places (behindLibrary (c .graph) (c .arrivals) (c .words) cells) (behindLibrary (d .graph) (d .arrivals) (c .words) cells)
   unfolding behindLibrary behindHeader
@@ -516,7 +542,7 @@ module _ (c d : Call) (alike : AlikeTexts c d) where
       (alone (readGraph (c .graph) h) (graph-faults OfGraph (λ k. refl) (λ k. refl) (λ k. refl) (λ k. refl) (λ k. refl) (λ k. refl) (c .graph) h)) (same-timed cells (h .inputs))))))
     where
       OfGraph : ℕ → ℕ → Type 0
-      OfGraph n k = (leb n 6 || ofArrivals n) ≡ false
+      OfGraph n k = (ofLibrary n || ofArrivals n) ≡ false
 
       alone : {A : Type 0} (r : Read A) → Faults OfGraph r → Fares _≡_ Places r r
       alone r f = fares-self Places r (record { has = λ n k q. in-graph n (f .has n k q) k k (inr (e, refl)) })
@@ -562,7 +588,8 @@ module _ (c d : Call) (alike : AlikeTexts c d) where
       let e : leb (length (d .library)) 65536 ≡ true = le-leb (length (d .library)) 65536 (alike .shortToo .library) in
       let f : leb (length (d .graph)) 65536 ≡ true = le-leb (length (d .graph)) 65536 (alike .shortToo .graph) in
       let t : leb (length (d .arrivals)) 65536 ≡ true = le-leb (length (d .arrivals)) 65536 (alike .shortToo .arrivals) in
-      rw (a, b, s, e, f, t)
+      let r : isRanged (d .library) ≡ isRanged (c .library) = sym (same-ranged (c .library) (d .library) (alike .libraries)) in
+      rw (a, b, s, e, f, t, r)
       (fares-next Places _≡_ _≡_ (readLibrary (c .library)) (readLibrary (d .library)) (behindLibrary (c .graph) (c .arrivals) (c .words)) (behindLibrary (d .graph) (d .arrivals) (d .words))
       (same-library (c .library) (d .library) Places in-library (alike .libraries))
       (λ x y q. subst (λ (z : List Cell). Fares _≡_ Places (behindLibrary (c .graph) (c .arrivals) (c .words) x) (behindLibrary (d .graph) (d .arrivals) (d .words) z)) q (same-behind x)))

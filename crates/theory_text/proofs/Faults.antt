@@ -12,7 +12,7 @@ use Rattle.model.specs.Text.{Line, ended, nextOf, text, closing, linesFrom, fie
 use Rattle.model.specs.Reading.{Read, holds, fault, next, unless, from?}
 use Rattle.model.specs.Cells.{nameOf}
 use Rattle.model.specs.Graph.{varOf}
-use Rattle.model.specs.LibraryText.{cellOfLine, isClean, readCells, readLibraryLines, readLibrary}
+use Rattle.model.specs.LibraryText.{cellOfLine, isClean, noLower, isShorter, isLonger, readCells, readLibraryLines, readLibrary}
 use Rattle.model.specs.GraphText.{closed, headerOfNumbers, headerOf, inLimits, inSequence, readHeader, Kind, anOutput, anAnd, defines, due, Item, itemLiterals, readDue, Passed, difference, lessBy, readAnds, behindLines, inputItems, readBinary, readItems, uses, definedBy, checkUses, graphOf, readGraph}
 use Rattle.model.specs.ArrivalsText.{Late, lateNumbers, readLate, readLateLines, readArrivals}
 use Rattle.model.specs.declared.Cell.{Cell}
@@ -139,35 +139,40 @@ header-inside bytes h e =
         omega (arith, i l (List·Memᴰ·head refl))
 
 module _ (P : ℕ → ℕ → Type 0) where
-  -- 3 to 6
-  cells-faults : ((k : ℕ) → P 3 k) → ((k : ℕ) → P 4 k) → ((k : ℕ) → P 5 k) → ((k : ℕ) → P 6 k) → (k : ℕ) (before : List Cell) (ls : List Line) → Faults P (readCells k before ls)
+  -- 3 to 6 and 27
+  cells-faults : ((k : ℕ) → P 3 k) → ((k : ℕ) → P 4 k) → ((k : ℕ) → P 5 k) → ((k : ℕ) → P 6 k) → ((k : ℕ) → P 27 k)
+      → (ranged : Bool) (k : ℕ) (before : List Cell) (ls : List Line) → Faults P (readCells ranged k before ls)
   unfolding readCells
-  cells-faults p3 p4 p5 p6 k before [] = in-holds P []
-  cells-faults p3 p4 p5 p6 k before (l ∷ ls) =
-      in-unless P (ltb k 32) 3 (l .offset) (next (from? (cellOfLine l) 4 (l .offset)) read) (λ _. p3 (l .offset))
-      (in-next P (from? (cellOfLine l) 4 (l .offset)) read (in-from P (cellOfLine l) 4 (l .offset) (p4 (l .offset)))
+  cells-faults p3 p4 p5 p6 p27 ranged k before [] = in-holds P []
+  cells-faults p3 p4 p5 p6 p27 ranged k before (l ∷ ls) =
+      in-unless P (ltb k 32) 3 (l .offset) (next (from? (cellOfLine ranged l) 4 (l .offset)) read) (λ _. p3 (l .offset))
+      (in-next P (from? (cellOfLine ranged l) 4 (l .offset)) read (in-from P (cellOfLine ranged l) 4 (l .offset) (p4 (l .offset)))
       (λ c e.
       in-unless P (not (any (λ (d : Cell). same (nameOf c) (nameOf d)) before)) 5 (l .offset) (clean c) (λ _. p5 (l .offset))
-      (in-unless P (isClean c) 6 (l .offset) (rest c) (λ _. p6 (l .offset))
-      (in-next P (readCells (suc k) (c ∷ before) ls) (λ cs. holds (c ∷ cs)) (cells-faults p3 p4 p5 p6 (suc k) (c ∷ before) ls) (λ cs _. in-holds P (c ∷ cs))))))
+      (in-unless P (isClean c) 6 (l .offset) (range c) (λ _. p6 (l .offset))
+      (in-unless P (noLower (c .lows) (c .delays)) 27 (l .offset) (rest c) (λ _. p27 (l .offset))
+      (in-next P (readCells ranged (suc k) (c ∷ before) ls) (λ cs. holds (c ∷ cs)) (cells-faults p3 p4 p5 p6 p27 ranged (suc k) (c ∷ before) ls) (λ cs _. in-holds P (c ∷ cs)))))))
     where
       rest : Cell → Read (List Cell)
-      rest c = next (readCells (suc k) (c ∷ before) ls) (λ cs. holds (c ∷ cs))
+      rest c = next (readCells ranged (suc k) (c ∷ before) ls) (λ cs. holds (c ∷ cs))
+
+      range : Cell → Read (List Cell)
+      range c = unless (noLower (c .lows) (c .delays)) 27 (l .offset) (rest c)
 
       clean : Cell → Read (List Cell)
-      clean c = unless (isClean c) 6 (l .offset) (rest c)
+      clean c = unless (isClean c) 6 (l .offset) (range c)
 
       read : Cell → Read (List Cell)
       read c = unless (not (any (λ (d : Cell). same (nameOf c) (nameOf d)) before)) 5 (l .offset) (clean c)
 
-  -- 2 to 6
-  pub library-faults : P 2 0 → ((k : ℕ) → P 3 k) → ((k : ℕ) → P 4 k) → ((k : ℕ) → P 5 k) → ((k : ℕ) → P 6 k) → (s : List ℕ) → Faults P (readLibrary s)
+  -- 2 to 6 and 27
+  pub library-faults : P 2 0 → ((k : ℕ) → P 3 k) → ((k : ℕ) → P 4 k) → ((k : ℕ) → P 5 k) → ((k : ℕ) → P 6 k) → ((k : ℕ) → P 27 k) → (s : List ℕ) → Faults P (readLibrary s)
   unfolding readLibrary readLibraryLines
-  library-faults p2 p3 p4 p5 p6 s = go (linesFrom 0 [] s)
+  library-faults p2 p3 p4 p5 p6 p27 s = go (linesFrom 0 [] s)
     where
       go : (ls : List Line) → Faults P (readLibraryLines ls)
       go [] = in-fault P 2 0 p2
-      go (l ∷ ls) = in-unless P (ended l && same (l .bytes) (text "cell pins table area d0 d1 d2 d3")) 2 0 (readCells 0 [] ls) (λ _. p2) (cells-faults p3 p4 p5 p6 0 [] ls)
+      go (l ∷ ls) = in-unless P (ended l && (isShorter l || isLonger l)) 2 0 (readCells (isLonger l) 0 [] ls) (λ _. p2) (cells-faults p3 p4 p5 p6 p27 (isLonger l) 0 [] ls)
 
   -- 25 and 26
   late-faults : ((k : ℕ) → P 25 k) → ((k : ℕ) → P 26 k) → (inputs : ℕ) (before : List ℕ) (ls : List Line) → Faults P (readLate inputs before ls)

@@ -4,6 +4,7 @@ pub mod LineLaws
 pub mod Faults
 pub mod ReadBack
 pub mod ReadFigures
+pub mod ReadTimings
 pub mod Names
 pub mod ReadLibrary
 pub mod Items
@@ -15,5 +16,6 @@ pub mod Sequence
 pub mod Twins
 pub mod ReadTexts
 pub mod Arrivals
+pub mod Former
 pub mod Ends
 pub mod Written

@@ -23,7 +23,7 @@ use Rattle.theory_text.proofs.Plain.{Free, above, free-append, decimal-
 -- ---- parts
 
 -- a part that a separator ends
-parts-line : (sep : ℕ) (w rest : List ℕ) → Free sep w → parts sep (w ++ (sep ∷ rest)) ≡ w ∷ parts sep rest
+pub parts-line : (sep : ℕ) (w rest : List ℕ) → Free sep w → parts sep (w ++ (sep ∷ rest)) ≡ w ∷ parts sep rest
 unfolding parts split onto
 parts-line sep [] rest f = ap (λ (b : Bool). split b sep (parts sep rest)) (is-true (eqb sep sep) (eqb-refl sep))
 parts-line sep (b ∷ w) rest f = ap₂ (λ (t : Bool) (ps : List (List ℕ)). split t b ps) (f .0) (parts-line sep w rest (f .1))
@@ -331,12 +331,22 @@ figures-free f =
     (free-append 10 (text " arrival ") (decimal (f .arrival)) (refl, (refl, (refl, (refl, (refl, (refl, (refl, (refl, (refl, tt)))))))))
     (decimal-free 10 (f .arrival) (lit< tt))))))
 
--- the lines of the printed text
-unfoldable pub linesOf : Graph → List Gate → Figures → List (List ℕ)
+-- the lines of the printed text, and more behind them
+unfoldable pub linesOf : Graph → List Gate → Figures → List (List ℕ) → List (List ℕ)
 unfolding text namesOf bodyOf wireBodies figuresLine
-linesOf g ts f =
+linesOf g ts f more =
     text ".model top" ∷ namesOf (text ".inputs") (inputNames g) ∷ namesOf (text ".outputs") (outputNames g)
-    ∷ map bodyOf ts ++ (wireBodies 0 (g .outputs) ++ (text ".end" ∷ figuresLine f ∷ []))
+    ∷ map bodyOf ts ++ (wireBodies 0 (g .outputs) ++ (text ".end" ∷ figuresLine f ∷ more))
+
+-- texts one after the other, and a last one
+chain : List (List ℕ) → List ℕ → List ℕ
+chain [] z = z
+chain (x ∷ xs) z = x ++ chain xs z
+
+chain-after : (xs : List (List ℕ)) (y z : List ℕ) → chain xs y ++ z ≡ chain xs (y ++ z)
+unfolding chain
+chain-after [] y z = refl
+chain-after (x ∷ xs) y z = append-assoc x (chain xs y) z ∙ ap (λ (v : List ℕ). x ++ v) (chain-after xs y z)
 
 module _ (g : Graph) where
   inputs-fit : Plains (inputNames g)
@@ -345,10 +355,13 @@ module _ (g : Graph) where
   outputs-fit : Plains (outputNames g)
   outputs-fit = plains-map outName out-plain (below (length (g .outputs)))
 
-pub text-lines : (g : Graph) (ts : List Gate) (f : Figures) → ((t : Gate) → List·Memᴰ t ts → T (isName (nameOf (t .cell)))) → parts 10 (netlistText g ts f) ≡ linesOf g ts f
-unfolding netlistText linesOf figuresLine text parts split onto
-text-lines g ts f h =
-    ap (λ (ps : List (List ℕ)). text ".model top" ∷ ps)
+pub text-lines : (g : Graph) (ts : List Gate) (f : Figures) (after : List ℕ) → ((t : Gate) → List·Memᴰ t ts → T (isName (nameOf (t .cell))))
+    → parts 10 (netlistText g ts f ++ after) ≡ linesOf g ts f (parts 10 after)
+unfolding netlistText linesOf figuresLine text parts split onto chain
+text-lines g ts f after h =
+    ap (parts 10) (chain-after (text ".model top\n" ∷ namesLine (text ".inputs") (inputNames g) ∷ namesLine (text ".outputs") (outputNames g) ∷ each gateLine ts ∷ wireLines 0 (g .outputs)
+    ∷ text ".end\n# gates " ∷ decimal (f .gates) ∷ text " area " ∷ decimal (f .area) ∷ text " arrival " ∷ decimal (f .arrival) ∷ []) (text "\n") after)
+    ∙ ap (λ (ps : List (List ℕ)). text ".model top" ∷ ps)
     (names-line (text ".inputs") inputs-plain (inputNames g) (inputs-fit g) after-inputs
     ∙ ap (λ (ps : List (List ℕ)). namesOf (text ".inputs") (inputNames g) ∷ ps)
     (names-line (text ".outputs") outputs-plain (outputNames g) (outputs-fit g) after-outputs
@@ -358,7 +371,7 @@ text-lines g ts f h =
     (wire-lines 0 (g .outputs) after-wires ∙ ap (λ (ps : List (List ℕ)). wireBodies 0 (g .outputs) ++ (text ".end" ∷ ps)) last))))
   where
     figures-line : List ℕ
-    figures-line = text "# gates " ++ (decimal (f .gates) ++ (text " area " ++ (decimal (f .area) ++ (text " arrival " ++ (decimal (f .arrival) ++ text "\n")))))
+    figures-line = text "# gates " ++ (decimal (f .gates) ++ (text " area " ++ (decimal (f .area) ++ (text " arrival " ++ (decimal (f .arrival) ++ (text "\n" ++ after))))))
 
     after-wires : List ℕ
     after-wires = text ".end\n" ++ figures-line
@@ -372,25 +385,26 @@ text-lines g ts f h =
     after-inputs : List ℕ
     after-inputs = namesLine (text ".outputs") (outputNames g) ++ after-outputs
 
-    ended : figures-line ≡ figuresLine f ++ text "\n"
+    ended : figures-line ≡ figuresLine f ++ (text "\n" ++ after)
     ended = sym (simp append-assoc)
 
-    last : parts 10 figures-line ≡ figuresLine f ∷ []
-    last = ap (parts 10) ended ∙ parts-line 10 (figuresLine f) [] (figures-free f)
+    last : parts 10 figures-line ≡ figuresLine f ∷ parts 10 after
+    last = ap (parts 10) ended ∙ parts-line 10 (figuresLine f) after (figures-free f)
 
--- the printed text reads back
-pub read-back : (g : Graph) (ts : List Gate) (f : Figures) → ((t : Gate) → List·Memᴰ t ts → T (isName (nameOf (t .cell)))) → readBlif (netlistText g ts f) ≡ some (blifOf g ts)
+-- the printed text reads back, whatever follows its `# gates` line
+pub read-back : (g : Graph) (ts : List Gate) (f : Figures) (after : List ℕ) → ((t : Gate) → List·Memᴰ t ts → T (isName (nameOf (t .cell))))
+    → readBlif (netlistText g ts f ++ after) ≡ some (blifOf g ts)
 unfolding readBlif blifOf readLines linesOf wordsAfter afterWord same only text andThen
-read-back g ts f h =
-    ap readLines (text-lines g ts f h)
+read-back g ts f after h =
+    ap readLines (text-lines g ts f after h)
     ∙ ap (λ (ps : List (List ℕ)). andThen (afterWord (text ".inputs") ps) (λ is. andThen (wordsAfter (text ".outputs") (namesOf (text ".outputs") (outputNames g))) (λ os. andThen (readBody lines) (model is os))))
     (names-words (text ".inputs") inputs-plain (inputNames g) (inputs-fit g))
     ∙ ap (λ (ps : List (List ℕ)). andThen (afterWord (text ".outputs") ps) (λ os. andThen (readBody lines) (model (inputNames g) os)))
     (names-words (text ".outputs") outputs-plain (outputNames g) (outputs-fit g))
-    ∙ ap (λ (b : Option Body). andThen b (model (inputNames g) (outputNames g))) (read-body ts h 0 (g .outputs) (figuresLine f ∷ []))
+    ∙ ap (λ (b : Option Body). andThen b (model (inputNames g) (outputNames g))) (read-body ts h 0 (g .outputs) (figuresLine f ∷ parts 10 after))
   where
     lines : List (List ℕ)
-    lines = map bodyOf ts ++ (wireBodies 0 (g .outputs) ++ (text ".end" ∷ figuresLine f ∷ []))
+    lines = map bodyOf ts ++ (wireBodies 0 (g .outputs) ++ (text ".end" ∷ figuresLine f ∷ parts 10 after))
 
     model : List (List ℕ) → List (List ℕ) → Body → Option Blif
     model is os b = some (record { inputs = is; outputs = os; gates = b .gates; wires = b .wires })

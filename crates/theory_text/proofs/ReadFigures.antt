@@ -8,7 +8,7 @@ use mathlib.Core.Option.{Option, none, some}
 use mathlib.Core.List.{List, [], _∷_, _++_, map, List·Memᴰ}
 use lib.Dec.{T, ltb, ltb→lt, leb, le→leb, nltb→le, lit<}
 use Rattle.model.specs.Base.{same, andThen, only}
-use Rattle.model.specs.Text.{text, digits, decimal, fields, split, onto, between, isName}
+use Rattle.model.specs.Text.{text, digits, decimal, parts, fields, split, onto, between, isName}
 use Rattle.model.specs.Cells.{nameOf}
 use Rattle.model.specs.Graph.{Graph}
 use Rattle.model.specs.Netlist.{Gate, netlistText}
@@ -66,7 +66,7 @@ unfolding figure
 figure-led b [] h = refl
 figure-led b (c ∷ bs) h = ap (λ (t : Bool). cond t none (digitsFrom 0 (b ∷ c ∷ bs))) (above 48 b h)
 
-figure-back : (n : ℕ) → figure (decimal n) ≡ some n
+pub figure-back : (n : ℕ) → figure (decimal n) ≡ some n
 unfolding decimal digitsFrom digits figure andThen only between
 figure-back zero = refl
 figure-back (suc n) =
@@ -108,17 +108,18 @@ behind-gates (t ∷ []) [] l more = refl
 behind-gates (t ∷ []) (o ∷ outs) l more = behind-wires 0 (o ∷ outs) l more
 behind-gates (t ∷ u ∷ ts) outs l more = behind-gates (u ∷ ts) outs l more
 
--- the printed text says its figures
-pub figures-back : (g : Graph) (ts : List Gate) (f : Figures) → ((t : Gate) → List·Memᴰ t ts → T (isName (nameOf (t .cell)))) → readFigures (netlistText g ts f) ≡ some f
+-- the printed text says its figures, whatever follows them
+pub figures-back : (g : Graph) (ts : List Gate) (f : Figures) (after : List ℕ) → ((t : Gate) → List·Memᴰ t ts → T (isName (nameOf (t .cell))))
+    → readFigures (netlistText g ts f ++ after) ≡ some f
 unfolding readFigures linesOf namesOf behindEnd wireBodies same text andThen
-figures-back g ts f h =
-    ap (λ (ls : List (List ℕ)). andThen (behindEnd ls) (λ l. readFigureWords (fields l))) (text-lines g ts f h)
-    ∙ ap (λ (o : Option (List ℕ)). andThen o (λ l. readFigureWords (fields l))) (go ts (g .outputs) (behind-gates ts (g .outputs) (figuresLine f) []))
+figures-back g ts f after h =
+    ap (λ (ls : List (List ℕ)). andThen (behindEnd ls) (λ l. readFigureWords (fields l))) (text-lines g ts f after h)
+    ∙ ap (λ (o : Option (List ℕ)). andThen o (λ l. readFigureWords (fields l))) (go ts (g .outputs) (behind-gates ts (g .outputs) (figuresLine f) (parts 10 after)))
     ∙ line-figures f
   where
     -- the first three lines are not the end, and a line follows each of them
-    go : (us : List Gate) (outs : List ℕ) → behindEnd (map bodyOf us ++ (wireBodies 0 outs ++ (text ".end" ∷ figuresLine f ∷ []))) ≡ some (figuresLine f)
-        → behindEnd (text ".model top" ∷ namesOf (text ".inputs") (inputNames g) ∷ namesOf (text ".outputs") (outputNames g) ∷ map bodyOf us ++ (wireBodies 0 outs ++ (text ".end" ∷ figuresLine f ∷ []))) ≡ some (figuresLine f)
+    go : (us : List Gate) (outs : List ℕ) → behindEnd (map bodyOf us ++ (wireBodies 0 outs ++ (text ".end" ∷ figuresLine f ∷ parts 10 after))) ≡ some (figuresLine f)
+        → behindEnd (text ".model top" ∷ namesOf (text ".inputs") (inputNames g) ∷ namesOf (text ".outputs") (outputNames g) ∷ map bodyOf us ++ (wireBodies 0 outs ++ (text ".end" ∷ figuresLine f ∷ parts 10 after))) ≡ some (figuresLine f)
     go [] [] q = q
     go [] (o ∷ outs) q = q
     go (u ∷ us) outs q = q

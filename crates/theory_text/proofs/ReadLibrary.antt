@@ -2,18 +2,18 @@
 use Prim.Native.Nat.{ℕ, suc, _+_, _-_, _^_, _≤_, _<_}
 use native.Mathlib.Omega.{arith}
 use mathlib.Core.Path.{_≡_, refl, sym, ap, subst}
-use mathlib.Core.Bool.{Bool, not, _&&_}
+use mathlib.Core.Bool.{Bool, true, false, cond, not, _&&_, _||_}
 use mathlib.Core.Option.{some}
-use mathlib.Core.List.{List, [], _∷_, List·Memᴰ, List·Memᴰ·head, List·Memᴰ·tail, List·Memᴰ·not-nil, Memᴰ·append-right}
+use mathlib.Core.List.{List, [], _∷_, List·Memᴰ, List·Memᴰ·head, List·Memᴰ·tail, List·Memᴰ·not-nil, Memᴰ·append-left, Memᴰ·append-right}
 use lib.Dec.{T, eqb, leb, ltb, ltb→lt, lit≤, T-not, not-T}
-use lib.ListN.{length, getD, take, drop, replicate, length-drop, take-append-drop}
+use lib.ListN.{length, getD, take, drop, replicate, length-drop, length-take, take-append-drop}
 use lib.Seq.{take-append-seam}
 use mir.Facts.{and-yes, yes-and, eqb-yes, yes-eqb, leb-yes, yes-leb}
 use Rattle.model.specs.Base.{all, any, same, andThen, only}
-use Rattle.model.specs.Text.{Line, ended, text, linesFrom, fields, numbers, hexTable, isName}
+use Rattle.model.specs.Text.{Line, ended, linesFrom, fields, numbers, hexTable, isName}
 use Rattle.model.specs.Reading.{holds, from?}
 use Rattle.model.specs.Cells.{nameOf}
-use Rattle.model.specs.LibraryText.{nameBytes, cellOfFields, cellOfLine, isClean, readCells, readLibraryLines, readLibrary}
+use Rattle.model.specs.LibraryText.{nameBytes, cellOfFields, cellOfLine, isClean, noLower, isShorter, isLonger, readCells, readLibraryLines, readLibrary}
 use Rattle.model.specs.declared.Cell.{Cell}
 use Rattle.theory_graph.proofs.Lists.{same-eq, same-refl, any-each, getD-in, all-in, is-false}
 use Rattle.theory_graph.specs.Accepted.{cellFits, libraryFits}
@@ -23,14 +23,21 @@ use Rattle.theory_text.proofs.Plain.{name-short}
 -- ---- a cell
 
 -- the cell that a line's fields, numbers and table make
-abbrev made : List (List ℕ) → List ℕ → ℕ → Cell
-made ws ns table =
-    record { name = nameBytes (getD ws 0 []); len = length (getD ws 0 []); pins = getD ns 0 0; table = table; area = getD ns 1 0; delays = drop 2 ns }
+abbrev made : Bool → List (List ℕ) → List ℕ → ℕ → Cell
+made ranged ws ns table = record {
+  name = nameBytes (getD ws 0 []);
+  len = length (getD ws 0 []);
+  pins = getD ns 0 0;
+  table = table;
+  area = getD ns 1 0;
+  delays = take 4 (drop 2 ns);
+  lows = drop (cond ranged 6 2) ns;
+}
 
 -- its name is the line's first field
-made-name : (ws : List (List ℕ)) (ns : List ℕ) (table : ℕ) → nameOf (made ws ns table) ≡ getD ws 0 []
+made-name : (ranged : Bool) (ws : List (List ℕ)) (ns : List ℕ) (table : ℕ) → nameOf (made ranged ws ns table) ≡ getD ws 0 []
 unfolding nameOf nameBytes
-made-name ws ns table = take-append-seam (getD ws 0 []) (replicate (8 - length (getD ws 0 [])) 0)
+made-name ranged ws ns table = take-append-seam (getD ws 0 []) (replicate (8 - length (getD ws 0 [])) 0)
 
 -- a cell as a line can give it: a name with zeros behind it, at most four pins, and numbers of at most 65,535
 pub record Written (c : Cell) : Type 0 where
@@ -42,71 +49,101 @@ pub record Written (c : Cell) : Type 0 where
   pub area : c .area ≤ 65535
   pub four : length (c .delays) ≡ 4
   pub delays : (d : ℕ) → List·Memᴰ d (c .delays) → d ≤ 65535
+  pub fourLows : length (c .lows) ≡ 4
+  pub lows : (d : ℕ) → List·Memᴰ d (c .lows) → d ≤ 65535
 
-made-written : (ws : List (List ℕ)) (ns : List ℕ) (table : ℕ) → length ws ≡ 8 → T (isName (getD ws 0 [])) → numbers (getD ws 1 [] ∷ drop 3 ws) ≡ some ns → T (leb (getD ns 0 0) 4)
-    → Written (made ws ns table)
-made-written ws ns table eight named read few = record {
-  isNamed = subst (λ (w : List ℕ). T (isName w)) (sym (made-name ws ns table)) named;
-  padded = ap nameBytes (sym (made-name ws ns table));
-  len = ap length (sym (made-name ws ns table));
+made-written : (ranged : Bool) (ws : List (List ℕ)) (ns : List ℕ) (table : ℕ) → length ws ≡ cond ranged 12 8 → T (isName (getD ws 0 [])) → numbers (getD ws 1 [] ∷ drop 3 ws) ≡ some ns → T (leb (getD ns 0 0) 4)
+    → Written (made ranged ws ns table)
+made-written ranged ws ns table eight named read few = record {
+  isNamed = subst (λ (w : List ℕ). T (isName w)) (sym (made-name ranged ws ns table)) named;
+  padded = ap nameBytes (sym (made-name ranged ws ns table));
+  len = ap length (sym (made-name ranged ws ns table));
   short = name-short (getD ws 0 []) named;
   pins = leb-yes few;
-  area = small (getD ns 1 0) (getD-in ns 1 0 (omega (arith, six)));
-  four = omega (arith, six, length-drop 2 ns);
-  delays = λ d m. small d (subst (λ (xs : List ℕ). List·Memᴰ d xs) (take-append-drop 2 ns) (Memᴰ·append-right (take 2 ns) m));
+  area = small (getD ns 1 0) (getD-in ns 1 0 (omega (arith, many)));
+  four = four-left (drop 2 ns) (omega (arith, many, length-drop 2 ns));
+  delays = λ d m. small d (behind 2 ns d (front 4 (drop 2 ns) d m));
+  fourLows = lows-four ranged count;
+  lows = λ d m. small d (behind (cond ranged 6 2) ns d m);
 }
   where
-    six : length ns ≡ 6
-    six = let q : length ns ≡ suc (length (drop 3 ws)) = numbers-length (getD ws 1 [] ∷ drop 3 ws) ns read in omega (arith, length-drop 3 ws)
+    front : (k : ℕ) (xs : List ℕ) (d : ℕ) → List·Memᴰ d (take k xs) → List·Memᴰ d xs
+    front k xs d m = subst (λ (ys : List ℕ). List·Memᴰ d ys) (take-append-drop k xs) (Memᴰ·append-left (drop k xs) m)
+
+    behind : (k : ℕ) (xs : List ℕ) (d : ℕ) → List·Memᴰ d (drop k xs) → List·Memᴰ d xs
+    behind k xs d m = subst (λ (ys : List ℕ). List·Memᴰ d ys) (take-append-drop k xs) (Memᴰ·append-right (take k xs) m)
+
+    four-left : (xs : List ℕ) → 4 ≤ length xs → length (take 4 xs) ≡ 4
+    four-left xs h = omega (arith, length-take 4 xs)
+
+    count : length ns ≡ cond ranged 10 6
+    count = let q : length ns ≡ suc (length (drop 3 ws)) = numbers-length (getD ws 1 [] ∷ drop 3 ws) ns read in fields-left ranged eight q (length-drop 3 ws)
+      where
+        fields-left : (r : Bool) → length ws ≡ cond r 12 8 → length ns ≡ suc (length (drop 3 ws)) → length (drop 3 ws) ≡ length ws - 3 → length ns ≡ cond r 10 6
+        fields-left true e q d = omega arith
+        fields-left false e q d = omega arith
+
+    many : 6 ≤ length ns
+    many = go ranged count
+      where
+        go : (r : Bool) → length ns ≡ cond r 10 6 → 6 ≤ length ns
+        go true e = omega arith
+        go false e = omega arith
+
+    lows-four : (r : Bool) → length ns ≡ cond r 10 6 → length (drop (cond r 6 2) ns) ≡ 4
+    lows-four true e = omega (arith, length-drop 6 ns)
+    lows-four false e = omega (arith, length-drop 2 ns)
 
     small : (n : ℕ) → List·Memᴰ n ns → n ≤ 65535
     small = numbers-small (getD ws 1 [] ∷ drop 3 ws) ns read
 
-fields-written : (ws : List (List ℕ)) (c : Cell) → cellOfFields ws ≡ some c → Written c
+fields-written : (ranged : Bool) (ws : List (List ℕ)) (c : Cell) → cellOfFields ranged ws ≡ some c → Written c
 unfolding cellOfFields
-fields-written ws c e =
-    let a = then-out (only (eqb (length ws) 8 && isName (getD ws 0 [])) ws)
-    (λ _. andThen (numbers (getD ws 1 [] ∷ drop 3 ws)) (λ ns. andThen (hexTable (getD ws 2 [])) (λ table. only (leb (getD ns 0 0) 4) (made ws ns table)))) c e in
-    let p = and-yes (eqb (length ws) 8) (isName (getD ws 0 [])) (only-out (eqb (length ws) 8 && isName (getD ws 0 [])) ws (a .0) (a .1) .0) in
-    let b = then-out (numbers (getD ws 1 [] ∷ drop 3 ws)) (λ ns. andThen (hexTable (getD ws 2 [])) (λ table. only (leb (getD ns 0 0) 4) (made ws ns table))) c (a .2) in
-    let d = then-out (hexTable (getD ws 2 [])) (λ table. only (leb (getD (b .0) 0 0) 4) (made ws (b .0) table)) c (b .2) in
-    let t = only-out (leb (getD (b .0) 0 0) 4) (made ws (b .0) (d .0)) c (d .2) in
-    subst Written (t .1) (made-written ws (b .0) (d .0) (eqb-yes (p .0)) (p .1) (b .1) (t .0))
+fields-written ranged ws c e =
+    let a = then-out (only (eqb (length ws) (cond ranged 12 8) && isName (getD ws 0 [])) ws)
+    (λ _. andThen (numbers (getD ws 1 [] ∷ drop 3 ws)) (λ ns. andThen (hexTable (getD ws 2 [])) (λ table. only (leb (getD ns 0 0) 4) (made ranged ws ns table)))) c e in
+    let p = and-yes (eqb (length ws) (cond ranged 12 8)) (isName (getD ws 0 [])) (only-out (eqb (length ws) (cond ranged 12 8) && isName (getD ws 0 [])) ws (a .0) (a .1) .0) in
+    let b = then-out (numbers (getD ws 1 [] ∷ drop 3 ws)) (λ ns. andThen (hexTable (getD ws 2 [])) (λ table. only (leb (getD ns 0 0) 4) (made ranged ws ns table))) c (a .2) in
+    let d = then-out (hexTable (getD ws 2 [])) (λ table. only (leb (getD (b .0) 0 0) 4) (made ranged ws (b .0) table)) c (b .2) in
+    let t = only-out (leb (getD (b .0) 0 0) 4) (made ranged ws (b .0) (d .0)) c (d .2) in
+    subst Written (t .1) (made-written ranged ws (b .0) (d .0) (eqb-yes (p .0)) (p .1) (b .1) (t .0))
 
-line-written : (l : Line) (c : Cell) → cellOfLine l ≡ some c → Written c
+line-written : (ranged : Bool) (l : Line) (c : Cell) → cellOfLine ranged l ≡ some c → Written c
 unfolding cellOfLine
-line-written l c e = let o = then-out (only (ended l) (fields (l .bytes))) cellOfFields c e in fields-written (o .0) c (o .2)
+line-written ranged l c e = let o = then-out (only (ended l) (fields (l .bytes))) (cellOfFields ranged) c e in fields-written ranged (o .0) c (o .2)
 
 written-fits : (c : Cell) → Written c → T (isClean c) → T (cellFits c)
 unfolding isClean cellFits
 written-fits c w t =
     yes-and (isName (nameOf c)) (leb (c .pins) 4 && (ltb (c .table) (2 ^ 2 ^ c .pins) && eqb (length (c .delays)) 4)) (w .isNamed)
     (yes-and (leb (c .pins) 4) (ltb (c .table) (2 ^ 2 ^ c .pins) && eqb (length (c .delays)) 4) (yes-leb (w .pins))
-    (yes-and (ltb (c .table) (2 ^ 2 ^ c .pins)) (eqb (length (c .delays)) 4) (and-yes (ltb (c .table) (2 ^ 2 ^ c .pins)) (all (eqb 0) (drop (c .pins) (c .delays))) t .0) (yes-eqb (w .four))))
+    (yes-and (ltb (c .table) (2 ^ 2 ^ c .pins)) (eqb (length (c .delays)) 4) (and-yes (ltb (c .table) (2 ^ 2 ^ c .pins)) (all (eqb 0) (drop (c .pins) (c .delays)) && all (eqb 0) (drop (c .pins) (c .lows))) t .0) (yes-eqb (w .four))))
 
 -- ---- the lines
 
 -- what one line gives
-record Step (k : ℕ) (before : List Cell) (l : Line) (ls : List Line) (cs : List Cell) : Type 0 where
+record Step (ranged : Bool) (k : ℕ) (before : List Cell) (l : Line) (ls : List Line) (cs : List Cell) : Type 0 where
   first : Cell
   rest : List Cell
   isRoom : k < 32
   isWritten : Written first
   isClean′ : T (isClean first)
+  isRange : T (noLower (first .lows) (first .delays))
   isNew : T (not (any (λ (d : Cell). same (nameOf first) (nameOf d)) before))
-  isRest : readCells (suc k) (first ∷ before) ls ≡ holds rest
+  isRest : readCells ranged (suc k) (first ∷ before) ls ≡ holds rest
   isList : first ∷ rest ≡ cs
 
-read-step : (k : ℕ) (before : List Cell) (l : Line) (ls : List Line) (cs : List Cell) → readCells k before (l ∷ ls) ≡ holds cs → Step k before l ls cs
+read-step : (ranged : Bool) (k : ℕ) (before : List Cell) (l : Line) (ls : List Line) (cs : List Cell) → readCells ranged k before (l ∷ ls) ≡ holds cs → Step ranged k before l ls cs
 unfolding readCells
-read-step k before l ls cs e =
+read-step ranged k before l ls cs e =
     let a = unless-out (ltb k 32) 3 (l .offset) _ cs e in
-    let b = next-out (from? (cellOfLine l) 4 (l .offset)) _ cs (a .1) in
+    let b = next-out (from? (cellOfLine ranged l) 4 (l .offset)) _ cs (a .1) in
     let c = b .0 in
     let d = unless-out (not (any (λ (x : Cell). same (nameOf c) (nameOf x)) before)) 5 (l .offset) _ cs (b .2) in
     let f = unless-out (isClean c) 6 (l .offset) _ cs (d .1) in
-    let h = next-out (readCells (suc k) (c ∷ before) ls) (λ xs. holds (c ∷ xs)) cs (f .1) in
-    record { first = c; rest = h .0; isRoom = ltb→lt k 32 (a .0); isWritten = line-written l c (from-out (cellOfLine l) 4 (l .offset) c (b .1)); isClean′ = f .0; isNew = d .0; isRest = h .1; isList = holds-once (h .2) }
+    let r = unless-out (noLower (c .lows) (c .delays)) 27 (l .offset) _ cs (f .1) in
+    let h = next-out (readCells ranged (suc k) (c ∷ before) ls) (λ xs. holds (c ∷ xs)) cs (r .1) in
+    record { first = c; rest = h .0; isRoom = ltb→lt k 32 (a .0); isWritten = line-written ranged l c (from-out (cellOfLine ranged l) 4 (l .offset) c (b .1)); isClean′ = f .0; isRange = r .0; isNew = d .0; isRest = h .1; isList = holds-once (h .2) }
 
 any-not : (p : Cell → Bool) (xs : List Cell) → T (not (any p xs)) → (x : Cell) → List·Memᴰ x xs → T (not (p x))
 any-not p xs t x m = subst (λ (b : Bool). T (not b)) (sym (any-each p xs (is-false (any p xs) t) x m)) tt
@@ -115,72 +152,89 @@ swap : (a b : List ℕ) → T (not (same a b)) → T (not (same b a))
 swap a b t = not-T (same b a) (λ u. T-not (same a b) t (subst (λ (x : List ℕ). T (same a x)) (sym (same-eq b a u)) (same-refl a)))
 
 -- no cell that is read has a name that was there before
-read-new : (k : ℕ) (before : List Cell) (ls : List Line) (cs : List Cell) → readCells k before ls ≡ holds cs
+read-new : (ranged : Bool) (k : ℕ) (before : List Cell) (ls : List Line) (cs : List Cell) → readCells ranged k before ls ≡ holds cs
     → (b d : Cell) → List·Memᴰ b before → List·Memᴰ d cs → T (not (same (nameOf b) (nameOf d)))
 unfolding readCells
-read-new k before [] cs e b d m n = absurd (List·Memᴰ·not-nil (subst (λ (xs : List Cell). List·Memᴰ d xs) (sym (holds-once e)) n))
-read-new k before (l ∷ ls) cs e b d m n = go (subst (λ (xs : List Cell). List·Memᴰ d xs) (sym (s .isList)) n) (read-new (suc k) (s .first ∷ before) ls (s .rest) (s .isRest) b d (List·Memᴰ·tail m))
+read-new ranged k before [] cs e b d m n = absurd (List·Memᴰ·not-nil (subst (λ (xs : List Cell). List·Memᴰ d xs) (sym (holds-once e)) n))
+read-new ranged k before (l ∷ ls) cs e b d m n = go (subst (λ (xs : List Cell). List·Memᴰ d xs) (sym (s .isList)) n) (read-new ranged (suc k) (s .first ∷ before) ls (s .rest) (s .isRest) b d (List·Memᴰ·tail m))
   where
-    s : Step k before l ls cs
-    s = read-step k before l ls cs e
+    s : Step ranged k before l ls cs
+    s = read-step ranged k before l ls cs e
 
     go : List·Memᴰ d (s .first ∷ s .rest) → (List·Memᴰ d (s .rest) → T (not (same (nameOf b) (nameOf d)))) → T (not (same (nameOf b) (nameOf d)))
     go (List·Memᴰ·head q) later =
         subst (λ (x : Cell). T (not (same (nameOf b) (nameOf x)))) (sym q) (swap (nameOf (s .first)) (nameOf b) (any-not (λ (x : Cell). same (nameOf (s .first)) (nameOf x)) before (s .isNew) b m))
     go (List·Memᴰ·tail i) later = later i
 
-read-fits : (k : ℕ) (before : List Cell) (ls : List Line) (cs : List Cell) → readCells k before ls ≡ holds cs → T (libraryFits cs)
+read-fits : (ranged : Bool) (k : ℕ) (before : List Cell) (ls : List Line) (cs : List Cell) → readCells ranged k before ls ≡ holds cs → T (libraryFits cs)
 unfolding readCells libraryFits
-read-fits k before [] cs e = subst (λ (xs : List Cell). T (libraryFits xs)) (holds-once e) tt
-read-fits k before (l ∷ ls) cs e =
-    let s = read-step k before l ls cs e in
+read-fits ranged k before [] cs e = subst (λ (xs : List Cell). T (libraryFits xs)) (holds-once e) tt
+read-fits ranged k before (l ∷ ls) cs e =
+    let s = read-step ranged k before l ls cs e in
     subst (λ (xs : List Cell). T (libraryFits xs)) (s .isList)
     (yes-and (cellFits (s .first)) (all (λ (d : Cell). not (same (nameOf (s .first)) (nameOf d))) (s .rest) && libraryFits (s .rest)) (written-fits (s .first) (s .isWritten) (s .isClean′))
     (yes-and (all (λ (d : Cell). not (same (nameOf (s .first)) (nameOf d))) (s .rest)) (libraryFits (s .rest))
-    (all-in (λ (d : Cell). not (same (nameOf (s .first)) (nameOf d))) (s .rest) (λ d m. read-new (suc k) (s .first ∷ before) ls (s .rest) (s .isRest) (s .first) d (List·Memᴰ·head refl) m))
-    (read-fits (suc k) (s .first ∷ before) ls (s .rest) (s .isRest))))
+    (all-in (λ (d : Cell). not (same (nameOf (s .first)) (nameOf d))) (s .rest) (λ d m. read-new ranged (suc k) (s .first ∷ before) ls (s .rest) (s .isRest) (s .first) d (List·Memᴰ·head refl) m))
+    (read-fits ranged (suc k) (s .first ∷ before) ls (s .rest) (s .isRest))))
 
-read-written : (k : ℕ) (before : List Cell) (ls : List Line) (cs : List Cell) → readCells k before ls ≡ holds cs → (c : Cell) → List·Memᴰ c cs → Written c × T (isClean c)
+read-written : (ranged : Bool) (k : ℕ) (before : List Cell) (ls : List Line) (cs : List Cell) → readCells ranged k before ls ≡ holds cs → (c : Cell) → List·Memᴰ c cs → Written c × T (isClean c)
 unfolding readCells
-read-written k before [] cs e c m = absurd (List·Memᴰ·not-nil (subst (λ (xs : List Cell). List·Memᴰ c xs) (sym (holds-once e)) m))
-read-written k before (l ∷ ls) cs e c m = go (subst (λ (xs : List Cell). List·Memᴰ c xs) (sym (s .isList)) m) (read-written (suc k) (s .first ∷ before) ls (s .rest) (s .isRest) c)
+read-written ranged k before [] cs e c m = absurd (List·Memᴰ·not-nil (subst (λ (xs : List Cell). List·Memᴰ c xs) (sym (holds-once e)) m))
+read-written ranged k before (l ∷ ls) cs e c m = go (subst (λ (xs : List Cell). List·Memᴰ c xs) (sym (s .isList)) m) (read-written ranged (suc k) (s .first ∷ before) ls (s .rest) (s .isRest) c)
   where
-    s : Step k before l ls cs
-    s = read-step k before l ls cs e
+    s : Step ranged k before l ls cs
+    s = read-step ranged k before l ls cs e
 
     go : List·Memᴰ c (s .first ∷ s .rest) → (List·Memᴰ c (s .rest) → Written c × T (isClean c)) → Written c × T (isClean c)
     go (List·Memᴰ·head q) later = subst (λ (x : Cell). Written x × T (isClean x)) (sym q) (s .isWritten, s .isClean′)
     go (List·Memᴰ·tail i) later = later i
 
 -- "No cells and 32 cells are accepted."
-read-few : (k : ℕ) (before : List Cell) (ls : List Line) (cs : List Cell) → k ≤ 32 → readCells k before ls ≡ holds cs → k + length cs ≤ 32
+read-few : (ranged : Bool) (k : ℕ) (before : List Cell) (ls : List Line) (cs : List Cell) → k ≤ 32 → readCells ranged k before ls ≡ holds cs → k + length cs ≤ 32
 unfolding readCells
-read-few k before [] cs h e = subst (λ (xs : List Cell). k + length xs ≤ 32) (holds-once e) (omega arith)
-read-few k before (l ∷ ls) cs h e =
-    let s = read-step k before l ls cs e in
-    let r : suc k + length (s .rest) ≤ 32 = read-few (suc k) (s .first ∷ before) ls (s .rest) (s .isRoom) (s .isRest) in
+read-few ranged k before [] cs h e = subst (λ (xs : List Cell). k + length xs ≤ 32) (holds-once e) (omega arith)
+read-few ranged k before (l ∷ ls) cs h e =
+    let s = read-step ranged k before l ls cs e in
+    let r : suc k + length (s .rest) ≤ 32 = read-few ranged (suc k) (s .first ∷ before) ls (s .rest) (s .isRoom) (s .isRest) in
     subst (λ (xs : List Cell). k + length xs ≤ 32) (s .isList) (omega arith)
 
 -- the lines behind the names line are the cells'
-library-lines : (ls : List Line) (cells : List Cell) → readLibraryLines ls ≡ holds cells → (rest : List Line) × (readCells 0 [] rest ≡ holds cells)
+library-lines : (ls : List Line) (cells : List Cell) → readLibraryLines ls ≡ holds cells → (ranged : Bool) × (rest : List Line) × (readCells ranged 0 [] rest ≡ holds cells)
 unfolding readLibraryLines
 library-lines [] cells e = absurd (fault-never e)
 library-lines (l ∷ ls) cells e =
-    (ls, unless-out (ended l && same (l .bytes) (text "cell pins table area d0 d1 d2 d3")) 2 0 (readCells 0 [] ls) cells e .1)
+    (isLonger l, ls, unless-out (ended l && (isShorter l || isLonger l)) 2 0 (readCells (isLonger l) 0 [] ls) cells e .1)
 
 -- a library text that is read gives a library that fits
 pub library-fits : (bytes : List ℕ) (cells : List Cell) → readLibrary bytes ≡ holds cells → T (libraryFits cells)
 unfolding readLibrary
-library-fits bytes cells e = let q = library-lines (linesFrom 0 [] bytes) cells e in read-fits 0 [] (q .0) cells (q .1)
+library-fits bytes cells e = let q = library-lines (linesFrom 0 [] bytes) cells e in read-fits (q .0) 0 [] (q .1) cells (q .2)
 
 -- and at most 32 cells
 pub library-few : (bytes : List ℕ) (cells : List Cell) → readLibrary bytes ≡ holds cells → length cells ≤ 32
 unfolding readLibrary
 library-few bytes cells e =
     let q = library-lines (linesFrom 0 [] bytes) cells e in
-    let r : 0 + length cells ≤ 32 = read-few 0 [] (q .0) cells (lit≤ tt) (q .1) in omega arith
+    let r : 0 + length cells ≤ 32 = read-few (q .0) 0 [] (q .1) cells (lit≤ tt) (q .2) in omega arith
 
 -- and each is as its line gives it, with no table bit or delay of an absent pin
 pub library-written : (bytes : List ℕ) (cells : List Cell) → readLibrary bytes ≡ holds cells → (c : Cell) → List·Memᴰ c cells → Written c × T (isClean c)
 unfolding readLibrary
-library-written bytes cells e = let q = library-lines (linesFrom 0 [] bytes) cells e in read-written 0 [] (q .0) cells (q .1)
+library-written bytes cells e = let q = library-lines (linesFrom 0 [] bytes) cells e in read-written (q .0) 0 [] (q .1) cells (q .2)
+
+-- and no lowest delay is over its delay
+read-ranged : (ranged : Bool) (k : ℕ) (before : List Cell) (ls : List Line) (cs : List Cell) → readCells ranged k before ls ≡ holds cs → (c : Cell) → List·Memᴰ c cs → T (noLower (c .lows) (c .delays))
+unfolding readCells
+read-ranged ranged k before [] cs e c m = absurd (List·Memᴰ·not-nil (subst (λ (xs : List Cell). List·Memᴰ c xs) (sym (holds-once e)) m))
+read-ranged ranged k before (l ∷ ls) cs e c m = go (subst (λ (xs : List Cell). List·Memᴰ c xs) (sym (s .isList)) m) (read-ranged ranged (suc k) (s .first ∷ before) ls (s .rest) (s .isRest) c)
+  where
+    s : Step ranged k before l ls cs
+    s = read-step ranged k before l ls cs e
+
+    go : List·Memᴰ c (s .first ∷ s .rest) → (List·Memᴰ c (s .rest) → T (noLower (c .lows) (c .delays))) → T (noLower (c .lows) (c .delays))
+    go (List·Memᴰ·head q) later = subst (λ (x : Cell). T (noLower (x .lows) (x .delays))) (sym q) (s .isRange)
+    go (List·Memᴰ·tail i) later = later i
+
+pub library-ranged : (bytes : List ℕ) (cells : List Cell) → readLibrary bytes ≡ holds cells → (c : Cell) → List·Memᴰ c cells → T (noLower (c .lows) (c .delays))
+unfolding readLibrary
+library-ranged bytes cells e = let q = library-lines (linesFrom 0 [] bytes) cells e in read-ranged (q .0) 0 [] (q .1) cells (q .2)

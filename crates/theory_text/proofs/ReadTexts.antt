@@ -8,7 +8,7 @@ use lib.ListN.{length}
 use mir.Facts.{and-yes, leb-yes}
 use Rattle.model.specs.Limits.{need}
 use Rattle.model.specs.Reading.{holds}
-use Rattle.model.specs.LibraryText.{readLibrary, isClean}
+use Rattle.model.specs.LibraryText.{readLibrary, isRanged, isClean, noLower}
 use Rattle.model.specs.GraphText.{readHeader, readGraph}
 use Rattle.model.specs.ArrivalsText.{Late, readArrivals, timedBy}
 use Rattle.model.specs.Graph.{Graph, unplaced}
@@ -18,7 +18,7 @@ use Rattle.model.specs.declared.Header.{Header}
 use Rattle.theory_graph.specs.Accepted.{Accepted, libraryFits}
 use Rattle.theory_graph.proofs.Timed.{timed-accepted, timed-unplaced}
 use Rattle.theory_text.proofs.Steps.{holds-once, unless-out, next-out}
-use Rattle.theory_text.proofs.ReadLibrary.{Written, library-fits, library-few, library-written}
+use Rattle.theory_text.proofs.ReadLibrary.{Written, library-fits, library-few, library-written, library-ranged}
 use Rattle.theory_text.specs.Fits.{GraphFits}
 use Rattle.theory_text.proofs.ReadGraph.{graph-accepted, graph-fits}
 
@@ -27,6 +27,7 @@ pub record Texts (c : Call) (d : Design) : Type 0 where
   pub header : Header
   pub shortLibrary : length (c .library) ≤ 65536
   pub shortGraph : length (c .graph) ≤ 65536
+  pub isRange : isRanged (c .library) ≡ d .ranged
   pub isLibrary : readLibrary (c .library) ≡ holds (d .cells)
   pub isHeader : readHeader (c .graph) ≡ holds header
   pub enough : need (header .size) (header .outputs) ≤ c .words
@@ -47,12 +48,13 @@ texts-read c d e =
     let k = next-out (readHeader (c .graph)) _ d (b .2) in
     let f = unless-out (leb (need (k .0 .size) (k .0 .outputs)) (c .words)) 10 0 _ d (k .2) in
     let g = next-out (readGraph (c .graph) (k .0)) _ d (f .1) in
-    let t = next-out (readArrivals (k .0 .inputs) (c .arrivals)) (λ es. holds (record { cells = b .0; graph = timedBy (g .0) es })) d (g .2) in
+    let t = next-out (readArrivals (k .0 .inputs) (c .arrivals)) (λ es. holds (record { cells = b .0; ranged = isRanged (c .library); graph = timedBy (g .0) es })) d (g .2) in
     subst (Texts c) (holds-once (t .2)) (record {
       header = k .0;
       shortLibrary = leb-yes (p .0);
       shortGraph = leb-yes (q .0);
       isLibrary = b .1;
+      isRange = refl;
       isHeader = k .1;
       enough = leb-yes (f .0);
       meant = g .0;
@@ -78,6 +80,10 @@ module _ (c : Call) (d : Design) (e : readTexts c ≡ holds d) where
 
   pub design-written : (k : Cell) → List·Memᴰ k (d .cells) → Written k × T (isClean k)
   design-written = library-written (c .library) (d .cells) (texts-read c d e .isLibrary)
+
+  -- and of 27
+  pub design-ranged : (k : Cell) → List·Memᴰ k (d .cells) → T (noLower (k .lows) (k .delays))
+  design-ranged = library-ranged (c .library) (d .cells) (texts-read c d e .isLibrary)
 
   -- the graph is free of refusals 9 and 12
   pub design-graph : GraphFits (d .graph)

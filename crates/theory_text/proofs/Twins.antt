@@ -21,7 +21,7 @@ use Rattle.model.specs.ArrivalsText.{readArrivals, timedBy}
 use Rattle.model.specs.Mapper.{Call, Design, readTexts, mapDesign, mapTexts}
 use Rattle.model.specs.Demands.{Distinct, Means, onGraph}
 use Rattle.model.specs.Limits.{need}
-use Rattle.model.specs.LibraryText.{readLibrary}
+use Rattle.model.specs.LibraryText.{readLibrary, isRanged}
 use Rattle.model.specs.declared.Cell.{Cell}
 use Rattle.model.specs.declared.Header.{Header}
 use Rattle.theory_graph.proofs.Lists.{is-true, all-in, elem-T, map-map, map-in, map-out, each-in, keep-append}
@@ -356,7 +356,7 @@ ascii-means bytes g m short =
 -- what the texts hold hangs on the library's text, the arrivals' text, the lent words and the graph that is meant: M, I and O are the graph's
 reads-by-graph : (c : Call) (g : Graph) → Means (c .graph) g → readTexts c ≡ unless (leb (length (c .library)) 65536 && leb (length (c .arrivals)) 65536) 1 0
     (next (readLibrary (c .library)) (λ cells. unless (leb (need (g .size) (length (g .outputs))) (c .words)) 10 0
-    (next (readArrivals (length (g .inputs)) (c .arrivals)) (λ es. holds (record { cells = cells; graph = timedBy g es })))))
+    (next (readArrivals (length (g .inputs)) (c .arrivals)) (λ es. holds (record { cells = cells; ranged = isRanged (c .library); graph = timedBy g es })))))
 unfolding readTexts next
 reads-by-graph c g m =
     ap (λ (b : Bool). unless b 1 0 (next (readLibrary (c .library)) read))
@@ -367,7 +367,7 @@ reads-by-graph c g m =
     h = m .header
 
     timed : List Cell → ℕ → Graph → Read Design
-    timed cells inputs x = next (readArrivals inputs (c .arrivals)) (λ es. holds (record { cells = cells; graph = timedBy x es }))
+    timed cells inputs x = next (readArrivals inputs (c .arrivals)) (λ es. holds (record { cells = cells; ranged = isRanged (c .library); graph = timedBy x es }))
 
     behind : List Cell → Header → Read Design
     behind cells k = unless (leb (need (k .size) (k .outputs)) (c .words)) 10 0 (next (readGraph (c .graph) k) (timed cells (k .inputs)))

@@ -1,0 +1,174 @@
+-- Under the shorter names line a library's text is read as it was before there were ranges, and so is a call. Assumes nothing.
+use Prim.Native.Nat.{ℕ, zero, suc, _^_, _≤_}
+use native.Mathlib.Nat.{le-refl, le-of-suc-le-suc, not-suc-le-zero}
+use native.Mathlib.Omega.{arith}
+use mathlib.Core.Path.{_≡_, refl, sym, _∙_, ap, subst}
+use mathlib.Core.Bool.{Bool, true, false, not, cond, _&&_, _||_}
+use mathlib.Core.Option.{Option, none, some}
+use mathlib.Core.List.{List, [], _∷_, List·Memᴰ}
+use lib.Dec.{T, eqb, leb, ltb, le→leb}
+use lib.ListN.{length, getD, take, drop, length-drop}
+use mir.Facts.{and-yes, eqb-yes}
+use Rattle.model.specs.Base.{all, any, same, andThen, only}
+use Rattle.model.specs.Limits.{need}
+use Rattle.model.specs.Text.{Line, ended, text, linesFrom, fields, numbers, hexTable, isName}
+use Rattle.model.specs.Reading.{Read, holds, fault, next, unless, from?}
+use Rattle.model.specs.Cells.{nameOf}
+use Rattle.model.specs.Graph.{Graph}
+use Rattle.model.specs.LibraryText.{nameBytes, cellOfFields, cellOfLine, isClean, noLower, isShorter, isLonger, readCells, readLibraryLines, rangedLines, readLibrary, isRanged}
+use Rattle.model.specs.FormerLibrary.{formerFields, formerLine, formerClean, formerCells, formerLines, formerLibrary}
+use Rattle.model.specs.GraphText.{readHeader, readGraph}
+use Rattle.model.specs.ArrivalsText.{readArrivals, timedBy}
+use Rattle.model.specs.Netlist.{Outcome, refused, mapped, mapGraph}
+use Rattle.model.specs.Timing.{followed}
+use Rattle.model.specs.Mapper.{Call, Design, short, readTexts, within, mapDesign, mapTexts}
+use Rattle.model.specs.Demands.{readFormer, formerOutcome, Former}
+use Rattle.model.specs.declared.Cell.{Cell}
+use Rattle.model.specs.declared.Header.{Header}
+use Rattle.theory_graph.proofs.Lists.{is-true}
+use Rattle.theory_text.proofs.Steps.{from-out, then-out, only-out, numbers-length}
+use Rattle.theory_text.proofs.ReadTexts.{texts-read}
+use Rattle.theory_text.proofs.Arrivals.{next-same}
+
+-- ---- a line
+
+-- all of a list that is no longer
+take-whole : (k : ℕ) (xs : List ℕ) → length xs ≤ k → take k xs ≡ xs
+take-whole zero [] h = refl
+take-whole (suc k) [] h = refl
+take-whole zero (x ∷ xs) h = absurd (not-suc-le-zero h)
+take-whole (suc k) (x ∷ xs) h = ap (λ (ys : List ℕ). x ∷ ys) (take-whole k xs (le-of-suc-le-suc h))
+
+-- the cell of eight fields
+module _ (ws : List (List ℕ)) where
+  abbrev cellWith : List ℕ → List ℕ → ℕ → Cell
+  cellWith ns ds table = record { name = nameBytes (getD ws 0 []); len = length (getD ws 0 []); pins = getD ns 0 0; table = table; area = getD ns 1 0; delays = ds; lows = drop 2 ns }
+
+  abbrev tabled : List ℕ → List ℕ → Option Cell
+  tabled ns ds = andThen (hexTable (getD ws 2 [])) (λ table. only (leb (getD ns 0 0) 4) (cellWith ns ds table))
+
+  fields-former : cellOfFields false ws ≡ formerFields ws
+  unfolding cellOfFields formerFields andThen only
+  fields-former = go (eqb (length ws) 8 && isName (getD ws 0 [])) (λ t. eqb-yes (and-yes (eqb (length ws) 8) (isName (getD ws 0 [])) t .0))
+    where
+      read : length ws ≡ 8 → (o : Option (List ℕ)) → numbers (getD ws 1 [] ∷ drop 3 ws) ≡ o → andThen o (λ ns. tabled ns (take 4 (drop 2 ns))) ≡ andThen o (λ ns. tabled ns (drop 2 ns))
+      read eight none e = refl
+      read eight (some ns) e =
+          let six : length ns ≡ suc (length (drop 3 ws)) = numbers-length (getD ws 1 [] ∷ drop 3 ws) ns e in
+          ap (tabled ns) (take-whole 4 (drop 2 ns) (omega (arith, six, length-drop 3 ws, length-drop 2 ns)))
+
+      go : (b : Bool) → (T b → length ws ≡ 8)
+          → andThen (only b ws) (λ _. andThen (numbers (getD ws 1 [] ∷ drop 3 ws)) (λ ns. tabled ns (take 4 (drop 2 ns))))
+          ≡ andThen (only b ws) (λ _. andThen (numbers (getD ws 1 [] ∷ drop 3 ws)) (λ ns. tabled ns (drop 2 ns)))
+      go false h = refl
+      go true h = read (h tt) (numbers (getD ws 1 [] ∷ drop 3 ws)) refl
+
+  -- whose lowest delays are its delays
+  fields-lows : (c : Cell) → formerFields ws ≡ some c → c .lows ≡ c .delays
+  unfolding formerFields
+  fields-lows c e =
+      let a = then-out (only (eqb (length ws) 8 && isName (getD ws 0 [])) ws) (λ _. andThen (numbers (getD ws 1 [] ∷ drop 3 ws)) (λ ns. tabled ns (drop 2 ns))) c e in
+      let b = then-out (numbers (getD ws 1 [] ∷ drop 3 ws)) (λ ns. tabled ns (drop 2 ns)) c (a .2) in
+      let d = then-out (hexTable (getD ws 2 [])) (λ table. only (leb (getD (b .0) 0 0) 4) (cellWith (b .0) (drop 2 (b .0)) table)) c (b .2) in
+      let t = only-out (leb (getD (b .0) 0 0) 4) (cellWith (b .0) (drop 2 (b .0)) (d .0)) c (d .2) in
+      subst (λ (x : Cell). x .lows ≡ x .delays) (t .1) refl
+
+line-former : (l : Line) → cellOfLine false l ≡ formerLine l
+unfolding cellOfLine formerLine andThen only
+line-former l = go (ended l)
+  where
+    go : (b : Bool) → andThen (only b (fields (l .bytes))) (cellOfFields false) ≡ andThen (only b (fields (l .bytes))) formerFields
+    go true = fields-former (fields (l .bytes))
+    go false = refl
+
+line-lows : (l : Line) (c : Cell) → formerLine l ≡ some c → c .lows ≡ c .delays
+unfolding formerLine
+line-lows l c e = let o = then-out (only (ended l) (fields (l .bytes))) formerFields c e in fields-lows (o .0) c (o .2)
+
+-- ---- the lines
+
+clean-former : (c : Cell) → c .lows ≡ c .delays → isClean c ≡ formerClean c
+unfolding isClean formerClean
+clean-former c e =
+    ap (λ (ls : List ℕ). ltb (c .table) (2 ^ 2 ^ c .pins) && (all (eqb 0) (drop (c .pins) (c .delays)) && all (eqb 0) (drop (c .pins) ls))) e
+    ∙ ap (λ (b : Bool). ltb (c .table) (2 ^ 2 ^ c .pins) && b) (twice (all (eqb 0) (drop (c .pins) (c .delays))))
+  where
+    twice : (b : Bool) → (b && b) ≡ b
+    twice true = refl
+    twice false = refl
+
+-- no lowest delay is over itself
+pub none-lower : (ds : List ℕ) → noLower ds ds ≡ true
+unfolding noLower
+none-lower [] = refl
+none-lower (d ∷ ds) = ap (λ (b : Bool). leb d d && b) (none-lower ds) ∙ ap (λ (b : Bool). b && true) (is-true (leb d d) (le→leb d d (le-refl d)))
+
+cells-former : (k : ℕ) (before : List Cell) (ls : List Line) → readCells false k before ls ≡ formerCells k before ls
+unfolding readCells formerCells unless
+cells-former k before [] = refl
+cells-former k before (l ∷ ls) =
+    ap (λ (o : Option Cell). unless (ltb k 32) 3 (l .offset) (next (from? o 4 (l .offset)) now′)) (line-former l)
+    ∙ ap (unless (ltb k 32) 3 (l .offset)) (next-same (from? (formerLine l) 4 (l .offset)) now′ was (λ c e. at c (line-lows l c (from-out (formerLine l) 4 (l .offset) c e)) (cells-former (suc k) (c ∷ before) ls)))
+  where
+    new : Cell → Bool
+    new c = not (any (λ (d : Cell). same (nameOf c) (nameOf d)) before)
+
+    now′ : Cell → Read (List Cell)
+    now′ c = unless (new c) 5 (l .offset) (unless (isClean c) 6 (l .offset) (unless (noLower (c .lows) (c .delays)) 27 (l .offset) (next (readCells false (suc k) (c ∷ before) ls) (λ cs. holds (c ∷ cs)))))
+
+    was : Cell → Read (List Cell)
+    was c = unless (new c) 5 (l .offset) (unless (formerClean c) 6 (l .offset) (next (formerCells (suc k) (c ∷ before) ls) (λ cs. holds (c ∷ cs))))
+
+    at : (c : Cell) → c .lows ≡ c .delays → readCells false (suc k) (c ∷ before) ls ≡ formerCells (suc k) (c ∷ before) ls → now′ c ≡ was c
+    at c e ih =
+        let a : isClean c ≡ formerClean c = clean-former c e in
+        let b : noLower (c .lows) (c .delays) ≡ true = ap (λ (ds : List ℕ). noLower ds (c .delays)) e ∙ none-lower (c .delays) in
+        rw (a, b, ih) refl
+
+lines-former : (ls : List Line) → rangedLines ls ≡ false → readLibraryLines ls ≡ formerLines ls
+unfolding readLibraryLines formerLines rangedLines isShorter
+lines-former [] e = refl
+lines-former (l ∷ ls) e =
+    ap (λ (b : Bool). unless (ended l && (isShorter l || b)) 2 0 (readCells b 0 [] ls)) e
+    ∙ ap (λ (b : Bool). unless (ended l && b) 2 0 (readCells false 0 [] ls)) (or-false (isShorter l))
+    ∙ ap (unless (ended l && isShorter l) 2 0) (cells-former 0 [] ls)
+  where
+    or-false : (b : Bool) → (b || false) ≡ b
+    or-false true = refl
+    or-false false = refl
+
+library-former : (s : List ℕ) → isRanged s ≡ false → readLibrary s ≡ formerLibrary s
+unfolding readLibrary formerLibrary isRanged
+library-former s e = lines-former (linesFrom 0 [] s) e
+
+-- ---- the call
+
+reads-former : (c : Call) → isRanged (c .library) ≡ false → readTexts c ≡ readFormer c
+unfolding readTexts
+reads-former c e =
+    ap (λ (r : Bool). unless (short c) 1 0 (next (readLibrary (c .library)) (behind r))) e
+    ∙ ap (λ (r : Read (List Cell)). unless (short c) 1 0 (next r (behind false))) (library-former (c .library) e)
+  where
+    behind : Bool → List Cell → Read Design
+    behind r cells =
+        next (readHeader (c .graph)) (λ h.
+        unless (leb (need (h .size) (h .outputs)) (c .words)) 10 0
+        (next (readGraph (c .graph) h) (λ g.
+        next (readArrivals (h .inputs) (c .arrivals)) (λ es. holds (record { cells = cells; ranged = r; graph = timedBy g es })))))
+
+outcome-former : (c : Call) → isRanged (c .library) ≡ false → mapTexts c ≡ formerOutcome (c .bytes) (readFormer c)
+unfolding mapTexts mapDesign formerOutcome followed
+outcome-former c e = go (readTexts c) refl ∙ ap (formerOutcome (c .bytes)) (reads-former c e)
+  where
+    unfollowed : (cells : List Cell) (g : Graph) (o : Outcome) → followed false cells g o ≡ o
+    unfollowed cells g (refused n k) = refl
+    unfollowed cells g (mapped t f) = refl
+
+    go : (r : Read Design) → readTexts c ≡ r → mapDesign (c .bytes) r ≡ formerOutcome (c .bytes) r
+    go (fault n k) q = refl
+    go (holds d) q =
+        ap (λ (b : Bool). within (c .bytes) (followed b (d .cells) (d .graph) (mapGraph (d .cells) (d .graph)))) (sym (texts-read c d q .isRange) ∙ e)
+        ∙ ap (within (c .bytes)) (unfollowed (d .cells) (d .graph) (mapGraph (d .cells) (d .graph)))
+
+pub demand-former : (c : Call) → Former c
+demand-former c = record { reads = reads-former c; outcome = outcome-former c }
