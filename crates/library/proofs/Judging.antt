@@ -6,13 +6,13 @@ use native.Mathlib.Omega.{arith}
 use mathlib.Core.Path.{_≡_, refl, sym, ap, _∙_, subst}
 use mathlib.Core.Bool.{Bool, true, false, _&&_, _||_}
 use mathlib.Core.List.{List, [], _∷_}
-use lib.Dec.{eqb, ltb, eqb·zero-suc, eqb·suc-zero, lit<}
+use lib.Dec.{eqb, ltb, leb, eqb·zero-suc, eqb·suc-zero, lit<}
 use lib.ListN.{length, take, drop, getD}
 use lib.Seq.{drop-nil, take-all}
 use borrow.Author.Tests.{lt-ltb, le-ltb, ltb-true, ltb-false, eqb-true, eqb-false}
 use Rattle.model.specs.Base.{all, any, same}
 use Rattle.model.specs.Cells.{nameOf, noCell}
-use Rattle.model.specs.LibraryText.{isClean}
+use Rattle.model.specs.LibraryText.{isClean, noLower}
 use Rattle.model.specs.declared.Cell.{Cell}
 use Rattle.text.proofs.Bytes.{or-true, and-true}
 use Rattle.library.specs.declared.Figures.{Figures}
@@ -58,9 +58,15 @@ module _ (f : Figures) where
   unfolding isClean lineCell
   clean-table h = rw (le-ltb (f .table) (2 ^ 2 ^ f .pins) h)
 
-  pub clean-delays : f .table < 2 ^ 2 ^ f .pins → isClean (lineCell [] f) ≡ delaysOk f
+  pub clean-delays : f .table < 2 ^ 2 ^ f .pins → isClean (lineCell [] f) ≡ (delaysOk (f .pins) (f .d0) (f .d1) (f .d2) (f .d3) && delaysOk (f .pins) (f .l0) (f .l1) (f .l2) (f .l3))
   unfolding isClean lineCell delaysOk
-  clean-delays h = rw (lt-ltb (f .table) (2 ^ 2 ^ f .pins) h) (delays-all (f .pins) (f .d0) (f .d1) (f .d2) (f .d3))
+  clean-delays h =
+      rw (lt-ltb (f .table) (2 ^ 2 ^ f .pins) h, delays-all (f .pins) (f .d0) (f .d1) (f .d2) (f .d3), delays-all (f .pins) (f .l0) (f .l1) (f .l2) (f .l3))
+
+  -- the lowest delays, one by one
+  pub range-is : noLower (lineCell [] f .lows) (lineCell [] f .delays) ≡ (leb (f .l0) (f .d0) && (leb (f .l1) (f .d1) && (leb (f .l2) (f .d2) && leb (f .l3) (f .d3))))
+  unfolding noLower lineCell
+  range-is = rw (and-true (leb (f .l3) (f .d3)))
 
 -- ---- names
 

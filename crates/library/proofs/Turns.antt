@@ -19,7 +19,7 @@ use Rattle.model.specs.Base.{any, same}
 use Rattle.model.specs.Text.{Line, ended, linesFrom}
 use Rattle.model.specs.Reading.{Read, holds, fault, next, unless, from?}
 use Rattle.model.specs.Cells.{nameOf, noCell, blank, libraryOf, cellsOf}
-use Rattle.model.specs.LibraryText.{cellOfLine, isClean, readCells}
+use Rattle.model.specs.LibraryText.{cellOfLine, isClean, noLower, readCells}
 use Rattle.model.specs.declared.Cell.{Cell}
 use Rattle.model.specs.declared.Library.{Library}
 use Rattle.text.specs.declared.Cursor.{Cursor}
@@ -33,8 +33,8 @@ use Rattle.library.specs.declared.Form.{Form}
 use Rattle.library.specs.declared.Form.the-variants.{Cell as ACell, Broken as NoForm}
 use Rattle.library.specs.declared.Judged.{Judged}
 use Rattle.library.specs.declared.Judged.the-variants.{Cell as Good, Refused as Bad}
-use Rattle.library.specs.Reading.{formAt, lineCell, before, isRepeated, added, judgedAt, pickJudged, onForm}
-use Rattle.library.proofs.Forms.{formMeans, form-means, form-cell}
+use Rattle.library.specs.Reading.{formAt, lineCell, before, isRepeated, added, figuresJudged, judgedAt, pickJudged, onForm}
+use Rattle.library.proofs.Forms.{wholeOf, formMeans, form-means, form-cell}
 
 -- the lines from a place on
 abbrev pub linesOf : List ℕ → ℕ → List Line
@@ -46,55 +46,55 @@ unfolding nameOf lineCell
 name-of w f = name-taken w
 
 -- what a turn makes of the line at a place, of which w is the name
-unfoldable pub turnOf : List ℕ → ℕ → ℕ → List Cell → List ℕ → Judged → Read (List Cell)
-turnOf s at n bs w (Bad k) = fault k at
-turnOf s at n bs w (Good e f c) = next (readCells (suc n) (lineCell w f ∷ bs) (linesOf s (c .at))) (λ cs. holds (lineCell w f ∷ cs))
+unfoldable pub turnOf : Bool → List ℕ → ℕ → ℕ → List Cell → List ℕ → Judged → Read (List Cell)
+turnOf ranged s at n bs w (Bad k) = fault k at
+turnOf ranged s at n bs w (Good e f c) = next (readCells ranged (suc n) (lineCell w f ∷ bs) (linesOf s (c .at))) (λ cs. holds (lineCell w f ∷ cs))
 
 -- the tests of a line that has its form, by what they say
-module _ (s : List ℕ) (at n : ℕ) (bs : List Cell) (w : List ℕ) (e : ℕ) (f : Figures) (c : Cursor) where
-  tests : (r k : Bool)
-      → unless (not r) 5 at (unless k 6 at (next (readCells (suc n) (lineCell w f ∷ bs) (linesOf s (c .at))) (λ cs. holds (lineCell w f ∷ cs))))
-      ≡ turnOf s at n bs w (pickJudged r (Bad 5) (pickJudged k (Good e f c) (Bad 6)))
+module _ (ranged : Bool) (s : List ℕ) (at n : ℕ) (bs : List Cell) (w : List ℕ) (e : ℕ) (f : Figures) (c : Cursor) where
+  tests : (r k i : Bool)
+      → unless (not r) 5 at (unless k 6 at (unless i 27 at (next (readCells ranged (suc n) (lineCell w f ∷ bs) (linesOf s (c .at))) (λ cs. holds (lineCell w f ∷ cs)))))
+      ≡ turnOf ranged s at n bs w (pickJudged r (Bad 5) (pickJudged k (pickJudged i (Good e f c) (Bad 27)) (Bad 6)))
   unfolding turnOf unless
-  tests true k = refl
-  tests false true = refl
-  tests false false = refl
+  tests true k i = refl
+  tests false true true = refl
+  tests false true false = refl
+  tests false false i = refl
 
-module _ (l : Library) (s : List ℕ) (at : ℕ) (h : at < length s) where
-  behind : (e : ℕ) (f : Figures) (c : Cursor) → formAt s at ≡ ACell e f c
+module _ (ranged : Bool) (l : Library) (s : List ℕ) (at : ℕ) (h : at < length s) where
+  behind : (e : ℕ) (f : Figures) (c : Cursor) → formAt ranged s at ≡ ACell e f c
       → cond (ended (lineAt s at)) (linesOf s (pastLine s at)) [] ≡ linesOf s (c .at)
   behind e f c k =
-      let r = form-cell s at e f c k in
-      let p = past-at 7 s at (r .1) in
+      let r = form-cell ranged s at e f c k in
+      let p = past-at (wholeOf ranged) s at (r .1) in
       let q : pastLine s at ≡ c .at = sym (p .1) ∙ sym (r .3) in
       rw (p .0) (ap (linesOf s) q)
 
   -- the line has its form or not
-  by-form : (form : Form) → formAt s at ≡ form
-      → next (from? (cellOfLine (lineAt s at)) 4 at) (λ c.
+  by-form : (form : Form) → formAt ranged s at ≡ form
+      → next (from? (cellOfLine ranged (lineAt s at)) 4 at) (λ c.
       unless (not (any (λ (d : Cell). same (nameOf c) (nameOf d)) (before (l .cells) (l .n)))) 5 at
       (unless (isClean c) 6 at
-      (next (readCells (suc (l .n)) (c ∷ before (l .cells) (l .n)) (cond (ended (lineAt s at)) (linesOf s (pastLine s at)) [])) (λ cs. holds (c ∷ cs)))))
-      ≡ turnOf s at (l .n) (before (l .cells) (l .n)) (wordAt s at)
-      (onForm form (λ e f c.
-      pickJudged (isRepeated (take (e - at) (drop at s)) (l .cells) (l .n)) (Bad 5)
-      (pickJudged (isClean (lineCell [] f)) (Good e f c) (Bad 6))) (Bad 4))
-  unfolding turnOf formMeans from? next isRepeated isClean lineCell
-  by-form NoForm k = rw (form-means s at ∙ ap (formMeans (wordAt s at)) k)
+      (unless (noLower (c .lows) (c .delays)) 27 at
+      (next (readCells ranged (suc (l .n)) (c ∷ before (l .cells) (l .n)) (cond (ended (lineAt s at)) (linesOf s (pastLine s at)) [])) (λ cs. holds (c ∷ cs))))))
+      ≡ turnOf ranged s at (l .n) (before (l .cells) (l .n)) (wordAt s at)
+      (onForm form (λ e f c. pickJudged (isRepeated (take (e - at) (drop at s)) (l .cells) (l .n)) (Bad 5) (figuresJudged e f c)) (Bad 4))
+  unfolding turnOf formMeans from? next isRepeated isClean lineCell figuresJudged
+  by-form NoForm k = rw (form-means ranged s at ∙ ap (formMeans (wordAt s at)) k)
   by-form (ACell e f c) k =
-      let part : take (e - at) (drop at s) ≡ wordAt s at = part-is s at e (form-cell s at e f c k .2) in
-      rw (form-means s at ∙ ap (formMeans (wordAt s at)) k, part, behind e f c k, name-of (wordAt s at) f)
-      (tests s at (l .n) (before (l .cells) (l .n)) (wordAt s at) e f c (isRepeated (wordAt s at) (l .cells) (l .n)) (isClean (lineCell [] f)))
+      let part : take (e - at) (drop at s) ≡ wordAt s at = part-is s at e (form-cell ranged s at e f c k .2) in
+      rw (form-means ranged s at ∙ ap (formMeans (wordAt s at)) k, part, behind e f c k, name-of (wordAt s at) f)
+      (tests ranged s at (l .n) (before (l .cells) (l .n)) (wordAt s at) e f c (isRepeated (wordAt s at) (l .cells) (l .n)) (isClean (lineCell [] f)) (noLower (lineCell [] f .lows) (lineCell [] f .delays)))
 
-  pub turn : readCells (l .n) (before (l .cells) (l .n)) (linesOf s at)
-      ≡ turnOf s at (l .n) (before (l .cells) (l .n)) (wordAt s at) (judgedAt l s at)
+  pub turn : readCells ranged (l .n) (before (l .cells) (l .n)) (linesOf s at)
+      ≡ turnOf ranged s at (l .n) (before (l .cells) (l .n)) (wordAt s at) (judgedAt ranged l s at)
   unfolding readCells judgedAt lineAt unless turnOf
-  turn = ap (readCells (l .n) (before (l .cells) (l .n))) (lines-at s at h) ∙ go (ltb (l .n) 32) refl
+  turn = ap (readCells ranged (l .n) (before (l .cells) (l .n))) (lines-at s at h) ∙ go (ltb (l .n) 32) refl
     where
       go : (b : Bool) → ltb (l .n) 32 ≡ b
-          → readCells (l .n) (before (l .cells) (l .n)) (lineAt s at ∷ cond (ended (lineAt s at)) (linesOf s (pastLine s at)) [])
-          ≡ turnOf s at (l .n) (before (l .cells) (l .n)) (wordAt s at) (judgedAt l s at)
-      go true e = rw e (by-form (formAt s at) refl)
+          → readCells ranged (l .n) (before (l .cells) (l .n)) (lineAt s at ∷ cond (ended (lineAt s at)) (linesOf s (pastLine s at)) [])
+          ≡ turnOf ranged s at (l .n) (before (l .cells) (l .n)) (wordAt s at) (judgedAt ranged l s at)
+      go true e = rw e (by-form (formAt ranged s at) refl)
       go false e = rw e
 
 -- ---- where a cell is found
@@ -102,41 +102,40 @@ module _ (l : Library) (s : List ℕ) (at : ℕ) (h : at < length s) where
 bad-good : {k e : ℕ} {f : Figures} {c : Cursor} → Bad k ≡ Good e f c → ⊥
 bad-good {k} {e} {f} {c} h = let z : _≡_ {A = ℕ} 0 1 = cc in omega arith
 
-pub judged-cell : (l : Library) (s : List ℕ) (at e : ℕ) (f : Figures) (c : Cursor) → judgedAt l s at ≡ Good e f c → (l .n < 32) × (formAt s at ≡ ACell e f c)
-unfolding judgedAt
-judged-cell l s at e f c h = go (ltb (l .n) 32) refl (formAt s at) refl h
+pub judged-cell : (ranged : Bool) (l : Library) (s : List ℕ) (at e : ℕ) (f : Figures) (c : Cursor) → judgedAt ranged l s at ≡ Good e f c → (l .n < 32) × (formAt ranged s at ≡ ACell e f c)
+unfolding judgedAt figuresJudged
+judged-cell ranged l s at e f c h = go (ltb (l .n) 32) refl (formAt ranged s at) refl h
   where
-    inner : (r k : Bool) (e₁ : ℕ) (f₁ : Figures) (c₁ : Cursor) → pickJudged r (Bad 5) (pickJudged k (Good e₁ f₁ c₁) (Bad 6)) ≡ Good e f c → ACell e₁ f₁ c₁ ≡ ACell e f c
-    inner true k e₁ f₁ c₁ q = absurd (bad-good q)
-    inner false true e₁ f₁ c₁ q = cc
-    inner false false e₁ f₁ c₁ q = absurd (bad-good q)
+    inner : (r k i : Bool) (e₁ : ℕ) (f₁ : Figures) (c₁ : Cursor) → pickJudged r (Bad 5) (pickJudged k (pickJudged i (Good e₁ f₁ c₁) (Bad 27)) (Bad 6)) ≡ Good e f c → ACell e₁ f₁ c₁ ≡ ACell e f c
+    inner true k i e₁ f₁ c₁ q = absurd (bad-good q)
+    inner false true true e₁ f₁ c₁ q = cc
+    inner false true false e₁ f₁ c₁ q = absurd (bad-good q)
+    inner false false i e₁ f₁ c₁ q = absurd (bad-good q)
 
-    go : (b : Bool) → ltb (l .n) 32 ≡ b → (form : Form) → formAt s at ≡ form
-        → pickJudged b (onForm form (λ e₁ f₁ c₁.
-        pickJudged (isRepeated (take (e₁ - at) (drop at s)) (l .cells) (l .n)) (Bad 5)
-        (pickJudged (isClean (lineCell [] f₁)) (Good e₁ f₁ c₁) (Bad 6))) (Bad 4)) (Bad 3) ≡ Good e f c
-        → (l .n < 32) × (formAt s at ≡ ACell e f c)
+    go : (b : Bool) → ltb (l .n) 32 ≡ b → (form : Form) → formAt ranged s at ≡ form
+        → pickJudged b (onForm form (λ e₁ f₁ c₁. pickJudged (isRepeated (take (e₁ - at) (drop at s)) (l .cells) (l .n)) (Bad 5) (figuresJudged e₁ f₁ c₁)) (Bad 4)) (Bad 3) ≡ Good e f c
+        → (l .n < 32) × (formAt ranged s at ≡ ACell e f c)
     go false x form y q = absurd (bad-good q)
     go true x NoForm y q = absurd (bad-good q)
     go true x (ACell e₁ f₁ c₁) y q =
-        (ltb-true (l .n) 32 x, y ∙ inner (isRepeated (take (e₁ - at) (drop at s)) (l .cells) (l .n)) (isClean (lineCell [] f₁)) e₁ f₁ c₁ q)
+        (ltb-true (l .n) 32 x, y ∙ inner (isRepeated (take (e₁ - at) (drop at s)) (l .cells) (l .n)) (isClean (lineCell [] f₁)) (noLower (lineCell [] f₁ .lows) (lineCell [] f₁ .delays)) e₁ f₁ c₁ q)
 
 -- the name's part of the text: where it ends, its bytes, and that they are at most eight
-module _ (s : List ℕ) (at e : ℕ) (f : Figures) (c : Cursor) (k : formAt s at ≡ ACell e f c) where
+module _ (ranged : Bool) (s : List ℕ) (at e : ℕ) (f : Figures) (c : Cursor) (k : formAt ranged s at ≡ ACell e f c) where
   pub part-from : at ≤ e
-  part-from = subst (λ (x : ℕ). at ≤ x) (sym (form-cell s at e f c k .2)) (end-from s at)
+  part-from = subst (λ (x : ℕ). at ≤ x) (sym (form-cell ranged s at e f c k .2)) (end-from s at)
 
   pub part-to : at ≤ length s → e ≤ length s
-  part-to h = subst (λ (x : ℕ). x ≤ length s) (sym (form-cell s at e f c k .2)) (end-le s at h)
+  part-to h = subst (λ (x : ℕ). x ≤ length s) (sym (form-cell ranged s at e f c k .2)) (end-le s at h)
 
   pub part-word : take (e - at) (drop at s) ≡ wordAt s at
-  part-word = part-is s at e (form-cell s at e f c k .2)
+  part-word = part-is s at e (form-cell ranged s at e f c k .2)
 
   pub part-short : length (take (e - at) (drop at s)) ≤ 8
-  part-short = rw part-word (name-fits (wordAt s at) (form-cell s at e f c k .0))
+  part-short = rw part-word (name-fits (wordAt s at) (form-cell ranged s at e f c k .0))
 
   pub pins-few : f .pins ≤ 4
-  pins-few = form-cell s at e f c k .4
+  pins-few = form-cell ranged s at e f c k .4
 
 -- ---- one cell more
 
@@ -168,42 +167,42 @@ prefixed-next cs m (holds ds) = ap holds (sym (append-snoc cs m ds))
 prefixed-next cs m (fault n k) = refl
 
 -- what the lines give, by a library so far and a place
-unfoldable pub soFar : Library → List ℕ → ℕ → Read (List Cell)
-soFar l s at = prefixed (cellsOf l) (readCells (l .n) (before (l .cells) (l .n)) (linesOf s at))
+unfoldable pub soFar : Bool → Library → List ℕ → ℕ → Read (List Cell)
+soFar ranged l s at = prefixed (cellsOf l) (readCells ranged (l .n) (before (l .cells) (l .n)) (linesOf s at))
 
 no-prefix : (r : Read (List Cell)) → r ≡ next r (λ ds. holds ([] ++ ds))
 unfolding next
 no-prefix (holds ds) = refl
 no-prefix (fault n k) = refl
 
-pub so-far-first : (s : List ℕ) (at : ℕ) → readCells 0 [] (linesOf s at) ≡ soFar (libraryOf []) s at
+pub so-far-first : (ranged : Bool) (s : List ℕ) (at : ℕ) → readCells ranged 0 [] (linesOf s at) ≡ soFar ranged (libraryOf []) s at
 unfolding soFar prefixed cellsOf libraryOf before
-so-far-first s at = no-prefix (readCells 0 [] (linesOf s at))
+so-far-first ranged s at = no-prefix (readCells ranged 0 [] (linesOf s at))
 
-pub so-far-last : (l : Library) (s : List ℕ) (at : ℕ) → length s ≤ at → soFar l s at ≡ holds (cellsOf l)
+pub so-far-last : (ranged : Bool) (l : Library) (s : List ℕ) (at : ℕ) → length s ≤ at → soFar ranged l s at ≡ holds (cellsOf l)
 unfolding soFar prefixed readCells next
-so-far-last l s at h = rw (lines-none s at h) (ap holds (append-nil (cellsOf l)))
+so-far-last ranged l s at h = rw (lines-none s at h) (ap holds (append-nil (cellsOf l)))
 
-pub so-far-stop : (l : Library) (s : List ℕ) (at k : ℕ) → at < length s → judgedAt l s at ≡ Bad k → soFar l s at ≡ fault k at
+pub so-far-stop : (ranged : Bool) (l : Library) (s : List ℕ) (at k : ℕ) → at < length s → judgedAt ranged l s at ≡ Bad k → soFar ranged l s at ≡ fault k at
 unfolding soFar prefixed next turnOf
-so-far-stop l s at k h e = ap (prefixed (cellsOf l)) (turn l s at h ∙ ap (turnOf s at (l .n) (before (l .cells) (l .n)) (wordAt s at)) e)
+so-far-stop ranged l s at k h e = ap (prefixed (cellsOf l)) (turn ranged l s at h ∙ ap (turnOf ranged s at (l .n) (before (l .cells) (l .n)) (wordAt s at)) e)
 
-pub so-far-more : (l : Library) (s : List ℕ) (at e : ℕ) (f : Figures) (c : Cursor) → at < length s → length (l .cells) ≡ 32 → judgedAt l s at ≡ Good e f c
-    → soFar l s at ≡ soFar (added l (lineCell (take (e - at) (drop at s)) f)) s (c .at)
+pub so-far-more : (ranged : Bool) (l : Library) (s : List ℕ) (at e : ℕ) (f : Figures) (c : Cursor) → at < length s → length (l .cells) ≡ 32 → judgedAt ranged l s at ≡ Good e f c
+    → soFar ranged l s at ≡ soFar ranged (added l (lineCell (take (e - at) (drop at s)) f)) s (c .at)
 unfolding soFar turnOf
-so-far-more l s at e f c h long j =
-    let r = judged-cell l s at e f c j in
+so-far-more ranged l s at e f c h long j =
+    let r = judged-cell ranged l s at e f c j in
     let x : Cell = lineCell (wordAt s at) f in
     let room : l .n < length (l .cells) = omega (arith, r .0) in
-    ap (prefixed (cellsOf l)) (turn l s at h ∙ ap (turnOf s at (l .n) (before (l .cells) (l .n)) (wordAt s at)) j)
-    ∙ prefixed-next (cellsOf l) x (readCells (suc (l .n)) (x ∷ before (l .cells) (l .n)) (linesOf s (c .at)))
-    ∙ rw (part-word s at e f c (r .1), sym (add-one (l .n)), sym (add-before l x room), sym (add-cells l x room))
+    ap (prefixed (cellsOf l)) (turn ranged l s at h ∙ ap (turnOf ranged s at (l .n) (before (l .cells) (l .n)) (wordAt s at)) j)
+    ∙ prefixed-next (cellsOf l) x (readCells ranged (suc (l .n)) (x ∷ before (l .cells) (l .n)) (linesOf s (c .at)))
+    ∙ rw (part-word ranged s at e f c (r .1), sym (add-one (l .n)), sym (add-before l x room), sym (add-cells l x room))
 
 -- the same, as the code makes the cell and the library
-pub so-far-added : (l : Library) (s : List ℕ) (at e : ℕ) (f : Figures) (c : Cursor) (x : Cell) (m : Library) → at < length s → length (l .cells) ≡ 32 → judgedAt l s at ≡ Good e f c
-    → x ≡ lineCell (take (e - at) (drop at s)) f → m ≡ added l x → soFar l s at ≡ soFar m s (c .at)
-so-far-added l s at e f c x m h long j i k =
-    so-far-more l s at e f c h long j ∙ ap (λ (y : Library). soFar y s (c .at)) (sym (k ∙ ap (added l) i))
+pub so-far-added : (ranged : Bool) (l : Library) (s : List ℕ) (at e : ℕ) (f : Figures) (c : Cursor) (x : Cell) (m : Library) → at < length s → length (l .cells) ≡ 32 → judgedAt ranged l s at ≡ Good e f c
+    → x ≡ lineCell (take (e - at) (drop at s)) f → m ≡ added l x → soFar ranged l s at ≡ soFar ranged m s (c .at)
+so-far-added ranged l s at e f c x m h long j i k =
+    so-far-more ranged l s at e f c h long j ∙ ap (λ (y : Library). soFar ranged y s (c .at)) (sym (k ∙ ap (added l) i))
 
 pub added-length : (l : Library) (x : Cell) (m : Library) → length (l .cells) ≡ 32 → m ≡ added l x → length (m .cells) ≡ 32
 added-length l x m long k = ap (λ (y : Library). length (y .cells)) k ∙ length-set (l .cells) (l .n) x ∙ long

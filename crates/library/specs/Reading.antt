@@ -7,7 +7,7 @@ use lib.ListN.{length, take, drop, getD, set}
 use Rattle.model.specs.Base.{same, any}
 use Rattle.model.specs.Text.{text}
 use Rattle.model.specs.Cells.{nameOf, noCell}
-use Rattle.model.specs.LibraryText.{nameBytes, isClean}
+use Rattle.model.specs.LibraryText.{nameBytes, isClean, noLower}
 use Rattle.model.specs.declared.Cell.{Cell}
 use Rattle.model.specs.declared.Library.{Library}
 use Rattle.text.specs.Fields.{onNumber, onStep, numberThen, numberEnd, tableThen, nameAt, byteAt}
@@ -16,6 +16,8 @@ use Rattle.text.specs.declared.Span.{Span}
 use Rattle.library.specs.declared.Figures.{Figures}
 use Rattle.library.specs.declared.Delays.{Delays}
 use Rattle.library.specs.declared.Delays.the-variants.{Four, Broken as NoDelays}
+use Rattle.library.specs.declared.Ranges.{Ranges}
+use Rattle.library.specs.declared.Ranges.the-variants.{Both, Broken as NoRanges}
 use Rattle.library.specs.declared.Head.{Head}
 use Rattle.library.specs.declared.Head.the-variants.{Three, Broken as NoHead}
 use Rattle.library.specs.declared.FiguresRead.{FiguresRead}
@@ -34,6 +36,33 @@ delaysAt s at =
     onNumber (numberThen s (c1 .at) 32) (λ d2 c2.
     onNumber (numberEnd s (c2 .at)) (λ d3 c3. Four d0 d1 d2 d3 c3) NoDelays) NoDelays) NoDelays) NoDelays
 
+unfoldable pub highAt : List ℕ → ℕ → Delays
+highAt s at =
+    onNumber (numberThen s at 32) (λ d0 c0.
+    onNumber (numberThen s (c0 .at) 32) (λ d1 c1.
+    onNumber (numberThen s (c1 .at) 32) (λ d2 c2.
+    onNumber (numberThen s (c2 .at) 32) (λ d3 c3. Four d0 d1 d2 d3 c3) NoDelays) NoDelays) NoDelays) NoDelays
+
+abbrev pub onDelays : {A : Type 0} → Delays → (ℕ → ℕ → ℕ → ℕ → Cursor → A) → A → A
+onDelays (Four d0 d1 d2 d3 c) f e = f d0 d1 d2 d3 c
+onDelays NoDelays f e = e
+
+unfoldable pub bothAt : List ℕ → ℕ → Ranges
+bothAt s at =
+    onDelays (highAt s at) (λ d0 d1 d2 d3 c.
+    onDelays (delaysAt s (c .at)) (λ l0 l1 l2 l3 e. Both d0 d1 d2 d3 l0 l1 l2 l3 e) NoRanges) NoRanges
+
+unfoldable pub oneAt : List ℕ → ℕ → Ranges
+oneAt s at = onDelays (delaysAt s at) (λ d0 d1 d2 d3 c. Both d0 d1 d2 d3 d0 d1 d2 d3 c) NoRanges
+
+abbrev pub rangesAt : Bool → List ℕ → ℕ → Ranges
+rangesAt true s at = bothAt s at
+rangesAt false s at = oneAt s at
+
+abbrev pub onRanges : {A : Type 0} → Ranges → (ℕ → ℕ → ℕ → ℕ → ℕ → ℕ → ℕ → ℕ → Cursor → A) → A → A
+onRanges (Both d0 d1 d2 d3 l0 l1 l2 l3 c) f e = f d0 d1 d2 d3 l0 l1 l2 l3 c
+onRanges NoRanges f e = e
+
 unfoldable pub headAt : List ℕ → ℕ → Head
 headAt s at =
     onNumber (numberThen s at 32) (λ p c0.
@@ -44,37 +73,33 @@ abbrev pub onHead : {A : Type 0} → Head → (ℕ → ℕ → ℕ → Cursor �
 onHead (Three p t a c) f e = f p t a c
 onHead NoHead f e = e
 
-abbrev pub onDelays : {A : Type 0} → Delays → (ℕ → ℕ → ℕ → ℕ → Cursor → A) → A → A
-onDelays (Four d0 d1 d2 d3 c) f e = f d0 d1 d2 d3 c
-onDelays NoDelays f e = e
-
 abbrev pub pickFigures : Bool → FiguresRead → FiguresRead → FiguresRead
 pickFigures true a b = a
 pickFigures false a b = b
 
-unfoldable pub figuresAt : List ℕ → ℕ → FiguresRead
-figuresAt s at =
+unfoldable pub figuresAt : Bool → List ℕ → ℕ → FiguresRead
+figuresAt ranged s at =
     onHead (headAt s at) (λ p t a c.
-    onDelays (delaysAt s (c .at)) (λ d0 d1 d2 d3 e.
-    pickFigures (leb p 4) (Got (record { pins = p; table = t; area = a; d0 = d0; d1 = d1; d2 = d2; d3 = d3 }) e) NoFigures) NoFigures) NoFigures
+    onRanges (rangesAt ranged s (c .at)) (λ d0 d1 d2 d3 l0 l1 l2 l3 e.
+    pickFigures (leb p 4) (Got (record { pins = p; table = t; area = a; d0 = d0; d1 = d1; d2 = d2; d3 = d3; l0 = l0; l1 = l1; l2 = l2; l3 = l3 }) e) NoFigures) NoFigures) NoFigures
 
 abbrev pub onFigures : {A : Type 0} → FiguresRead → (Figures → Cursor → A) → A → A
 onFigures (Got f c) g e = g f c
 onFigures NoFigures g e = e
 
-unfoldable pub formAt : List ℕ → ℕ → Form
-formAt s at =
+unfoldable pub formAt : Bool → List ℕ → ℕ → Form
+formAt ranged s at =
     onStep (nameAt s at) (λ n.
     onStep (byteAt s (n .at) 32) (λ c.
-    onFigures (figuresAt s (c .at)) (λ f d. ACell (n .at) f d) NoForm) NoForm) NoForm
+    onFigures (figuresAt ranged s (c .at)) (λ f d. ACell (n .at) f d) NoForm) NoForm) NoForm
 
 -- ---- what a cell line must not say
 
 abbrev pub delayOk : ℕ → ℕ → ℕ → Bool
 delayOk p j d = ltb j p || eqb d 0
 
-unfoldable pub delaysOk : Figures → Bool
-delaysOk f = delayOk (f .pins) 0 (f .d0) && (delayOk (f .pins) 1 (f .d1) && (delayOk (f .pins) 2 (f .d2) && delayOk (f .pins) 3 (f .d3)))
+unfoldable pub delaysOk : ℕ → ℕ → ℕ → ℕ → ℕ → Bool
+delaysOk p d0 d1 d2 d3 = delayOk p 0 d0 && (delayOk p 1 d1 && (delayOk p 2 d2 && delayOk p 3 d3))
 
 abbrev pub pickN : Bool → ℕ → ℕ → ℕ
 pickN true a b = a
@@ -94,6 +119,7 @@ lineCell w f = record {
   table = f .table;
   area = f .area;
   delays = f .d0 ∷ f .d1 ∷ f .d2 ∷ f .d3 ∷ [];
+  lows = f .l0 ∷ f .l1 ∷ f .l2 ∷ f .l3 ∷ [];
 }
 
 -- the first n cells, the last first
@@ -117,20 +143,28 @@ abbrev pub onForm : {A : Type 0} → Form → (ℕ → Figures → Cursor → A)
 onForm (ACell n f c) g e = g n f c
 onForm NoForm g e = e
 
--- "3, 4, 5, 6" in this order
-unfoldable pub judgedAt : Library → List ℕ → ℕ → Judged
-judgedAt l s at =
+-- 6, and 27 behind it
+unfoldable pub figuresJudged : ℕ → Figures → Cursor → Judged
+unfolding lineCell
+figuresJudged e f c = pickJudged (isClean (lineCell [] f)) (pickJudged (noLower (lineCell [] f .lows) (lineCell [] f .delays)) (Good e f c) (Bad 27)) (Bad 6)
+
+-- 3, 4, 5, 6 and 27 in this order
+unfoldable pub judgedAt : Bool → Library → List ℕ → ℕ → Judged
+judgedAt ranged l s at =
     pickJudged (ltb (l .n) 32)
-    (onForm (formAt s at) (λ e f c.
-    pickJudged (isRepeated (take (e - at) (drop at s)) (l .cells) (l .n)) (Bad 5)
-    (pickJudged (isClean (lineCell [] f)) (Good e f c) (Bad 6))) (Bad 4))
+    (onForm (formAt ranged s at) (λ e f c.
+    pickJudged (isRepeated (take (e - at) (drop at s)) (l .cells) (l .n)) (Bad 5) (figuresJudged e f c)) (Bad 4))
     (Bad 3)
 
--- the names line's contents
-unfoldable pub namesLine : List ℕ
+-- the contents of the two names lines
+unfoldable pub shorterLine : List ℕ
 unfolding text
-namesLine = text "cell pins table area d0 d1 d2 d3"
+shorterLine = text "cell pins table area d0 d1 d2 d3"
 
--- a line has its end, and its contents are those
-unfoldable pub isNames : List ℕ → Span → Bool
-isNames s l = ltb (l .stop) (l .next) && same (take (l .stop) s) namesLine
+unfoldable pub longerLine : List ℕ
+unfolding text
+longerLine = text "cell pins table area d0 d1 d2 d3 l0 l1 l2 l3"
+
+-- a line of a text has its end, and its contents are those named
+unfoldable pub isLine : List ℕ → Span → List ℕ → Bool
+isLine s l names = ltb (l .stop) (l .next) && same (take (l .stop) s) names

@@ -1,6 +1,6 @@
-// The cell library's text, read: its cells by value, or the first refusal of 2 to 6 with its place.
-// "The first line is `cell pins table area d0 d1 d2 d3`; each further line gives one cell's values in that order."
-// "Items 3 to 6 are tried line by line."
+// The cell library's text, read: its cells by value, or the first refusal of 2 to 6 and 27 with its place.
+// "The first line is `cell pins table area d0 d1 d2 d3`; each further line gives one cell's values in that order." "A new library text has `l0` to `l3`
+// after `d3` in its names line." "Items 3 to 6 are tried line by line", and 27 "after 6 on its line".
 ghost use mathlib.Core.Path.{_≡_};
 ghost use mathlib.Core.List.{[]};
 ghost use Prim.Native.Nat.{_+_, _^_, _≤_, _<_};
@@ -9,8 +9,8 @@ ghost use Rattle.model.specs.Base.{same, any};
 ghost use Rattle.model.specs.Text.{linesFrom};
 ghost use Rattle.model.specs.Reading.{fault, rulingOf, verdictRuling};
 ghost use Rattle.model.specs.Cells.{noCell, libraryOf, libraryAnswer};
-ghost use Rattle.model.specs.LibraryText.{isClean, readCells, readLibrary};
-ghost use Rattle.library.specs.Reading.{delaysAt, headAt, figuresAt, formAt, judgedAt, lineCell, added, isRepeated, delayOk, delaysOk, clamped, isNames};
+ghost use Rattle.model.specs.LibraryText.{isClean, noLower, readCells, readLibrary, isRanged};
+ghost use Rattle.library.specs.Reading.{delaysAt, highAt, bothAt, oneAt, rangesAt, headAt, figuresAt, formAt, figuresJudged, judgedAt, lineCell, added, isRepeated, delayOk, delaysOk, clamped, isLine};
 use model::Cell;
 use model::Library;
 use model::LibraryAnswer;
@@ -29,10 +29,20 @@ pub struct Figures {
     pub d1: u16,
     pub d2: u16,
     pub d3: u16,
+    pub l0: u16,
+    pub l1: u16,
+    pub l2: u16,
+    pub l3: u16,
 }
 
 pub enum Delays {
     Four(u16, u16, u16, u16, Cursor),
+    Broken,
+}
+
+// The delays, then the lowest delays.
+pub enum Ranges {
+    Both(u16, u16, u16, u16, u16, u16, u16, u16, Cursor),
     Broken,
 }
 
@@ -60,7 +70,7 @@ pub enum Judged {
 
 // ---- the form of a cell line
 
-// `d0 d1 d2 d3` and the end of the line.
+// Four delays and the end of the line.
 fn read_delays(c: Cursor, s: &[u8]) -> Delays
     ensures { λ r. ⌜ r ≡ delaysAt (now (s .entry)) (c .at) ⌝ }
 {
@@ -77,6 +87,54 @@ fn read_delays(c: Cursor, s: &[u8]) -> Delays
         },
         Number::Broken => Delays::Broken,
     }
+}
+
+// Four delays and the spaces behind them.
+fn read_high(c: Cursor, s: &[u8]) -> Delays
+    ensures { λ r. ⌜ r ≡ highAt (now (s .entry)) (c .at) ⌝ }
+{
+    match c.number_then(s, 32) {
+        Number::Value(d0, c0) => match c0.number_then(s, 32) {
+            Number::Value(d1, c1) => match c1.number_then(s, 32) {
+                Number::Value(d2, c2) => match c2.number_then(s, 32) {
+                    Number::Value(d3, c3) => Delays::Four(d0, d1, d2, d3, c3),
+                    Number::Broken => Delays::Broken,
+                },
+                Number::Broken => Delays::Broken,
+            },
+            Number::Broken => Delays::Broken,
+        },
+        Number::Broken => Delays::Broken,
+    }
+}
+
+// `d0 d1 d2 d3 l0 l1 l2 l3` and the end of the line.
+fn read_both(c: Cursor, s: &[u8]) -> Ranges
+    ensures { λ r. ⌜ r ≡ bothAt (now (s .entry)) (c .at) ⌝ }
+{
+    match read_high(c, s) {
+        Delays::Four(d0, d1, d2, d3, c0) => match read_delays(c0, s) {
+            Delays::Four(l0, l1, l2, l3, c1) => Ranges::Both(d0, d1, d2, d3, l0, l1, l2, l3, c1),
+            Delays::Broken => Ranges::Broken,
+        },
+        Delays::Broken => Ranges::Broken,
+    }
+}
+
+// `d0 d1 d2 d3` and the end of the line: a pin's lowest delay is its delay.
+fn read_one(c: Cursor, s: &[u8]) -> Ranges
+    ensures { λ r. ⌜ r ≡ oneAt (now (s .entry)) (c .at) ⌝ }
+{
+    match read_delays(c, s) {
+        Delays::Four(d0, d1, d2, d3, c0) => Ranges::Both(d0, d1, d2, d3, d0, d1, d2, d3, c0),
+        Delays::Broken => Ranges::Broken,
+    }
+}
+
+fn read_ranges(c: Cursor, s: &[u8], ranged: bool) -> Ranges
+    ensures { λ r. ⌜ r ≡ rangesAt ranged (now (s .entry)) (c .at) ⌝ }
+{
+    if ranged { read_both(c, s) } else { read_one(c, s) }
 }
 
 // `pins table area` and the spaces behind them.
@@ -96,12 +154,12 @@ fn read_head(c: Cursor, s: &[u8]) -> Head
 }
 
 // "Pins: 0 to 4."
-fn read_figures(c: Cursor, s: &[u8]) -> FiguresRead
-    ensures { λ r. ⌜ r ≡ figuresAt (now (s .entry)) (c .at) ⌝ }
+fn read_figures(c: Cursor, s: &[u8], ranged: bool) -> FiguresRead
+    ensures { λ r. ⌜ r ≡ figuresAt ranged (now (s .entry)) (c .at) ⌝ }
 {
     match read_head(c, s) {
-        Head::Three(pins, table, area, c0) => match read_delays(c0, s) {
-            Delays::Four(d0, d1, d2, d3, c1) => {
+        Head::Three(pins, table, area, c0) => match read_ranges(c0, s, ranged) {
+            Ranges::Both(d0, d1, d2, d3, l0, l1, l2, l3, c1) => {
                 if pins <= 4 {
                     FiguresRead::Got(
                         Figures {
@@ -112,6 +170,10 @@ fn read_figures(c: Cursor, s: &[u8]) -> FiguresRead
                             d1,
                             d2,
                             d3,
+                            l0,
+                            l1,
+                            l2,
+                            l3,
                         },
                         c1,
                     )
@@ -119,18 +181,19 @@ fn read_figures(c: Cursor, s: &[u8]) -> FiguresRead
                     FiguresRead::Broken
                 }
             }
-            Delays::Broken => FiguresRead::Broken,
+            Ranges::Broken => FiguresRead::Broken,
         },
         Head::Broken => FiguresRead::Broken,
     }
 }
 
-fn read_form(c: Cursor, s: &[u8]) -> Form
-    ensures { λ r. ⌜ r ≡ formAt (now (s .entry)) (c .at) ⌝ }
+// A cell line of eight fields, or of twelve under the longer names line.
+fn read_form(c: Cursor, s: &[u8], ranged: bool) -> Form
+    ensures { λ r. ⌜ r ≡ formAt ranged (now (s .entry)) (c .at) ⌝ }
 {
     match c.name(s) {
         Step::To(n) => match n.byte(s, 32) {
-            Step::To(c0) => match read_figures(c0, s) {
+            Step::To(c0) => match read_figures(c0, s, ranged) {
                 FiguresRead::Got(f, c1) => Form::Cell(n.at, f, c1),
                 FiguresRead::Broken => Form::Broken,
             },
@@ -160,22 +223,22 @@ fn delay_ok(pins: u16, j: u16, d: u16) -> bool
     if d == 0 { true } else { false }
 }
 
-fn delays_ok(f: Figures) -> bool
-    ensures { λ r. ⌜ r ≡ delaysOk f ⌝ }
+fn delays_ok(pins: u16, d0: u16, d1: u16, d2: u16, d3: u16) -> bool
+    ensures { λ r. ⌜ r ≡ delaysOk pins d0 d1 d2 d3 ⌝ }
 {
-    if !delay_ok(f.pins, 0, f.d0) {
+    if !delay_ok(pins, 0, d0) {
         return false;
     }
-    if !delay_ok(f.pins, 1, f.d1) {
+    if !delay_ok(pins, 1, d1) {
         return false;
     }
-    if !delay_ok(f.pins, 2, f.d2) {
+    if !delay_ok(pins, 2, d2) {
         return false;
     }
-    delay_ok(f.pins, 3, f.d3)
+    delay_ok(pins, 3, d3)
 }
 
-// No "table bit at or above row 2^pins", and no "delay of an absent pin" that "isn't 0".
+// No "table bit at or above row 2^pins", and no "delay of an absent pin" that "isn't 0": "An absent pin has lowest delay 0, else 6 applies."
 fn is_clean(f: Figures) -> bool
     requires { ⌜ f .pins ≤ 4 ⌝ }
     ensures { λ r. ⌜ r ≡ isClean (lineCell [] f) ⌝ }
@@ -183,7 +246,40 @@ fn is_clean(f: Figures) -> bool
     if f.table as u32 >= limit(f.pins) {
         return false;
     }
-    delays_ok(f)
+    if !delays_ok(f.pins, f.d0, f.d1, f.d2, f.d3) {
+        return false;
+    }
+    delays_ok(f.pins, f.l0, f.l1, f.l2, f.l3)
+}
+
+// No "lowest delay exceeds its `d`".
+fn in_range(f: Figures) -> bool
+    ensures { λ r. ⌜ r ≡ noLower (lineCell [] f .lows) (lineCell [] f .delays) ⌝ }
+{
+    if f.l0 > f.d0 {
+        return false;
+    }
+    if f.l1 > f.d1 {
+        return false;
+    }
+    if f.l2 > f.d2 {
+        return false;
+    }
+    f.l3 <= f.d3
+}
+
+// A cell line that has its form and a name of its own: 6, and 27 "after 6 on its line".
+fn judge_figures(end: usize, f: Figures, next: Cursor) -> Judged
+    requires { ⌜ f .pins ≤ 4 ⌝ }
+    ensures { λ r. ⌜ r ≡ figuresJudged end f next ⌝ }
+{
+    if !is_clean(f) {
+        return Judged::Refused(6);
+    }
+    if !in_range(f) {
+        return Judged::Refused(27);
+    }
+    Judged::Cell(end, f, next)
 }
 
 // ---- names
@@ -232,6 +328,7 @@ fn empty() -> Library
         table: 0,
         area: 0,
         delays: [0; 4],
+        lows: [0; 4],
     };
     let cells = [c; 32];
     Library { n: 0, cells }
@@ -249,6 +346,7 @@ fn cell_of(w: &[u8], f: Figures) -> Cell
         table: f.table,
         area: f.area,
         delays: [f.d0, f.d1, f.d2, f.d3],
+        lows: [f.l0, f.l1, f.l2, f.l3],
     }
 }
 
@@ -274,37 +372,33 @@ fn refused(number: usize, place: usize) -> LibraryAnswer
 
 // ---- the lines
 
-// One cell line: 3, 4, 5 and 6 in this order.
-fn judge(lib: Library, s: &[u8], at: usize) -> Judged
+// One cell line: 3, 4, 5, 6 and 27 in this order.
+fn judge(lib: Library, s: &[u8], at: usize, ranged: bool) -> Judged
     requires { ⌜ (lib .n ≤ 32) × (at < length (now s)) ⌝ }
-    ensures { λ r. ⌜ r ≡ judgedAt lib (now (s .entry)) at ⌝ }
+    ensures { λ r. ⌜ r ≡ judgedAt ranged lib (now (s .entry)) at ⌝ }
 {
     if lib.n >= 32 {
         return Judged::Refused(3);
     }
-    match read_form(Cursor { at }, s) {
+    match read_form(Cursor { at }, s, ranged) {
         Form::Cell(end, f, next) => {
             if repeated(lib, &s[at..end]) {
                 return Judged::Refused(5);
             }
-            if is_clean(f) {
-                Judged::Cell(end, f, next)
-            } else {
-                Judged::Refused(6)
-            }
+            judge_figures(end, f, next)
         }
         Form::Broken => Judged::Refused(4),
     }
 }
 
 // The cell lines from a place on.
-fn cells(s: &[u8], from: usize) -> LibraryAnswer
-    ensures { λ r. ⌜ r ≡ libraryAnswer (readCells 0 [] (linesFrom from [] (drop from (now (s .entry))))) ⌝ }
+fn cells(s: &[u8], from: usize, ranged: bool) -> LibraryAnswer
+    ensures { λ r. ⌜ r ≡ libraryAnswer (readCells ranged 0 [] (linesFrom from [] (drop from (now (s .entry))))) ⌝ }
 {
     let mut lib = empty();
     let mut at = from;
     while at < s.len() {
-        match judge(lib, s, at) {
+        match judge(lib, s, at, ranged) {
             Judged::Cell(end, f, next) => {
                 let c = cell_of(&s[at..end], f);
                 lib = add(lib, c);
@@ -321,29 +415,40 @@ fn cells(s: &[u8], from: usize) -> LibraryAnswer
     }
 }
 
-// "The library's first line isn't the names line; place 0."
-fn names_line(s: &[u8], first: Span) -> bool
+// The first line has its end, and these contents.
+fn line_is(s: &[u8], first: Span, names: &[u8]) -> bool
     requires { ⌜ first .stop ≤ length (now s) ⌝ }
-    ensures { λ r. ⌜ r ≡ isNames (now (s .entry)) first ⌝ }
+    ensures { λ r. ⌜ r ≡ isLine (now (s .entry)) first (now (names .entry)) ⌝ }
 {
     let stop = first.stop;
     if first.next <= stop {
         return false;
     }
-    text::same_bytes(&s[..stop], b"cell pins table area d0 d1 d2 d3")
+    text::same_bytes(&s[..stop], names)
 }
 
-// The cells of a library's text, or the first refusal of 2 to 6.
+// The cells of a library's text, or the first refusal of 2 to 6 and 27: "2 takes either names line".
 pub fn read(s: &[u8]) -> LibraryAnswer
     ensures answer { λ r. ⌜ r ≡ libraryAnswer (readLibrary (now (s .entry))) ⌝ }
     ensures ruling { λ r. ⌜ verdictRuling (r .verdict) ≡ rulingOf (readLibrary (now (s .entry))) ⌝ }
 {
     let first = text::line(s, 0);
-    if names_line(s, first) {
-        cells(s, first.next)
-    } else {
-        refused(2, 0)
+    if line_is(s, first, b"cell pins table area d0 d1 d2 d3") {
+        return cells(s, first.next, false);
     }
+    if line_is(s, first, b"cell pins table area d0 d1 d2 d3 l0 l1 l2 l3") {
+        return cells(s, first.next, true);
+    }
+    refused(2, 0)
+}
+
+// Whether a library's text "has `l0` to `l3`": only such a one brings timing lines.
+pub fn is_ranged(s: &[u8]) -> bool
+    ensures { λ r. ⌜ r ≡ isRanged (now (s .entry)) ⌝ }
+{
+    let first = text::line(s, 0);
+    let stop = first.stop;
+    text::same_bytes(&s[..stop], b"cell pins table area d0 d1 d2 d3 l0 l1 l2 l3")
 }
 
 // ---- the cells of a library that was read

@@ -41,7 +41,6 @@ use Rattle.words.specs.Layout.{slotAt, outputAt}
 use Rattle.words.specs.Record.{cutOf, leavesOf}
 use Rattle.words.specs.Phases.{phaseAt, isNeeded}
 use Rattle.words.proofs.Columns.{room-need}
-use Rattle.words.proofs.Stored.{held-cut}
 use Rattle.theory_graph.proofs.Lists.{keep-in, below-out, getD-in, elem-in, elem-out, map-map, map-same}
 use Rattle.theory_graph.proofs.Placing.{order-once, order-small, defined-placed}
 use Rattle.theory_graph.proofs.CutFacts.{cuts-none}
@@ -189,7 +188,7 @@ module _ (w : List ℕ) (lib : Library) (h : Header) (g : Graph) (k : Mapped w l
       let places = getD orders (x .order) [] in
       let cut = cutOf w (g .size) (l / 2) (x .cut) in
       let same = cell-same (x .cell) (a .hasCell) in
-      let leaves : leavesOf cut ≡ cuts.cutAt (cutsOf g) (l / 2) (x .cut) = held-cut w g (k .cuts) (l / 2) b (x .cut) (a .hasCut) in
+      let leaves : leavesOf cut ≡ cuts.cutAt (cutsOf g) (l / 2) (x .cut) = k .cuts (l / 2) b (x .cut) (a .hasCut) in
       let found = cuts.cutAt (cutsOf g) (l / 2) (x .cut) in
       let fit = subst T (places-fit c places (length found)) (fits-places c places (x .mask) (length found) (phaseTable (negated l) (cutTable g found (l / 2))) (a .agrees)) in
       let pins =

@@ -2,24 +2,25 @@
 use mathlib.Core.Path.{_≡_}
 use mathlib.Core.Bool.{false}
 use mathlib.Core.List.{List, [], List·Memᴰ}
-use Prim.Native.Nat.{ℕ, _≤_}
+use Prim.Native.Nat.{ℕ, _≤_, _<_}
 use lib.Dec.{T}
-use lib.ListN.{length}
+use lib.ListN.{length, getD}
 use Rattle.model.specs.Cells.{cellsOf}
 use Rattle.model.specs.Graph.{Graph}
-use Rattle.model.specs.Cuts.{crowded}
+use Rattle.model.specs.Cuts.{cutsOf, crowded}
 use Rattle.model.specs.Choice.{absent, chosen}
 use Rattle.model.specs.Netlist.{Gate, gates, netlistText}
 use Rattle.model.specs.Demands.{choiceText, choiceFigures}
 use Rattle.model.specs.declared.Library.{Library}
 use Rattle.model.specs.declared.Header.{Header}
 use Rattle.model.specs.declared.Figures.{Figures}
-use Rattle.words.specs.Holding.{HoldsGraph, HoldsOrder, HoldsCuts, HoldsPhases, HoldsNeeded}
+use Rattle.words.specs.Holding.{HoldsGraph, HoldsOrder, HoldsPhases, HoldsNeeded}
+use Rattle.words.specs.Record.{leavesAt}
 use Rattle.theory_graph.specs.Accepted.{Accepted, libraryFits}
 use Rattle.netlist.specs.declared.Measured.{Measured}
 
 -- After refusals 1 to 17 none is left: the header's numbers are the graph's, the library and the graph are free of faults, no AND has too many
--- cuts, every output has a cover, and each pass has left its part.
+-- cuts, every output has a cover, and each pass has left its part; the functions of the cuts are not looked at any more.
 pub record Mapped (w : List ℕ) (lib : Library) (h : Header) (g : Graph) : Type 0 where
   pub size : h .size ≡ g .size
   pub inputs : h .inputs ≡ length (g .inputs)
@@ -33,7 +34,7 @@ pub record Mapped (w : List ℕ) (lib : Library) (h : Header) (g : Graph) : Type
   pub covered : (l : ℕ) → List·Memᴰ l (g .outputs) → absent (chosen (cellsOf lib) g l .source) ≡ false
   pub graph : HoldsGraph w g
   pub order : HoldsOrder w g
-  pub cuts : HoldsCuts w g
+  pub cuts : (v : ℕ) → v ≤ g .size → (k : ℕ) → k < length (cutsOf g v) → leavesAt w (g .size) v k ≡ getD (cutsOf g v) k []
   pub phases : HoldsPhases w (cellsOf lib) g
   pub needs : HoldsNeeded w (cellsOf lib) g
 

@@ -177,6 +177,7 @@ fn no_driver() -> Driver
         table: 0,
         area: 0,
         delays: [0; 4],
+        lows: [0; 4],
     };
     Driver {
         there: false,

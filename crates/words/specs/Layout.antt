@@ -85,6 +85,10 @@ block = 5 * cutLimit
 abbrev pub functionAddr : ℕ → ℕ → ℕ → ℕ
 functionAddr m v k = (16 + block) * (m + 1) + cutLimit * v + k
 
+-- once phases are chosen, these words hold the low arrivals instead, two words for each literal
+abbrev pub lowAddr : ℕ → ℕ → ℕ
+lowAddr m l = (16 + block) * (m + 1) + 2 * l
+
 -- output i's literal
 abbrev pub outputAddr : ℕ → ℕ → ℕ
 outputAddr m i = (16 + block + cutLimit) * (m + 1) + i
@@ -158,3 +162,9 @@ walkAt w m v = getD w (noteAddr m v + 1) 0 + 65536 * getD w (noteAddr m v + 2) 0
 
 abbrev pub noteWords : ℕ → ℕ → List ℕ
 noteWords x walk = x ∷ walk % 65536 ∷ walk / 65536 ∷ []
+
+abbrev pub lowAt : List ℕ → ℕ → ℕ → ℕ
+lowAt w m l = getD w (lowAddr m l) 0 + getD w (lowAddr m l + 1) 0 * 65536
+
+abbrev pub lowWords : ℕ → List ℕ
+lowWords t = t % 65536 ∷ t / 65536 ∷ []

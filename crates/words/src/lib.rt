@@ -12,7 +12,7 @@ ghost use Rattle.model.specs.Limits.{cutLimit, need};
 ghost use Rattle.model.specs.Choice.{absent};
 ghost use Rattle.model.specs.Netlist.{isOwn, isInverted};
 ghost use Rattle.words.specs.Put.{putAt, zeros};
-ghost use Rattle.words.specs.Layout.{placedOf, Room, RoomFor, kindAt, kindAddr, leftAt, leftAddr, rightAt, rightAddr, slotAt, slotAddr, placeAt, placeAddr, countAt, countAddr, neededAt, neededAddr, lateAt, lateAddr, positiveAddr, negativeAddr, cutAddr, listsFrom, outputAt, outputAddr, notesFrom, notesTo, noteAddr, notedAt, walkAt, noteWords};
+ghost use Rattle.words.specs.Layout.{placedOf, Room, RoomFor, kindAt, kindAddr, leftAt, leftAddr, rightAt, rightAddr, slotAt, slotAddr, placeAt, placeAddr, countAt, countAddr, neededAt, neededAddr, lateAt, lateAddr, positiveAddr, negativeAddr, cutAddr, listsFrom, outputAt, outputAddr, notesFrom, notesTo, noteAddr, notedAt, walkAt, noteWords, lowAddr, lowAt, lowWords};
 ghost use Rattle.words.specs.Record.{cutOf, functionOf, putCut, putFunctions, putNode};
 ghost use Rattle.words.specs.Phases.{MatchFits, matchWord, PhaseFits, kindSource, phaseWords, phaseIn, positiveAt, negativeAt, phaseAt, makesGate, isNeeded, putNeeded};
 
@@ -359,6 +359,27 @@ pub fn set_function(work: &mut [u16], m: usize, v: usize, k: usize, x: u16)
     ensures { λ _. ⌜ now (work .exit) ≡ putFunctions (now (work .entry)) m v k (x ∷ []) ⌝ }
 {
     set_word(work, TABLES * (m + 1) + LIMIT * v + k, x);
+}
+
+// ---- low arrivals, in the words of the functions
+
+// The low arrival of a literal's phase.
+pub fn low(work: &[u16], m: usize, l: usize) -> u32
+    requires { ⌜ Room (now work) m × (l / 2 ≤ m) ⌝ }
+    ensures { λ r. ⌜ r ≡ lowAt (now (work .entry)) m l ⌝ }
+{
+    let at = TABLES * (m + 1) + 2 * l;
+    let low = long(work[at]);
+    let high = long(work[at + 1]);
+    low + high * 65536
+}
+
+pub fn set_low(work: &mut [u16], m: usize, l: usize, t: u32)
+    requires { ⌜ Room (now work) m × (l / 2 ≤ m) ⌝ }
+    ensures { λ _. ⌜ now (work .exit) ≡ putAt (now (work .entry)) (lowAddr m l) (lowWords t) ⌝ }
+{
+    let ws = [(t % 65536) as u16, (t / 65536) as u16];
+    put(work, TABLES * (m + 1) + 2 * l, &ws);
 }
 
 // ---- a walk's notes

@@ -1,37 +1,73 @@
--- `library::read` meets its contract: the names line, and then the cell lines from where the next line begins.
+-- `library::read` meets its contract: one of the two names lines, and then the cell lines from where the next line begins.
 -- Assumes nothing.
-use borrow.Author.Needs.{needs}
 use mathlib.Core.Path.{sym, ap, _∙_}
+use Rattle.model.specs.Text.{text}
 use Rattle.model.specs.Cells.{libraryAnswer}
 use Rattle.model.proofs.Answers.{library-ruled}
-use Rattle.library.proofs.First.{first-fits, names-not, names-read}
+use Rattle.library.specs.Reading.{shorterLine, longerLine}
+use Rattle.library.proofs.First.{first-fits, names-not, names-shorter, names-longer}
+use borrow.Author.Needs.{needs}
 use Rattle.library.proofs.read.Statement.{statement}
 use Rattle.library.proofs.read.Tie as tie
 
 line-requires : tie.Need-line-requires
 line-requires c κs = search needs
 
-names-line-requires : tie.Need-names-line-requires
-names-line-requires c κs = first-fits _ _ (c .line .ensures)
+slice-aggregate-line-is : tie.Need-slice-aggregate-line-is
+slice-aggregate-line-is c = search needs
+
+line-is-requires : tie.Need-line-is-requires
+line-is-requires c κs = first-fits _ _ (c .before .line .ensures)
 
 cells-requires : tie.Need-cells-requires
 cells-requires c κs = search needs
 
+returns : tie.Need-returns
+unfolding shorterLine text
+returns c = 
+    let n = c .before .before in
+    let e = names-shorter _ _ (n .before .before .line .ensures) (sym (n .line-is .ensures) ∙ c .before .if1 .taken) in
+    library-ruled _ _ (c .cells .ensures ∙ sym (ap libraryAnswer e))
+
+slice-aggregate-line-is-2 : tie.Need-slice-aggregate-line-is-2
+slice-aggregate-line-is-2 c = search needs
+
+line-is-requires-2 : tie.Need-line-is-requires-2
+line-is-requires-2 c κs = first-fits _ _ (c .before .before .before .before .line .ensures)
+
+cells-requires-2 : tie.Need-cells-requires-2
+cells-requires-2 c κs = search needs
+
+returns-2 : tie.Need-returns-2
+unfolding longerLine text
+returns-2 c = 
+    let n = c .before .before in
+    let e = names-longer _ _ (n .before .before .before .before .before .line .ensures) (sym (n .line-is2 .ensures) ∙ c .before .if2 .taken) in
+    library-ruled _ _ (c .cells2 .ensures ∙ sym (ap libraryAnswer e))
+
 refused-requires : tie.Need-refused-requires
 refused-requires c κs = search needs
 
-returns : tie.Need-returns
-returns c =
+returns-3 : tie.Need-returns-3
+unfolding shorterLine longerLine text
+returns-3 c = 
     let n = c .before .before in
-    let e = names-read _ _ (n .before .line .ensures) (sym (n .names-line .ensures) ∙ c .before .if1 .taken) in
-    library-ruled _ _ (c .cells .ensures ∙ sym (ap libraryAnswer e))
-
-returns-2 : tie.Need-returns-2
-returns-2 c =
-    let n = c .before .before in
-    let e = names-not _ _ (n .before .line .ensures) (sym (n .names-line .ensures) ∙ c .before .if1 .left) in
+    let s = n .before .before in
+    let e = names-not _ _ (s .before .before .before .line .ensures) (sym (s .before .line-is .ensures) ∙ s .if1 .left) (sym (n .line-is2 .ensures) ∙ c .before .if2 .left) in
     library-ruled _ _ (c .refused .ensures ∙ sym (ap libraryAnswer e))
 
 pub read-spec : {M : Type 1} → statement M
 read-spec =
-    tie.close (tie.spec line-requires names-line-requires cells-requires refused-requires returns returns-2)
+    tie.close
+    (tie.spec
+    line-requires
+    slice-aggregate-line-is
+    line-is-requires
+    cells-requires
+    returns
+    slice-aggregate-line-is-2
+    line-is-requires-2
+    cells-requires-2
+    returns-2
+    refused-requires
+    returns-3)

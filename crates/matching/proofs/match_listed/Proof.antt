@@ -1,4 +1,4 @@
--- `matching::match_listed` meets its contract: a walk of its MIR, by hand, of a read and a call. The place of `cells[line]` is line * 32 past the pointer of the slice, and the whole struct is copied from there.
+-- `matching::match_listed` meets its contract: a walk of its MIR, by hand, of a read and a call. The place of `cells[line]` is line * 40 past the pointer of the slice, and the whole struct is copied from there.
 -- The slice is looked into, element `line` is taken out of the row, read, and put back. What a `Cell` owns is facts alone, so what is passed is made anew (`LL.makes`).
 -- The sheet goes to the callee for good (`gave-ref`), at its own lifetime, share and name, and what the callee says of its last list is what the exit says. All that the proof knows of `match_cell` is that it meets its contract.
 -- Assumes nothing.
@@ -161,10 +161,10 @@ module _ {M : Type 1} (𝓤 : URA M) (H : Heap 𝓤) (A : Atoms 𝓤) (W : Given
         qed W (tokens ∷ ‵ Owns ∷ []) ∵ enter ! C Λ code.function (v ∷ vi ∷ vx ∷ []) _ $
         alloc1 ! (λ l₀. alloc1 ! (λ l₁. alloc1 ! (λ l₂. alloc1 ! (λ l₃. alloc1 ! (λ l₄. alloc1 ! (λ l₅. alloc1 ! (λ l₆. alloc1 ! (λ l₇. alloc1 ! (λ l₈. alloc1 ! (λ l₉. alloc0 ! $ params1 ! $
         pass1 ! (init ! 16 refl (tt, (tt, (record { fits = gn .0 }, tt)))) $ pass1 ! (init ! 14 refl (tt, record { fits = gi })) $ pass1 ! (init ! 12 refl (tt, tt)) $ pass0 ! $
-        -- _5 = line * 32, _6 = the pointer of the slice, and _5 past it
-        assigns ! (bin ! (load ! (from ! (stop !)) (look ! 14 refl)) (lit ! tt) (scaled-fits i (length ys) 32 (ok .0) (gn .1))) (from ! (stop !)) (init ! 8 refl (tt, scaled-fits i (length ys) 32 (ok .0) (gn .1))) $
+        -- _5 = line * 40, _6 = the pointer of the slice, and _5 past it
+        assigns ! (bin ! (load ! (from ! (stop !)) (look ! 14 refl)) (lit ! tt) (scaled-fits i (length ys) 40 (ok .0) (gn .1))) (from ! (stop !)) (init ! 8 refl (tt, scaled-fits i (length ys) 32 (ok .0) (gn .1))) $
         assigns ! (bin ! (load ! (from ! (fld ! refl (stop !))) (look-in ! 16 (sub ! 0 refl (whole !)))) (load ! (from ! (stop !)) (look ! 8 refl)) tt) (from ! (stop !)) (init ! 6 refl (tt, tt)) $
-        rewrite ! 6 (λ (p : ℕ). ‵ (fat fullShare tyPtr l₆ 0 (vptr b p))) (sym (place-is 32 o i)) refl $
+        rewrite ! 6 (λ (p : ℕ). ‵ (fat fullShare tyPtr l₆ 0 (vptr b p))) (sym (place-is 40 o i)) refl $
         move ! (21 ∷ []) $ fsplit ! $ fsplit ! $ move ! (1 ∷ []) $ fsplit ! $ move ! (24 ∷ []) $ split ! $ move ! (3 ∷ 0 ∷ []) $
         looks-slice ! tt T.the-row (Is T.the-row) (shows 𝓤 H A T.the-row) vals (LL.tells T.the-type T′.the-laws) (LL.copy T.the-type T′.the-copy 𝓤 H A W) ys b o (λ q′.
         elem-out ! T.the-row (Is T.the-row) (shows 𝓤 H A T.the-row) vals (LL.tells T.the-type T′.the-laws) q′ ys i noCell b o (ok .0) (λ g.
