@@ -32,7 +32,7 @@ use Rattle.theory.proofs.Formed.{gateNets, gates-are, line-net}
 use Rattle.theory.proofs.Arrivals.{Follows, timeOn, times-on, net-on, chosen-follows, retimed-follows}
 
 -- no lowest delay is over its delay, place by place
-no-lower : (ls ds : List ℕ) → T (noLower ls ds) → (j : ℕ) → getD ls j 0 ≤ getD ds j 0
+pub no-lower : (ls ds : List ℕ) → T (noLower ls ds) → (j : ℕ) → getD ls j 0 ≤ getD ds j 0
 unfolding noLower
 no-lower [] ds h j = omega arith
 no-lower (l ∷ ls) (d ∷ ds) h zero = leb-yes (and-yes (leb l d) (noLower ls ds) h .0)

@@ -1,0 +1,36 @@
+-- `library::is_ranged` meets its contract: the contents of the first line.
+-- Assumes nothing.
+use mathlib.Core.Path.{sym, _∙_}
+use lib.Seq.{length-take-le}
+use Rattle.model.specs.Text.{text}
+use Rattle.library.specs.Reading.{longerLine}
+use Rattle.library.proofs.First.{first-fits, names-ranged}
+use borrow.Author.Needs.{needs}
+use Rattle.library.proofs.is_ranged.Statement.{statement}
+use Rattle.library.proofs.is_ranged.Tie as tie
+
+line-requires : tie.Need-line-requires
+line-requires c κs = search needs
+
+slice-aggregate-same-bytes : tie.Need-slice-aggregate-same-bytes
+slice-aggregate-same-bytes c = sym (length-take-le (c .before .line .result .stop) (c .before .before .before .args .s .now) (first-fits _ _ (c .before .line .ensures)))
+
+slice-aggregate-same-bytes-2 : tie.Need-slice-aggregate-same-bytes-2
+slice-aggregate-same-bytes-2 c = search needs
+
+same-bytes-requires : tie.Need-same-bytes-requires
+same-bytes-requires c κs = search needs
+
+returns : tie.Need-returns
+unfolding longerLine text
+returns c = c .same-bytes .ensures ∙ names-ranged _ _ (c .before .before .before .line .ensures)
+
+pub is-ranged-spec : {M : Type 1} → statement M
+is-ranged-spec =
+    tie.close
+    (tie.spec
+    line-requires
+    slice-aggregate-same-bytes
+    slice-aggregate-same-bytes-2
+    same-bytes-requires
+    returns)

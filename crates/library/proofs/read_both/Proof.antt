@@ -1,0 +1,57 @@
+-- `library::read_both` meets its contract: each return knows what the reads that led there found.
+-- Assumes nothing.
+use mathlib.Core.Path.{sym, _∙_}
+use Rattle.library.specs.Reading.{bothAt}
+use borrow.Author.Needs.{needs}
+use Rattle.library.proofs.read_both.Statement.{statement}
+use Rattle.library.proofs.read_both.Tie as tie
+
+read-high-requires : tie.Need-read-high-requires
+read-high-requires c κs = search needs
+
+enum-known-d0 : tie.Need-enum-known-d0
+enum-known-d0 c = search needs
+
+read-delays-requires : tie.Need-read-delays-requires
+read-delays-requires c κs = search needs
+
+enum-known-l0 : tie.Need-enum-known-l0
+enum-known-l0 c = search needs
+
+enum-told : tie.Need-enum-told
+enum-told c = search needs
+
+enum-told-2 : tie.Need-enum-told-2
+enum-told-2 c = search needs
+
+returns : tie.Need-returns
+unfolding bothAt
+returns c = 
+    let l = c .before .before .before in
+    let h = l .before .before .before .before in
+    rw (sym (h .read-high .ensures) ∙ l .before .before .d0 .given .1, sym (l .read-delays .ensures) ∙ c .before .l0 .given .1)
+
+returns-2 : tie.Need-returns-2
+unfolding bothAt
+returns-2 c = 
+    let l = c .before .before in
+    let h = l .before .before .before .before in
+    rw (sym (h .read-high .ensures) ∙ l .before .before .d0 .given .1, sym (l .read-delays .ensures) ∙ c .enum-told .given .1)
+
+returns-3 : tie.Need-returns-3
+unfolding bothAt
+returns-3 c = rw (sym (c .before .before .read-high .ensures) ∙ c .enum-told2 .given .1)
+
+pub read-both-spec : {M : Type 1} → statement M
+read-both-spec =
+    tie.close
+    (tie.spec
+    read-high-requires
+    enum-known-d0
+    read-delays-requires
+    enum-known-l0
+    enum-told
+    enum-told-2
+    returns
+    returns-2
+    returns-3)

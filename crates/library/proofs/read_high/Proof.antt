@@ -1,0 +1,107 @@
+-- `library::read_high` meets its contract: each return knows what the reads that led there found.
+-- Assumes nothing.
+use borrow.Author.Needs.{needs}
+use mathlib.Core.Path.{sym, _∙_}
+use Rattle.library.specs.Reading.{highAt}
+use Rattle.library.proofs.read_high.Statement.{statement}
+use Rattle.library.proofs.read_high.Tie as tie
+
+number-then-requires : tie.Need-number-then-requires
+number-then-requires c κs = search needs
+
+enum-known-d0 : tie.Need-enum-known-d0
+enum-known-d0 c = search needs
+
+number-then-requires-2 : tie.Need-number-then-requires-2
+number-then-requires-2 c κs = search needs
+
+enum-known-d1 : tie.Need-enum-known-d1
+enum-known-d1 c = search needs
+
+number-then-requires-3 : tie.Need-number-then-requires-3
+number-then-requires-3 c κs = search needs
+
+enum-known-d2 : tie.Need-enum-known-d2
+enum-known-d2 c = search needs
+
+number-then-requires-4 : tie.Need-number-then-requires-4
+number-then-requires-4 c κs = search needs
+
+enum-known-d3 : tie.Need-enum-known-d3
+enum-known-d3 c = search needs
+
+enum-told : tie.Need-enum-told
+enum-told c = search needs
+
+enum-told-2 : tie.Need-enum-told-2
+enum-told-2 c = search needs
+
+enum-told-3 : tie.Need-enum-told-3
+enum-told-3 c = search needs
+
+enum-told-4 : tie.Need-enum-told-4
+enum-told-4 c = search needs
+
+returns : tie.Need-returns
+unfolding highAt
+returns c =
+    rw (
+      sym (c .before .before .before .before .before .before .before .before .before .before .before .before .before .before .before .number-then .ensures) ∙ c .before .before .before .before .before .before .before .before .before .before .before .before .before .d0 .given .1,
+      sym (c .before .before .before .before .before .before .before .before .before .before .before .number-then2 .ensures) ∙ c .before .before .before .before .before .before .before .before .before .d1 .given .1,
+      sym (c .before .before .before .before .before .before .before .number-then3 .ensures) ∙ c .before .before .before .before .before .d2 .given .1,
+      sym (c .before .before .before .number-then4 .ensures) ∙ c .before .d3 .given .1,
+    )
+
+returns-2 : tie.Need-returns-2
+unfolding highAt
+returns-2 c =
+    rw (
+      sym (c .before .before .before .before .before .before .before .before .before .before .before .before .before .before .number-then .ensures) ∙ c .before .before .before .before .before .before .before .before .before .before .before .before .d0 .given .1,
+      sym (c .before .before .before .before .before .before .before .before .before .before .number-then2 .ensures) ∙ c .before .before .before .before .before .before .before .before .d1 .given .1,
+      sym (c .before .before .before .before .before .before .number-then3 .ensures) ∙ c .before .before .before .before .d2 .given .1,
+      sym (c .before .before .number-then4 .ensures) ∙ c .enum-told .given .1,
+    )
+
+returns-3 : tie.Need-returns-3
+unfolding highAt
+returns-3 c =
+    rw (
+      sym (c .before .before .before .before .before .before .before .before .before .before .number-then .ensures) ∙ c .before .before .before .before .before .before .before .before .d0 .given .1,
+      sym (c .before .before .before .before .before .before .number-then2 .ensures) ∙ c .before .before .before .before .d1 .given .1,
+      sym (c .before .before .number-then3 .ensures) ∙ c .enum-told2 .given .1,
+    )
+
+returns-4 : tie.Need-returns-4
+unfolding highAt
+returns-4 c =
+    rw (
+      sym (c .before .before .before .before .before .before .number-then .ensures) ∙ c .before .before .before .before .d0 .given .1,
+      sym (c .before .before .number-then2 .ensures) ∙ c .enum-told3 .given .1,
+    )
+
+returns-5 : tie.Need-returns-5
+unfolding highAt
+returns-5 c =
+    rw (sym (c .before .before .number-then .ensures) ∙ c .enum-told4 .given .1)
+
+pub read-high-spec : {M : Type 1} → statement M
+read-high-spec =
+    tie.close
+    (tie.spec
+    number-then-requires
+    enum-known-d0
+    number-then-requires-2
+    enum-known-d1
+    number-then-requires-3
+    enum-known-d2
+    number-then-requires-4
+    enum-known-d3
+    enum-told
+    enum-told-2
+    enum-told-3
+    enum-told-4
+    returns
+    returns-2
+    returns-3
+    returns-4
+    returns-5)

@@ -1,0 +1,27 @@
+-- `library::read_one` meets its contract: each return knows what the read that led there found.
+-- Assumes nothing.
+use mathlib.Core.Path.{sym, _∙_}
+use Rattle.library.specs.Reading.{oneAt}
+use borrow.Author.Needs.{needs}
+use Rattle.library.proofs.read_one.Statement.{statement}
+use Rattle.library.proofs.read_one.Tie as tie
+
+read-delays-requires : tie.Need-read-delays-requires
+read-delays-requires c κs = search needs
+
+enum-known-d0 : tie.Need-enum-known-d0
+enum-known-d0 c = search needs
+
+enum-told : tie.Need-enum-told
+enum-told c = search needs
+
+returns : tie.Need-returns
+unfolding oneAt
+returns c = rw (sym (c .before .before .before .read-delays .ensures) ∙ c .before .d0 .given .1)
+
+returns-2 : tie.Need-returns-2
+unfolding oneAt
+returns-2 c = rw (sym (c .before .before .read-delays .ensures) ∙ c .enum-told .given .1)
+
+pub read-one-spec : {M : Type 1} → statement M
+read-one-spec = tie.close (tie.spec read-delays-requires enum-known-d0 enum-told returns returns-2)

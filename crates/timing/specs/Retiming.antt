@@ -1,0 +1,84 @@
+-- The low arrivals of the chosen phases, from the words and into them. Assumes nothing.
+use Prim.Native.Nat.{ℕ, zero, suc, _+_, _*_, _/_, _≤_, _<_, max}
+use mathlib.Core.Bool.{cond}
+use mathlib.Core.List.{List, [], _∷_}
+use lib.Dec.{leb}
+use lib.ListN.{length, getD, drop}
+use Rattle.model.specs.Cells.{cellAt, cellsOf}
+use Rattle.model.specs.Matching.{matchNets}
+use Rattle.model.specs.declared.Cell.{Cell}
+use Rattle.model.specs.declared.Library.{Library}
+use Rattle.model.specs.declared.Match.{Match}
+use Rattle.model.specs.declared.Source.{Source}
+use Rattle.model.specs.declared.Source.the-variants.{Input, Cell as Matched, Inverter as Inverted, Nothing}
+use Rattle.words.specs.Put.{putAt}
+use Rattle.words.specs.Layout.{slotAt, lateAt, lowAddr, lowAt, lowWords}
+use Rattle.words.specs.Record.{leavesAt}
+use Rattle.words.specs.Phases.{phaseAt}
+use Rattle.cover.specs.Asked.{MatchesIn}
+
+-- a time and a delay, as long as their sum is a number of the code's
+abbrev pub after : ℕ → ℕ → ℕ
+after t d = cond (leb t 4294901760) (t + d) t
+
+-- "the largest of feeding arrival plus pin delay", of the low arrivals that the words have
+unfoldable pub latestLow : List ℕ → ℕ → List ℕ → List ℕ → ℕ
+latestLow w m [] ds = 0
+latestLow w m (l ∷ ls) ds = max (after (lowAt w m l) (getD ds 0 0)) (latestLow w m ls (drop 1 ds))
+
+-- of a match of v
+unfoldable pub matchLow : List Cell → List ℕ → ℕ → ℕ → Match → ℕ
+unfolding latestLow matchNets cellAt
+matchLow cells w m v x = latestLow w m (matchNets cells (leavesAt w m v (x .cut)) x) (cellAt cells (x .cell) .lows)
+
+-- of a phase that no inverter drives
+unfoldable pub ownLow : List Cell → List ℕ → ℕ → ℕ → Source → ℕ
+unfolding matchLow
+ownLow cells w m l Input = lateAt w m (l / 2)
+ownLow cells w m l Nothing = 0
+ownLow cells w m l (Matched x) = matchLow cells w m (l / 2) x
+ownLow cells w m l (Inverted c) = 0
+
+-- of a phase, by its own and the other phase's
+unfoldable pub turnedLow : List Cell → ℕ → ℕ → Source → ℕ
+unfolding cellAt
+turnedLow cells own other Input = own
+turnedLow cells own other Nothing = own
+turnedLow cells own other (Matched x) = own
+turnedLow cells own other (Inverted c) = after other (getD (cellAt cells c .lows) 0 0)
+
+-- the two low arrivals of a variable's phases, negative where so asked
+abbrev pub ownAt : List Cell → List ℕ → ℕ → ℕ → ℕ
+ownAt cells w m l = ownLow cells w m l (phaseAt w m l .source)
+
+-- the words with a low arrival stored
+abbrev pub putLow : List ℕ → ℕ → ℕ → ℕ → List ℕ
+putLow w m l t = putAt w (lowAddr m l) (lowWords t)
+
+-- the words once v is timed
+unfoldable pub retimedTurn : List Cell → List ℕ → ℕ → ℕ → List ℕ
+unfolding ownLow turnedLow
+retimedTurn cells w m v =
+    putLow
+    (putLow w m (2 * v) (turnedLow cells (ownAt cells w m (2 * v)) (ownAt cells w m (2 * v + 1)) (phaseAt w m (2 * v) .source)))
+    m (2 * v + 1) (turnedLow cells (ownAt cells w m (2 * v + 1)) (ownAt cells w m (2 * v)) (phaseAt w m (2 * v + 1) .source))
+
+-- the words once the first n placed variables are
+unfoldable pub retimedUp : List Cell → List ℕ → ℕ → ℕ → List ℕ
+unfolding retimedTurn
+retimedUp cells w m zero = w
+retimedUp cells w m (suc n) = retimedTurn cells (retimedUp cells w m n) m (slotAt (retimedUp cells w m n) m n)
+
+-- ---- what is asked
+
+-- an inverter is one of the library
+abbrev pub InverterIn : Library → Source → Type 0
+InverterIn lib Input = Unit {0}
+InverterIn lib Nothing = Unit {0}
+InverterIn lib (Matched x) = Unit {0}
+InverterIn lib (Inverted c) = c < length (cellsOf lib)
+
+-- every source of the words is of the library and of the graph
+pub record Retimable (lib : Library) (w : List ℕ) (m : ℕ) : Type 0 where
+  pub matches : MatchesIn lib w m
+  pub inverters : (l : ℕ) → l / 2 ≤ m → InverterIn lib (phaseAt w m l .source)

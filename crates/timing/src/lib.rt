@@ -1,0 +1,150 @@
+// Low arrivals: the chosen gates timed once more, with the lowest delays, and the `# timing` lines that say both ends.
+// "The netlist is then followed by a line per output, as `# timing o0 30 35`: a low and a high arrival."
+use model::Header;
+use model::Library;
+use model::Match;
+use model::Phase;
+use model::Source;
+ghost use mathlib.Core.Path.{_≡_};
+ghost use Prim.Native.Nat.{_+_, _*_, _/_, _≤_, _<_, max};
+ghost use lib.ListN.{getD};
+ghost use Rattle.model.specs.Cells.{noCell, cellsOf};
+ghost use Rattle.model.specs.Matching.{fedNets};
+ghost use Rattle.words.specs.Layout.{placedOf, Room};
+ghost use Rattle.words.specs.Phases.{phaseAt};
+ghost use Rattle.truth.specs.Variant.{placesOf};
+ghost use Rattle.matching.specs.Variants.{Usable};
+ghost use Rattle.cover.specs.Asked.{PinsIn, SlotsIn, CutsIn, MatchIn, MatchesIn};
+ghost use Rattle.timing.specs.Retiming.{after, latestLow, matchLow, ownLow, turnedLow, retimedTurn, retimedUp, InverterIn, Retimable};
+
+// ---- the low arrivals
+
+// A time and a delay. None comes near the end of the numbers: a low arrival is at most the phase's own.
+fn later(t: u32, d: u16) -> u32
+    ensures { λ r. ⌜ r ≡ after t d ⌝ }
+{
+    if t <= 4294901760 { t + d as u32 } else { t }
+}
+
+fn larger(a: u32, b: u32) -> u32
+    ensures { λ r. ⌜ r ≡ max a b ⌝ }
+{
+    if a < b { b } else { a }
+}
+
+// "the largest of feeding arrival plus pin delay", over the nets that feed a cell under an order and a mask: from the last pin to the first.
+fn pins_low(
+    work: &[u16],
+    m: usize,
+    leaves: [u16; 4],
+    order: usize,
+    mask: usize,
+    pins: usize,
+    lows: [u16; 4],
+) -> u32
+    requires { ⌜ Room (now work) m × PinsIn leaves m order pins ⌝ }
+    ensures { λ r. ⌜ r ≡ latestLow (now (work .entry)) m (fedNets pins (placesOf order) mask leaves) lows ⌝ }
+{
+    let mut t: u32 = 0;
+    let mut j = pins;
+    while j > 0 {
+        j -= 1;
+        let net = truth::pin_net(leaves, order, mask, j);
+        t = larger(later(words::low(work, m, net), lows[j]), t);
+    }
+    t
+}
+
+// A word as an index.
+fn wide(x: u16) -> usize
+    ensures { λ r. ⌜ r ≡ x ⌝ }
+{
+    x as usize
+}
+
+// The low arrival of a match of v.
+fn match_low(work: &[u16], lib: Library, m: usize, v: usize, x: Match) -> u32
+    requires { ⌜ Usable lib × CutsIn (now work) m × (v ≤ m) × MatchIn (cellsOf lib) (now work) m v x ⌝ }
+    ensures { λ r. ⌜ r ≡ matchLow (cellsOf lib) (now (work .entry)) m v x ⌝ }
+{
+    let cut = words::load_cut(work, m, v, x.cut);
+    let leaves = cut.leaves;
+    let cells = lib.cells;
+    let line = x.cell;
+    let c = cells[line];
+    let lows = c.lows;
+    pins_low(work, m, leaves, x.order, x.mask, wide(c.pins), lows)
+}
+
+// The low arrival of a phase that no inverter drives: an input's is its own.
+fn own_low(work: &[u16], lib: Library, m: usize, l: usize) -> u32
+    requires { ⌜ MatchesIn lib (now work) m × (l / 2 ≤ m) ⌝ }
+    ensures { λ r. ⌜ r ≡ ownLow (cellsOf lib) (now (work .entry)) m l (phaseAt (now (work .entry)) m l .source) ⌝ }
+{
+    let p = words::phase(work, m, l);
+    let s = p.source;
+    match s {
+        Source::Input => words::late(work, m, l / 2),
+        Source::Cell(x) => match_low(work, lib, m, l / 2, x),
+        Source::Inverter(_) => 0,
+        Source::Nothing => 0,
+    }
+}
+
+// The lowest delay of an inverter.
+fn inverter_low(lib: Library, line: usize) -> u16
+    requires { ⌜ line < 32 ⌝ }
+    ensures { λ r. ⌜ r ≡ getD (getD (lib .cells) line noCell .lows) 0 0 ⌝ }
+{
+    let c = lib.cells[line];
+    let lows = c.lows;
+    lows[0]
+}
+
+// The low arrival of a phase: an inverter's waits for the other phase's own.
+fn turned(lib: Library, p: Phase, own: u32, other: u32) -> u32
+    requires { ⌜ InverterIn lib (p .source) ⌝ }
+    ensures { λ r. ⌜ r ≡ turnedLow (cellsOf lib) own other (p .source) ⌝ }
+{
+    let s = p.source;
+    match s {
+        Source::Inverter(line) => later(other, inverter_low(lib, line)),
+        Source::Input => own,
+        Source::Cell(_) => own,
+        Source::Nothing => own,
+    }
+}
+
+// Both phases of v.
+fn retime_variable(work: &mut [u16], lib: Library, m: usize, v: usize)
+    requires { ⌜ Retimable lib (now work) m × (v ≤ m) ⌝ }
+    ensures { λ _. ⌜ now (work .exit) ≡ retimedTurn (cellsOf lib) (now (work .entry)) m v ⌝ }
+{
+    let p = own_low(work, lib, m, 2 * v);
+    let n = own_low(work, lib, m, 2 * v + 1);
+    let positive = turned(lib, words::phase(work, m, 2 * v), p, n);
+    let negative = turned(lib, words::phase(work, m, 2 * v + 1), n, p);
+    words::set_low(work, m, 2 * v, positive);
+    words::set_low(work, m, 2 * v + 1, negative);
+}
+
+// In placing order.
+fn retime_variables(work: &mut [u16], lib: Library, m: usize, n: usize)
+    requires { ⌜ Retimable lib (now work) m × SlotsIn (now work) m n ⌝ }
+    ensures { λ _. ⌜ now (work .exit) ≡ retimedUp (cellsOf lib) (now (work .entry)) m n ⌝ }
+{
+    let mut i: usize = 0;
+    while i < n {
+        let v = words::slot(work, m, i);
+        retime_variable(work, lib, m, v);
+        i += 1;
+    }
+}
+
+// The low arrivals of all phases, in the words that held the cuts' functions.
+pub fn retime(work: &mut [u16], lib: Library, h: Header)
+    requires { ⌜ Retimable lib (now work) (h .size) × SlotsIn (now work) (h .size) (placedOf h) ⌝ }
+    ensures { λ _. ⌜ now (work .exit) ≡ retimedUp (cellsOf lib) (now (work .entry)) (h .size) (placedOf h) ⌝ }
+{
+    retime_variables(work, lib, h.size, words::placed(h));
+}
