@@ -1,24 +1,40 @@
 -- Laws of the pass that times the chosen phases with the lowest delays:
 --     after-is            a sum that has room
 --     latest-held         the latest of low arrivals that are known
---     turn-kept, up-kept  only words of the low arrivals are written
---     turn-here, turn-other       what a turn stores is there, and every other low arrival stays
+--     pins-none, pins-turn        the pins of a match, from the last to the first
+--     put-kept, turn-kept         only words of the low arrivals are written
+--     lows-phase .. lows-retimable        so what is read in the pass stays
+--     turn-positive, turn-negative, turn-other    what a turn stores is there, and every other low arrival stays
 -- Assumes nothing.
-use Prim.Native.Nat.{ℕ, zero, suc, _+_, _*_, _/_, _≤_, _<_, max}
+use Prim.Native.Nat.{ℕ, zero, suc, _+_, _-_, _*_, _/_, _≤_, _<_, max}
 use native.Mathlib.Omega.{arith}
-use mathlib.Core.Path.{_≡_, refl, sym, ap, ap₂, _∙_}
+use mathlib.Core.Path.{_≡_, refl, sym, ap, ap₂, subst, _∙_}
 use mathlib.Core.Bool.{Bool, true, cond}
 use mathlib.Core.List.{List, [], _∷_, map, List·Memᴰ, List·Memᴰ·head, List·Memᴰ·tail}
 use lib.Dec.{leb, le→leb}
 use lib.ListN.{length, getD, drop}
-use Rattle.model.specs.Choice.{latest}
+use lib.Seq.{drop-cons, drop-length}
+use Rattle.model.specs.Base.{bit}
+use Rattle.model.specs.Limits.{cutLimit}
+use Rattle.model.specs.Graph.{varOf, negated}
+use Rattle.model.specs.Matching.{fedNets}
+use Rattle.model.specs.Choice.{phaseOf, latest}
 use Rattle.model.specs.declared.Cell.{Cell}
+use Rattle.model.specs.declared.Library.{Library}
+use Rattle.model.specs.declared.Phase.{Phase}
 use Rattle.theory_graph.proofs.Lists.{is-true}
-use Rattle.words.specs.Layout.{Room, listsTo, outputAddr, lowAddr, lowAt, lowWords, slotAt}
-use Rattle.words.specs.Phases.{phaseAt}
+use Rattle.theory_graph.proofs.Literals.{lit-var}
+use Rattle.truth.specs.Variant.{placesOf, pinNet}
+use Rattle.truth.proofs.Variants.{places-four}
+use Rattle.truth.proofs.Nets.{nets-length, nets-get}
+use Rattle.words.specs.Layout.{Room, listsTo, outputAddr, lowAddr, lowAt, lowWords, slotAt, countAt, positiveAddr, negativeAddr}
+use Rattle.words.specs.Record.{leavesOf, leavesAt}
+use Rattle.words.specs.Phases.{sourceOf, phaseIn, phaseAt}
 use Rattle.words.proofs.Lows.{low-length, low-before, low-behind, low-put, low-apart}
+use Rattle.words.proofs.Stored.{cut-same}
+use Rattle.cover.specs.Asked.{SlotsIn, CutsIn}
 use Rattle.cover.proofs.Keeping.{Kept, kept-same, kept-on}
-use Rattle.timing.specs.Retiming.{after, latestLow, ownLow, turnedLow, ownAt, putLow, retimedTurn, retimedUp}
+use Rattle.timing.specs.Retiming.{after, latestLow, ownLow, turnedLow, ownAt, putLow, retimedTurn, retimedUp, InverterIn, Retimable}
 
 -- ---- sums
 
@@ -36,17 +52,126 @@ latest-held w m f (x ∷ nets) (d ∷ ds) h =
     let k = h x (List·Memᴰ·head refl) in
     ap₂ max (ap (λ (t : ℕ). after t d) (k .0) ∙ after-is (f x) d (k .1)) (latest-held w m f nets ds (λ y i. h y (List·Memᴰ·tail i)))
 
+-- ---- the pins of a match
+
+-- the variable of a net
+pub net-var : (leaves : List ℕ) (order mask j m : ℕ) → getD leaves (getD (placesOf order) j 0) 0 ≤ m → pinNet (placesOf order) mask leaves j / 2 ≤ m
+unfolding varOf
+net-var leaves order mask j m h = omega (arith, lit-var (bit mask j) (getD leaves (getD (placesOf order) j 0) 0))
+
+module _ (w : List ℕ) (m : ℕ) (leaves : List ℕ) (order mask pins : ℕ) (lows : List ℕ) (known : order < 24) (few : pins ≤ 4) where
+  abbrev nets : List ℕ
+  nets = fedNets pins (placesOf order) mask leaves
+
+  four : pins ≤ length (placesOf order)
+  four = omega (arith, places-four order known)
+
+  -- none is left
+  pub pins-none : latestLow w m (drop pins nets) (drop pins lows) ≡ 0
+  unfolding latestLow
+  pins-none = ap (λ (ls : List ℕ). latestLow w m ls (drop pins lows)) (ap (λ (i : ℕ). drop i nets) (sym (nets-length pins (placesOf order) mask leaves four)) ∙ drop-length nets)
+
+  -- one more
+  one-more : (j : ℕ) → j < pins
+      → max (after (lowAt w m (pinNet (placesOf order) mask leaves j)) (getD lows j 0)) (latestLow w m (drop (suc j) nets) (drop (suc j) lows)) ≡ latestLow w m (drop j nets) (drop j lows)
+  unfolding latestLow
+  one-more j h =
+      let l : length nets ≡ pins = nets-length pins (placesOf order) mask leaves four in
+      ap (λ (x : ℕ). max (after (lowAt w m x) (getD lows j 0)) (latestLow w m (drop (suc j) nets) (drop (suc j) lows))) (sym (nets-get pins (placesOf order) mask leaves j four h))
+      ∙ ap₂ (λ (d : ℕ) (ds : List ℕ). max (after (lowAt w m (getD nets j 0)) d) (latestLow w m (drop (suc j) nets) ds)) (sym (first-of lows j)) (sym (drop-one lows j))
+      ∙ ap (λ (ls : List ℕ). latestLow w m ls (drop j lows)) (sym (drop-cons nets j 0 (omega arith)))
+    where
+      first-of : (ds : List ℕ) (k : ℕ) → getD (drop k ds) 0 0 ≡ getD ds k 0
+      first-of ds zero = refl
+      first-of [] (suc k) = refl
+      first-of (d ∷ ds) (suc k) = first-of ds k
+
+      drop-one : (ds : List ℕ) (k : ℕ) → drop 1 (drop k ds) ≡ drop (suc k) ds
+      drop-one ds zero = refl
+      drop-one [] (suc k) = refl
+      drop-one (d ∷ ds) (suc k) = drop-one ds k
+
+  pub pins-turn : (k : ℕ) → 0 < k → k ≤ pins
+      → max (after (lowAt w m (pinNet (placesOf order) mask leaves (k - 1))) (getD lows (k - 1) 0)) (latestLow w m (drop k nets) (drop k lows))
+      ≡ latestLow w m (drop (k - 1) nets) (drop (k - 1) lows)
+  pins-turn k a b =
+      let e : suc (k - 1) ≡ k = omega arith in
+      ap (λ (i : ℕ). max (after (lowAt w m (pinNet (placesOf order) mask leaves (k - 1))) (getD lows (k - 1) 0)) (latestLow w m (drop i nets) (drop i lows))) (sym e)
+      ∙ one-more (k - 1) (omega arith)
+
 -- ---- words
 
 -- only words of the functions are written
 abbrev pub LowsKept : ℕ → List ℕ → List ℕ → Type 0
 LowsKept m v w = Kept (listsTo m) (outputAddr m 0) v w
 
-put-kept : (w : List ℕ) (m l t : ℕ) → Room w m → l / 2 ≤ m → LowsKept m w (putLow w m l t)
+pub put-kept : (w : List ℕ) (m l t : ℕ) → Room w m → l / 2 ≤ m → LowsKept m w (putLow w m l t)
 put-kept w m l t r h = record { size = low-length w m l t r h; before = low-before w m l t r h; behind = low-behind w m l t r h }
 
 pub kept-room : (m : ℕ) (v w : List ℕ) → LowsKept m v w → Room v m → Room w m
 kept-room m v w k r = record { small = r .small; room = omega (arith, r .room, k .size) }
+
+-- ---- what stays in the pass
+
+module _ (m : ℕ) (v w : List ℕ) (k : LowsKept m v w) where
+  pub lows-phase : (l : ℕ) → l / 2 ≤ m → phaseAt w m l ≡ phaseAt v m l
+  unfolding phaseOf phaseIn varOf
+  lows-phase l h =
+      let p = at (positiveAddr m (l / 2)) (omega arith) in
+      let n = at (negativeAddr m (l / 2)) (omega arith) in
+      λ i. cond (negated l) (n i) (p i)
+    where
+      at : (a : ℕ) → a + 4 ≤ listsTo m → phaseIn w a ≡ phaseIn v a
+      at a b =
+          let e₀ : getD w a 0 ≡ getD v a 0 = k .before a (omega arith) in
+          let e₁ : getD w (a + 1) 0 ≡ getD v (a + 1) 0 = k .before (a + 1) (omega arith) in
+          let e₂ : getD w (a + 2) 0 ≡ getD v (a + 2) 0 = k .before (a + 2) (omega arith) in
+          let e₃ : getD w (a + 3) 0 ≡ getD v (a + 3) 0 = k .before (a + 3) (omega arith) in
+          λ i. record { source = sourceOf (e₀ i) (e₁ i); arrival = e₂ i + e₃ i * 65536 }
+
+  pub lows-leaves : (u : ℕ) → u ≤ m → (n : ℕ) → n < cutLimit → leavesAt w m u n ≡ leavesAt v m u n
+  lows-leaves u h n l = ap leavesOf (cut-same w v m (λ i a b. k .before i b) u h n l)
+
+  count-kept : (u : ℕ) → u ≤ m → countAt w m u ≡ countAt v m u
+  count-kept u h = k .before _ (omega arith)
+
+  pub lows-slots : (n : ℕ) → SlotsIn v m n → SlotsIn w m n
+  lows-slots n r = record {
+    room = kept-room m v w k (r .room);
+    few = r .few;
+    within = λ i h. let e : slotAt w m i ≡ slotAt v m i = k .before _ (omega (arith, r .few)) in subst (λ (x : ℕ). x ≤ m) (sym e) (r .within i h);
+  }
+
+  lows-cuts : CutsIn v m → CutsIn w m
+  lows-cuts r = record {
+    room = kept-room m v w k (r .room);
+    few = λ u h. omega (arith, count-kept u h, r .few u h);
+    within =
+        λ u n j h l i.
+        let c : n < countAt v m u = omega (arith, count-kept u h) in
+        let same : leavesAt w m u n ≡ leavesAt v m u n = lows-leaves u h n (omega (arith, r .few u h)) in
+        subst (λ (x : List ℕ). getD x j 0 ≤ m) (sym same) (r .within u n j h c (subst (λ (x : List ℕ). j < length x) same i));
+  }
+
+  pub lows-retimable : (lib : Library) → Retimable lib v m → Retimable lib w m
+  lows-retimable lib r = record {
+    matches = record {
+      usable = r .matches .usable;
+      cuts = lows-cuts (r .matches .cuts);
+      matches =
+          λ l h x e.
+          let o = r .matches .matches l h x (ap (λ (p : Phase). p .source) (sym (lows-phase l h)) ∙ e) in
+          record {
+            cut = omega (arith, o .cut, count-kept (l / 2) h);
+            cell = o .cell;
+            order = o .order;
+            places = rw (lows-leaves (l / 2) h (x .cut) (omega (arith, o .cut, r .matches .cuts .few (l / 2) h))) (o .places);
+          };
+    };
+    inverters = λ l h. subst (λ (p : Phase). InverterIn lib (p .source)) (sym (lows-phase l h)) (r .inverters l h);
+  }
+
+-- ---- a turn
 
 module _ (cells : List Cell) (w : List ℕ) (m v : ℕ) (room : Room w m) (inside : v ≤ m) where
   -- what is stored of a phase

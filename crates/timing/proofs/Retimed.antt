@@ -34,14 +34,13 @@ use Rattle.theory_cover.proofs.Covers.{Straight}
 use Rattle.theory_cover.proofs.Turns.{chosen-none}
 use Rattle.theory_cover.proofs.Sound.{Present, chosen-fine, straight-before, is-match}
 use Rattle.theory_cover.proofs.Retime.{timeBy, retimed-rule, retimed-below}
-use Rattle.words.specs.Layout.{Room, listsTo, outputAddr, slotAt, lateAt, lowAt, positiveAddr, negativeAddr}
-use Rattle.words.specs.Record.{leavesOf, leavesAt}
-use Rattle.words.specs.Phases.{sourceOf, phaseIn, phasesAt, phaseAt}
-use Rattle.words.proofs.Stored.{cut-same}
+use Rattle.words.specs.Layout.{Room, listsTo, outputAddr, slotAt, lateAt, lowAt}
+use Rattle.words.specs.Record.{leavesAt}
+use Rattle.words.specs.Phases.{phaseAt}
 use Rattle.cover.proofs.Keeping.{Kept, kept-same, kept-on}
 use Rattle.cover.proofs.Counting.{few-cuts}
 use Rattle.timing.specs.Retiming.{after, latestLow, matchLow, ownLow, turnedLow, ownAt, retimedTurn, retimedUp}
-use Rattle.timing.proofs.Lowest.{after-is, latest-held, LowsKept, kept-room, stored, turn-kept, turn-positive, turn-negative, turn-other}
+use Rattle.timing.proofs.Lowest.{after-is, latest-held, LowsKept, kept-room, lows-phase, lows-leaves, stored, turn-kept, turn-positive, turn-negative, turn-other}
 
 -- what the words hold before the pass, and still do in it
 pub record Ready (w : List ℕ) (cells : List Cell) (g : Graph) : Type 0 where
@@ -52,35 +51,14 @@ pub record Ready (w : List ℕ) (cells : List Cell) (g : Graph) : Type 0 where
   pub phases : (l : ℕ) → l ≤ 2 * g .size + 1 → phaseAt w (g .size) l ≡ chosen cells g l
 
 module _ (g : Graph) (ok : Accepted g) (free : crowded g ≡ []) where
-  -- a phase, where only words of the functions are written
-  pub lows-phase : (v w : List ℕ) → LowsKept (g .size) v w → (l : ℕ) → l ≤ 2 * g .size + 1 → phaseAt w (g .size) l ≡ phaseAt v (g .size) l
-  unfolding phaseOf phaseIn varOf
-  lows-phase v w k l h =
-      let m = g .size in
-      let p = at (positiveAddr m (l / 2)) (omega arith) in
-      let n = at (negativeAddr m (l / 2)) (omega arith) in
-      λ i. cond (negated l) (n i) (p i)
-    where
-      at : (a : ℕ) → a + 4 ≤ listsTo (g .size) → phaseIn w a ≡ phaseIn v a
-      at a b =
-          let e₀ : getD w a 0 ≡ getD v a 0 = k .before a (omega arith) in
-          let e₁ : getD w (a + 1) 0 ≡ getD v (a + 1) 0 = k .before (a + 1) (omega arith) in
-          let e₂ : getD w (a + 2) 0 ≡ getD v (a + 2) 0 = k .before (a + 2) (omega arith) in
-          let e₃ : getD w (a + 3) 0 ≡ getD v (a + 3) 0 = k .before (a + 3) (omega arith) in
-          λ i. record { source = sourceOf (e₀ i) (e₁ i); arrival = e₂ i + e₃ i * 65536 }
-
-  -- a cut
-  pub lows-cut : (v w : List ℕ) → LowsKept (g .size) v w → (u : ℕ) → u ≤ g .size → (k : ℕ) → k < length (cutsOf g u) → leavesAt w (g .size) u k ≡ leavesAt v (g .size) u k
-  lows-cut v w kept u h k l = ap leavesOf (cut-same w v (g .size) (λ i a b. kept .before i b) u h k (omega (arith, few-cuts g free u)))
-
   module _ (cells : List Cell) where
     pub ready-kept : (v w : List ℕ) → LowsKept (g .size) v w → length (placingOrder g) ≤ g .size + 1 → Ready v cells g → Ready w cells g
     ready-kept v w k few r = record {
       room = kept-room (g .size) v w k (r .room);
       slots = λ i h. k .before _ (omega arith) ∙ r .slots i h;
       late = λ u h. k .before _ (omega arith) ∙ r .late u h;
-      cuts = λ u h n b. lows-cut v w k u h n b ∙ r .cuts u h n b;
-      phases = λ l h. lows-phase v w k l h ∙ r .phases l h;
+      cuts = λ u h n b. lows-leaves (g .size) v w k u h n (omega (arith, few-cuts g free u)) ∙ r .cuts u h n b;
+      phases = λ l h. lows-phase (g .size) v w k l (omega arith) ∙ r .phases l h;
     }
 
   module _ (cells : List Cell) (few : length (placingOrder g) ≤ g .size + 1) (soon : (l : ℕ) → l ≤ 2 * g .size + 1 → chosen cells g l .arrival ≤ 1073741823)
@@ -155,7 +133,7 @@ module _ (g : Graph) (ok : Accepted g) (free : crowded g ≡ []) where
 
       -- any phase
       stored-held : (l : ℕ) → varOf l ≡ v → Here l → turnedLow cells (ownAt cells w (g .size) l) (ownAt cells w (g .size) (opposite l)) (phaseAt w (g .size) l .source) ≡ low l
-      unfolding turnedLow timeBy feeds cellOf latest
+      unfolding turnedLow timeBy feeds cellOf latest absent
       stored-held l p h = ap (λ (q : Phase). turnedLow cells (ownAt cells w (g .size) l) (ownAt cells w (g .size) (opposite l)) (q .source)) (r .phases l (small l h)) ∙ go (src l) refl
         where
           max-zero : (t : ℕ) → t ≡ max t 0
@@ -189,7 +167,7 @@ module _ (g : Graph) (ok : Accepted g) (free : crowded g ≡ []) where
         where
           apart : (vs : List ℕ) → Distinct (vs ++ (v ∷ post)) → ¬ List·Memᴰ v vs
           apart [] d m = List·Memᴰ·not-nil m
-          apart (x ∷ vs) d (List·Memᴰ·head q) = d .0 (Memᴰ·cast q (Memᴰ·append-right vs (List·Memᴰ·head refl)))
+          apart (x ∷ vs) d (List·Memᴰ·head q) = d .0 (Memᴰ·cast (sym q) (Memᴰ·append-right vs (List·Memᴰ·head refl)))
           apart (x ∷ vs) d (List·Memᴰ·tail m) = apart vs (d .1) m
 
           this : l / 2 ≡ v → (t : Bool) → eqb (l % 2) 1 ≡ t → lowAt (retimedTurn cells w (g .size) v) (g .size) l ≡ low l

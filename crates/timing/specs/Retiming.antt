@@ -76,7 +76,7 @@ abbrev pub InverterIn : Library → Source → Type 0
 InverterIn lib Input = Unit {0}
 InverterIn lib Nothing = Unit {0}
 InverterIn lib (Matched x) = Unit {0}
-InverterIn lib (Inverted c) = c < length (cellsOf lib)
+InverterIn lib (Inverted c) = (c < length (cellsOf lib)) × (c < 32)
 
 -- every source of the words is of the library and of the graph
 pub record Retimable (lib : Library) (w : List ℕ) (m : ℕ) : Type 0 where

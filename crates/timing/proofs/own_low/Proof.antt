@@ -1,0 +1,77 @@
+-- `timing::own_low` meets its contract, by what the source is.
+-- Assumes nothing.
+use mathlib.Core.Path.{_≡_, sym, ap, _∙_}
+use Rattle.model.specs.Cells.{cellsOf}
+use Rattle.model.specs.declared.Phase.{Phase}
+use Rattle.timing.specs.Retiming.{ownLow}
+use borrow.Author.Needs.{needs}
+use Rattle.timing.proofs.own_low.Statement.{statement}
+use Rattle.timing.proofs.own_low.Tie as tie
+
+phase-requires : tie.Need-phase-requires
+phase-requires c κs = search needs
+
+enum-told : tie.Need-enum-told
+enum-told c = search needs
+
+late-requires : tie.Need-late-requires
+late-requires c κs = search needs
+
+enum-known-s : tie.Need-enum-known-s
+enum-known-s c = search needs
+
+match-low-requires : tie.Need-match-low-requires
+match-low-requires c κs = 
+    let p = c .before .before .before in
+    let s = p .before .before in
+    (s .pre .0 .usable, s .pre .0 .cuts, s .pre .1, s .pre .0 .matches (s .args .l) (s .pre .1) _ (ap (λ (q : Phase). q .source) (sym (p .phase .ensures)) ∙ c .before .s .given .1))
+
+enum-told-2 : tie.Need-enum-told-2
+enum-told-2 c = search needs
+
+enum-told-3 : tie.Need-enum-told-3
+enum-told-3 c = search needs
+
+returns : tie.Need-returns
+unfolding ownLow
+returns c = 
+    let p = c .before .before .before in
+    let a = p .before .before .args in
+    c .late .ensures ∙ sym (ap (ownLow (cellsOf (a .lib)) (a .work .now) (a .m) (a .l)) (ap (λ (q : Phase). q .source) (sym (p .phase .ensures)) ∙ c .before .enum-told .given .1))
+
+returns-2 : tie.Need-returns-2
+unfolding ownLow
+returns-2 c = 
+    let p = c .before .before .before .before in
+    let a = p .before .before .args in
+    c .match-low .ensures ∙ sym (ap (ownLow (cellsOf (a .lib)) (a .work .now) (a .m) (a .l)) (ap (λ (q : Phase). q .source) (sym (p .phase .ensures)) ∙ c .before .before .s .given .1))
+
+returns-3 : tie.Need-returns-3
+unfolding ownLow
+returns-3 c = 
+    let p = c .before .before in
+    let a = p .before .before .args in
+    sym (ap (ownLow (cellsOf (a .lib)) (a .work .now) (a .m) (a .l)) (ap (λ (q : Phase). q .source) (sym (p .phase .ensures)) ∙ c .enum-told2 .given .1))
+
+returns-4 : tie.Need-returns-4
+unfolding ownLow
+returns-4 c = 
+    let p = c .before .before in
+    let a = p .before .before .args in
+    sym (ap (ownLow (cellsOf (a .lib)) (a .work .now) (a .m) (a .l)) (ap (λ (q : Phase). q .source) (sym (p .phase .ensures)) ∙ c .enum-told3 .given .1))
+
+pub own-low-spec : {M : Type 1} → statement M
+own-low-spec =
+    tie.close
+    (tie.spec
+    phase-requires
+    enum-told
+    late-requires
+    enum-known-s
+    match-low-requires
+    enum-told-2
+    enum-told-3
+    returns
+    returns-2
+    returns-3
+    returns-4)

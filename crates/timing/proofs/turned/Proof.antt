@@ -1,0 +1,67 @@
+-- `timing::turned` meets its contract: an inverter of the library, or what the phase has of its own.
+-- Assumes nothing.
+use mathlib.Core.Path.{sym, ap, subst, _∙_}
+use Prim.Native.Nat.{ℕ}
+use lib.ListN.{getD}
+use Rattle.model.specs.declared.Cell.{Cell}
+use Rattle.cover.proofs.Marks.{cell-is}
+use Rattle.timing.specs.Retiming.{after, turnedLow, InverterIn}
+use borrow.Author.Needs.{needs}
+use Rattle.timing.proofs.turned.Statement.{statement}
+use Rattle.timing.proofs.turned.Tie as tie
+
+enum-known-s : tie.Need-enum-known-s
+enum-known-s c = search needs
+
+inverter-low-requires : tie.Need-inverter-low-requires
+inverter-low-requires c κs = 
+    let s = c .before .before .before in
+    subst (InverterIn (s .args .lib)) (c .before .s .given .1) (s .pre) .1
+
+later-requires : tie.Need-later-requires
+later-requires c κs = search needs
+
+enum-told : tie.Need-enum-told
+enum-told c = search needs
+
+enum-told-2 : tie.Need-enum-told-2
+enum-told-2 c = search needs
+
+enum-told-3 : tie.Need-enum-told-3
+enum-told-3 c = search needs
+
+returns : tie.Need-returns
+unfolding turnedLow
+returns c = 
+    let k = c .before .before .before in
+    let s = k .before .before in
+    let h = subst (InverterIn (s .args .lib)) (k .s .given .1) (s .pre) .0 in
+    rw (k .s .given .1)
+    (c .later .ensures ∙ ap (after (s .args .other)) (c .before .inverter-low .ensures ∙ ap (λ (x : Cell). getD (x .lows) 0 0) (sym (cell-is (s .args .lib) _ h))))
+
+returns-2 : tie.Need-returns-2
+unfolding turnedLow
+returns-2 c = rw (c .enum-told .given .1)
+
+returns-3 : tie.Need-returns-3
+unfolding turnedLow
+returns-3 c = rw (c .enum-told2 .given .1)
+
+returns-4 : tie.Need-returns-4
+unfolding turnedLow
+returns-4 c = rw (c .enum-told3 .given .1)
+
+pub turned-spec : {M : Type 1} → statement M
+turned-spec =
+    tie.close
+    (tie.spec
+    enum-known-s
+    inverter-low-requires
+    later-requires
+    enum-told
+    enum-told-2
+    enum-told-3
+    returns
+    returns-2
+    returns-3
+    returns-4)
