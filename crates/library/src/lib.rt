@@ -134,7 +134,11 @@ fn read_one(c: Cursor, s: &[u8]) -> Ranges
 fn read_ranges(c: Cursor, s: &[u8], ranged: bool) -> Ranges
     ensures { λ r. ⌜ r ≡ rangesAt ranged (now (s .entry)) (c .at) ⌝ }
 {
-    if ranged { read_both(c, s) } else { read_one(c, s) }
+    if ranged {
+        read_both(c, s)
+    } else {
+        read_one(c, s)
+    }
 }
 
 // `pins table area` and the spaces behind them.

@@ -415,7 +415,7 @@ fn inputs_len(work: &[u16], m: usize, n: usize) -> usize
 }
 
 // Output k's own name: "`o0`, `o1` and so on".
-fn put_out(out: &mut [u8], at: usize, k: u32) -> usize
+pub fn put_out(out: &mut [u8], at: usize, k: u32) -> usize
     requires { ⌜ at + length (outName k) ≤ length (now out) ⌝ }
     ensures { λ r. ⌜ Wrote (now (out .entry)) (now (out .exit)) at r (outName k) ⌝ }
 {
@@ -423,7 +423,7 @@ fn put_out(out: &mut [u8], at: usize, k: u32) -> usize
     text::put_number(out, next, k)
 }
 
-fn out_len(k: u32) -> usize
+pub fn out_len(k: u32) -> usize
     ensures { λ r. ⌜ (r ≡ length (outName k)) × (r ≤ 11) ⌝ }
 {
     text::number_len(k) + 1

@@ -210,7 +210,7 @@ module _ (g : Graph) (ok : Accepted g) (free : crowded g ≡ []) where
           sym (take-append-drop i (placingOrder g)) ∙ ap (λ (vs : List ℕ). take i (placingOrder g) ++ vs) (drop-cons (placingOrder g) i 0 h) in
           let b = inside (up i) r′ (take i (placingOrder g)) v (drop (suc i) (placingOrder g)) e (ih .1) in (
             subst (λ (u : ℕ). LowsKept (g .size) w (retimedTurn cells (up i) (g .size) u)) (sym is)
-            (kept-on (listsTo (g .size)) (outputAddr (g .size) 0) w (up i) (retimedTurn cells (up i) (g .size) v) (ih .0) (turn-kept cells (up i) (g .size) v (r′ .room) b)),
+                (kept-on (listsTo (g .size)) (outputAddr (g .size) 0) w (up i) (retimedTurn cells (up i) (g .size) v) (ih .0) (turn-kept cells (up i) (g .size) v (r′ .room) b)),
             (λ l m k.
                 ap (λ (u : ℕ). lowAt (retimedTurn cells (up i) (g .size) u) (g .size) l) is
                 ∙ turn-held (up i) r′ (take i (placingOrder g)) v (drop (suc i) (placingOrder g)) e (ih .1) l (subst (λ (vs : List ℕ). List·Memᴰ (varOf l) vs) (take-suc (placingOrder g) i 0 h) m) k),

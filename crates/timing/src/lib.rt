@@ -7,15 +7,17 @@ use model::Phase;
 use model::Source;
 ghost use mathlib.Core.Path.{_≡_};
 ghost use Prim.Native.Nat.{_+_, _*_, _/_, _≤_, _<_, max};
-ghost use lib.ListN.{getD};
+ghost use lib.ListN.{length, getD};
 ghost use Rattle.model.specs.Cells.{noCell, cellsOf};
 ghost use Rattle.model.specs.Matching.{fedNets};
-ghost use Rattle.words.specs.Layout.{placedOf, Room};
+ghost use Rattle.words.specs.Layout.{placedOf, Room, outputAt, lowAt};
 ghost use Rattle.words.specs.Phases.{phaseAt};
 ghost use Rattle.truth.specs.Variant.{placesOf};
+ghost use Rattle.text.specs.Writing.{Wrote};
 ghost use Rattle.matching.specs.Variants.{Usable};
-ghost use Rattle.cover.specs.Asked.{PinsIn, SlotsIn, CutsIn, MatchIn, MatchesIn};
+ghost use Rattle.cover.specs.Asked.{PinsIn, OutputsIn, SlotsIn, CutsIn, MatchIn, MatchesIn};
 ghost use Rattle.timing.specs.Retiming.{after, latestLow, matchLow, ownLow, turnedLow, retimedTurn, retimedUp, InverterIn, Retimable};
+ghost use Rattle.timing.specs.Lines.{timesText, lineText, linesFrom};
 
 // ---- the low arrivals
 
@@ -147,4 +149,86 @@ pub fn retime(work: &mut [u16], lib: Library, h: Header)
     ensures { λ _. ⌜ now (work .exit) ≡ retimedUp (cellsOf lib) (now (work .entry)) (h .size) (placedOf h) ⌝ }
 {
     retime_variables(work, lib, h.size, words::placed(h));
+}
+
+// ---- the timing lines
+
+// A low and a high arrival, and the end of the line.
+fn put_times(out: &mut [u8], at: usize, low: u32, high: u32) -> usize
+    requires { ⌜ at + length (timesText low high) ≤ length (now out) ⌝ }
+    ensures { λ r. ⌜ Wrote (now (out .entry)) (now (out .exit)) at r (timesText low high) ⌝ }
+{
+    let a = text::put_byte(out, at, b' ');
+    let b = text::put_number(out, a, low);
+    let c = text::put_byte(out, b, b' ');
+    let d = text::put_number(out, c, high);
+    text::put_byte(out, d, b'\n')
+}
+
+// "as `# timing o0 30 35`": the line of output k.
+fn put_line(out: &mut [u8], at: usize, k: u32, low: u32, high: u32) -> usize
+    requires { ⌜ at + length (lineText k low high) ≤ length (now out) ⌝ }
+    ensures { λ r. ⌜ Wrote (now (out .entry)) (now (out .exit)) at r (lineText k low high) ⌝ }
+{
+    let a = text::put_bytes(out, at, b"# timing ");
+    let b = netlist::put_out(out, a, k);
+    put_times(out, b, low, high)
+}
+
+// How long it is.
+fn line_len(k: u32, low: u32, high: u32) -> usize
+    ensures { λ r. ⌜ (r ≡ length (lineText k low high)) × (r ≤ 43) ⌝ }
+{
+    netlist::out_len(k) + text::number_len(low) + text::number_len(high) + 12
+}
+
+// The low arrival of output i.
+fn output_low(work: &[u16], m: usize, outputs: usize, i: usize) -> u32
+    requires { ⌜ OutputsIn (now work) m outputs × (i < outputs) ⌝ }
+    ensures { λ r. ⌜ r ≡ lowAt (now (work .entry)) m (outputAt (now (work .entry)) m i) ⌝ }
+{
+    let l = words::output(work, m, outputs, i);
+    words::low(work, m, l)
+}
+
+// Its arrival, which is the high one.
+fn output_high(work: &[u16], m: usize, outputs: usize, i: usize) -> u32
+    requires { ⌜ OutputsIn (now work) m outputs × (i < outputs) ⌝ }
+    ensures { λ r. ⌜ r ≡ phaseAt (now (work .entry)) m (outputAt (now (work .entry)) m i) .arrival ⌝ }
+{
+    let l = words::output(work, m, outputs, i);
+    let p = words::phase(work, m, l);
+    p.arrival
+}
+
+// "a line per output", written from a place on.
+pub fn put_lines(work: &[u16], m: usize, outputs: usize, out: &mut [u8], at: usize) -> usize
+    requires { ⌜ OutputsIn (now work) m outputs × (outputs ≤ 4096) × (at + length (linesFrom (now work) m 0 outputs) ≤ length (now out)) ⌝ }
+    ensures { λ r. ⌜ Wrote (now (out .entry)) (now (out .exit)) at r (linesFrom (now (work .entry)) m 0 outputs) ⌝ }
+{
+    let mut next = at;
+    let mut i: usize = 0;
+    while i < outputs {
+        let low = output_low(work, m, outputs, i);
+        let high = output_high(work, m, outputs, i);
+        next = put_line(out, next, i as u32, low, high);
+        i += 1;
+    }
+    next
+}
+
+// How long they are, before a byte is written.
+pub fn lines_len(work: &[u16], m: usize, outputs: usize) -> usize
+    requires { ⌜ OutputsIn (now work) m outputs × (outputs ≤ 4096) ⌝ }
+    ensures { λ r. ⌜ (r ≡ length (linesFrom (now (work .entry)) m 0 outputs)) × (r ≤ 43 * outputs) ⌝ }
+{
+    let mut len: usize = 0;
+    let mut i: usize = 0;
+    while i < outputs {
+        let low = output_low(work, m, outputs, i);
+        let high = output_high(work, m, outputs, i);
+        len = len + line_len(i as u32, low, high);
+        i += 1;
+    }
+    len
 }

@@ -10,18 +10,18 @@ returns : tie.Need-returns
 returns c = sym (range-is (c .before .before .args .f) ∙ rw (lt-leb _ _ (c .if1 .taken)))
 
 returns-2 : tie.Need-returns-2
-returns-2 c = 
+returns-2 c =
     let a = c .before .before in
     sym (range-is (a .before .before .args .f) ∙ rw (le-leb _ _ (a .if1 .left), lt-leb _ _ (c .if2 .taken)))
 
 returns-3 : tie.Need-returns-3
-returns-3 c = 
+returns-3 c =
     let b = c .before .before in
     let a = b .before .before in
     sym (range-is (a .before .before .args .f) ∙ rw (le-leb _ _ (a .if1 .left), le-leb _ _ (b .if2 .left), lt-leb _ _ (c .if3 .taken)))
 
 returns-4 : tie.Need-returns-4
-returns-4 c = 
+returns-4 c =
     let d = c .before in
     let b = d .before .before in
     let a = b .before .before in

@@ -13,7 +13,7 @@ unfolding isLine
 returns c = rw (le-ltb _ _ (c .if1 .taken))
 
 slice-aggregate-same-bytes : tie.Need-slice-aggregate-same-bytes
-slice-aggregate-same-bytes c = 
+slice-aggregate-same-bytes c =
     let a = c .before .before .before .before .before in
     sym (length-take-le (a .args .first .stop) (a .args .s .now) (a .pre))
 

@@ -24,7 +24,7 @@ cells-requires c κs = search needs
 
 returns : tie.Need-returns
 unfolding shorterLine text
-returns c = 
+returns c =
     let n = c .before .before in
     let e = names-shorter _ _ (n .before .before .line .ensures) (sym (n .line-is .ensures) ∙ c .before .if1 .taken) in
     library-ruled _ _ (c .cells .ensures ∙ sym (ap libraryAnswer e))
@@ -40,7 +40,7 @@ cells-requires-2 c κs = search needs
 
 returns-2 : tie.Need-returns-2
 unfolding longerLine text
-returns-2 c = 
+returns-2 c =
     let n = c .before .before in
     let e = names-longer _ _ (n .before .before .before .before .before .line .ensures) (sym (n .line-is2 .ensures) ∙ c .before .if2 .taken) in
     library-ruled _ _ (c .cells2 .ensures ∙ sym (ap libraryAnswer e))
@@ -50,7 +50,7 @@ refused-requires c κs = search needs
 
 returns-3 : tie.Need-returns-3
 unfolding shorterLine longerLine text
-returns-3 c = 
+returns-3 c =
     let n = c .before .before in
     let s = n .before .before in
     let e = names-not _ _ (s .before .before .before .line .ensures) (sym (s .before .line-is .ensures) ∙ s .if1 .left) (sym (n .line-is2 .ensures) ∙ c .before .if2 .left) in

@@ -26,14 +26,14 @@ enum-told-2 c = search needs
 
 returns : tie.Need-returns
 unfolding bothAt
-returns c = 
+returns c =
     let l = c .before .before .before in
     let h = l .before .before .before .before in
     rw (sym (h .read-high .ensures) ∙ l .before .before .d0 .given .1, sym (l .read-delays .ensures) ∙ c .before .l0 .given .1)
 
 returns-2 : tie.Need-returns-2
 unfolding bothAt
-returns-2 c = 
+returns-2 c =
     let l = c .before .before in
     let h = l .before .before .before .before in
     rw (sym (h .read-high .ensures) ∙ l .before .before .d0 .given .1, sym (l .read-delays .ensures) ∙ c .enum-told .given .1)

@@ -19,7 +19,7 @@ use Rattle.timing.proofs.match_low.Statement.{statement}
 use Rattle.timing.proofs.match_low.Tie as tie
 
 load-cut-requires : tie.Need-load-cut-requires
-load-cut-requires c κs = 
+load-cut-requires c κs =
     let s = c .before in
     (s .pre .1 .room, s .pre .2, omega (arith, s .pre .3 .cut, s .pre .1 .few (s .args .v) (s .pre .2)))
 
@@ -33,7 +33,7 @@ wide-requires : tie.Need-wide-requires
 wide-requires c κs = search needs
 
 pins-low-requires : tie.Need-pins-low-requires
-pins-low-requires c κs = 
+pins-low-requires c κs =
     let k = c .before .before .before .before .before in
     let s = k .before .before in
     let a = s .args in
@@ -46,7 +46,7 @@ pins-low-requires c κs =
 
 returns : tie.Need-returns
 unfolding matchLow
-returns c = 
+returns c =
     let t = c .before in
     let k = t .before .before .before .before .before in
     let s = k .before .before in

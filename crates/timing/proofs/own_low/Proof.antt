@@ -21,7 +21,7 @@ enum-known-s : tie.Need-enum-known-s
 enum-known-s c = search needs
 
 match-low-requires : tie.Need-match-low-requires
-match-low-requires c κs = 
+match-low-requires c κs =
     let p = c .before .before .before in
     let s = p .before .before in
     (s .pre .0 .usable, s .pre .0 .cuts, s .pre .1, s .pre .0 .matches (s .args .l) (s .pre .1) _ (ap (λ (q : Phase). q .source) (sym (p .phase .ensures)) ∙ c .before .s .given .1))
@@ -34,28 +34,28 @@ enum-told-3 c = search needs
 
 returns : tie.Need-returns
 unfolding ownLow
-returns c = 
+returns c =
     let p = c .before .before .before in
     let a = p .before .before .args in
     c .late .ensures ∙ sym (ap (ownLow (cellsOf (a .lib)) (a .work .now) (a .m) (a .l)) (ap (λ (q : Phase). q .source) (sym (p .phase .ensures)) ∙ c .before .enum-told .given .1))
 
 returns-2 : tie.Need-returns-2
 unfolding ownLow
-returns-2 c = 
+returns-2 c =
     let p = c .before .before .before .before in
     let a = p .before .before .args in
     c .match-low .ensures ∙ sym (ap (ownLow (cellsOf (a .lib)) (a .work .now) (a .m) (a .l)) (ap (λ (q : Phase). q .source) (sym (p .phase .ensures)) ∙ c .before .before .s .given .1))
 
 returns-3 : tie.Need-returns-3
 unfolding ownLow
-returns-3 c = 
+returns-3 c =
     let p = c .before .before in
     let a = p .before .before .args in
     sym (ap (ownLow (cellsOf (a .lib)) (a .work .now) (a .m) (a .l)) (ap (λ (q : Phase). q .source) (sym (p .phase .ensures)) ∙ c .enum-told2 .given .1))
 
 returns-4 : tie.Need-returns-4
 unfolding ownLow
-returns-4 c = 
+returns-4 c =
     let p = c .before .before in
     let a = p .before .before .args in
     sym (ap (ownLow (cellsOf (a .lib)) (a .work .now) (a .m) (a .l)) (ap (λ (q : Phase). q .source) (sym (p .phase .ensures)) ∙ c .enum-told3 .given .1))

@@ -21,7 +21,7 @@ abbrev μ-loop : tie.MeasureT-loop
 μ-loop work m leaves order mask pins lows t₀ j₀ t j = j
 
 loop-holds : tie.Need-loop-holds Inv-loop μ-loop
-loop-holds c = 
+loop-holds c =
     let s = c .before in
     let a = s .args in
     (omega arith, sym (pins-none (a .work .now) (a .m) (a .leaves) (a .order) (a .mask) (a .pins) (a .t7) (s .pre .1 .known) (s .pre .1 .four)))
@@ -33,7 +33,7 @@ pin-net-requires : tie.Need-pin-net-requires Inv-loop μ-loop
 pin-net-requires c κs = (c .before .before .before .pre .1 .known, omega (arith, c .before .loop .inv .0, c .before .before .before .pre .1 .four))
 
 low-requires : tie.Need-low-requires Inv-loop μ-loop
-low-requires c κs = 
+low-requires c κs =
     let l = c .before .before in
     let s = l .before .before in
     let a = s .args in (
@@ -58,7 +58,7 @@ loop-less : tie.Need-loop-less Inv-loop μ-loop
 loop-less c = omega (arith, c .before .before .before .before .loop-test .taken)
 
 loop-again : tie.Need-loop-again Inv-loop μ-loop
-loop-again c = 
+loop-again c =
     let n = c .before .before .before in
     let l = n .before .before in
     let s = l .before .before in
@@ -72,7 +72,7 @@ loop-again c =
     )
 
 returns : tie.Need-returns Inv-loop μ-loop
-returns c = 
+returns c =
     let l = c .before in
     let a = l .before .before .args in
     let e : l .loop .j ≡ 0 = omega (arith, c .loop-test .left) in

@@ -13,7 +13,7 @@ placed-requires : tie.Need-placed-requires
 placed-requires c κs = let s = c .before .before in omega (arith, s .pre .1 .few, s .pre .1 .room .small)
 
 retime-variables-requires : tie.Need-retime-variables-requires
-retime-variables-requires c κs = 
+retime-variables-requires c κs =
     let s = c .before .before .before in
     (s .pre .0, subst (SlotsIn (s .args .work .now) (s .args .h .size)) (sym (c .placed .ensures)) (s .pre .1))
 
@@ -21,7 +21,7 @@ same-length : tie.Need-same-length
 same-length c = search needs
 
 returns : tie.Need-returns
-returns c = 
+returns c =
     let p = c .before .before .before in
     let s = p .before .before .before in
     c .before .before .retime-variables .ensures ∙ ap (retimedUp (cellsOf (s .args .lib)) (s .args .work .now) (s .args .h .size)) (p .placed .ensures)

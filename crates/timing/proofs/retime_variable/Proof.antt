@@ -35,7 +35,7 @@ phase-requires : tie.Need-phase-requires
 phase-requires c κs = search needs
 
 turned-requires : tie.Need-turned-requires
-turned-requires c κs = 
+turned-requires c κs =
     let s = c .before .before .before .before .before .before .before in
     subst (λ (p : Phase). InverterIn (s .args .lib) (p .source)) (sym (c .phase .ensures)) (s .pre .0 .inverters (2 * s .args .v) (omega (arith, s .pre .1)))
 
@@ -49,7 +49,7 @@ phase-requires-2 : tie.Need-phase-requires-2
 phase-requires-2 c κs = search needs
 
 turned-requires-2 : tie.Need-turned-requires-2
-turned-requires-2 c κs = 
+turned-requires-2 c κs =
     let s = c .before .before .before .before .before .before .before .before .before .before in
     subst (λ (p : Phase). InverterIn (s .args .lib) (p .source)) (sym (c .phase2 .ensures)) (s .pre .0 .inverters (2 * s .args .v + 1) (omega (arith, s .pre .1)))
 
@@ -60,19 +60,19 @@ set-low-requires : tie.Need-set-low-requires
 set-low-requires c κs = search needs
 
 mul-set-low-2 : tie.Need-mul-set-low-2
-mul-set-low-2 c = 
+mul-set-low-2 c =
     let z = c .before .before .before in
     let s = z .before .before .before .before .before .before .before .before .before .before .before .before .before in
     omega (arith, s .pre .1, s .pre .0 .matches .cuts .room .small)
 
 add-set-low : tie.Need-add-set-low
-add-set-low c = 
+add-set-low c =
     let z = c .before .before .before in
     let s = z .before .before .before .before .before .before .before .before .before .before .before .before .before in
     omega (arith, s .pre .1, s .pre .0 .matches .cuts .room .small)
 
 set-low-requires-2 : tie.Need-set-low-requires-2
-set-low-requires-2 c κs = 
+set-low-requires-2 c κs =
     let z = c .before .before .before in
     let s = z .before .before .before .before .before .before .before .before .before .before .before .before .before in
     let a = s .args in
@@ -87,7 +87,7 @@ same-length c = search needs
 
 returns : tie.Need-returns
 unfolding retimedTurn
-returns c = 
+returns c =
     let z = c .before .before in
     let y = z .before .before .before .before in
     let t = y .before .before in

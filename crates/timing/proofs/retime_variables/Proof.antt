@@ -32,12 +32,12 @@ loop-holds : tie.Need-loop-holds Inv-loop μ-loop
 loop-holds c = (omega arith, c .before .pre .0, c .before .pre .1, refl, begin (cellsOf (c .before .args .lib)) (c .before .args .work .now) (c .before .args .m))
 
 slot-requires : tie.Need-slot-requires Inv-loop μ-loop
-slot-requires c κs = 
+slot-requires c κs =
     let l = c .before .before in
     (l .loop .inv .1 .matches .cuts .room, omega (arith, l .loop .inv .2 .few, c .before .loop-test .taken))
 
 retime-variable-requires : tie.Need-retime-variable-requires Inv-loop μ-loop
-retime-variable-requires c κs = 
+retime-variable-requires c κs =
     let l = c .before .before .before .before in
     let a = l .before .before .args in
     (l .loop .inv .1, subst (λ (x : ℕ). x ≤ a .m) (sym (c .before .slot .ensures)) (l .loop .inv .2 .within (l .loop .i) (c .before .before .before .loop-test .taken)))
@@ -49,7 +49,7 @@ loop-less : tie.Need-loop-less Inv-loop μ-loop
 loop-less c = omega arith
 
 loop-again : tie.Need-loop-again Inv-loop μ-loop
-loop-again c = 
+loop-again c =
     let t = c .before .before in
     let v = t .before .before in
     let l = v .before .before .before in
@@ -73,7 +73,7 @@ same-length : tie.Need-same-length Inv-loop μ-loop
 same-length c = c .before .loop .inv .3
 
 returns : tie.Need-returns Inv-loop μ-loop
-returns c = 
+returns c =
     let l = c .before in
     let a = l .before .before .args in
     let e : l .loop .i ≡ a .n = omega (arith, l .loop .inv .0, c .loop-test .left) in

@@ -14,7 +14,7 @@ enum-known-s : tie.Need-enum-known-s
 enum-known-s c = search needs
 
 inverter-low-requires : tie.Need-inverter-low-requires
-inverter-low-requires c κs = 
+inverter-low-requires c κs =
     let s = c .before .before .before in
     subst (InverterIn (s .args .lib)) (c .before .s .given .1) (s .pre) .1
 
@@ -32,7 +32,7 @@ enum-told-3 c = search needs
 
 returns : tie.Need-returns
 unfolding turnedLow
-returns c = 
+returns c =
     let k = c .before .before .before in
     let s = k .before .before in
     let h = subst (InverterIn (s .args .lib)) (k .s .given .1) (s .pre) .0 in

@@ -40,14 +40,14 @@ long-requires-2 : tie.Need-long-requires-2
 long-requires-2 c κs = search needs
 
 mul-result : tie.Need-mul-result
-mul-result c = 
+mul-result c =
     let s = c .before .before .before .before .before in
     let low = c .before .before .before .shared-slice-known2 .given (106 * (s .args .m + 1) + 2 * s .args .l) in
     let high = c .before .shared-slice-known3 .given (106 * (s .args .m + 1) + 2 * s .args .l + 1) in
     omega (arith, low, high, c .long2 .ensures, c .before .before .long .ensures)
 
 add-result : tie.Need-add-result
-add-result c = 
+add-result c =
     let s = c .before .before .before .before .before in
     let low = c .before .before .before .shared-slice-known2 .given (106 * (s .args .m + 1) + 2 * s .args .l) in
     let high = c .before .shared-slice-known3 .given (106 * (s .args .m + 1) + 2 * s .args .l + 1) in
