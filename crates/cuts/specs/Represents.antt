@@ -1,10 +1,10 @@
--- The words in which the placing leaves a graph: its nodes and its placing order, and neither cuts nor notes. Assumes nothing.
+-- The words in which the placing leaves a graph: its nodes and its placing order, and no cuts. Assumes nothing.
 use mathlib.Core.Path.{_≡_}
 use mathlib.Core.List.{List}
 use Prim.Native.Nat.{ℕ, _+_, _*_, _≤_, _<_}
 use lib.ListN.{length, getD}
 use Rattle.model.specs.Graph.{Graph, node, placingOrder}
-use Rattle.words.specs.Layout.{Room, leftAt, rightAt, slotAt, placeAt, countAt, notesFrom, notesTo}
+use Rattle.words.specs.Layout.{Room, leftAt, rightAt, slotAt, placeAt, countAt}
 use Rattle.words.specs.Record.{nodeAt}
 
 -- the words hold graph g of M = m, of which n variables are placed. All of this stands below the counts, and no layer above changes it
@@ -19,7 +19,6 @@ pub record Represents (w : List ℕ) (m n : ℕ) (g : Graph) : Type 0 where
   pub order : (i : ℕ) → i < n → slotAt w m i ≡ getD (placingOrder g) i 0
   pub places : (i : ℕ) → i < n → placeAt w m (getD (placingOrder g) i 0) ≡ i + 1
 
--- no variable has cuts yet, and no walk has noted anything
+-- no variable has cuts yet
 pub record Uncut (w : List ℕ) (m : ℕ) : Type 0 where
   pub none-yet : (v : ℕ) → v ≤ m → countAt w m v ≡ 0
-  pub clean : (i : ℕ) → notesFrom m ≤ i → i < notesTo m → getD w i 0 ≡ 0

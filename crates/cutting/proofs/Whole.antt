@@ -1,4 +1,4 @@
--- What the cut layer answers and leaves, where the words represent an accepted graph and hold neither cuts nor notes:
+-- What the cut layer answers and leaves, where the words represent an accepted graph and hold no cuts:
 --     enumerate-ready             what it asks for
 --     enumerate-verdict           its answer is `cutsVerdict`
 --     enumerate-listed            without a refusal the words hold the cuts of `model` and their functions, and all else stays

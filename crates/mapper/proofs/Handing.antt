@@ -236,7 +236,6 @@ module _ (w : List ℕ) (lib : Library) (h : Header) (g : Graph) (p : Placed w l
             (represents-kept w (putAll w (h .size) es) (h .size) (placedOf h) g placed-represents placed-ok (stored .long) (λ i l. stored .before i (omega arith)));
         uncut = record {
           none-yet = λ v l. stored .before (countAddr (h .size) v) (omega arith) ∙ hold .held .zero (countAddr (h .size) v) (omega arith) (omega arith);
-          clean = λ i a b. stored .behind i (omega arith) ∙ hold .held .zero i (omega arith) (omega arith);
         };
         outputs = λ i l. stored .behind (outputAddr (h .size) i) (omega arith) ∙ hold .held .outs i l;
         waiting = λ v l n. stored .before (placeAddr (h .size) v) (omega arith) ∙ hold .held .ordered .waiting v l n;

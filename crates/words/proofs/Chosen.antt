@@ -3,7 +3,6 @@
 --     length-phase                a phase has four words
 --     phase-put, phase-apart      a phase that was stored is loaded, and a store elsewhere leaves it
 --     phase-none                  zeros are no source
---     note-table, note-walk       a note that was made is read
 --     needed-put, needed-other    a phase that was marked is needed, and whether another is stays
 -- Assumes nothing.
 use mathlib.Core.Path.{_≡_, refl, sym, ap, _∙_}
@@ -21,7 +20,7 @@ use Rattle.model.specs.declared.Source.{Source}
 use Rattle.model.specs.declared.Source.the-variants.{Input, Cell as Matched, Inverter as Inverted, Nothing}
 use Rattle.model.specs.declared.Phase.{Phase}
 use Rattle.words.specs.Put.{putAt}
-use Rattle.words.specs.Layout.{Room, kindAddr, leftAddr, rightAddr, neededAt, neededAddr, noteAddr, notedAt, walkAt, noteWords}
+use Rattle.words.specs.Layout.{Room, kindAddr, leftAddr, rightAddr, neededAt, neededAddr}
 use Rattle.words.specs.Record.{putNode}
 use Rattle.words.specs.Phases.{MatchFits, SourceFits, PhaseFits, matchWord, sourceWords, arrivalWords, phaseWords, matchOf, kindSource, sourceOf, phaseIn, flagOf, withFlag, isNeeded, putNeeded}
 use Rattle.words.proofs.Putting.{length-put, get-put}
@@ -179,27 +178,3 @@ module _ (w : List ℕ) (m l : ℕ) (fits : Room w m) (within : l / 2 ≤ m) whe
       by false e =
           let other : j / 2 ≡ l / 2 → ⊥ = eqb-false (j / 2) (l / 2) e in
           ap (λ (x : ℕ). flagOf x (eqb (j % 2) 1)) (word-apart w (neededAddr m (l / 2)) now room (neededAddr m (j / 2)) (omega arith))
-
--- ---- a walk's notes
-
--- a note is read out of three words
-walk-of-words : OfWords (λ (w : List ℕ) (at : ℕ). getD w (at + 1) 0 + 65536 * getD w (at + 2) 0) 3
-walk-of-words =
-    of-words (λ (w : List ℕ) (at : ℕ). getD w (at + 1) 0 + 65536 * getD w (at + 2) 0) 3
-    (λ v w at to h.
-    let e₁ : getD v (at + 1) 0 ≡ getD w (to + 1) 0 = h 1 (omega arith) in
-    let e₂ : getD v (at + 2) 0 ≡ getD w (to + 2) 0 = h 2 (omega arith) in
-    λ i. e₁ i + 65536 * e₂ i)
-
-module _ (w : List ℕ) (m v x walk : ℕ) (fits : Room w m) (within : v ≤ m) where
-  pub note-table : notedAt (putAt w (noteAddr m v) (noteWords x walk)) m v ≡ x
-  note-table =
-      let e : noteAddr m v + 0 ≡ noteAddr m v = omega arith in
-      ap (λ (i : ℕ). getD (putAt w (noteAddr m v) (noteWords x walk)) i 0) (sym e)
-      ∙ get-put w (noteAddr m v) (noteWords x walk) (omega (arith, fits .room)) 0 (omega arith)
-
-  pub note-walk : walkAt (putAt w (noteAddr m v) (noteWords x walk)) m v ≡ walk
-  note-walk =
-      let back : walk % 65536 + 65536 * (walk / 65536) ≡ walk = omega arith in
-      read-put (λ (w′ : List ℕ) (at : ℕ). getD w′ (at + 1) 0 + 65536 * getD w′ (at + 2) 0) 3 walk-of-words w (noteAddr m v) (noteWords x walk)
-      (omega (arith, fits .room)) refl ∙ back

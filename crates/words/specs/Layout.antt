@@ -69,10 +69,6 @@ positiveAddr m v = 8 * (m + 1) + 4 * v
 abbrev pub negativeAddr : ℕ → ℕ → ℕ
 negativeAddr m v = 12 * (m + 1) + 4 * v
 
--- until phases are chosen, the words of the positive phase note what a walk over a cut's cone found: a table, and the number of the walk in two words
-abbrev pub noteAddr : ℕ → ℕ → ℕ
-noteAddr m v = positiveAddr m v
-
 -- cut k of v in column c of the cuts: its size in column 0, its leaf j in column 1 + j
 abbrev pub cutAddr : ℕ → ℕ → ℕ → ℕ → ℕ
 cutAddr m c v k = 16 * (m + 1) + c * (cutLimit * (m + 1)) + (cutLimit * v + k)
@@ -100,12 +96,6 @@ countsFrom m = 5 * (m + 1)
 
 abbrev pub countsTo : ℕ → ℕ
 countsTo m = 6 * (m + 1)
-
-abbrev pub notesFrom : ℕ → ℕ
-notesFrom m = 8 * (m + 1)
-
-abbrev pub notesTo : ℕ → ℕ
-notesTo m = 12 * (m + 1)
 
 abbrev pub listsFrom : ℕ → ℕ
 listsFrom m = 16 * (m + 1)
@@ -153,15 +143,6 @@ lateAt w m v = getD w (lateAddr m v) 0
 
 abbrev pub outputAt : List ℕ → ℕ → ℕ → ℕ
 outputAt w m i = getD w (outputAddr m i) 0
-
-abbrev pub notedAt : List ℕ → ℕ → ℕ → ℕ
-notedAt w m v = getD w (noteAddr m v) 0
-
-abbrev pub walkAt : List ℕ → ℕ → ℕ → ℕ
-walkAt w m v = getD w (noteAddr m v + 1) 0 + 65536 * getD w (noteAddr m v + 2) 0
-
-abbrev pub noteWords : ℕ → ℕ → List ℕ
-noteWords x walk = x ∷ walk % 65536 ∷ walk / 65536 ∷ []
 
 abbrev pub lowAt : List ℕ → ℕ → ℕ → ℕ
 lowAt w m l = getD w (lowAddr m l) 0 + getD w (lowAddr m l + 1) 0 * 65536

@@ -12,7 +12,7 @@ ghost use Rattle.model.specs.Limits.{cutLimit, need};
 ghost use Rattle.model.specs.Choice.{absent};
 ghost use Rattle.model.specs.Netlist.{isOwn, isInverted};
 ghost use Rattle.words.specs.Put.{putAt, zeros};
-ghost use Rattle.words.specs.Layout.{placedOf, Room, RoomFor, kindAt, kindAddr, leftAt, leftAddr, rightAt, rightAddr, slotAt, slotAddr, placeAt, placeAddr, countAt, countAddr, neededAt, neededAddr, lateAt, lateAddr, positiveAddr, negativeAddr, cutAddr, listsFrom, outputAt, outputAddr, notesFrom, notesTo, noteAddr, notedAt, walkAt, noteWords, lowAddr, lowAt, lowWords};
+ghost use Rattle.words.specs.Layout.{placedOf, Room, RoomFor, kindAt, kindAddr, leftAt, leftAddr, rightAt, rightAddr, slotAt, slotAddr, placeAt, placeAddr, countAt, countAddr, neededAt, neededAddr, lateAt, lateAddr, positiveAddr, negativeAddr, cutAddr, listsFrom, outputAt, outputAddr, lowAddr, lowAt, lowWords};
 ghost use Rattle.words.specs.Record.{cutOf, functionOf, putCut, putFunctions, putNode};
 ghost use Rattle.words.specs.Phases.{MatchFits, matchWord, PhaseFits, kindSource, phaseWords, phaseIn, positiveAt, negativeAt, phaseAt, makesGate, isNeeded, putNeeded};
 
@@ -275,14 +275,6 @@ pub fn clear_columns(work: &mut [u16], m: usize)
     clear(work, 0, 16 * (m + 1));
 }
 
-// The walks' notes zero again.
-pub fn clear_notes(work: &mut [u16], m: usize)
-    requires { ⌜ Room (now work) m ⌝ }
-    ensures { λ _. ⌜ now (work .exit) ≡ putAt (now (work .entry)) (notesFrom m) (zeros (notesTo m - notesFrom m)) ⌝ }
-{
-    clear(work, 8 * (m + 1), 12 * (m + 1));
-}
-
 // ---- cuts and their functions
 
 // Where the size of cut k of variable v lies; each of its leaves lies a column further.
@@ -380,36 +372,6 @@ pub fn set_low(work: &mut [u16], m: usize, l: usize, t: u32)
 {
     let ws = [(t % 65536) as u16, (t / 65536) as u16];
     put(work, TABLES * (m + 1) + 2 * l, &ws);
-}
-
-// ---- a walk's notes
-
-// The number of the walk that last noted something of v.
-pub fn walk(work: &[u16], m: usize, v: usize) -> usize
-    requires { ⌜ Room (now work) m × (v ≤ m) ⌝ }
-    ensures { λ r. ⌜ r ≡ walkAt (now (work .entry)) m v ⌝ }
-{
-    let at = 8 * (m + 1) + 4 * v;
-    let low = wide(work[at + 1]);
-    let high = wide(work[at + 2]);
-    low + 65536 * high
-}
-
-// The table that it noted.
-pub fn noted(work: &[u16], m: usize, v: usize) -> usize
-    requires { ⌜ Room (now work) m × (v ≤ m) ⌝ }
-    ensures { λ r. ⌜ r ≡ notedAt (now (work .entry)) m v ⌝ }
-{
-    word(work, 8 * (m + 1) + 4 * v)
-}
-
-// A table noted of v by a walk.
-pub fn note(work: &mut [u16], m: usize, v: usize, x: u16, walk: usize)
-    requires { ⌜ Room (now work) m × (v ≤ m) × (walk < 4294967296) ⌝ }
-    ensures { λ _. ⌜ now (work .exit) ≡ putAt (now (work .entry)) (noteAddr m v) (noteWords x walk) ⌝ }
-{
-    let ws = [x, (walk % 65536) as u16, (walk / 65536) as u16];
-    put(work, 8 * (m + 1) + 4 * v, &ws);
 }
 
 // ---- phases
