@@ -33,36 +33,36 @@ left-early n k work text e = record { told = told-refused n k text; words = work
 pub left-as : {o p : Outcome} {work text : List ℕ} {a : Answer} {y u : List ℕ} → p ≡ o → Left o work text a y u → Left p work text a y u
 left-as {work = work} {text = text} {a = a} {y = y} {u = u} e l = subst (λ (x : Outcome). Left x work text a y u) (sym e) l
 
-module _ (lib : Library) (s t : List ℕ) (work text : List ℕ) where
-  pub header-stops : (r : HeaderAnswer) → r ≡ headerAnswer (readHeader s) → (n k : ℕ) → r ≡ Refused n k → Left (headerFor lib s t (length work) (length text)) work text (Turned n k) work text
+module _ (ranged : Bool) (lib : Library) (s t : List ℕ) (work text : List ℕ) where
+  pub header-stops : (r : HeaderAnswer) → r ≡ headerAnswer (readHeader s) → (n k : ℕ) → r ≡ Refused n k → Left (headerFor ranged lib s t (length work) (length text)) work text (Turned n k) work text
   unfolding headerFor next mapDesign
   header-stops r told n k e =
       let f = header-fault (readHeader s) n k (sym told ∙ e) in
-      left-as (ap (λ (x : Read Header). mapDesign (length text) (next x (λ h. unless (leb (need (h .size) (h .outputs)) (length work)) 10 0 (designOf lib s t h)))) f)
+      left-as (ap (λ (x : Read Header). mapDesign (length text) (next x (λ h. unless (leb (need (h .size) (h .outputs)) (length work)) 10 0 (designOf ranged lib s t h)))) f)
       (left-early n k work text (header-early s .has n k f))
 
   module _ (h : Header) (d : readHeader s ≡ holds h) where
-    through : headerFor lib s t (length work) (length text) ≡ mapDesign (length text) (unless (leb (need (h .size) (h .outputs)) (length work)) 10 0 (designOf lib s t h))
+    through : headerFor ranged lib s t (length work) (length text) ≡ mapDesign (length text) (unless (leb (need (h .size) (h .outputs)) (length work)) 10 0 (designOf ranged lib s t h))
     unfolding headerFor next
-    through = ap (λ (x : Read Header). mapDesign (length text) (next x (λ k. unless (leb (need (k .size) (k .outputs)) (length work)) 10 0 (designOf lib s t k)))) d
+    through = ap (λ (x : Read Header). mapDesign (length text) (next x (λ k. unless (leb (need (k .size) (k .outputs)) (length work)) 10 0 (designOf ranged lib s t k)))) d
 
     -- "Work memory has fewer than 124(M+1) + O 16-bit words."
-    pub header-short : length work < need (h .size) (h .outputs) → Left (headerFor lib s t (length work) (length text)) work text (Turned 10 0) work text
+    pub header-short : length work < need (h .size) (h .outputs) → Left (headerFor ranged lib s t (length work) (length text)) work text (Turned 10 0) work text
     unfolding unless mapDesign
     header-short l = left-as (through ∙ go (leb (need (h .size) (h .outputs)) (length work)) (leb→le (need (h .size) (h .outputs)) (length work))) (left-early 10 0 work text refl)
       where
-        go : (b : Bool) → (T b → need (h .size) (h .outputs) ≤ length work) → mapDesign (length text) (unless b 10 0 (designOf lib s t h)) ≡ refused 10 0
+        go : (b : Bool) → (T b → need (h .size) (h .outputs) ≤ length work) → mapDesign (length text) (unless b 10 0 (designOf ranged lib s t h)) ≡ refused 10 0
         go true y = absurd (let z : need (h .size) (h .outputs) ≤ length work = y tt in omega arith)
         go false y = refl
 
     -- "all zero after a later one and after success"
-    pub header-done : need (h .size) (h .outputs) ≤ length work → (a : Answer) (u z : List ℕ) → Told (graphFor lib s t h (length text)) text a u → z ≡ replicate (length work) 0
-        → Left (headerFor lib s t (length work) (length text)) work text a z u
+    pub header-done : need (h .size) (h .outputs) ≤ length work → (a : Answer) (u z : List ℕ) → Told (graphFor ranged lib s t h (length text)) text a u → z ≡ replicate (length work) 0
+        → Left (headerFor ranged lib s t (length work) (length text)) work text a z u
     unfolding unless graphFor
     header-done l a u z told c =
         left-as (through ∙ go (leb (need (h .size) (h .outputs)) (length work)) (le→leb (need (h .size) (h .outputs)) (length work) l))
-        (record { told = told; words = c ∙ work-late (graphFor lib s t h (length text)) work (graph-for-late lib s t h (length text)) })
+        (record { told = told; words = c ∙ work-late (graphFor ranged lib s t h (length text)) work (graph-for-late ranged lib s t h (length text)) })
       where
-        go : (b : Bool) → T b → mapDesign (length text) (unless b 10 0 (designOf lib s t h)) ≡ graphFor lib s t h (length text)
+        go : (b : Bool) → T b → mapDesign (length text) (unless b 10 0 (designOf ranged lib s t h)) ≡ graphFor ranged lib s t h (length text)
         go true y = refl
         go false y = absurd y

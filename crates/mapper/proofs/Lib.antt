@@ -2,6 +2,7 @@ pub mod Printing
 pub mod Handing
 pub mod Covering
 pub mod Turns
+pub mod Lowering
 pub mod Numbers
 pub mod Ends
 pub mod Libraries

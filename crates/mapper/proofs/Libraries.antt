@@ -11,7 +11,8 @@ use Rattle.model.specs.Cells.{noCell, cellAt, cellsOf, libraryOf}
 use Rattle.model.specs.LibraryText.{readLibrary}
 use Rattle.model.specs.declared.Cell.{Cell}
 use Rattle.theory_graph.specs.Accepted.{libraryFits}
-use Rattle.theory_text.proofs.ReadLibrary.{library-fits, library-few, library-written}
+use Rattle.theory_text.proofs.ReadLibrary.{library-fits, library-few, library-written, library-ranged}
+use Rattle.theory.proofs.Ranges.{no-lower}
 use Rattle.matching.proofs.Linking.{usable-library}
 use Rattle.mapper.specs.Stages.{LibraryOk}
 
@@ -33,4 +34,6 @@ library-ok s cs e = record {
       (each-place (λ (c : Cell). c .pins ≤ 4) noCell (omega arith) cs (λ c m. library-written s cs e c m .0 .pins))
       (λ i j. each-place (λ (c : Cell). (k : ℕ) → getD (c .delays) k 0 < 65536) noCell (λ k. omega arith) cs
       (λ c m. each-place (λ (d : ℕ). d < 65536) 0 (omega arith) (c .delays) (λ d n. let h : d ≤ 65535 = library-written s cs e c m .0 .delays d n in omega arith)) i j);
+  ranges = subst (λ (xs : List Cell). (c j : ℕ) → getD (getD xs c noCell .lows) j 0 ≤ getD (getD xs c noCell .delays) j 0) (sym (cells-back cs))
+      (each-place (λ (c : Cell). (j : ℕ) → getD (c .lows) j 0 ≤ getD (c .delays) j 0) noCell (λ j. omega arith) cs (λ c m. no-lower (c .lows) (c .delays) (library-ranged s cs e c m)));
 }

@@ -1,19 +1,23 @@
 -- The last step: the netlist is measured, and then written or refused by 18. Assumes nothing.
-use Prim.Native.Nat.{ℕ, _≤_, _<_}
+use Prim.Native.Nat.{ℕ, _+_, _≤_, _<_}
 use native.Mathlib.Omega.{arith}
-use mathlib.Core.Path.{_≡_, refl, sym, _∙_, ap, subst}
+use mathlib.Core.Path.{_≡_, refl, sym, _∙_, ap, ap₂, subst}
 use mathlib.Core.Bool.{Bool, true, false, cond}
-use mathlib.Core.List.{List, _++_}
+use mathlib.Core.List.{List, _++_, append-assoc}
 use lib.Dec.{T, leb, leb→le, le→leb}
-use lib.ListN.{length, drop}
+use lib.ListN.{length, take, drop, length-append}
+use lib.Seq.{take-append-seam, drop-append-add, drop-drop}
 use Rattle.model.specs.Cells.{cellsOf}
 use Rattle.model.specs.Graph.{Graph}
 use Rattle.model.specs.Netlist.{Outcome, refused, mapped}
+use Rattle.model.specs.Choice.{chosen}
+use Rattle.model.specs.Timing.{lowOf, timingLines}
 use Rattle.model.specs.Mapper.{within, answerOf, textAfter}
 use Rattle.model.specs.Demands.{choiceText, choiceFigures}
 use Rattle.model.specs.declared.Library.{Library}
 use Rattle.model.specs.declared.Figures.{Figures}
 use Rattle.model.specs.declared.Answer.the-variants.{Mapped, Refused}
+use Rattle.words.specs.Put.{putAt}
 use Rattle.netlist.specs.Mapped.{textFor, measuredFor}
 use Rattle.netlist.specs.declared.Measured.{Measured}
 use Rattle.mapper.specs.Stages.{Told, printedFor}
@@ -46,7 +50,7 @@ module _ (lib : Library) (g : Graph) (text : List ℕ) (m : Measured) (is : m �
   unfolding t
   long = ap (λ (x : Measured). x .length) is
 
-  pub print-short : length text < m .length → Told (printedFor lib g (length text)) text (Refused 18 (m .length)) text
+  pub print-short : length text < m .length → Told (printedFor false lib g (length text)) text (Refused 18 (m .length)) text
   unfolding t
   print-short h =
       subst (λ (o : Outcome). Told o text (Refused 18 (m .length)) text)
@@ -58,11 +62,55 @@ module _ (lib : Library) (g : Graph) (text : List ℕ) (m : Measured) (is : m �
   print-room h = omega (arith, long, ap (λ (x : Measured). length (textFor lib g (x .figures))) is)
 
   pub print-done : m .length ≤ length text → (out : List ℕ) → out ≡ textFor lib g (m .figures) ++ drop (length (textFor lib g (m .figures))) text
-      → Told (printedFor lib g (length text)) text (Mapped (m .length) (m .figures)) out
+      → Told (printedFor false lib g (length text)) text (Mapped (m .length) (m .figures)) out
   unfolding t answerOf textAfter
   print-done h out e =
       subst (λ (o : Outcome). Told o text (Mapped (m .length) (m .figures)) out) (sym (within-is (length text) t (choiceFigures (cellsOf lib) g) (omega (arith, long))))
       (record {
         answers = ap (λ (x : Measured). Mapped (x .length) (x .figures)) is;
         bytes = e ∙ ap (λ (x : Measured). textFor lib g (x .figures) ++ drop (length (textFor lib g (x .figures))) text) is;
+      })
+
+-- ---- with the timing lines
+
+-- bytes put behind a text that stands at the start
+put-behind : (t ls s : List ℕ) → putAt (t ++ drop (length t) s) (length t) ls ≡ (t ++ ls) ++ drop (length (t ++ ls)) s
+unfolding putAt
+put-behind t ls s =
+    let a : take (length t) (t ++ drop (length t) s) ≡ t = take-append-seam t (drop (length t) s) in
+    let b : drop (length t + length ls) (t ++ drop (length t) s) ≡ drop (length t + length ls) s =
+    drop-append-add t (drop (length t) s) (length ls) ∙ drop-drop (length ls) (length t) s in
+    ap₂ (λ (x : List ℕ) (y : List ℕ). x ++ (ls ++ y)) a b ∙ sym (append-assoc t ls (drop (length t + length ls) s)) ∙ ap (λ (n : ℕ). (t ++ ls) ++ drop n s) (sym (length-append t ls))
+
+module _ (lib : Library) (g : Graph) (text : List ℕ) (m : Measured) (is : m ≡ measuredFor lib g) (ls : List ℕ)
+    (lines : ls ≡ timingLines (lowOf (cellsOf lib) g) (λ (l : ℕ). chosen (cellsOf lib) g l .arrival) 0 (g .outputs)) where
+  whole : List ℕ
+  whole = choiceText (cellsOf lib) g ++ timingLines (lowOf (cellsOf lib) g) (λ (l : ℕ). chosen (cellsOf lib) g l .arrival) 0 (g .outputs)
+
+  whole-long : m .length + length ls ≡ length whole
+  unfolding whole
+  whole-long =
+      let a : m .length ≡ length (choiceText (cellsOf lib) g) = ap (λ (x : Measured). x .length) is in
+      let b = length-append (choiceText (cellsOf lib) g) (timingLines (lowOf (cellsOf lib) g) (λ (l : ℕ). chosen (cellsOf lib) g l .arrival) 0 (g .outputs)) in
+      omega (arith, a, b, ap length lines)
+
+  pub timed-short : length text < m .length + length ls → Told (printedFor true lib g (length text)) text (Refused 18 (m .length + length ls)) text
+  unfolding whole
+  timed-short h =
+      subst (λ (o : Outcome). Told o text (Refused 18 (m .length + length ls)) text)
+      (ap (refused 18) whole-long ∙ sym (within-not (length text) whole (choiceFigures (cellsOf lib) g) (omega (arith, whole-long))))
+      (told-refused 18 (m .length + length ls) text)
+
+  pub timed-done : m .length + length ls ≤ length text → (mid out : List ℕ) → mid ≡ textFor lib g (m .figures) ++ drop (length (textFor lib g (m .figures))) text
+      → out ≡ putAt mid (m .length) ls → Told (printedFor true lib g (length text)) text (Mapped (m .length + length ls) (m .figures)) out
+  unfolding whole answerOf textAfter
+  timed-done h mid out e f =
+      let figs : m .figures ≡ choiceFigures (cellsOf lib) g = ap (λ (x : Measured). x .figures) is in
+      let a : m .length ≡ length (choiceText (cellsOf lib) g) = ap (λ (x : Measured). x .length) is in
+      let written : out ≡ putAt (choiceText (cellsOf lib) g ++ drop (length (choiceText (cellsOf lib) g)) text) (length (choiceText (cellsOf lib) g)) ls =
+      f ∙ (λ i. putAt (e i) (m .length) ls) ∙ (λ i. putAt (textFor lib g (figs i) ++ drop (length (textFor lib g (figs i))) text) (a i) ls) in
+      subst (λ (o : Outcome). Told o text (Mapped (m .length + length ls) (m .figures)) out) (sym (within-is (length text) whole (choiceFigures (cellsOf lib) g) (omega (arith, whole-long))))
+      (record {
+        answers = (λ i. Mapped (whole-long i) (figs i));
+        bytes = written ∙ put-behind (choiceText (cellsOf lib) g) ls text ∙ ap (λ (xs : List ℕ). (choiceText (cellsOf lib) g ++ xs) ++ drop (length (choiceText (cellsOf lib) g ++ xs)) text) lines;
       })

@@ -2,6 +2,7 @@
 use Prim.Native.Nat.{ℕ, _≤_, _<_}
 use native.Mathlib.Omega.{arith}
 use mathlib.Core.Path.{_≡_, refl, sym, _∙_, ap, subst}
+use mathlib.Core.Bool.{Bool}
 use mathlib.Core.Option.{Option, none, some}
 use mathlib.Core.List.{List, [], _∷_}
 use lib.ListN.{length}
@@ -14,6 +15,7 @@ use Rattle.model.specs.Choice.{choices}
 use Rattle.model.specs.GraphText.{readHeader, readGraph}
 use Rattle.model.specs.ArrivalsText.{Late, readArrivals, timedBy}
 use Rattle.model.specs.Netlist.{Outcome, refused, coverVerdict, cutsVerdict, placingVerdict, mapCut, mapPlaced, mapGraph}
+use Rattle.model.specs.Timing.{followed}
 use Rattle.model.specs.Mapper.{Design, within, mapDesign}
 use Rattle.model.specs.declared.Library.{Library}
 use Rattle.model.specs.declared.Header.{Header}
@@ -38,10 +40,10 @@ use Rattle.cover.specs.Marking.{marked}
 use Rattle.cover.specs.Choosing.{chosenUp}
 use Rattle.cover.proofs.Needing.{mark-asked}
 use Rattle.cover.proofs.Missed.{uncovered-asked}
-use Rattle.mapper.specs.Stages.{Told, LibraryOk, Loaded, Placed, Timed, Cut, printedFor, cutFor, placedFor, loadedFor, timesOf, timesFor, designOf, graphFor}
+use Rattle.mapper.specs.Stages.{Told, LibraryOk, Loaded, Placed, Timed, Cut, Timeable, printedFor, cutFor, placedFor, loadedFor, timesOf, timesFor, designOf, graphFor}
 use Rattle.mapper.proofs.Printing.{told-refused}
 use Rattle.mapper.proofs.Handing.{loaded-after, placed-after, placed-lists, timed-after, all-placed, none-crowded, timed-ok, cut-after}
-use Rattle.mapper.proofs.Covering.{cut-printed, cut-refused, chosen-covered, chosen-verdict, marked-mapped}
+use Rattle.mapper.proofs.Covering.{cut-printed, cut-refused, chosen-covered, chosen-verdict, marked-mapped, marked-timeable}
 
 -- what is told of one outcome is told of an equal one
 pub told-as : {o p : Outcome} {t u : List ℕ} {a : Answer} → p ≡ o → Told o t a u → Told p t a u
@@ -49,7 +51,7 @@ told-as {t = t} {u = u} {a = a} e d = subst (λ (x : Outcome). Told x t a u) (sy
 
 -- ---- after the choice, whose words are y
 
-module _ (w : List ℕ) (lib : Library) (h : Header) (g : Graph) (c : Cut w lib h g) (y : List ℕ) (e : y ≡ chosenUp (cellsOf lib) w (h .size) (placedOf h)) where
+module _ (ranged : Bool) (w : List ℕ) (lib : Library) (h : Header) (g : Graph) (c : Cut w lib h g) (y : List ℕ) (e : y ≡ chosenUp (cellsOf lib) w (h .size) (placedOf h)) where
   pub chosen-outputs : OutputsIn y (h .size) (h .outputs)
   chosen-outputs =
       subst (λ (x : List ℕ). OutputsIn x (h .size) (h .outputs)) (sym e)
@@ -69,15 +71,19 @@ module _ (w : List ℕ) (lib : Library) (h : Header) (g : Graph) (c : Cut w lib 
         subst (λ (x : List ℕ). Mapped x lib h g) (sym (f ∙ ap (λ (x : List ℕ). marked (cellsOf lib) x (h .size) (h .outputs) (placedOf h)) e))
         (marked-mapped w lib h g c (sym cover-is ∙ a))
 
-    pub cover-goes : r ≡ Accepted → (bytes : ℕ) → cutFor lib g bytes ≡ printedFor lib g bytes
-    cover-goes a bytes = cut-printed lib g bytes (sym cover-is ∙ a)
+    pub cover-timeable : (z : List ℕ) → z ≡ marked (cellsOf lib) y (h .size) (h .outputs) (placedOf h) → Timeable z lib h g
+    cover-timeable z f =
+        subst (λ (x : List ℕ). Timeable x lib h g) (sym (f ∙ ap (λ (x : List ℕ). marked (cellsOf lib) x (h .size) (h .outputs) (placedOf h)) e)) (marked-timeable w lib h g c)
 
-    pub cover-stops : (n k : ℕ) → r ≡ Refused n k → (t : List ℕ) → Told (cutFor lib g (length t)) t (Turned n k) t
-    cover-stops n k a t = told-as (cut-refused lib g (length t) n k (sym cover-is ∙ a)) (told-refused n k t)
+    pub cover-goes : r ≡ Accepted → (bytes : ℕ) → cutFor ranged lib g bytes ≡ printedFor ranged lib g bytes
+    cover-goes a bytes = cut-printed ranged lib g bytes (sym cover-is ∙ a)
+
+    pub cover-stops : (n k : ℕ) → r ≡ Refused n k → (t : List ℕ) → Told (cutFor ranged lib g (length t)) t (Turned n k) t
+    cover-stops n k a t = told-as (cut-refused ranged lib g (length t) n k (sym cover-is ∙ a)) (told-refused n k t)
 
 -- ---- after the cuts
 
-module _ (w : List ℕ) (lib : Library) (h : Header) (g : Graph) (p : Timed w lib h g) where
+module _ (ranged : Bool) (w : List ℕ) (lib : Library) (h : Header) (g : Graph) (p : Timed w lib h g) where
   pub timed-asks : Ready w (h .size) (placedOf h)
   timed-asks = enumerate-ready w (h .size) (placedOf h) g (p .represents) (timed-ok w lib h g p) (p .uncut)
 
@@ -88,21 +94,21 @@ module _ (w : List ℕ) (lib : Library) (h : Header) (g : Graph) (p : Timed w li
     pub cuts-cut : r ≡ Accepted → (y : List ℕ) → y ≡ enumerated w (h .size) (placedOf h) → Cut y lib h g
     cuts-cut a y e = subst (λ (x : List ℕ). Cut x lib h g) (sym e) (cut-after w lib h g p (sym cuts-is ∙ a))
 
-    pub cuts-go : r ≡ Accepted → (bytes : ℕ) → placedFor lib g bytes ≡ cutFor lib g bytes
+    pub cuts-go : r ≡ Accepted → (bytes : ℕ) → placedFor ranged lib g bytes ≡ cutFor ranged lib g bytes
     unfolding mapCut
-    cuts-go a bytes = ap (λ (vs : List ℕ). within bytes (mapCut (cellsOf lib) g vs)) (none-crowded g (sym cuts-is ∙ a))
+    cuts-go a bytes = ap (λ (vs : List ℕ). within bytes (followed ranged (cellsOf lib) g (mapCut (cellsOf lib) g vs))) (none-crowded g (sym cuts-is ∙ a))
 
-    pub cuts-stop : (n k : ℕ) → r ≡ Refused n k → (t : List ℕ) → Told (placedFor lib g (length t)) t (Turned n k) t
-    unfolding mapCut cutsVerdict refusedAt firstOf within
+    pub cuts-stop : (n k : ℕ) → r ≡ Refused n k → (t : List ℕ) → Told (placedFor ranged lib g (length t)) t (Turned n k) t
+    unfolding mapCut cutsVerdict refusedAt firstOf within followed
     cuts-stop n k a t = told-as (go (crowded g) (sym cuts-is ∙ a)) (told-refused n k t)
       where
-        go : (vs : List ℕ) → refusedAt 16 (firstOf vs) ≡ Refused n k → within (length t) (mapCut (cellsOf lib) g vs) ≡ refused n k
+        go : (vs : List ℕ) → refusedAt 16 (firstOf vs) ≡ Refused n k → within (length t) (followed ranged (cellsOf lib) g (mapCut (cellsOf lib) g vs)) ≡ refused n k
         go [] q = absurd (let z : _≡_ {A = ℕ} 0 1 = cc in omega arith)
         go (v ∷ vs) q = let x : _≡_ {A = ℕ} 16 n = cc in let y : v ≡ k = cc in (λ i. refused (x i) (y i))
 
 -- ---- after the placing
 
-module _ (w : List ℕ) (lib : Library) (h : Header) (g : Graph) (l : Loaded w lib h g) (r : Verdict) (told : r ≡ placedVerdict w h) (y : List ℕ) (e : y ≡ placedWords w h) where
+module _ (ranged : Bool) (w : List ℕ) (lib : Library) (h : Header) (g : Graph) (l : Loaded w lib h g) (r : Verdict) (told : r ≡ placedVerdict w h) (y : List ℕ) (e : y ≡ placedWords w h) where
   placing-is : r ≡ placingVerdict g
   placing-is = told ∙ place-verdict (l .before) h (l .fit) w g (l .holding)
 
@@ -118,19 +124,19 @@ module _ (w : List ℕ) (lib : Library) (h : Header) (g : Graph) (l : Loaded w l
   pub record Times (t z : List ℕ) : Type 0 where
     pub graph : Graph
     pub timed : Timed z lib h graph
-    pub outcome : (bytes : ℕ) → timesFor lib t h g bytes ≡ placedFor lib graph bytes
+    pub outcome : (bytes : ℕ) → timesFor ranged lib t h g bytes ≡ placedFor ranged lib graph bytes
 
   module _ (t : List ℕ) (u : Verdict) (said : u ≡ verdictOf (readArrivals (h .inputs) t)) where
     -- 25 and 26
-    pub times-stop : (n k : ℕ) → u ≡ Refused n k → (text : List ℕ) → Told (timesFor lib t h g (length text)) text (Turned n k) text
+    pub times-stop : (n k : ℕ) → u ≡ Refused n k → (text : List ℕ) → Told (timesFor ranged lib t h g (length text)) text (Turned n k) text
     unfolding verdictOf timesFor mapDesign next
     times-stop n k a text = go (readArrivals (h .inputs) t) refl (sym said ∙ a)
       where
-        go : (x : Read (List Late)) → readArrivals (h .inputs) t ≡ x → verdictOf x ≡ Refused n k → Told (mapDesign (length text) (timesOf lib t h g)) text (Turned n k) text
+        go : (x : Read (List Late)) → readArrivals (h .inputs) t ≡ x → verdictOf x ≡ Refused n k → Told (mapDesign (length text) (timesOf ranged lib t h g)) text (Turned n k) text
         go (holds es) q z = absurd (let x : _≡_ {A = ℕ} 0 1 = cc in omega arith)
         go (fault m j) q z =
             let x : m ≡ n = cc in let y : j ≡ k = cc in
-            told-as (ap (λ (v : Read (List Late)). mapDesign (length text) (next v (λ es. holds (record { cells = cellsOf lib; graph = timedBy g es })))) q ∙ (λ i. refused (x i) (y i))) (told-refused n k text)
+            told-as (ap (λ (v : Read (List Late)). mapDesign (length text) (next v (λ es. holds (record { cells = cellsOf lib; ranged = ranged; graph = timedBy g es })))) q ∙ (λ i. refused (x i) (y i))) (told-refused n k text)
 
     module _ (a : u ≡ Accepted) where
       times-read : (es : List Late) × (readArrivals (h .inputs) t ≡ holds es)
@@ -141,18 +147,18 @@ module _ (w : List ℕ) (lib : Library) (h : Header) (g : Graph) (l : Loaded w l
           go (holds es) q z = (es, q)
           go (fault m j) q z = absurd (let x : _≡_ {A = ℕ} 0 1 = cc in omega arith)
 
-      times-are : (bytes : ℕ) → timesFor lib t h g bytes ≡ loadedFor lib (timedBy g (times-read .0)) bytes
+      times-are : (bytes : ℕ) → timesFor ranged lib t h g bytes ≡ loadedFor ranged lib (timedBy g (times-read .0)) bytes
       unfolding timesFor mapDesign next
-      times-are bytes = ap (λ (v : Read (List Late)). mapDesign bytes (next v (λ es. holds (record { cells = cellsOf lib; graph = timedBy g es })))) (times-read .1)
+      times-are bytes = ap (λ (v : Read (List Late)). mapDesign bytes (next v (λ es. holds (record { cells = cellsOf lib; ranged = ranged; graph = timedBy g es })))) (times-read .1)
 
       -- 15
-      pub placing-stops : (n k : ℕ) → r ≡ Refused n k → (text : List ℕ) → Told (timesFor lib t h g (length text)) text (Turned n k) text
-      unfolding mapGraph mapPlaced placingVerdict refusedAt within
+      pub placing-stops : (n k : ℕ) → r ≡ Refused n k → (text : List ℕ) → Told (timesFor ranged lib t h g (length text)) text (Turned n k) text
+      unfolding mapGraph mapPlaced placingVerdict refusedAt within followed
       placing-stops n k b text =
           told-as (times-are (length text) ∙ go (lowest (unplaced (timedBy g (times-read .0)))) (ap (λ (us : List ℕ). refusedAt 15 (lowest us)) (timed-unplaced g (times-read .0)) ∙ sym placing-is ∙ b))
           (told-refused n k text)
         where
-          go : (o : Option ℕ) → refusedAt 15 o ≡ Refused n k → within (length text) (mapPlaced (cellsOf lib) (timedBy g (times-read .0)) o) ≡ refused n k
+          go : (o : Option ℕ) → refusedAt 15 o ≡ Refused n k → within (length text) (followed ranged (cellsOf lib) (timedBy g (times-read .0)) (mapPlaced (cellsOf lib) (timedBy g (times-read .0)) o)) ≡ refused n k
           go none q = absurd (let z : _≡_ {A = ℕ} 0 1 = cc in omega arith)
           go (some v) q = let x : _≡_ {A = ℕ} 15 n = cc in let z : v ≡ k = cc in (λ i. refused (x i) (z i))
 
@@ -164,35 +170,35 @@ module _ (w : List ℕ) (lib : Library) (h : Header) (g : Graph) (l : Loaded w l
             graph = timedBy g (times-read .0);
             timed = subst (λ (x : List ℕ). Timed x lib h (timedBy g (times-read .0))) (sym f) (timed-after y lib h g placing-placed all t (times-read .0) (times-read .1));
             outcome = λ bytes. times-are bytes
-                ∙ ap (λ (us : List ℕ). within bytes (mapPlaced (cellsOf lib) (timedBy g (times-read .0)) (lowest us))) (timed-unplaced g (times-read .0) ∙ all);
+                ∙ ap (λ (us : List ℕ). within bytes (followed ranged (cellsOf lib) (timedBy g (times-read .0)) (mapPlaced (cellsOf lib) (timedBy g (times-read .0)) (lowest us)))) (timed-unplaced g (times-read .0) ∙ all);
           }
 
 -- ---- after the reading of the graph
 
-pub record Reads (lib : Library) (s t : List ℕ) (h : Header) (y : List ℕ) : Type 0 where
+pub record Reads (ranged : Bool) (lib : Library) (s t : List ℕ) (h : Header) (y : List ℕ) : Type 0 where
   pub graph : Graph
   pub loaded : Loaded y lib h graph
-  pub outcome : (bytes : ℕ) → graphFor lib s t h bytes ≡ timesFor lib t h graph bytes
+  pub outcome : (bytes : ℕ) → graphFor ranged lib s t h bytes ≡ timesFor ranged lib t h graph bytes
 
-module _ (lib : Library) (ok : LibraryOk lib) (s t : List ℕ) (h : Header) (w : List ℕ) (fit : Fit h w) (d : readHeader s ≡ holds h) (r : Verdict) (told : r ≡ verdictOf (readGraph s h)) where
-  pub reading-loaded : r ≡ Accepted → (y : List ℕ) → y ≡ loadedWords w s h → Reads lib s t h y
+module _ (ranged : Bool) (lib : Library) (ok : LibraryOk lib) (s t : List ℕ) (h : Header) (w : List ℕ) (fit : Fit h w) (d : readHeader s ≡ holds h) (r : Verdict) (told : r ≡ verdictOf (readGraph s h)) where
+  pub reading-loaded : r ≡ Accepted → (y : List ℕ) → y ≡ loadedWords w s h → Reads ranged lib s t h y
   unfolding verdictOf graphFor timesFor mapDesign next
   reading-loaded a y e = go (readGraph s h) refl (sym told ∙ a)
     where
-      go : (x : Read Graph) → readGraph s h ≡ x → verdictOf x ≡ Accepted → Reads lib s t h y
+      go : (x : Read Graph) → readGraph s h ≡ x → verdictOf x ≡ Accepted → Reads ranged lib s t h y
       go (holds g) q z = record {
         graph = g;
         loaded = subst (λ (u : List ℕ). Loaded u lib h g) (sym e) (loaded-after lib ok s h w fit d g q);
-        outcome = λ bytes. ap (λ (u : Read Graph). mapDesign bytes (next u (timesOf lib t h))) q;
+        outcome = λ bytes. ap (λ (u : Read Graph). mapDesign bytes (next u (timesOf ranged lib t h))) q;
       }
       go (fault n k) q z = absurd (let x : _≡_ {A = ℕ} 0 1 = cc in omega arith)
 
-  pub reading-stops : (n k : ℕ) → r ≡ Refused n k → (text : List ℕ) → Told (graphFor lib s t h (length text)) text (Turned n k) text
+  pub reading-stops : (n k : ℕ) → r ≡ Refused n k → (text : List ℕ) → Told (graphFor ranged lib s t h (length text)) text (Turned n k) text
   unfolding verdictOf graphFor mapDesign next
   reading-stops n k a text = go (readGraph s h) refl (sym told ∙ a)
     where
-      go : (x : Read Graph) → readGraph s h ≡ x → verdictOf x ≡ Refused n k → Told (mapDesign (length text) (designOf lib s t h)) text (Turned n k) text
+      go : (x : Read Graph) → readGraph s h ≡ x → verdictOf x ≡ Refused n k → Told (mapDesign (length text) (designOf ranged lib s t h)) text (Turned n k) text
       go (holds g) q z = absurd (let x : _≡_ {A = ℕ} 0 1 = cc in omega arith)
       go (fault m j) q z =
           let x : m ≡ n = cc in let y : j ≡ k = cc in
-          told-as (ap (λ (u : Read Graph). mapDesign (length text) (next u (timesOf lib t h))) q ∙ (λ i. refused (x i) (y i))) (told-refused n k text)
+          told-as (ap (λ (u : Read Graph). mapDesign (length text) (next u (timesOf ranged lib t h))) q ∙ (λ i. refused (x i) (y i))) (told-refused n k text)

@@ -9,10 +9,11 @@ use lib.ListN.{length}
 use Rattle.model.specs.Limits.{need}
 use Rattle.model.specs.Reading.{Read, holds, fault, next, unless}
 use Rattle.model.specs.Cells.{cellsOf, libraryOf, libraryAnswer}
-use Rattle.model.specs.LibraryText.{readLibrary}
+use Rattle.model.specs.LibraryText.{readLibrary, isRanged}
 use Rattle.model.specs.GraphText.{readHeader, readGraph}
 use Rattle.model.specs.ArrivalsText.{readArrivals, timedBy}
 use Rattle.model.specs.Netlist.{Outcome, refused, mapped, mapGraph}
+use Rattle.model.specs.Timing.{followed}
 use Rattle.model.specs.Mapper.{Call, callOf, Design, short, within, mapDesign, readTexts, mapTexts, answerOf, returned}
 use Rattle.model.specs.Demands.{Memory}
 use Rattle.model.specs.declared.Cell.{Cell}
@@ -50,7 +51,7 @@ unfolding mapTexts mapDesign
 texts-fit c = go (readTexts c)
   where
     go : (r : Read Design) → Fits (answerOf (mapDesign (c .bytes) r)) (c .bytes)
-    go (holds d) = within-fits (c .bytes) (mapGraph (d .cells) (d .graph))
+    go (holds d) = within-fits (c .bytes) (followed (d .ranged) (d .cells) (d .graph) (mapGraph (d .cells) (d .graph)))
     go (fault n k) = unfold answerOf in tt
 
 pub memory-fits : (c : Call) (work text : List ℕ) (a : Answer) (y u : List ℕ) → Memory c work text a y u → Fits a (c .bytes)
@@ -65,9 +66,9 @@ module _ (library graph arrivals work text : List ℕ) where
   -- 7 to 14, 19 to 21, 25 and 26
   behindCells : List Cell → Read Design
   behindCells cells = next (readHeader graph) (λ h. unless (leb (need (h .size) (h .outputs)) (length work)) 10 0
-      (next (readGraph graph h) (λ g. next (readArrivals (h .inputs) arrivals) (λ es. holds (record { cells = cells; graph = timedBy g es })))))
+      (next (readGraph graph h) (λ g. next (readArrivals (h .inputs) arrivals) (λ es. holds (record { cells = cells; ranged = isRanged library; graph = timedBy g es })))))
 
-  -- and 2 to 6 before them
+  -- and 2 to 6 and 27 before them
   behind : Read Design
   behind = next (readLibrary library) behindCells
 
@@ -108,7 +109,7 @@ module _ (library graph arrivals work text : List ℕ) where
         go false b c x y z = absurd x
 
     module _ (l : LibraryAnswer) (told : l ≡ libraryAnswer (readLibrary library)) where
-      -- 2 to 6
+      -- 2 to 6 and 27
       pub library-stops : (n k : ℕ) → l .verdict ≡ Refused n k → Memory call work text (Turned n k) work text
       unfolding libraryAnswer behind next mapDesign
       library-stops n k e = go (readLibrary library) refl (sym (ap (λ (x : LibraryAnswer). x .verdict) told) ∙ e)
@@ -124,7 +125,7 @@ module _ (library graph arrivals work text : List ℕ) where
 
       pub record IsRead : Type 0 where
         pub ok : LibraryOk (l .library)
-        pub goes : mapTexts call ≡ headerFor (l .library) graph arrivals (length work) (length text)
+        pub goes : mapTexts call ≡ headerFor (isRanged library) (l .library) graph arrivals (length work) (length text)
 
       pub library-read : l .verdict ≡ Accepted → IsRead
       unfolding libraryAnswer behind behindCells next mapDesign headerFor

@@ -1,31 +1,35 @@
 -- What the words hold between the layers, and the outcome from each layer on, in terms of `model`. Assumes nothing.
 use mathlib.Core.Path.{_≡_}
+use mathlib.Core.Bool.{Bool}
 use mathlib.Core.List.{List, [], _∷_, List·Memᴰ}
-use Prim.Native.Nat.{ℕ, _≤_, _<_}
+use Prim.Native.Nat.{ℕ, _+_, _*_, _≤_, _<_}
 use lib.Dec.{T, leb}
 use lib.ListN.{length, getD}
 use Rattle.model.specs.Limits.{need}
 use Rattle.model.specs.Reading.{Read, holds, next, unless}
-use Rattle.model.specs.Cells.{cellsOf}
+use Rattle.model.specs.Cells.{cellAt, cellsOf}
 use Rattle.model.specs.Graph.{Graph, placingOrder, unplaced}
 use Rattle.model.specs.Cuts.{crowded}
-use Rattle.model.specs.Choice.{choices}
+use Rattle.model.specs.Choice.{chosen, choices}
 use Rattle.model.specs.GraphText.{readHeader, readGraph}
 use Rattle.model.specs.ArrivalsText.{readArrivals, timedBy}
 use Rattle.model.specs.Netlist.{Outcome, mapped, mapGraph, mapCut, mapChosen}
+use Rattle.model.specs.Timing.{lowOf, followed}
 use Rattle.model.specs.Mapper.{Design, within, mapDesign, answerOf, textAfter, workAfter}
-use Rattle.model.specs.Demands.{Distinct, choiceText, choiceFigures}
+use Rattle.model.specs.Demands.{Distinct, choiceFigures, printedText}
 use Rattle.model.specs.declared.Library.{Library}
 use Rattle.model.specs.declared.Header.{Header}
 use Rattle.model.specs.declared.Answer.{Answer}
 use Rattle.model.specs.declared.Answer.the-variants.{Mapped as IsMapped, Refused as Turned}
-use Rattle.words.specs.Layout.{placedOf, placeAt, neededAt, lateAt, outputAt, positiveAddr, listsFrom}
+use Rattle.words.specs.Layout.{placedOf, placeAt, neededAt, lateAt, outputAt, lowAt, positiveAddr, listsFrom}
 use Rattle.theory_graph.specs.Accepted.{Accepted, libraryFits}
 use Rattle.theory_text.specs.Fits.{GraphFits}
 use Rattle.matching.specs.Variants.{Usable}
 use Rattle.placing.specs.Loaded.{Fit, Holding}
 use Rattle.cuts.specs.Represents.{Represents, Uncut}
+use Rattle.cover.specs.Asked.{SlotsIn}
 use Rattle.cover.specs.Held.{HeaderOf, Held}
+use Rattle.timing.specs.Retiming.{Retimable}
 
 -- ---- what is told of an outcome
 
@@ -50,6 +54,7 @@ Fits (Turned n k) bytes = Unit {0}
 pub record LibraryOk (lib : Library) : Type 0 where
   pub fits : T (libraryFits (cellsOf lib))
   pub usable : Usable lib
+  pub ranges : (c j : ℕ) → getD (cellAt (cellsOf lib) c .lows) j 0 ≤ getD (cellAt (cellsOf lib) c .delays) j 0
 
 -- library, header and graph that were read: none of the refusals 1 to 14 and 19 to 21 applies, nor 25 and 26 where the graph is timed
 pub record Given (lib : Library) (h : Header) (g : Graph) : Type 0 where
@@ -95,40 +100,53 @@ pub record Cut (w : List ℕ) (lib : Library) (h : Header) (g : Graph) : Type 0 
   pub unneeded : (v : ℕ) → v ≤ g .size → neededAt w (g .size) v ≡ 0
   pub unchosen : (a : ℕ) → positiveAddr (g .size) 0 ≤ a → a < listsFrom (g .size) → getD w a 0 ≡ 0
 
--- ---- the outcome
+-- after `mark`, for `retime`: sources of the library and the graph, and arrivals that leave room
+pub record Timeable (w : List ℕ) (lib : Library) (h : Header) (g : Graph) : Type 0 where
+  pub library : LibraryOk lib
+  pub header : HeaderOf h g
+  pub retimable : Retimable lib w (h .size)
+  pub slots : SlotsIn w (h .size) (placedOf h)
+  pub soon : (l : ℕ) → l ≤ 2 * g .size + 1 → chosen (cellsOf lib) g l .arrival ≤ 1073741823
+
+-- after `retime`: the low arrivals of the outputs
+abbrev pub Lowered : List ℕ → Library → Graph → Type 0
+Lowered w lib g = (l : ℕ) → List·Memᴰ l (g .outputs) → lowAt w (g .size) l ≡ lowOf (cellsOf lib) g l
+
+-- ---- the outcome, with timing lines where the library's delays are ranges
 
 -- the choice's netlist, or 18
-abbrev pub printedFor : Library → Graph → ℕ → Outcome
-printedFor lib g bytes = within bytes (mapped (choiceText (cellsOf lib) g) (choiceFigures (cellsOf lib) g))
+abbrev pub printedFor : Bool → Library → Graph → ℕ → Outcome
+printedFor ranged lib g bytes = within bytes (mapped (printedText ranged (cellsOf lib) g) (choiceFigures (cellsOf lib) g))
 
 -- 17 before it
-abbrev pub cutFor : Library → Graph → ℕ → Outcome
-cutFor lib g bytes = within bytes (mapChosen (cellsOf lib) g (choices (cellsOf lib) g))
+abbrev pub cutFor : Bool → Library → Graph → ℕ → Outcome
+cutFor ranged lib g bytes = within bytes (followed ranged (cellsOf lib) g (mapChosen (cellsOf lib) g (choices (cellsOf lib) g)))
 
 -- 16 before it
-abbrev pub placedFor : Library → Graph → ℕ → Outcome
-placedFor lib g bytes = within bytes (mapCut (cellsOf lib) g (crowded g))
+abbrev pub placedFor : Bool → Library → Graph → ℕ → Outcome
+placedFor ranged lib g bytes = within bytes (followed ranged (cellsOf lib) g (mapCut (cellsOf lib) g (crowded g)))
 
 -- 15 before it
-abbrev pub loadedFor : Library → Graph → ℕ → Outcome
-loadedFor lib g bytes = within bytes (mapGraph (cellsOf lib) g)
+abbrev pub loadedFor : Bool → Library → Graph → ℕ → Outcome
+loadedFor ranged lib g bytes = within bytes (followed ranged (cellsOf lib) g (mapGraph (cellsOf lib) g))
 
 -- what is read with the arrivals' text t of a graph
-abbrev pub timesOf : Library → List ℕ → Header → Graph → Read Design
-timesOf lib t h g = next (readArrivals (h .inputs) t) (λ es. holds (record { cells = cellsOf lib; graph = timedBy g es }))
+abbrev pub timesOf : Bool → Library → List ℕ → Header → Graph → Read Design
+timesOf ranged lib t h g = next (readArrivals (h .inputs) t) (λ es. holds (record { cells = cellsOf lib; ranged = ranged; graph = timedBy g es }))
 
 -- 25 and 26 before it
-unfoldable pub timesFor : Library → List ℕ → Header → Graph → ℕ → Outcome
-timesFor lib t h g bytes = mapDesign bytes (timesOf lib t h g)
+unfoldable pub timesFor : Bool → Library → List ℕ → Header → Graph → ℕ → Outcome
+timesFor ranged lib t h g bytes = mapDesign bytes (timesOf ranged lib t h g)
 
 -- what is read of a graph's text s and t behind a header
-abbrev pub designOf : Library → List ℕ → List ℕ → Header → Read Design
-designOf lib s t h = next (readGraph s h) (timesOf lib t h)
+abbrev pub designOf : Bool → Library → List ℕ → List ℕ → Header → Read Design
+designOf ranged lib s t h = next (readGraph s h) (timesOf ranged lib t h)
 
 -- 11 to 14, 20 and 21 before it
-unfoldable pub graphFor : Library → List ℕ → List ℕ → Header → ℕ → Outcome
-graphFor lib s t h bytes = mapDesign bytes (designOf lib s t h)
+unfoldable pub graphFor : Bool → Library → List ℕ → List ℕ → Header → ℕ → Outcome
+graphFor ranged lib s t h bytes = mapDesign bytes (designOf ranged lib s t h)
 
 -- 7 to 10 and 19 before it
-unfoldable pub headerFor : Library → List ℕ → List ℕ → ℕ → ℕ → Outcome
-headerFor lib s t words bytes = mapDesign bytes (next (readHeader s) (λ h. unless (leb (need (h .size) (h .outputs)) words) 10 0 (designOf lib s t h)))
+unfoldable pub headerFor : Bool → Library → List ℕ → List ℕ → ℕ → ℕ → Outcome
+headerFor ranged lib s t words bytes =
+    mapDesign bytes (next (readHeader s) (λ h. unless (leb (need (h .size) (h .outputs)) words) 10 0 (designOf ranged lib s t h)))

@@ -5,6 +5,7 @@ use model::HeaderAnswer;
 use model::Library;
 use model::Verdict;
 ghost use mathlib.Core.Path.{_≡_};
+ghost use mathlib.Core.Bool.{true, false};
 ghost use Prim.Native.Nat.{_≤_};
 ghost use lib.ListN.{length, replicate};
 ghost use Rattle.model.specs.Limits.{need};
@@ -12,15 +13,15 @@ ghost use Rattle.model.specs.Reading.{holds};
 ghost use Rattle.model.specs.Graph.{Graph};
 ghost use Rattle.model.specs.GraphText.{readHeader};
 ghost use Rattle.model.specs.Mapper.{callOf};
-ghost use Rattle.model.specs.Demands.{Memory, Values, Earliest, Twins, Sequenced, EitherEnd, Untimed, Listed};
+ghost use Rattle.model.specs.Demands.{Memory, Values, Earliest, Twins, Sequenced, EitherEnd, Untimed, Listed, Former};
 ghost use Rattle.netlist.specs.Mapped.{Mapped};
 ghost use Rattle.cover.specs.Choosing.{SheetIn};
-ghost use Rattle.mapper.specs.Stages.{Fits, Told, Left, LibraryOk, Loaded, Timed, Cut, printedFor, cutFor, placedFor, timesFor, graphFor, headerFor};
+ghost use Rattle.mapper.specs.Stages.{Fits, Told, Left, LibraryOk, Loaded, Timed, Cut, Timeable, Lowered, printedFor, cutFor, placedFor, timesFor, graphFor, headerFor};
 
 // 18, and the netlist: "Text memory is shorter than the netlist; place, the length needed."
 fn print(work: &[u16], lib: Library, h: Header, text: &mut [u8]) -> Answer
     requires { ⌜ ((g : Graph) × Mapped (now work) lib h g) ⌝ }
-    ensures { λ r. ⌜ ((g : Graph) → Mapped (now (work .entry)) lib h g → Told (printedFor lib g (length (now (text .entry)))) (now (text .entry)) r (now (text .exit))) ⌝ }
+    ensures { λ r. ⌜ ((g : Graph) → Mapped (now (work .entry)) lib h g → Told (printedFor false lib g (length (now (text .entry)))) (now (text .entry)) r (now (text .exit))) ⌝ }
 {
     let m = netlist::measure(work, lib, h);
     let length = m.length;
@@ -32,22 +33,53 @@ fn print(work: &[u16], lib: Library, h: Header, text: &mut [u8]) -> Answer
     Answer::Mapped(length, figures)
 }
 
+// The same with a timing line per output behind the netlist: "18 and the returned length count these lines".
+fn print_timed(work: &[u16], lib: Library, h: Header, text: &mut [u8]) -> Answer
+    requires { ⌜ ((g : Graph) × Mapped (now work) lib h g × Lowered (now work) lib g) ⌝ }
+    ensures { λ r. ⌜ ((g : Graph) → Mapped (now (work .entry)) lib h g → Lowered (now (work .entry)) lib g → Told (printedFor true lib g (length (now (text .entry)))) (now (text .entry)) r (now (text .exit))) ⌝ }
+{
+    let m = netlist::measure(work, lib, h);
+    let figures = m.figures;
+    let start = m.length;
+    let lines = timing::lines_len(work, h.size, h.outputs);
+    let length = start + lines;
+    if text.len() < length {
+        return Answer::Refused(18, length);
+    }
+    netlist::write(work, lib, h, figures, text);
+    timing::put_lines(work, h.size, h.outputs, text, start);
+    Answer::Mapped(length, figures)
+}
+
+// The netlist, and where delays are ranges the low arrivals and the lines that say them.
+fn print_as(work: &mut [u16], lib: Library, h: Header, ranged: bool, text: &mut [u8]) -> Answer
+    requires { ⌜ ((g : Graph) × Mapped (now work) lib h g × Timeable (now work) lib h g) ⌝ }
+    ensures { λ r. ⌜ ((g : Graph) → Mapped (now (work .entry)) lib h g → Timeable (now (work .entry)) lib h g → Told (printedFor ranged lib g (length (now (text .entry)))) (now (text .entry)) r (now (text .exit))) ⌝ }
+{
+    if ranged {
+        timing::retime(work, lib, h);
+        return print_timed(work, lib, h, text);
+    }
+    print(work, lib, h, text)
+}
+
 // The choice, 17, and the needed phases.
 fn cover_graph(
     work: &mut [u16],
     lib: Library,
     h: Header,
+    ranged: bool,
     sheet: &[u16; matching::SHEET],
     text: &mut [u8],
 ) -> Answer
     requires { ⌜ ((g : Graph) × Cut (now work) lib h g) × SheetIn lib (now sheet) ⌝ }
-    ensures { λ r. ⌜ ((g : Graph) → Cut (now (work .entry)) lib h g → Told (cutFor lib g (length (now (text .entry)))) (now (text .entry)) r (now (text .exit))) ⌝ }
+    ensures { λ r. ⌜ ((g : Graph) → Cut (now (work .entry)) lib h g → Told (cutFor ranged lib g (length (now (text .entry)))) (now (text .entry)) r (now (text .exit))) ⌝ }
 {
     cover::choose(work, lib, h, sheet);
     match cover::uncovered(work, h) {
         Verdict::Accepted => {
             cover::mark(work, lib, h);
-            print(work, lib, h, text)
+            print_as(work, lib, h, ranged, text)
         }
         Verdict::Refused(number, place) => Answer::Refused(number, place),
     }
@@ -58,14 +90,15 @@ fn cut_graph(
     work: &mut [u16],
     lib: Library,
     h: Header,
+    ranged: bool,
     sheet: &[u16; matching::SHEET],
     text: &mut [u8],
 ) -> Answer
     requires { ⌜ ((g : Graph) × Timed (now work) lib h g) × SheetIn lib (now sheet) ⌝ }
-    ensures { λ r. ⌜ ((g : Graph) → Timed (now (work .entry)) lib h g → Told (placedFor lib g (length (now (text .entry)))) (now (text .entry)) r (now (text .exit))) ⌝ }
+    ensures { λ r. ⌜ ((g : Graph) → Timed (now (work .entry)) lib h g → Told (placedFor ranged lib g (length (now (text .entry)))) (now (text .entry)) r (now (text .exit))) ⌝ }
 {
     match cutting::enumerate(work, h) {
-        Verdict::Accepted => cover_graph(work, lib, h, sheet, text),
+        Verdict::Accepted => cover_graph(work, lib, h, ranged, sheet, text),
         Verdict::Refused(number, place) => Answer::Refused(number, place),
     }
 }
@@ -76,16 +109,17 @@ fn place_graph(
     work: &mut [u16],
     lib: Library,
     h: Header,
+    ranged: bool,
     sheet: &[u16; matching::SHEET],
     text: &mut [u8],
 ) -> Answer
     requires { ⌜ ((g : Graph) × Loaded (now work) lib h g) × SheetIn lib (now sheet) ⌝ }
-    ensures { λ r. ⌜ ((g : Graph) → Loaded (now (work .entry)) lib h g → Told (timesFor lib (now (arrivals .entry)) h g (length (now (text .entry)))) (now (text .entry)) r (now (text .exit))) ⌝ }
+    ensures { λ r. ⌜ ((g : Graph) → Loaded (now (work .entry)) lib h g → Told (timesFor ranged lib (now (arrivals .entry)) h g (length (now (text .entry)))) (now (text .entry)) r (now (text .exit))) ⌝ }
 {
     let placed = placing::place(work, h);
     match arrivals::read(arrivals, h, work) {
         Verdict::Accepted => match placed {
-            Verdict::Accepted => cut_graph(work, lib, h, sheet, text),
+            Verdict::Accepted => cut_graph(work, lib, h, ranged, sheet, text),
             Verdict::Refused(number, place) => Answer::Refused(number, place),
         },
         Verdict::Refused(number, place) => Answer::Refused(number, place),
@@ -99,15 +133,16 @@ pub fn load_graph(
     arrivals: &[u8],
     h: Header,
     lib: Library,
+    ranged: bool,
     sheet: &[u16; matching::SHEET],
     work: &mut [u16],
     text: &mut [u8],
 ) -> Answer
     requires { ⌜ LibraryOk lib × (readHeader (now graph) ≡ holds h) × (need (h .size) (h .outputs) ≤ length (now work)) × SheetIn lib (now sheet) ⌝ }
-    ensures { λ r. ⌜ Told (graphFor lib (now (graph .entry)) (now (arrivals .entry)) h (length (now (text .entry)))) (now (text .entry)) r (now (text .exit)) ⌝ }
+    ensures { λ r. ⌜ Told (graphFor ranged lib (now (graph .entry)) (now (arrivals .entry)) h (length (now (text .entry)))) (now (text .entry)) r (now (text .exit)) ⌝ }
 {
     match aiger::load(graph, h, work) {
-        Verdict::Accepted => place_graph(arrivals, work, lib, h, sheet, text),
+        Verdict::Accepted => place_graph(arrivals, work, lib, h, ranged, sheet, text),
         Verdict::Refused(number, place) => Answer::Refused(number, place),
     }
 }
@@ -118,15 +153,16 @@ fn map_graph(
     arrivals: &[u8],
     h: Header,
     lib: Library,
+    ranged: bool,
     work: &mut [u16],
     text: &mut [u8],
 ) -> Answer
     requires { ⌜ LibraryOk lib × (readHeader (now graph) ≡ holds h) × (need (h .size) (h .outputs) ≤ length (now work)) ⌝ }
-    ensures { λ r. ⌜ Told (graphFor lib (now (graph .entry)) (now (arrivals .entry)) h (length (now (text .entry)))) (now (text .entry)) r (now (text .exit)) × (now (work .exit) ≡ replicate (length (now (work .entry))) 0) ⌝ }
+    ensures { λ r. ⌜ Told (graphFor ranged lib (now (graph .entry)) (now (arrivals .entry)) h (length (now (text .entry)))) (now (text .entry)) r (now (text .exit)) × (now (work .exit) ≡ replicate (length (now (work .entry))) 0) ⌝ }
 {
     let mut sheet = matching::no_sheet();
     cover::match_library(lib, &mut sheet);
-    let a = load_graph(graph, arrivals, h, lib, &sheet, work, text);
+    let a = load_graph(graph, arrivals, h, lib, ranged, &sheet, work, text);
     words::clear_all(work);
     a
 }
@@ -136,18 +172,19 @@ fn map_header(
     graph: &[u8],
     arrivals: &[u8],
     lib: Library,
+    ranged: bool,
     work: &mut [u16],
     text: &mut [u8],
 ) -> Answer
     requires { ⌜ LibraryOk lib ⌝ }
-    ensures { λ r. ⌜ Left (headerFor lib (now (graph .entry)) (now (arrivals .entry)) (length (now (work .entry))) (length (now (text .entry)))) (now (work .entry)) (now (text .entry)) r (now (work .exit)) (now (text .exit)) ⌝ }
+    ensures { λ r. ⌜ Left (headerFor ranged lib (now (graph .entry)) (now (arrivals .entry)) (length (now (work .entry))) (length (now (text .entry)))) (now (work .entry)) (now (text .entry)) r (now (work .exit)) (now (text .exit)) ⌝ }
 {
     match aiger::header(graph) {
         HeaderAnswer::Read(h) => {
             if work.len() < words::need_words(h.size, h.outputs) {
                 return Answer::Refused(10, 0);
             }
-            map_graph(graph, arrivals, h, lib, work, text)
+            map_graph(graph, arrivals, h, lib, ranged, work, text)
         }
         HeaderAnswer::Refused(number, place) => Answer::Refused(number, place),
     }
@@ -156,8 +193,9 @@ fn map_header(
 // A library text, a graph text in either form and an arrivals' text mapped: the netlist at the start of text memory, or the first refusal that
 // applies. The clauses carry the names of the demands; `fits` says that the netlist's length is within text memory, `twins` that texts which mean the
 // same graph have the same outcome, `sequenced` that 13 to 15 refuse no binary text, `ends` that "texts alike but for line ends" have the same,
-// `untimed` that an empty third text is none, `listed` that each listed input arrives as its line says and the others at 0. How cuts are stored is in no
-// clause: `Unseen.store-unseen` says so.
+// `untimed` that an empty third text is none, `listed` that each listed input arrives as its line says and the others at 0, `former` that under the shorter
+// names line everything is as it was before there were ranges. `values` has the promise on timing lines. How cuts are stored is in no clause:
+// `Unseen.store-unseen` says so.
 pub fn map_texts(
     cells: &[u8],
     graph: &[u8],
@@ -174,6 +212,7 @@ pub fn map_texts(
     ensures ends { λ _. ⌜ EitherEnd (callOf (now (cells .entry)) (now (graph .entry)) (now (arrivals .entry)) (now (work .entry)) (now (text .entry))) ⌝ }
     ensures untimed { λ _. ⌜ Untimed (callOf (now (cells .entry)) (now (graph .entry)) (now (arrivals .entry)) (now (work .entry)) (now (text .entry))) ⌝ }
     ensures listed { λ _. ⌜ Listed (callOf (now (cells .entry)) (now (graph .entry)) (now (arrivals .entry)) (now (work .entry)) (now (text .entry))) ⌝ }
+    ensures former { λ _. ⌜ Former (callOf (now (cells .entry)) (now (graph .entry)) (now (arrivals .entry)) (now (work .entry)) (now (text .entry))) ⌝ }
 {
     if cells.len() > 65536 {
         return Answer::Refused(1, 0);
@@ -189,7 +228,7 @@ pub fn map_texts(
     match v {
         Verdict::Accepted => {
             let lib = l.library;
-            map_header(graph, arrivals, lib, work, text)
+            map_header(graph, arrivals, lib, library::is_ranged(cells), work, text)
         }
         Verdict::Refused(number, place) => Answer::Refused(number, place),
     }

@@ -19,7 +19,7 @@ place-graph-requires c κs =
     let args = start .args in
     let r = at-load .load in
     let fit = header-fit (args .graph .now) (args .h) (args .work .now) (start .pre .1) (start .pre .2) in
-    let d = reading-loaded (args .lib) (start .pre .0) (args .graph .now) (args .arrivals .now) (args .h) (args .work .now) fit (start .pre .1) (r .result) (r .ensures .0) (at-enum-told .enum-told .given .1) _ (r .ensures .1 .0) in
+    let d = reading-loaded (args .ranged) (args .lib) (start .pre .0) (args .graph .now) (args .arrivals .now) (args .h) (args .work .now) fit (start .pre .1) (r .result) (r .ensures .0) (at-enum-told .enum-told .given .1) _ (r .ensures .1 .0) in
     ((d .graph, d .loaded), start .pre .3)
 
 enum-known-number : tie.Need-enum-known-number
@@ -40,7 +40,7 @@ returns c =
     let args = start .args in
     let r = at-load .load in
     let fit = header-fit (args .graph .now) (args .h) (args .work .now) (start .pre .1) (start .pre .2) in
-    let d = reading-loaded (args .lib) (start .pre .0) (args .graph .now) (args .arrivals .now) (args .h) (args .work .now) fit (start .pre .1) (r .result) (r .ensures .0) (at-enum-told .enum-told .given .1) _ (r .ensures .1 .0) in
+    let d = reading-loaded (args .ranged) (args .lib) (start .pre .0) (args .graph .now) (args .arrivals .now) (args .h) (args .work .now) fit (start .pre .1) (r .result) (r .ensures .0) (at-enum-told .enum-told .given .1) _ (r .ensures .1 .0) in
     told-as (d .outcome _) (at-place-graph .place-graph .ensures (d .graph) (d .loaded))
 
 same-length-3 : tie.Need-same-length-3
@@ -53,7 +53,7 @@ returns-2 c =
     let start = at-load .before .before .before .before .before .before in
     let args = start .args in
     let fit = header-fit (args .graph .now) (args .h) (args .work .now) (start .pre .1) (start .pre .2) in
-    reading-stops (args .lib) (start .pre .0) (args .graph .now) (args .arrivals .now) (args .h) (args .work .now) fit (start .pre .1) (at-load .load .result) (at-load .load .ensures .0) _ _ (at-number .number .given .1) (args .text .now)
+    reading-stops (args .ranged) (args .lib) (start .pre .0) (args .graph .now) (args .arrivals .now) (args .h) (args .work .now) fit (start .pre .1) (at-load .load .result) (at-load .load .ensures .0) _ _ (at-number .number .given .1) (args .text .now)
 
 pub load-graph-spec : {M : Type 1} → statement M
 load-graph-spec =

@@ -35,7 +35,7 @@ returns c =
     let at-clear-all = c .before .before in
     let at-load-graph = at-clear-all .before .before .before .before .before .before in
     let args = at-load-graph .before .before .before .before .before .before .before .before .before .before .before .args in
-    let long : length (at-load-graph .load-graph .last .1 .1 .1 .1 .1 .0) ≡ length (args .work .now) = omega arith in
+    let long : length (at-load-graph .load-graph .last .1 .1 .1 .1 .1 .1 .0) ≡ length (args .work .now) = omega arith in
     (at-load-graph .load-graph .ensures, at-clear-all .clear-all .ensures ∙ ap (λ (n : ℕ). replicate n 0) long)
 
 pub map-graph-spec : {M : Type 1} → statement M

@@ -1,12 +1,17 @@
 -- `mapper::map_texts` meets its contract: demand 1 from the functions below it, what is promised of the definitions from their laws.
 -- Assumes nothing.
 use native.Mathlib.Omega.{arith}
+use mathlib.Core.Path.{sym, _∙_, ap}
+use mathlib.Core.Bool.{Bool}
+use lib.ListN.{length}
 use Rattle.model.specs.Mapper.{Call, callOf}
-use Rattle.model.specs.Demands.{Values, Earliest, Twins, Sequenced, EitherEnd, Untimed, Listed}
+use Rattle.model.specs.Demands.{Values, Earliest, Twins, Sequenced, EitherEnd, Untimed, Listed, Former}
 use Rattle.theory.proofs.Demanded.{demand-values, demand-earliest, demand-twins, demand-untimed}
 use Rattle.theory.proofs.Sequence.{demand-sequenced}
 use Rattle.theory_text.proofs.Ends.{demand-ends}
+use Rattle.theory_text.proofs.Former.{demand-former}
 use Rattle.theory_text.proofs.Arrivals.{texts-listed}
+use Rattle.mapper.specs.Stages.{headerFor}
 use Rattle.mapper.proofs.Ends.{left-as}
 use Rattle.mapper.proofs.Whole.{memory-of, memory-fits, long-text, library-stops, library-read}
 use borrow.Author.Needs.{needs}
@@ -14,8 +19,8 @@ use Rattle.mapper.proofs.map_texts.Statement.{statement}
 use Rattle.mapper.proofs.map_texts.Tie as tie
 
 -- the clauses behind demand 1, which hold of every call
-abbrev demanded : (c : Call) {A : Type 0} → A → Values c × (Earliest c × (A × (Twins c × (Sequenced c × (EitherEnd c × (Untimed c × Listed c))))))
-demanded c fits = (demand-values c, (demand-earliest c, (fits, (demand-twins c, (demand-sequenced c, (demand-ends c, (demand-untimed c, texts-listed c)))))))
+abbrev demanded : (c : Call) {A : Type 0} → A → Values c × (Earliest c × (A × (Twins c × (Sequenced c × (EitherEnd c × (Untimed c × (Listed c × Former c)))))))
+demanded c fits = (demand-values c, (demand-earliest c, (fits, (demand-twins c, (demand-sequenced c, (demand-ends c, (demand-untimed c, (texts-listed c, demand-former c))))))))
 
 returns : tie.Need-returns
 returns c =
@@ -38,9 +43,12 @@ read-requires c κs = search needs
 enum-told : tie.Need-enum-told
 enum-told c = search needs
 
+is-ranged-requires : tie.Need-is-ranged-requires
+is-ranged-requires c κs = search needs
+
 map-header-requires : tie.Need-map-header-requires
 map-header-requires c κs =
-    let t = c .before .before .before in
+    let t = c .before .before .before .before in
     let l = t .before .before .read in
     let s = t .before .before .before .before .before .before .before .before .before .before .before .args in
     library-read (s .cells .now) (s .graph .now) (s .arrivals .now) (s .work .now) (s .text .now) (omega arith) (omega arith) (omega arith) (l .result) (l .ensures .0) (t .enum-told .given .1) .ok
@@ -57,13 +65,15 @@ same-length-2 c = search needs
 returns-4 : tie.Need-returns-4
 returns-4 c =
     let h = c .before .before .before .before .map-header in
-    let t = c .before .before .before .before .before .before .before .before in
+    let t = c .before .before .before .before .before .before .before .before .before in
     let l = t .before .before .read in
     let s = t .before .before .before .before .before .before .before .before .before .before .before .args in
     let call = callOf (s .cells .now) (s .graph .now) (s .arrivals .now) (s .work .now) (s .text .now) in
     let r = library-read (s .cells .now) (s .graph .now) (s .arrivals .now) (s .work .now) (s .text .now) (omega arith) (omega arith) (omega arith) (l .result) (l .ensures .0) (t .enum-told .given .1) in
-    let m = memory-of call (s .work .now) (s .text .now) (h .result) (h .last .1 .1 .1 .0) (h .last .1 .1 .1 .1 .0) (left-as (r .goes) (h .ensures)) in
-    (m, demanded call (memory-fits call (s .work .now) (s .text .now) (h .result) (h .last .1 .1 .1 .0) (h .last .1 .1 .1 .1 .0) m))
+    let ranged = c .before .before .before .before .before .before .before .is-ranged .ensures in
+    let told = ap (λ (b : Bool). headerFor b (l .result .library) (s .graph .now) (s .arrivals .now) (length (s .work .now)) (length (s .text .now))) (sym ranged) in
+    let m = memory-of call (s .work .now) (s .text .now) (h .result) (h .last .1 .1 .1 .1 .0) (h .last .1 .1 .1 .1 .1 .0) (left-as (r .goes ∙ told) (h .ensures)) in
+    (m, demanded call (memory-fits call (s .work .now) (s .text .now) (h .result) (h .last .1 .1 .1 .1 .0) (h .last .1 .1 .1 .1 .1 .0) m))
 
 returns-5 : tie.Need-returns-5
 returns-5 c =
@@ -81,6 +91,7 @@ map-texts-spec =
     returns-3
     read-requires
     enum-told
+    is-ranged-requires
     map-header-requires
     enum-known-v
     same-length

@@ -15,7 +15,7 @@ read-requires c κs =
     let at-place = c .before .before .before in
     let start = at-place .before .before .before .before .before in
     let r = at-place .place in
-    placing-lists (start .args .work .now) (start .args .lib) (start .args .h) (start .pre .0 .0) (start .pre .0 .1) (r .result) (r .ensures .0) (r .last .0) (r .ensures .1)
+    placing-lists (start .args .ranged) (start .args .work .now) (start .args .lib) (start .args .h) (start .pre .0 .0) (start .pre .0 .1) (r .result) (r .ensures .0) (r .last .0) (r .ensures .1)
 
 enum-told : tie.Need-enum-told
 enum-told c = search needs
@@ -31,7 +31,7 @@ cut-graph-requires c κs =
     let args = start .args in
     let r = at-place .place in
     let u = at-read .read in
-    let d = placing-timed (args .work .now) (args .lib) (args .h) (start .pre .0 .0) (start .pre .0 .1) (r .result) (r .ensures .0) (r .last .0) (r .ensures .1) (args .arrivals .now) (u .result) (u .ensures .0) (c .before .before .before .before .enum-told .given .1) (c .before .before .enum-told2 .given .1) (u .last .1 .1 .0) (u .ensures .1 .1) in
+    let d = placing-timed (args .ranged) (args .work .now) (args .lib) (args .h) (start .pre .0 .0) (start .pre .0 .1) (r .result) (r .ensures .0) (r .last .0) (r .ensures .1) (args .arrivals .now) (u .result) (u .ensures .0) (c .before .before .before .before .enum-told .given .1) (c .before .before .enum-told2 .given .1) (u .last .1 .1 .0) (u .ensures .1 .1) in
     ((d .graph, d .timed), start .pre .1)
 
 enum-known-placed : tie.Need-enum-known-placed
@@ -55,7 +55,7 @@ returns c =
     let r = at-place .place in
     let u = at-read .read in
     λ g l.
-    let d = placing-timed (args .work .now) (args .lib) (args .h) g l (r .result) (r .ensures .0) (r .last .0) (r .ensures .1) (args .arrivals .now) (u .result) (u .ensures .0) (at-cut .before .before .before .before .before .enum-told .given .1) (at-cut .before .before .before .enum-told2 .given .1) (u .last .1 .1 .0) (u .ensures .1 .1) in
+    let d = placing-timed (args .ranged) (args .work .now) (args .lib) (args .h) g l (r .result) (r .ensures .0) (r .last .0) (r .ensures .1) (args .arrivals .now) (u .result) (u .ensures .0) (at-cut .before .before .before .before .before .enum-told .given .1) (at-cut .before .before .before .enum-told2 .given .1) (u .last .1 .1 .0) (u .ensures .1 .1) in
     told-as (d .outcome _) (at-cut .cut-graph .ensures (d .graph) (d .timed))
 
 same-length-3 : tie.Need-same-length-3
@@ -68,7 +68,7 @@ returns-2 c =
     let args = at-place .before .before .before .before .before .args in
     let r = at-place .place in
     let u = at-read .read in
-    λ g l. placing-stops (args .work .now) (args .lib) (args .h) g l (r .result) (r .ensures .0) (r .last .0) (r .ensures .1) (args .arrivals .now) (u .result) (u .ensures .0) (c .before .before .before .enum-told .given .1) _ _ (c .before .placed .given .1) (args .text .now)
+    λ g l. placing-stops (args .ranged) (args .work .now) (args .lib) (args .h) g l (r .result) (r .ensures .0) (r .last .0) (r .ensures .1) (args .arrivals .now) (u .result) (u .ensures .0) (c .before .before .before .enum-told .given .1) _ _ (c .before .placed .given .1) (args .text .now)
 
 same-length-4 : tie.Need-same-length-4
 same-length-4 c = search needs
@@ -80,7 +80,7 @@ returns-3 c =
     let args = at-place .before .before .before .before .before .args in
     let r = at-place .place in
     let u = at-read .read in
-    λ g l. times-stop (args .work .now) (args .lib) (args .h) g l (r .result) (r .ensures .0) (r .last .0) (r .ensures .1) (args .arrivals .now) (u .result) (u .ensures .0) _ _ (c .before .number .given .1) (args .text .now)
+    λ g l. times-stop (args .ranged) (args .work .now) (args .lib) (args .h) g l (r .result) (r .ensures .0) (r .last .0) (r .ensures .1) (args .arrivals .now) (u .result) (u .ensures .0) _ _ (c .before .number .given .1) (args .text .now)
 
 pub place-graph-spec : {M : Type 1} → statement M
 place-graph-spec =
