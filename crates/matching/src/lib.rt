@@ -33,7 +33,7 @@ const DELAYS: usize = 90112;
 
 // A variant with its arrival, NEVER where there is no match.
 pub struct Best {
-    pub variant: usize,
+    pub variant: u32,
     pub arrival: u32,
 }
 
@@ -222,8 +222,9 @@ fn try_variant(sheet: &[u16; SHEET], times: &[u32; 16], x: usize, b: Best) -> Be
     if b.arrival <= w {
         return b;
     }
+    let variant = x as u32;
     Best {
-        variant: x,
+        variant,
         arrival: larger(larger(t, u), larger(v, w)),
     }
 }
@@ -264,7 +265,7 @@ pub fn phase_as(k: usize, b: Best) -> Phase
     ensures { λ r. ⌜ r ≡ phaseAs k b ⌝ }
 {
     if b.arrival < NEVER {
-        let m = match_of(k, b.variant);
+        let m = match_of(k, b.variant as usize);
         Phase {
             source: Source::Cell(m),
             arrival: b.arrival,

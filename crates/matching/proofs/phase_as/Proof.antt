@@ -7,14 +7,17 @@ use Rattle.matching.specs.Best.{phaseAs, never}
 use Rattle.matching.proofs.phase_as.Statement.{statement}
 use Rattle.matching.proofs.phase_as.Tie as tie
 
+cast-match-of : tie.Need-cast-match-of
+cast-match-of c = search needs
+
 match-of-requires : tie.Need-match-of-requires
 match-of-requires c κs = search needs
 
 returns : tie.Need-returns
 unfolding phaseAs
 returns c =
-    let a = c .before .before .before .args in
-    rw (lt-ltb (a .b .arrival) never (c .before .if1 .taken), c .match-of .ensures)
+    let a = c .before .before .before .before .args in
+    rw (lt-ltb (a .b .arrival) never (c .before .before .if1 .taken), c .match-of .ensures)
 
 returns-2 : tie.Need-returns-2
 unfolding phaseAs noPhase
@@ -23,4 +26,4 @@ returns-2 c =
     rw (le-ltb (a .b .arrival) never (c .if1 .left))
 
 pub phase-as-spec : {M : Type 1} → statement M
-phase-as-spec = tie.close (tie.spec match-of-requires returns returns-2)
+phase-as-spec = tie.close (tie.spec cast-match-of match-of-requires returns returns-2)

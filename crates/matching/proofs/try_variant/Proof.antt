@@ -84,6 +84,9 @@ returns-4 c =
     let picked : p ≡ getD (a .sheet .now) (77824 + a .x) 0 = c .before .before .before .before .before .before .before .before .before .before .before .before .wide .ensures .0 in
     one-late (a .sheet .now) (a .times .now) (a .x) (a .b) p picked (c .before .before .before .before .before .before .before .before .before .before .before .pin-time .result) (c .before .before .before .before .before .before .before .before .pin-time2 .result) (c .before .before .before .before .before .pin-time3 .result) (c .before .before .pin-time4 .result) (c .before .before .before .before .before .before .before .before .before .before .before .pin-time .ensures, c .before .before .before .before .before .before .before .before .pin-time2 .ensures, c .before .before .before .before .before .pin-time3 .ensures, c .before .before .pin-time4 .ensures) (omega (arith, c .if4 .taken))
 
+cast-variant : tie.Need-cast-variant
+cast-variant c = omega (arith, c .before .before .before .before .before .before .before .before .before .before .before .before .before .before .pre .0)
+
 larger-requires : tie.Need-larger-requires
 larger-requires c κs = search needs
 
@@ -124,6 +127,7 @@ try-variant-spec =
     add-pin-time-3
     pin-time-requires-4
     returns-4
+    cast-variant
     larger-requires
     larger-requires-2
     larger-requires-3
