@@ -51,6 +51,11 @@ pub record MatchIn (cells : List Cell) (w : List ℕ) (m v : ℕ) (x : Match) : 
   pub order : x .order < 24
   pub places : T (placesBelow (cellAt cells (x .cell) .pins) (placesOf (x .order)) (length (leavesAt w m v (x .cut))))
 
+-- how many pins each listed cell has, by line
+pub record PinsOf (lib : Library) (pins : List ℕ) : Type 0 where
+  pub long : length pins ≡ 32
+  pub listed : (c : ℕ) → c < length (cellsOf lib) → getD pins c 0 ≡ cellAt (cellsOf lib) c .pins
+
 -- each pin of a cell under an order has a leaf that is a variable of the graph
 pub record PinsIn (leaves : List ℕ) (m order pins : ℕ) : Type 0 where
   pub known : order < 24

@@ -22,7 +22,7 @@ ghost use Rattle.words.specs.Layout.{placedOf, Room, outputAt, countAt};
 ghost use Rattle.words.specs.Record.{leavesOf, leavesAt, functionOf};
 ghost use Rattle.words.specs.Phases.{phaseAt};
 ghost use Rattle.truth.specs.Variant.{placesOf};
-ghost use Rattle.cover.specs.Asked.{PinsIn, LeavesIn, OutputsIn, SlotsIn, CutsIn, MatchIn, MatchesIn};
+ghost use Rattle.cover.specs.Asked.{PinsOf, PinsIn, LeavesIn, OutputsIn, SlotsIn, CutsIn, MatchIn, MatchesIn};
 ghost use Rattle.matching.specs.Variants.{Usable};
 ghost use Rattle.matching.specs.Sheet.{isListed, listMatched};
 ghost use Rattle.matching.specs.Best.{Timely, timeOf, bestOf, phaseAs};
@@ -379,28 +379,44 @@ fn mark_pins(work: &mut [u16], m: usize, leaves: [u16; 4], order: usize, mask: u
     }
 }
 
+// The pins of each line's cell. They are handed on by value beside the library, which is then named by contracts alone: nothing copies it.
+fn pin_counts(lib: Library) -> [u16; 32]
+    requires { ⌜ Usable lib ⌝ }
+    ensures { λ r. ⌜ PinsOf lib r ⌝ }
+{
+    let cells = lib.cells;
+    let n = lib.n;
+    let mut pins = [0u16; 32];
+    let mut i: usize = 0;
+    while i < n {
+        let c = cells[i];
+        pins[i] = c.pins;
+        i += 1;
+    }
+    pins
+}
+
 // The nets that feed a match are needed.
-fn mark_match(work: &mut [u16], lib: Library, m: usize, v: usize, x: Match)
-    requires { ⌜ Usable lib × CutsIn (now work) m × (v ≤ m) × MatchIn (cellsOf lib) (now work) m v x ⌝ }
+fn mark_match(work: &mut [u16], lib: Library, pins: [u16; 32], m: usize, v: usize, x: Match)
+    requires { ⌜ Usable lib × CutsIn (now work) m × (v ≤ m) × MatchIn (cellsOf lib) (now work) m v x × PinsOf lib pins ⌝ }
     ensures { λ _. ⌜ now (work .exit) ≡ putAll (now (work .entry)) m (matchNets (cellsOf lib) (leavesAt (now (work .entry)) m v (x .cut)) x) ⌝ }
 {
     let cut = words::load_cut(work, m, v, x.cut);
     let leaves = cut.leaves;
-    let cells = lib.cells;
     let line = x.cell;
-    let c = cells[line];
-    mark_pins(work, m, leaves, x.order, x.mask, wide(c.pins));
+    let count = pins[line];
+    mark_pins(work, m, leaves, x.order, x.mask, wide(count));
 }
 
 // What feeds a phase is needed.
-fn mark_feeds(work: &mut [u16], lib: Library, m: usize, l: usize)
-    requires { ⌜ MatchesIn lib (now work) m × (l / 2 ≤ m) ⌝ }
+fn mark_feeds(work: &mut [u16], lib: Library, pins: [u16; 32], m: usize, l: usize)
+    requires { ⌜ MatchesIn lib (now work) m × (l / 2 ≤ m) × PinsOf lib pins ⌝ }
     ensures { λ _. ⌜ now (work .exit) ≡ putAll (now (work .entry)) m (feedsAt (cellsOf lib) (now (work .entry)) m l) ⌝ }
 {
     let p = words::phase(work, m, l);
     let s = p.source;
     match s {
-        Source::Cell(x) => mark_match(work, lib, m, l / 2, x),
+        Source::Cell(x) => mark_match(work, lib, pins, m, l / 2, x),
         Source::Inverter(_) => words::mark_needed(work, m, truth::opposite(l)),
         Source::Input => {}
         Source::Nothing => {}
@@ -408,26 +424,26 @@ fn mark_feeds(work: &mut [u16], lib: Library, m: usize, l: usize)
 }
 
 // "the source of a needed phase is fed by it"
-fn mark_phase(work: &mut [u16], lib: Library, m: usize, l: usize)
-    requires { ⌜ MatchesIn lib (now work) m × (l / 2 ≤ m) ⌝ }
+fn mark_phase(work: &mut [u16], lib: Library, pins: [u16; 32], m: usize, l: usize)
+    requires { ⌜ MatchesIn lib (now work) m × (l / 2 ≤ m) × PinsOf lib pins ⌝ }
     ensures { λ _. ⌜ now (work .exit) ≡ fedOnce (cellsOf lib) (now (work .entry)) m l ⌝ }
 {
     if words::is_needed(work, m, l) {
-        mark_feeds(work, lib, m, l);
+        mark_feeds(work, lib, pins, m, l);
     }
 }
 
 // Both phases of a variable: one that an inverter drives before the one that feeds it.
-fn mark_variable(work: &mut [u16], lib: Library, m: usize, v: usize)
-    requires { ⌜ MatchesIn lib (now work) m × (v ≤ m) ⌝ }
+fn mark_variable(work: &mut [u16], lib: Library, pins: [u16; 32], m: usize, v: usize)
+    requires { ⌜ MatchesIn lib (now work) m × (v ≤ m) × PinsOf lib pins ⌝ }
     ensures { λ _. ⌜ now (work .exit) ≡ fedTurn (cellsOf lib) (now (work .entry)) m v ⌝ }
 {
     if words::is_inverted(words::positive(work, m, v)) {
-        mark_phase(work, lib, m, 2 * v);
-        mark_phase(work, lib, m, 2 * v + 1);
+        mark_phase(work, lib, pins, m, 2 * v);
+        mark_phase(work, lib, pins, m, 2 * v + 1);
     } else {
-        mark_phase(work, lib, m, 2 * v + 1);
-        mark_phase(work, lib, m, 2 * v);
+        mark_phase(work, lib, pins, m, 2 * v + 1);
+        mark_phase(work, lib, pins, m, 2 * v);
     }
 }
 
@@ -445,15 +461,15 @@ fn mark_outputs(work: &mut [u16], m: usize, outputs: usize)
 }
 
 // "or the source of a needed phase is fed by it": each variable after all that it can feed.
-fn mark_variables(work: &mut [u16], lib: Library, m: usize, n: usize)
-    requires { ⌜ MatchesIn lib (now work) m × SlotsIn (now work) m n ⌝ }
+fn mark_variables(work: &mut [u16], lib: Library, pins: [u16; 32], m: usize, n: usize)
+    requires { ⌜ MatchesIn lib (now work) m × SlotsIn (now work) m n × PinsOf lib pins ⌝ }
     ensures { λ _. ⌜ now (work .exit) ≡ fedDown (cellsOf lib) (now (work .entry)) m n ⌝ }
 {
     let mut i = n;
     while i > 0 {
         i -= 1;
         let v = words::slot(work, m, i);
-        mark_variable(work, lib, m, v);
+        mark_variable(work, lib, pins, m, v);
     }
 }
 
@@ -462,7 +478,8 @@ pub fn mark(work: &mut [u16], lib: Library, h: Header)
     requires { ⌜ MatchesIn lib (now work) (h .size) × OutputsIn (now work) (h .size) (h .outputs) × SlotsIn (now work) (h .size) (placedOf h) ⌝ }
     ensures { λ _. ⌜ now (work .exit) ≡ marked (cellsOf lib) (now (work .entry)) (h .size) (h .outputs) (placedOf h) ⌝ }
 {
+    let pins = pin_counts(lib);
     let m = h.size;
     mark_outputs(work, m, h.outputs);
-    mark_variables(work, lib, m, words::placed(h));
+    mark_variables(work, lib, pins, m, words::placed(h));
 }

@@ -13,15 +13,18 @@ use borrow.Author.Needs.{needs}
 use Rattle.cover.proofs.mark.Statement.{statement}
 use Rattle.cover.proofs.mark.Tie as tie
 
+pin-counts-requires : tie.Need-pin-counts-requires
+pin-counts-requires c κs = c .before .pre .0 .usable
+
 mark-outputs-requires : tie.Need-mark-outputs-requires
 mark-outputs-requires c κs = search needs
 
 placed-requires : tie.Need-placed-requires
-placed-requires c κs = let s = c .before .before .before .before .before .before in omega (arith, s .pre .2 .few, s .pre .2 .room .small)
+placed-requires c κs = let s = c .before .before .before .before .before .before .before in omega (arith, s .pre .2 .few, s .pre .2 .room .small)
 
 mark-variables-requires : tie.Need-mark-variables-requires
 mark-variables-requires c κs =
-    let s = c .before .before .before .before .before .before .before in
+    let s = c .before .before .before .before .before .before .before .before in
     let a = s .args in
     let w : List ℕ = a .work .now in
     let m : ℕ = a .h .size in
@@ -33,6 +36,7 @@ mark-variables-requires c κs =
     let e : c .before .before .before .before .mark-outputs .last .0 ≡ w′ = c .before .before .before .before .mark-outputs .ensures in (
       subst (λ (x : List ℕ). MatchesIn (a .lib) x m) (sym e) (needs-matches m (a .lib) w w′ k (s .pre .0)),
       subst (λ (x : List ℕ). SlotsIn x m n) (sym e) (needs-slots m n w w′ k (subst (SlotsIn w m) (sym (p .ensures)) (s .pre .2))),
+      c .before .before .before .before .before .before .pin-counts .ensures,
     )
 
 same-length : tie.Need-same-length
@@ -41,7 +45,7 @@ same-length c = search needs
 returns : tie.Need-returns
 unfolding marked
 returns c =
-    let a = c .before .before .before .before .before .before .before .before .before .before .args in
+    let a = c .before .before .before .before .before .before .before .before .before .before .before .args in
     c .before .before .mark-variables .ensures
     ∙ ap (fedDown (cellsOf (a .lib)) _ (a .h .size)) (c .before .before .before .placed .ensures)
     ∙ ap (λ (x : List ℕ). fedDown (cellsOf (a .lib)) x (a .h .size) (placedOf (a .h))) (c .before .before .before .before .before .before .before .mark-outputs .ensures)
@@ -50,6 +54,7 @@ pub mark-spec : {M : Type 1} → statement M
 mark-spec =
     tie.close
     (tie.spec
+    pin-counts-requires
     mark-outputs-requires
     placed-requires
     mark-variables-requires

@@ -25,7 +25,7 @@ mark-match-requires c κs =
     let a = s .args in
     let p = c .before .before .before .before .phase in
     let e = ap (λ (x : Phase). x .source) (sym (p .ensures)) ∙ c .before .before .s .given .1 in
-    (s .pre .0 .usable, s .pre .0 .cuts, s .pre .1, s .pre .0 .matches (a .l) (s .pre .1) (c .before .before .s .given .0 .0) e)
+    (s .pre .0 .usable, s .pre .0 .cuts, s .pre .1, s .pre .0 .matches (a .l) (s .pre .1) (c .before .before .s .given .0 .0) e, s .pre .2)
 
 enum-told : tie.Need-enum-told
 enum-told c = search needs

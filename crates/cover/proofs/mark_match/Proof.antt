@@ -4,12 +4,11 @@ use Prim.Native.Nat.{ℕ}
 use native.Mathlib.Omega.{arith}
 use Rattle.model.specs.Cells.{cellAt, cellsOf}
 use Rattle.model.specs.Matching.{fedNets}
-use Rattle.model.specs.declared.Cell.{Cell}
 use Rattle.model.specs.declared.Cut.{Cut}
 use Rattle.truth.specs.Variant.{placesOf}
 use Rattle.cover.specs.Asked.{PinsIn}
 use Rattle.cover.specs.Marking.{putAll}
-use Rattle.cover.proofs.Marks.{cell-is, match-pins, match-nets}
+use Rattle.cover.proofs.Marks.{match-pins, match-nets}
 use borrow.Author.Needs.{needs}
 use Rattle.cover.proofs.mark_match.Statement.{statement}
 use Rattle.cover.proofs.mark_match.Tie as tie
@@ -19,22 +18,22 @@ load-cut-requires c κs =
     let s = c .before .before in
     (s .pre .1 .room, s .pre .2, omega (arith, s .pre .3 .cut, s .pre .1 .few (s .args .v) (s .pre .2)))
 
-mul-c : tie.Need-mul-c
-mul-c c = let s = c .before .before .before .before .before in omega (arith, s .pre .3 .cell, s .pre .0 .whole, s .pre .0 .few)
+mul-count : tie.Need-mul-count
+mul-count c = let s = c .before .before .before .before in omega (arith, s .pre .3 .cell, s .pre .0 .whole, s .pre .0 .few)
 
-array-copy-out-c : tie.Need-array-copy-out-c
-array-copy-out-c c = let s = c .before .before .before .before .before in omega (arith, s .pre .3 .cell, s .pre .0 .whole, s .pre .0 .few)
+array-read-count : tie.Need-array-read-count
+array-read-count c = let s = c .before .before .before .before in omega (arith, s .pre .3 .cell, s .pre .0 .whole, s .pre .0 .few, s .pre .4 .long)
 
 wide-requires : tie.Need-wide-requires
 wide-requires c κs = search needs
 
 mark-pins-requires : tie.Need-mark-pins-requires
 mark-pins-requires c κs =
-    let s = c .before .before .before .before .before .before .before .before in
+    let s = c .before .before .before .before .before .before in
     let a = s .args in
-    let cut = c .before .before .before .before .before .load-cut in
+    let cut = c .before .before .before .load-cut in
     let e : c .wide .result ≡ cellAt (cellsOf (a .lib)) (a .x .cell) .pins =
-    c .wide .ensures .0 ∙ ap (λ (y : Cell). y .pins) (sym (cell-is (a .lib) (a .x .cell) (s .pre .3 .cell))) in (
+    c .wide .ensures .0 ∙ s .pre .4 .listed (a .x .cell) (s .pre .3 .cell) in (
       s .pre .1 .room,
       subst (λ (n : ℕ). PinsIn (cut .result .leaves) (a .m) (a .x .order) n) (sym e)
           (subst (λ (y : Cut). PinsIn (y .leaves) (a .m) (a .x .order) (cellAt (cellsOf (a .lib)) (a .x .cell) .pins)) (sym (cut .ensures))
@@ -47,11 +46,11 @@ same-length c = search needs
 returns : tie.Need-returns
 returns c =
     let t = c .before .before .before in
-    let s = c .before .before .before .before .before .before .before .before .before .before .before in
+    let s = c .before .before .before .before .before .before .before .before .before in
     let a = s .args in
-    let cut = t .before .before .before .before .before .load-cut in
+    let cut = t .before .before .before .load-cut in
     let e : t .wide .result ≡ cellAt (cellsOf (a .lib)) (a .x .cell) .pins =
-    t .wide .ensures .0 ∙ ap (λ (y : Cell). y .pins) (sym (cell-is (a .lib) (a .x .cell) (s .pre .3 .cell))) in
+    t .wide .ensures .0 ∙ s .pre .4 .listed (a .x .cell) (s .pre .3 .cell) in
     c .before .before .mark-pins .ensures
     ∙ ap (λ (n : ℕ). putAll (a .work .now) (a .m) (fedNets n (placesOf (a .x .order)) (a .x .mask) (cut .result .leaves))) e
     ∙ ap (λ (y : Cut). putAll (a .work .now) (a .m) (fedNets (cellAt (cellsOf (a .lib)) (a .x .cell) .pins) (placesOf (a .x .order)) (a .x .mask) (y .leaves))) (cut .ensures)
@@ -62,8 +61,8 @@ mark-match-spec =
     tie.close
     (tie.spec
     load-cut-requires
-    mul-c
-    array-copy-out-c
+    mul-count
+    array-read-count
     wide-requires
     mark-pins-requires
     same-length

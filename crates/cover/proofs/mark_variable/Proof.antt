@@ -38,7 +38,7 @@ mark-phase-requires-2 c κs =
     let w : List ℕ = a .work .now in
     let w′ : List ℕ = fedOnce (cellsOf (a .lib)) w (a .m) (2 * a .v) in
     let i : MatchesIn (a .lib) w′ (a .m) = needs-matches (a .m) (a .lib) w w′ (once-kept (a .m) (a .lib) w (2 * a .v) (s .pre .0) (omega arith)) (s .pre .0) in
-    (subst (λ (x : List ℕ). MatchesIn (a .lib) x (a .m)) (sym (c .before .before .before .mark-phase .ensures)) i, omega arith)
+    (subst (λ (x : List ℕ). MatchesIn (a .lib) x (a .m)) (sym (c .before .before .before .mark-phase .ensures)) i, omega arith, s .pre .2)
 
 mul-mark-phase-3 : tie.Need-mul-mark-phase-3
 mul-mark-phase-3 c = search needs
@@ -59,7 +59,7 @@ mark-phase-requires-4 c κs =
     let w : List ℕ = a .work .now in
     let w′ : List ℕ = fedOnce (cellsOf (a .lib)) w (a .m) (2 * a .v + 1) in
     let i : MatchesIn (a .lib) w′ (a .m) = needs-matches (a .m) (a .lib) w w′ (once-kept (a .m) (a .lib) w (2 * a .v + 1) (s .pre .0) (omega arith)) (s .pre .0) in
-    (subst (λ (x : List ℕ). MatchesIn (a .lib) x (a .m)) (sym (c .before .before .before .mark-phase3 .ensures)) i, omega arith)
+    (subst (λ (x : List ℕ). MatchesIn (a .lib) x (a .m)) (sym (c .before .before .before .mark-phase3 .ensures)) i, omega arith, s .pre .2)
 
 same-length : tie.Need-same-length
 same-length c = search needs

@@ -24,10 +24,10 @@ unfolding fedDown
 done cells w m i e = ap (fedDown cells w m) e
 
 abbrev Inv-loop : tie.InvT-loop
-Inv-loop work₀ lib m n i₀ work i = (i ≤ n) × MatchesIn lib work m × SlotsIn work m n × (length work ≡ length work₀) × (fedDown (cellsOf lib) work m i ≡ fedDown (cellsOf lib) work₀ m n)
+Inv-loop work₀ lib pins m n i₀ work i = (i ≤ n) × MatchesIn lib work m × SlotsIn work m n × (length work ≡ length work₀) × (fedDown (cellsOf lib) work m i ≡ fedDown (cellsOf lib) work₀ m n)
 
 abbrev μ-loop : tie.MeasureT-loop
-μ-loop work₀ lib m n i₀ work i = i
+μ-loop work₀ lib pins m n i₀ work i = i
 
 loop-holds : tie.Need-loop-holds Inv-loop μ-loop
 loop-holds c = (omega arith, c .before .pre .0, c .before .pre .1, refl, refl)
@@ -43,10 +43,11 @@ slot-requires c κs =
 mark-variable-requires : tie.Need-mark-variable-requires Inv-loop μ-loop
 mark-variable-requires c κs =
     let l = c .before .before .before .before in
-    let a = c .before .before .before .before .before .before .args in
+    let s = c .before .before .before .before .before .before in
+    let a = s .args in
     let h : 0 < l .loop .i = c .before .before .before .loop-test .taken in
     let b : l .loop .i ≤ a .n = l .loop .inv .0 in
-    (l .loop .inv .1, subst (λ (x : ℕ). x ≤ a .m) (sym (c .before .slot .ensures)) (l .loop .inv .2 .within (l .loop .i - 1) (omega arith)))
+    (l .loop .inv .1, subst (λ (x : ℕ). x ≤ a .m) (sym (c .before .slot .ensures)) (l .loop .inv .2 .within (l .loop .i - 1) (omega arith)), s .pre .2)
 
 loop-less : tie.Need-loop-less Inv-loop μ-loop
 loop-less c = omega arith
