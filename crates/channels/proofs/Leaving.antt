@@ -21,23 +21,23 @@ use Rattle.channels.specs.Pairs.{Heads, sumFor, secondFor, firstFor, pai
 
 -- ---- what is left
 
-pub pair-as : {lib : Library} {a b : Channel} {r s : Read Heads} {work first second : List ℕ} {answer : Two} {y u w : List ℕ}
-    → r ≡ s → PairLeft lib a b s work first second answer y u w → PairLeft lib a b r work first second answer y u w
-pair-as {lib = lib} {a = a} {b = b} {work = work} {first = first} {second = second} {answer = answer} {y = y} {u = u} {w = w} e l =
-    subst (λ (x : Read Heads). PairLeft lib a b x work first second answer y u w) (sym e) l
+pub pair-as : {ranged : Bool} {lib : Library} {a b : Channel} {r s : Read Heads} {work first second : List ℕ} {answer : Two} {y u w : List ℕ}
+    → r ≡ s → PairLeft ranged lib a b s work first second answer y u w → PairLeft ranged lib a b r work first second answer y u w
+pair-as {ranged = ranged} {lib = lib} {a = a} {b = b} {work = work} {first = first} {second = second} {answer = answer} {y = y} {u = u} {w = w} e l =
+    subst (λ (x : Read Heads). PairLeft ranged lib a b x work first second answer y u w) (sym e) l
 
 -- "neither is mapped and work memory is unchanged"
-pub pair-early : (lib : Library) (a b : Channel) (r : Read Heads) (n k : ℕ) → r ≡ fault n k → (work first second : List ℕ) (answer : Two)
-    → answer ≡ record { first = Refused n k; second = Refused n k } → PairLeft lib a b r work first second answer work first second
+pub pair-early : (ranged : Bool) (lib : Library) (a b : Channel) (r : Read Heads) (n k : ℕ) → r ≡ fault n k → (work first second : List ℕ) (answer : Two)
+    → answer ≡ record { first = Refused n k; second = Refused n k } → PairLeft ranged lib a b r work first second answer work first second
 unfolding pairFor workFor answersOf answerOf textAfter
-pair-early lib a b r n k e work first second answer q = pair-as e (record { answers = q; words = refl; firstBytes = refl; secondBytes = refl })
+pair-early ranged lib a b r n k e work first second answer q = pair-as e (record { answers = q; words = refl; firstBytes = refl; secondBytes = refl })
 
 -- each channel mapped, and the words zero
-pub pair-done : (lib : Library) (a b : Channel) (r : Read Heads) (h k : Header) → r ≡ holds (record { first = h; second = k }) → (work first second : List ℕ) (p q : Answer) (y u w : List ℕ)
-    → Told (graphFor lib (a .graph) (a .arrivals) h (a .bytes)) first p u → Told (graphFor lib (b .graph) (b .arrivals) k (b .bytes)) second q w → y ≡ replicate (length work) 0
-    → PairLeft lib a b r work first second (record { first = p; second = q }) y u w
+pub pair-done : (ranged : Bool) (lib : Library) (a b : Channel) (r : Read Heads) (h k : Header) → r ≡ holds (record { first = h; second = k }) → (work first second : List ℕ) (p q : Answer) (y u w : List ℕ)
+    → Told (graphFor ranged lib (a .graph) (a .arrivals) h (a .bytes)) first p u → Told (graphFor ranged lib (b .graph) (b .arrivals) k (b .bytes)) second q w → y ≡ replicate (length work) 0
+    → PairLeft ranged lib a b r work first second (record { first = p; second = q }) y u w
 unfolding pairFor workFor answersOf
-pair-done lib a b r h k e work first second p q y u w t v z =
+pair-done ranged lib a b r h k e work first second p q y u w t v z =
     pair-as e (record { answers = ap₂ (λ (x x′ : Answer). record { first = x; second = x′ }) (t .answers) (v .answers); words = z; firstBytes = t .bytes; secondBytes = v .bytes })
 
 -- ---- the refusals tried up to 10

@@ -11,7 +11,7 @@ use mir.Facts.{and-yes, leb-yes}
 use Rattle.model.specs.Limits.{need}
 use Rattle.model.specs.Reading.{Read, holds, fault, next, unless}
 use Rattle.model.specs.Cells.{cellsOf, libraryOf, libraryAnswer}
-use Rattle.model.specs.LibraryText.{readLibrary}
+use Rattle.model.specs.LibraryText.{readLibrary, isRanged}
 use Rattle.model.specs.GraphText.{readHeader, readGraph}
 use Rattle.model.specs.ArrivalsText.{readArrivals, timedBy}
 use Rattle.model.specs.Graph.{Graph}
@@ -59,10 +59,10 @@ module _ (library : List ℕ) (a b : Channel) (work first second : List ℕ) whe
   call = twoCallOf library a b work
 
   -- what is left by a reading that the call comes to is what demand 1 asks
-  of-pair : (lib : Library) (r : Read Heads) → needsOf call ≡ needsIn r → mapTwo call ≡ pairFor lib a b r → (answer : Two) (y u w : List ℕ)
-      → PairLeft lib a b r work first second answer y u w → TwoMemory call work first second answer y u w
+  of-pair : (ranged : Bool) (lib : Library) (r : Read Heads) → needsOf call ≡ needsIn r → mapTwo call ≡ pairFor ranged lib a b r → (answer : Two) (y u w : List ℕ)
+      → PairLeft ranged lib a b r work first second answer y u w → TwoMemory call work first second answer y u w
   unfolding answersOf
-  of-pair lib r n o answer y u w l =
+  of-pair ranged lib r n o answer y u w l =
       let is : answer ≡ answersOf (mapTwo call) = l .answers ∙ ap answersOf (sym o) in
       record {
         answers = is;
@@ -147,7 +147,7 @@ module _ (library : List ℕ) (a b : Channel) (work first second : List ℕ) whe
     module _ (cs : List Cell) (isLibrary : readLibrary library ≡ holds cs) (lib : Library) (isCells : cellsOf lib ≡ cs) where
       -- a channel alone, once its texts are short and its header is read
       alone-is : (ch : Channel) → short (alone library ch 0) ≡ true → (h : Header) → readHeader (ch .graph) ≡ holds h
-          → mapTexts (alone library ch (need (h .size) (h .outputs))) ≡ graphFor lib (ch .graph) (ch .arrivals) h (ch .bytes)
+          → mapTexts (alone library ch (need (h .size) (h .outputs))) ≡ graphFor (isRanged library) lib (ch .graph) (ch .arrivals) h (ch .bytes)
       unfolding mapTexts readTexts unless next graphFor
       alone-is ch s h e =
           ap (mapDesign (ch .bytes))
@@ -160,7 +160,7 @@ module _ (library : List ℕ) (a b : Channel) (work first second : List ℕ) whe
           words = need (h .size) (h .outputs)
 
           behind : List Cell → Header → Read Design
-          behind cells k = next (readGraph (ch .graph) k) (λ g. next (readArrivals (k .inputs) (ch .arrivals)) (λ es. holds (record { cells = cells; graph = timedBy g es })))
+          behind cells k = next (readGraph (ch .graph) k) (λ g. next (readArrivals (k .inputs) (ch .arrivals)) (λ es. holds (record { cells = cells; ranged = isRanged library; graph = timedBy g es })))
 
           lent : List Cell → Header → Read Design
           lent cells k = unless (leb (need (k .size) (k .outputs)) words) 10 0 (behind cells k)
@@ -219,11 +219,11 @@ module _ (library : List ℕ) (a b : Channel) (work first second : List ℕ) whe
           go false y f g = absurd f
 
       -- and the outcomes are those of the passes
-      outcomes-are : mapTwo call ≡ pairFor lib a b (firstFor (length work) a b)
+      outcomes-are : mapTwo call ≡ pairFor (isRanged library) lib a b (firstFor (length work) a b)
       unfolding mapTwo mapNeeds needsIn pairFor firstFor secondFor sumFor
       outcomes-are = ap (mapNeeds call) needs-are ∙ go (firstFor (length work) a b) refl
         where
-          go : (r : Read Heads) → firstFor (length work) a b ≡ r → mapNeeds call (needsIn r) ≡ pairFor lib a b r
+          go : (r : Read Heads) → firstFor (length work) a b ≡ r → mapNeeds call (needsIn r) ≡ pairFor (isRanged library) lib a b r
           go (fault n k) e = refl
           go (holds x) e =
               let f = next-out (readHeader (a .graph)) (secondFor (length work) b) x e in
@@ -237,7 +237,7 @@ module _ (library : List ℕ) (a b : Channel) (work first second : List ℕ) whe
 
     pub record IsRead : Type 0 where
       pub ok : LibraryOk (l .library)
-      pub goes : (answer : Two) (y u w : List ℕ) → PairLeft (l .library) a b (firstFor (length work) a b) work first second answer y u w → TwoMemory call work first second answer y u w
+      pub goes : (answer : Two) (y u w : List ℕ) → PairLeft (isRanged library) (l .library) a b (firstFor (length work) a b) work first second answer y u w → TwoMemory call work first second answer y u w
 
     pub library-read : l .verdict ≡ Accepted → IsRead
     unfolding libraryAnswer
@@ -250,5 +250,5 @@ module _ (library : List ℕ) (a b : Channel) (work first second : List ℕ) whe
             let same : cellsOf (l .library) ≡ cs = ap cellsOf is ∙ cells-back cs in
             record {
               ok = subst LibraryOk (sym is) (library-ok library cs q);
-              goes = of-pair (l .library) (firstFor (length work) a b) (needs-are cs q (l .library) same) (outcomes-are cs q (l .library) same);
+              goes = of-pair (isRanged library) (l .library) (firstFor (length work) a b) (needs-are cs q (l .library) same) (outcomes-are cs q (l .library) same);
             }

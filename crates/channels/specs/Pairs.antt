@@ -1,6 +1,6 @@
 -- What comes of two channels once the library is read, from each refusal tried up to 10 on. Assumes nothing.
 use mathlib.Core.Path.{_≡_}
-use mathlib.Core.Bool.{_&&_}
+use mathlib.Core.Bool.{Bool, _&&_}
 use mathlib.Core.List.{List}
 use Prim.Native.Nat.{ℕ, _+_}
 use lib.Dec.{leb}
@@ -40,12 +40,12 @@ firstFor words a b = next (readHeader (a .graph)) (secondFor words b)
 
 -- ---- the outcomes
 
-unfoldable pub pairFor : Library → Channel → Channel → Read Heads → Outcomes
+unfoldable pub pairFor : Bool → Library → Channel → Channel → Read Heads → Outcomes
 unfolding graphFor
-pairFor lib a b (fault n k) = record { first = refused n k; second = refused n k }
-pairFor lib a b (holds x) = record {
-  first = graphFor lib (a .graph) (a .arrivals) (x .first) (a .bytes);
-  second = graphFor lib (b .graph) (b .arrivals) (x .second) (b .bytes);
+pairFor ranged lib a b (fault n k) = record { first = refused n k; second = refused n k }
+pairFor ranged lib a b (holds x) = record {
+  first = graphFor ranged lib (a .graph) (a .arrivals) (x .first) (a .bytes);
+  second = graphFor ranged lib (b .graph) (b .arrivals) (x .second) (b .bytes);
 }
 
 unfoldable pub workFor : Read Heads → List ℕ → List ℕ
@@ -53,8 +53,8 @@ workFor (fault n k) work = work
 workFor (holds x) work = replicate (length work) 0
 
 -- both answers, and what is left of the memory lent
-pub record PairLeft (lib : Library) (a b : Channel) (r : Read Heads) (work first second : List ℕ) (answer : Two) (workLeft firstLeft secondLeft : List ℕ) : Type 0 where
-  pub answers : answer ≡ answersOf (pairFor lib a b r)
+pub record PairLeft (ranged : Bool) (lib : Library) (a b : Channel) (r : Read Heads) (work first second : List ℕ) (answer : Two) (workLeft firstLeft secondLeft : List ℕ) : Type 0 where
+  pub answers : answer ≡ answersOf (pairFor ranged lib a b r)
   pub words : workLeft ≡ workFor r work
-  pub firstBytes : firstLeft ≡ textAfter (pairFor lib a b r .first) first
-  pub secondBytes : secondLeft ≡ textAfter (pairFor lib a b r .second) second
+  pub firstBytes : firstLeft ≡ textAfter (pairFor ranged lib a b r .first) first
+  pub secondBytes : secondLeft ≡ textAfter (pairFor ranged lib a b r .second) second

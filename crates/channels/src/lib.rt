@@ -37,17 +37,18 @@ fn map_both(
     arrivals2: &[u8],
     h2: Header,
     lib: Library,
+    ranged: bool,
     work: &mut [u16],
     text1: &mut [u8],
     text2: &mut [u8],
 ) -> Two
     requires { ⌜ LibraryOk lib × (readHeader (now graph1) ≡ holds h1) × (readHeader (now graph2) ≡ holds h2) × (need (h1 .size) (h1 .outputs) ≤ length (now work)) × (need (h2 .size) (h2 .outputs) ≤ length (now work)) ⌝ }
-    ensures { λ r. ⌜ PairLeft lib (channelOf (now (graph1 .entry)) (now (arrivals1 .entry)) (now (text1 .entry))) (channelOf (now (graph2 .entry)) (now (arrivals2 .entry)) (now (text2 .entry))) (holds (record { first = h1; second = h2 })) (now (work .entry)) (now (text1 .entry)) (now (text2 .entry)) r (now (work .exit)) (now (text1 .exit)) (now (text2 .exit)) ⌝ }
+    ensures { λ r. ⌜ PairLeft ranged lib (channelOf (now (graph1 .entry)) (now (arrivals1 .entry)) (now (text1 .entry))) (channelOf (now (graph2 .entry)) (now (arrivals2 .entry)) (now (text2 .entry))) (holds (record { first = h1; second = h2 })) (now (work .entry)) (now (text1 .entry)) (now (text2 .entry)) r (now (work .exit)) (now (text1 .exit)) (now (text2 .exit)) ⌝ }
 {
     let mut sheet = matching::no_sheet();
     cover::match_library(lib, &mut sheet);
-    let first = mapper::load_graph(graph1, arrivals1, h1, lib, &sheet, work, text1);
-    let second = mapper::load_graph(graph2, arrivals2, h2, lib, &sheet, work, text2);
+    let first = mapper::load_graph(graph1, arrivals1, h1, lib, ranged, &sheet, work, text1);
+    let second = mapper::load_graph(graph2, arrivals2, h2, lib, ranged, &sheet, work, text2);
     words::clear_all(work);
     Two {
         first: first,
@@ -64,12 +65,13 @@ fn map_pair(
     arrivals2: &[u8],
     h2: Header,
     lib: Library,
+    ranged: bool,
     work: &mut [u16],
     text1: &mut [u8],
     text2: &mut [u8],
 ) -> Two
     requires { ⌜ LibraryOk lib × (readHeader (now graph1) ≡ holds h1) × (readHeader (now graph2) ≡ holds h2) ⌝ }
-    ensures { λ r. ⌜ PairLeft lib (channelOf (now (graph1 .entry)) (now (arrivals1 .entry)) (now (text1 .entry))) (channelOf (now (graph2 .entry)) (now (arrivals2 .entry)) (now (text2 .entry))) (sumFor (length (now (work .entry))) h1 h2) (now (work .entry)) (now (text1 .entry)) (now (text2 .entry)) r (now (work .exit)) (now (text1 .exit)) (now (text2 .exit)) ⌝ }
+    ensures { λ r. ⌜ PairLeft ranged lib (channelOf (now (graph1 .entry)) (now (arrivals1 .entry)) (now (text1 .entry))) (channelOf (now (graph2 .entry)) (now (arrivals2 .entry)) (now (text2 .entry))) (sumFor (length (now (work .entry))) h1 h2) (now (work .entry)) (now (text1 .entry)) (now (text2 .entry)) r (now (work .exit)) (now (text1 .exit)) (now (text2 .exit)) ⌝ }
 {
     let first = words::need_words(h1.size, h1.outputs);
     let second = words::need_words(h2.size, h2.outputs);
@@ -84,6 +86,7 @@ fn map_pair(
         arrivals2,
         h2,
         lib,
+        ranged,
         work,
         text1,
         text2,
@@ -98,12 +101,13 @@ fn map_second(
     graph2: &[u8],
     arrivals2: &[u8],
     lib: Library,
+    ranged: bool,
     work: &mut [u16],
     text1: &mut [u8],
     text2: &mut [u8],
 ) -> Two
     requires { ⌜ LibraryOk lib × (readHeader (now graph1) ≡ holds h1) ⌝ }
-    ensures { λ r. ⌜ PairLeft lib (channelOf (now (graph1 .entry)) (now (arrivals1 .entry)) (now (text1 .entry))) (channelOf (now (graph2 .entry)) (now (arrivals2 .entry)) (now (text2 .entry))) (secondFor (length (now (work .entry))) (channelOf (now (graph2 .entry)) (now (arrivals2 .entry)) (now (text2 .entry))) h1) (now (work .entry)) (now (text1 .entry)) (now (text2 .entry)) r (now (work .exit)) (now (text1 .exit)) (now (text2 .exit)) ⌝ }
+    ensures { λ r. ⌜ PairLeft ranged lib (channelOf (now (graph1 .entry)) (now (arrivals1 .entry)) (now (text1 .entry))) (channelOf (now (graph2 .entry)) (now (arrivals2 .entry)) (now (text2 .entry))) (secondFor (length (now (work .entry))) (channelOf (now (graph2 .entry)) (now (arrivals2 .entry)) (now (text2 .entry))) h1) (now (work .entry)) (now (text1 .entry)) (now (text2 .entry)) r (now (work .exit)) (now (text1 .exit)) (now (text2 .exit)) ⌝ }
 {
     if graph2.len() > 65536 {
         return both(1, 0);
@@ -121,6 +125,7 @@ fn map_second(
                 arrivals2,
                 h2,
                 lib,
+                ranged,
                 work,
                 text1,
                 text2,
@@ -137,12 +142,13 @@ fn map_first(
     graph2: &[u8],
     arrivals2: &[u8],
     lib: Library,
+    ranged: bool,
     work: &mut [u16],
     text1: &mut [u8],
     text2: &mut [u8],
 ) -> Two
     requires { ⌜ LibraryOk lib ⌝ }
-    ensures { λ r. ⌜ PairLeft lib (channelOf (now (graph1 .entry)) (now (arrivals1 .entry)) (now (text1 .entry))) (channelOf (now (graph2 .entry)) (now (arrivals2 .entry)) (now (text2 .entry))) (firstFor (length (now (work .entry))) (channelOf (now (graph1 .entry)) (now (arrivals1 .entry)) (now (text1 .entry))) (channelOf (now (graph2 .entry)) (now (arrivals2 .entry)) (now (text2 .entry)))) (now (work .entry)) (now (text1 .entry)) (now (text2 .entry)) r (now (work .exit)) (now (text1 .exit)) (now (text2 .exit)) ⌝ }
+    ensures { λ r. ⌜ PairLeft ranged lib (channelOf (now (graph1 .entry)) (now (arrivals1 .entry)) (now (text1 .entry))) (channelOf (now (graph2 .entry)) (now (arrivals2 .entry)) (now (text2 .entry))) (firstFor (length (now (work .entry))) (channelOf (now (graph1 .entry)) (now (arrivals1 .entry)) (now (text1 .entry))) (channelOf (now (graph2 .entry)) (now (arrivals2 .entry)) (now (text2 .entry)))) (now (work .entry)) (now (text1 .entry)) (now (text2 .entry)) r (now (work .exit)) (now (text1 .exit)) (now (text2 .exit)) ⌝ }
 {
     match aiger::header(graph1) {
         HeaderAnswer::Read(h1) => {
@@ -153,6 +159,7 @@ fn map_first(
                 graph2,
                 arrivals2,
                 lib,
+                ranged,
                 work,
                 text1,
                 text2,
@@ -198,12 +205,14 @@ pub fn map_two(
     match v {
         Verdict::Accepted => {
             let lib = l.library;
+            let ranged = library::is_ranged(cells);
             map_first(
                 graph1,
                 arrivals1,
                 graph2,
                 arrivals2,
                 lib,
+                ranged,
                 work,
                 text1,
                 text2,

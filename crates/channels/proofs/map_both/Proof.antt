@@ -30,7 +30,7 @@ load-graph-requires-2 c κs =
     let at-no-sheet = at-match-library .before .before in
     let start = at-no-sheet .before .before .before .before .before .before .before .before in
     let sheet = library-sheet (start .args .lib) (at-no-sheet .no-sheet .result) _ (start .pre .0 .usable) (at-no-sheet .no-sheet .ensures) (at-match-library .match-library .ensures) in
-    let long : length (at-load-graph .load-graph .last .1 .1 .1 .1 .1 .0) ≡ length (start .args .work .now) = omega (arith, at-load-graph .load-graph .kept .1 .1 .1 .1 .1 .0) in
+    let long : length (at-load-graph .load-graph .last .1 .1 .1 .1 .1 .1 .0) ≡ length (start .args .work .now) = omega (arith, at-load-graph .load-graph .kept .1 .1 .1 .1 .1 .1 .0) in
     (start .pre .0, start .pre .2, omega (arith, long, start .pre .4), sheet)
 
 clear-all-requires : tie.Need-clear-all-requires
@@ -53,9 +53,9 @@ returns c =
     let s = at-first .before .before .before .before .before .before .before .before .before .before .before .before .before .before .args in
     let a = channelOf (s .graph1 .now) (s .arrivals1 .now) (s .text1 .now) in
     let b = channelOf (s .graph2 .now) (s .arrivals2 .now) (s .text2 .now) in
-    let long : length (at-second .load-graph2 .last .1 .1 .1 .1 .1 .0) ≡ length (s .work .now) =
-    omega (arith, at-second .load-graph2 .kept .1 .1 .1 .1 .1 .0, at-first .load-graph .kept .1 .1 .1 .1 .1 .0) in
-    pair-done (s .lib) a b _ (s .h1) (s .h2) refl (s .work .now) (s .text1 .now) (s .text2 .now) _ _ _ _ _ (at-first .load-graph .ensures) (at-second .load-graph2 .ensures)
+    let long : length (at-second .load-graph2 .last .1 .1 .1 .1 .1 .1 .0) ≡ length (s .work .now) =
+    omega (arith, at-second .load-graph2 .kept .1 .1 .1 .1 .1 .1 .0, at-first .load-graph .kept .1 .1 .1 .1 .1 .1 .0) in
+    pair-done (s .ranged) (s .lib) a b _ (s .h1) (s .h2) refl (s .work .now) (s .text1 .now) (s .text2 .now) _ _ _ _ _ (at-first .load-graph .ensures) (at-second .load-graph2 .ensures)
     (at-clear-all .clear-all .ensures ∙ ap (λ (n : ℕ). replicate n 0) long)
 
 pub map-both-spec : {M : Type 1} → statement M

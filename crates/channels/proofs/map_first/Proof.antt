@@ -55,7 +55,7 @@ returns-2 c =
     let s = at-header .before .before .before .before .before .before .before .before .args in
     let a = channelOf (s .graph1 .now) (s .arrivals1 .now) (s .text1 .now) in
     let b = channelOf (s .graph2 .now) (s .arrivals2 .now) (s .text2 .now) in
-    pair-early (s .lib) a b _ _ _ (first-stops (length (s .work .now)) a b _ _ (header-fault (readHeader (s .graph1 .now)) _ _ (sym (at-header .header .ensures .0) ∙ at-number .number .given .1))) (s .work .now) (s .text1 .now) (s .text2 .now) (c .both .result) (c .both .ensures)
+    pair-early (s .ranged) (s .lib) a b _ _ _ (first-stops (length (s .work .now)) a b _ _ (header-fault (readHeader (s .graph1 .now)) _ _ (sym (at-header .header .ensures .0) ∙ at-number .number .given .1))) (s .work .now) (s .text1 .now) (s .text2 .now) (c .both .result) (c .both .ensures)
 
 pub map-first-spec : {M : Type 1} → statement M
 map-first-spec =

@@ -36,7 +36,7 @@ returns c =
     let s = at-need .before .before .before .before .before .before .before .before .before .args in
     let a = channelOf (s .graph1 .now) (s .arrivals1 .now) (s .text1 .now) in
     let b = channelOf (s .graph2 .now) (s .arrivals2 .now) (s .text2 .now) in
-    pair-early (s .lib) a b _ 10 0 (sum-short (length (s .work .now)) (s .h1) (s .h2) (omega (arith, at-need .before .need-words .ensures, at-need .need-words2 .ensures))) (s .work .now) (s .text1 .now) (s .text2 .now) (c .both .result) (c .both .ensures)
+    pair-early (s .ranged) (s .lib) a b _ 10 0 (sum-short (length (s .work .now)) (s .h1) (s .h2) (omega (arith, at-need .before .need-words .ensures, at-need .need-words2 .ensures))) (s .work .now) (s .text1 .now) (s .text2 .now) (c .both .result) (c .both .ensures)
 
 map-both-requires : tie.Need-map-both-requires
 map-both-requires c κs = search needs

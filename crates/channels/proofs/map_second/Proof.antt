@@ -19,7 +19,7 @@ returns c =
     let s = c .before .before .before .before .before .before .before .before .before .args in
     let a = channelOf (s .graph1 .now) (s .arrivals1 .now) (s .text1 .now) in
     let b = channelOf (s .graph2 .now) (s .arrivals2 .now) (s .text2 .now) in
-    pair-early (s .lib) a b _ 1 0 (second-long (length (s .work .now)) b (s .h1) (λ x y. omega arith)) (s .work .now) (s .text1 .now) (s .text2 .now) (c .both .result) (c .both .ensures)
+    pair-early (s .ranged) (s .lib) a b _ 1 0 (second-long (length (s .work .now)) b (s .h1) (λ x y. omega arith)) (s .work .now) (s .text1 .now) (s .text2 .now) (c .both .result) (c .both .ensures)
 
 both-requires-2 : tie.Need-both-requires-2
 both-requires-2 c κs = search needs
@@ -29,7 +29,7 @@ returns-2 c =
     let s = c .before .before .before .before .before .before .before .before .before .before .args in
     let a = channelOf (s .graph1 .now) (s .arrivals1 .now) (s .text1 .now) in
     let b = channelOf (s .graph2 .now) (s .arrivals2 .now) (s .text2 .now) in
-    pair-early (s .lib) a b _ 1 0 (second-long (length (s .work .now)) b (s .h1) (λ x y. omega arith)) (s .work .now) (s .text1 .now) (s .text2 .now) (c .both2 .result) (c .both2 .ensures)
+    pair-early (s .ranged) (s .lib) a b _ 1 0 (second-long (length (s .work .now)) b (s .h1) (λ x y. omega arith)) (s .work .now) (s .text1 .now) (s .text2 .now) (c .both2 .result) (c .both2 .ensures)
 
 header-requires : tie.Need-header-requires
 header-requires c κs = search needs
@@ -75,7 +75,7 @@ returns-4 c =
     let s = at-header .before .before .before .before .before .before .before .before .before .before .args in
     let a = channelOf (s .graph1 .now) (s .arrivals1 .now) (s .text1 .now) in
     let b = channelOf (s .graph2 .now) (s .arrivals2 .now) (s .text2 .now) in
-    pair-early (s .lib) a b _ _ _ (second-stops (length (s .work .now)) b (s .h1) (omega arith) (omega arith) _ _ (header-fault (readHeader (s .graph2 .now)) _ _ (sym (at-header .header .ensures .0) ∙ at-number .number .given .1))) (s .work .now) (s .text1 .now) (s .text2 .now) (c .both3 .result) (c .both3 .ensures)
+    pair-early (s .ranged) (s .lib) a b _ _ _ (second-stops (length (s .work .now)) b (s .h1) (omega arith) (omega arith) _ _ (header-fault (readHeader (s .graph2 .now)) _ _ (sym (at-header .header .ensures .0) ∙ at-number .number .given .1))) (s .work .now) (s .text1 .now) (s .text2 .now) (c .both3 .result) (c .both3 .ensures)
 
 pub map-second-spec : {M : Type 1} → statement M
 map-second-spec =

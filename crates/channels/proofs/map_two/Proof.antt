@@ -1,5 +1,8 @@
 -- `channels::map_two` meets its contract: demand 1 from the functions below it, what is promised of the definitions from their laws. Assumes nothing.
 use native.Mathlib.Omega.{arith}
+use mathlib.Core.Path.{subst}
+use mathlib.Core.Bool.{Bool}
+use lib.ListN.{length}
 use Prim.Native.Nat.{ℕ}
 use mathlib.Core.List.{List}
 use Rattle.model.specs.Channels.{Channel, channelOf, twoCallOf}
@@ -7,6 +10,7 @@ use Rattle.model.specs.TwoDemands.{TwoMemory, TogetherRefused, Independent, Eac
 use Rattle.model.specs.declared.Two.{Two}
 use Rattle.theory.proofs.Channels.{together-refused, independent, demand-each, demand-twin-channels, demand-ends-two}
 use Rattle.mapper.specs.Stages.{Fits}
+use Rattle.channels.specs.Pairs.{firstFor, PairLeft}
 use Rattle.channels.proofs.Whole.{memory-fits, long-text, library-stops, library-read}
 use borrow.Author.Needs.{needs}
 use Rattle.channels.proofs.map_two.Statement.{statement}
@@ -60,9 +64,12 @@ read-requires c κs = search needs
 enum-told : tie.Need-enum-told
 enum-told c = search needs
 
+is-ranged-requires : tie.Need-is-ranged-requires
+is-ranged-requires c κs = search needs
+
 map-first-requires : tie.Need-map-first-requires
 map-first-requires c κs =
-    let t = c .before .before .before .before in
+    let t = c .before .before .before .before .before in
     let l = t .before .before .read in
     let s = t .before .before .before .before .before .before .before .before .before .before .before .before .before .before .args in
     let a = channelOf (s .graph1 .now) (s .arrivals1 .now) (s .text1 .now) in
@@ -87,14 +94,14 @@ same-length-3 c = search needs
 returns-4 : tie.Need-returns-4
 returns-4 c =
     let h = c .before .before .before .before .before .before .map-first in
-    let t = c .before .before .before .before .before .before .before .before .before .before .before in
+    let t = c .before .before .before .before .before .before .before .before .before .before .before .before in
     let l = t .before .before .read in
     let s = t .before .before .before .before .before .before .before .before .before .before .before .before .before .before .args in
     let a = channelOf (s .graph1 .now) (s .arrivals1 .now) (s .text1 .now) in
     let b = channelOf (s .graph2 .now) (s .arrivals2 .now) (s .text2 .now) in
     let r = library-read (s .cells .now) a b (s .work .now) (s .text1 .now) (s .text2 .now) (omega arith) (omega arith) (omega arith) (l .result) (l .ensures .0) (t .enum-told .given .1) in
     demanded (s .cells .now) a b (s .work .now) (s .text1 .now) (s .text2 .now) _ _ _ _
-    (r .goes (h .result) (h .last .1 .1 .1 .1 .1 .0) (h .last .1 .1 .1 .1 .1 .1 .0) (h .last .1 .1 .1 .1 .1 .1 .1 .0) (h .ensures))
+    (r .goes (h .result) (h .last .1 .1 .1 .1 .1 .1 .0) (h .last .1 .1 .1 .1 .1 .1 .1 .0) (h .last .1 .1 .1 .1 .1 .1 .1 .1 .0) (subst (λ (x : Bool). PairLeft x (l .result .library) a b (firstFor (length (s .work .now)) a b) (s .work .now) (s .text1 .now) (s .text2 .now) (h .result) (h .last .1 .1 .1 .1 .1 .1 .0) (h .last .1 .1 .1 .1 .1 .1 .1 .0) (h .last .1 .1 .1 .1 .1 .1 .1 .1 .0)) (c .before .before .before .before .before .before .before .before .before .before .is-ranged .ensures) (h .ensures)))
 
 returns-5 : tie.Need-returns-5
 returns-5 c =
@@ -118,6 +125,7 @@ map-two-spec =
     returns-3
     read-requires
     enum-told
+    is-ranged-requires
     map-first-requires
     enum-known-v
     both-requires-4
