@@ -11,12 +11,22 @@ pub struct Kind {
     pub table: u32,
     pub area: u64,
     pub delays: Vec<u64>,
+    /// The lowest delays, where the names line has them.
+    pub lowest: Option<Vec<u64>>,
+}
+
+impl Kind {
+    /// The range of a pin's delay: without lowest delays it is one figure.
+    pub fn range(&self, pin: usize) -> [u64; 2] {
+        [self.lowest.as_ref().unwrap_or(&self.delays)[pin], self.delays[pin]]
+    }
 }
 
 /// The cells of a good library text by name.
 pub fn kinds(text: &[u8]) -> Result<BTreeMap<String, Kind>, String> {
     let text = std::str::from_utf8(text).map_err(|error| error.to_string())?;
     let mut kinds = BTreeMap::new();
+    let ranged = text.lines().next().is_some_and(|names| names.ends_with(" l3"));
     for line in text.lines().skip(1) {
         let words: Vec<&str> = line.split(' ').collect();
         let figure = |index: usize| words[index].parse::<u64>().map_err(|error| format!("{line}: {error}"));
@@ -26,6 +36,7 @@ pub fn kinds(text: &[u8]) -> Result<BTreeMap<String, Kind>, String> {
             table: u32::from_str_radix(words[2], 16).map_err(|error| error.to_string())?,
             area: figure(3)?,
             delays: (0..pins).map(|pin| figure(4 + pin)).collect::<Result<_, _>>()?,
+            lowest: ranged.then(|| (0..pins).map(|pin| figure(8 + pin)).collect::<Result<_, _>>()).transpose()?,
         };
         kinds.insert(words[0].to_string(), kind);
     }
@@ -46,8 +57,10 @@ pub struct Netlist {
     pub gates: Vec<Gate>,
     /// The `.names` lines: a net, and the net that it drives.
     pub names: Vec<[String; 2]>,
-    /// Gates, area and arrival as the last line says.
+    /// Gates, area and arrival as the line `# gates` says.
     pub said: [u64; 3],
+    /// The lines `# timing`: an output, its low and its high arrival.
+    pub timing: Vec<(String, [u64; 2])>,
 }
 
 fn names(line: Option<&str>, keyword: &str) -> Result<Vec<String>, String> {
@@ -90,7 +103,14 @@ pub fn read(text: &[u8]) -> Result<Netlist, String> {
         let net = pins.pop().ok_or("no output pin")?;
         gates.push(Gate { cell: cell.clone(), pins, net });
     };
-    let netlist = Netlist { inputs, outputs, gates, names: copies, said };
+    let mut timing = Vec::new();
+    for line in lines {
+        let words: Vec<&str> = line.split(' ').collect();
+        let ["#", "timing", output, low, high] = words[..] else { return Err(format!("after the figures: {line}")) };
+        let figure = |word: &str| word.parse::<u64>().map_err(|error| format!("{line}: {error}"));
+        timing.push((output.to_string(), [figure(low)?, figure(high)?]));
+    }
+    let netlist = Netlist { inputs, outputs, gates, names: copies, said, timing };
     if netlist.print() != text {
         return Err("the text isn't in the form printed".into());
     }
@@ -115,6 +135,9 @@ impl Netlist {
         }
         let [gates, area, arrival] = self.said;
         text += &format!(".end\n# gates {gates} area {area} arrival {arrival}\n");
+        for (output, [low, high]) in &self.timing {
+            text += &format!("# timing {output} {low} {high}\n");
+        }
         text.into_bytes()
     }
 
@@ -214,10 +237,19 @@ impl Netlist {
     /// pins, otherwise the largest of feeding arrival plus pin delay"; `.names`
     /// lines "add no delay".
     pub fn arrivals(&self, kinds: &BTreeMap<String, Kind>, late: &[u64], ordered: &[&Gate]) -> BTreeMap<String, u64> {
+        self.arrivals_by(late, ordered, |gate, pin| kinds[&gate.cell].delays[pin])
+    }
+
+    /// The same with any delay for each pin of each gate.
+    pub fn arrivals_by(
+        &self,
+        late: &[u64],
+        ordered: &[&Gate],
+        mut delay: impl FnMut(&Gate, usize) -> u64,
+    ) -> BTreeMap<String, u64> {
         let mut arrivals: BTreeMap<String, u64> = self.inputs.iter().cloned().zip(late.iter().copied()).collect();
         for gate in ordered {
-            let delays = &kinds[&gate.cell].delays;
-            let latest = gate.pins.iter().zip(delays).map(|(net, delay)| arrivals[net] + delay).max();
+            let latest = gate.pins.iter().enumerate().map(|(pin, net)| arrivals[net] + delay(gate, pin)).max();
             arrivals.insert(gate.net.clone(), latest.unwrap_or(0));
         }
         for [net, name] in &self.names {
@@ -226,7 +258,13 @@ impl Netlist {
         arrivals
     }
 
-    /// The three figures, from the lines above the last one.
+    /// The arrivals of the outputs, in their order, with these delays.
+    pub fn ends(&self, late: &[u64], ordered: &[&Gate], delay: impl FnMut(&Gate, usize) -> u64) -> Vec<u64> {
+        let arrivals = self.arrivals_by(late, ordered, delay);
+        self.outputs.iter().map(|output| arrivals[output]).collect()
+    }
+
+    /// The three figures, from the lines above that line.
     pub fn figures(&self, kinds: &BTreeMap<String, Kind>, late: &[u64], ordered: &[&Gate]) -> [u64; 3] {
         let arrivals = self.arrivals(kinds, late, ordered);
         let latest = self.outputs.iter().map(|output| arrivals[output]).max();

@@ -2,7 +2,7 @@
 //! They are functions and not tests, so that the mutants run through the same.
 
 use crate::gen::{self, Case, Graph, Lent, Rng};
-use crate::{blif, brute, judge, reference, CUT_LIMIT, WORDS_EACH};
+use crate::{blif, brute, judge, reference, CUT_LIMIT, NUMBERS, WORDS_EACH};
 use std::collections::{BTreeMap, BTreeSet};
 
 pub type Check = Result<String, String>;
@@ -114,7 +114,7 @@ pub fn limits() -> Check {
 /// Cases with any number of faults: the first in checking order is answered.
 pub fn faults(cases: usize, seed: u64) -> Check {
     let mut rng = Rng::new(seed);
-    let mut counts = [0usize; 27];
+    let mut counts = [0usize; NUMBERS];
     for _ in 0..cases {
         let case = gen::faults(&mut rng);
         let (answer, _) = run(&case);
@@ -125,7 +125,7 @@ pub fn faults(cases: usize, seed: u64) -> Check {
         }
         counts[answer.number as usize] += 1;
     }
-    let mut numbers = (0..22).chain([25, 26]);
+    let mut numbers = (0..22).chain([25, 26, 27]);
     ensure!(numbers.all(|number| counts[number] > 0), "a number never comes: {counts:?}");
     Ok(format!("{cases} cases, by number {counts:?}"))
 }
@@ -135,9 +135,11 @@ pub fn damage() -> Check {
     let cells = gen::library_text(&gen::small_library());
     let graph = text(&["aag 5 2 0 2 2", "4", "2", "10", "7", "10 3 4", "6 10 3", "c"]);
     let arrivals = text(&["input arrival", "1 20", "0 7"]);
-    let mut counts = [0usize; 27];
+    let mut counts = [0usize; NUMBERS];
+    let ranged = gen::ranged_text(&gen::with_ranges(&mut Rng::new(9), &gen::small_library()));
     let all = [
         (0, gen::all_damage_of_ends(&cells)),
+        (0, gen::all_damage_of_ends(&ranged)),
         (1, gen::all_damage_of_ends(&graph)),
         (1, gen::all_binary_damage()),
         (2, gen::all_damage_of_ends(&arrivals)),
@@ -185,6 +187,8 @@ pub fn judge_netlist(case: &Case, answer: &reference::Answer, netlist: &[u8]) ->
         told(format!("figures {figures:?}, answered {answered:?}"))
     );
     ensure!(answer.value as usize == netlist.len(), "{}", told("length".into()));
+    let timing = timing_lines(&case.cells, &kinds, &read, &late, &ordered);
+    ensure!(read.timing == timing, "{}", told(format!("timing {timing:?}")));
 
     let net = |literal: usize| format!("{}{}", ["p", "m"][literal % 2], literal / 2);
     let inputs: Vec<String> = graph.inputs.iter().map(|variable| net(2 * variable)).collect();
@@ -210,6 +214,91 @@ pub fn judge_netlist(case: &Case, answer: &reference::Answer, netlist: &[u8]) ->
     Ok(())
 }
 
+/// What the timing lines must say, "a line per output": the ends of the gates above
+/// them. None under the shorter names line.
+fn timing_lines(
+    cells: &[u8],
+    kinds: &BTreeMap<String, blif::Kind>,
+    read: &blif::Netlist,
+    late: &[u64],
+    ordered: &[&blif::Gate],
+) -> Vec<(String, [u64; 2])> {
+    if !gen::is_ranged(cells) {
+        return Vec::new();
+    }
+    let low = read.ends(late, ordered, |gate, pin| kinds[&gate.cell].range(pin)[0]);
+    let high = read.ends(late, ordered, |gate, pin| kinds[&gate.cell].range(pin)[1]);
+    let ends = low.into_iter().zip(high).map(|(low, high)| [low, high]);
+    read.outputs.iter().cloned().zip(ends).collect()
+}
+
+/// "Every choice of pin delays, each within its range and fixed separately per gate,
+/// puts the output within these two, and each end is reached by some choice.": so
+/// many choices by chance for each netlist, and the two at the ranges' ends. The
+/// shorter names line gives the same netlist without timing lines.
+pub fn ranges(cases: usize, choices: usize, seed: u64) -> Check {
+    let mut rng = Rng::new(seed);
+    let (mut netlists, mut apart, mut inner) = (0, 0, 0);
+    for _ in 0..cases {
+        let count = gen::library_size(&mut rng);
+        let cells = gen::library(&mut rng, count);
+        let cells = gen::with_ranges(&mut rng, &cells);
+        let graph = gen::graph(&mut rng, 8, 20, CUT_LIMIT + 1);
+        let arrivals = if rng.one_in(2) { gen::arrivals(&mut rng, graph.inputs.len()) } else { Vec::new() };
+        let late = gen::late(&arrivals, graph.inputs.len());
+        let map = |cells: &[u8]| reference::map(cells, &graph.text(), &arrivals, graph.words(), 1 << 20);
+        let (ranged, plain) = (gen::ranged_text(&cells), gen::library_text(&cells));
+        let ((answer, netlist), (other, shorter)) = (map(&ranged), map(&plain));
+        let told =
+            || String::from_utf8_lossy(&[&ranged[..], &graph.text(), &arrivals, &netlist].join(&b'\n')).into_owned();
+        if answer.number > 0 {
+            ensure!(answer == other, "with ranges {answer:?}, without {other:?}\n{}", told());
+            continue;
+        }
+        netlists += 1;
+        // "mapping uses the `d` figures as before"
+        let lines = netlist.strip_prefix(&shorter[..]).ok_or_else(|| format!("another netlist\n{}", told()))?;
+        let same = reference::Answer { value: netlist.len() as u32, ..other };
+        ensure!(answer == same && other.value as usize == shorter.len(), "{answer:?}, without {other:?}\n{}", told());
+        let tens = lines.iter().filter(|&&byte| byte == b'\n').count();
+        ensure!(tens == graph.outputs.len(), "{tens} timing lines\n{}", told());
+
+        let read = blif::read(&netlist)?;
+        let kinds = blif::kinds(&ranged)?;
+        let ordered = read.ordered(&kinds).map_err(|wrong| format!("{wrong}\n{}", told()))?;
+        let names: Vec<&String> = read.timing.iter().map(|(output, _)| output).collect();
+        ensure!(names == read.outputs.iter().collect::<Vec<_>>(), "names of outputs\n{}", told());
+        let said: Vec<[u64; 2]> = read.timing.iter().map(|(_, ends)| *ends).collect();
+        for end in [0, 1] {
+            let reached = read.ends(&late, &ordered, |gate, pin| kinds[&gate.cell].range(pin)[end]);
+            let wanted: Vec<u64> = said.iter().map(|ends| ends[end]).collect();
+            ensure!(reached == wanted, "end {end} isn't reached: {reached:?}\n{}", told());
+        }
+        for _ in 0..choices {
+            let kind = rng.below(3);
+            let chosen = read.ends(&late, &ordered, |gate, pin| {
+                let [low, high] = kinds[&gate.cell].range(pin);
+                match kind {
+                    0 => rng.between(low as usize, high as usize) as u64,
+                    1 if rng.one_in(2) => low,
+                    _ if rng.one_in(5) => low,
+                    _ => high,
+                }
+            });
+            for (arrival, [low, high]) in chosen.iter().zip(&said) {
+                ensure!(low <= arrival && arrival <= high, "{arrival} isn't within {low} to {high}\n{}", told());
+                inner += usize::from(low < arrival && arrival < high);
+            }
+        }
+        apart += usize::from(said.iter().any(|[low, high]| low < high));
+    }
+    ensure!(
+        apart > netlists / 3 && inner > netlists,
+        "{netlists} netlists, {apart} with a range, {inner} inner arrivals"
+    );
+    Ok(format!("{netlists} netlists, {apart} with a range, {choices} choices each, {inner} arrivals between the ends"))
+}
+
 /// The lines that are read, without what follows them; a binary text whole.
 fn good_part(text: &[u8]) -> Vec<u8> {
     if text.starts_with(b"aig ") {
@@ -227,7 +316,7 @@ fn good_part(text: &[u8]) -> Vec<u8> {
 /// loose reader, and what the making knows.
 pub fn netlists(cases: usize, seed: u64) -> Check {
     let mut rng = Rng::new(seed);
-    let mut counts = [0usize; 27];
+    let mut counts = [0usize; NUMBERS];
     let mut by_pins = [0usize; 5];
     let mut timed = 0;
     let mut kinds = [0usize; 8];
@@ -300,7 +389,7 @@ pub fn twins_of(case: &Case) -> Option<[Case; 2]> {
 /// graphs have, where it can be renumbered.
 pub fn twins(cases: usize, seed: u64) -> Check {
     let mut rng = Rng::new(seed);
-    let mut counts = [0usize; 27];
+    let mut counts = [0usize; NUMBERS];
     let some = (0..cases).map(|_| gen::case(&mut rng)).collect::<Vec<_>>();
     let cells = gen::library_text(&gen::full_library());
     let small = gen::every_small_graph().into_iter().map(|graph| Case::new("small", cells.clone(), graph.text()));
@@ -332,7 +421,7 @@ fn sorted_operands(text: &[u8]) -> Vec<u8> {
 /// 7 in the header and 11 in an output line.
 pub fn line_ends(cases: usize, seed: u64) -> Check {
     let mut rng = Rng::new(seed);
-    let (mut counts, mut binary) = ([0usize; 27], [0usize; 2]);
+    let (mut counts, mut binary) = ([0usize; NUMBERS], [0usize; 2]);
     let some = (0..cases).map(|_| gen::case(&mut rng)).collect::<Vec<_>>();
     let faults = (0..cases).map(|_| gen::faults(&mut rng)).collect::<Vec<_>>();
     for case in some.into_iter().chain(faults).chain(gen::limits()) {
@@ -355,7 +444,7 @@ pub fn line_ends(cases: usize, seed: u64) -> Check {
         let (other, other_netlist) = run(&alike);
         let place = answer.value as usize;
         let value = match answer.number {
-            2..=6 => cells.place(place),
+            2..=6 | 27 => cells.place(place),
             7..=14 if !is_binary => graph.place(place),
             25 | 26 => arrivals.place(place),
             _ => place,
@@ -377,7 +466,7 @@ pub fn line_ends(cases: usize, seed: u64) -> Check {
     }
     let often = |number: usize| counts[number] > 0;
     ensure!(
-        (2..=21).chain([25, 26]).all(often) && counts[0] > cases / 4 && binary[0].min(binary[1]) > 0,
+        (2..=21).chain([25, 26, 27]).all(often) && counts[0] > cases / 4 && binary[0].min(binary[1]) > 0,
         "{counts:?} {binary:?}"
     );
     Ok(format!("{} pairs, by number {counts:?}; binary lines {binary:?}", counts.iter().sum::<usize>()))

@@ -55,20 +55,80 @@ pub struct Cell {
     pub table: u16,
     pub area: u16,
     pub delays: [u16; 4],
+    /// The lowest delays, which `ranged_text` prints.
+    pub lowest: [u16; 4],
 }
 
 impl Cell {
     pub fn line(&self) -> String {
-        let Cell { name, pins, table, area, delays: [d0, d1, d2, d3] } = self;
+        let Cell { name, pins, table, area, delays: [d0, d1, d2, d3], .. } = self;
         format!("{name} {pins} {table:04x} {area} {d0} {d1} {d2} {d3}\n")
+    }
+
+    pub fn ranged_line(&self) -> String {
+        let [l0, l1, l2, l3] = self.lowest;
+        format!("{} {l0} {l1} {l2} {l3}\n", self.line().trim_end())
     }
 }
 
 pub const NAMES_LINE: &str = "cell pins table area d0 d1 d2 d3\n";
 
+/// That of a library with ranges.
+pub const RANGED_LINE: &str = "cell pins table area d0 d1 d2 d3 l0 l1 l2 l3\n";
+
 pub fn library_text(cells: &[Cell]) -> Vec<u8> {
     let lines: String = cells.iter().map(Cell::line).collect();
     format!("{NAMES_LINE}{lines}").into_bytes()
+}
+
+/// The same with the lowest delays.
+pub fn ranged_text(cells: &[Cell]) -> Vec<u8> {
+    let lines: String = cells.iter().map(Cell::ranged_line).collect();
+    format!("{RANGED_LINE}{lines}").into_bytes()
+}
+
+/// Lowest delays within the others: all 0, none below its own, or by chance, pin by
+/// pin, so that pins late in one end are early in the other.
+pub fn with_ranges(rng: &mut Rng, cells: &[Cell]) -> Vec<Cell> {
+    let kind = rng.below(8);
+    let lowest = |rng: &mut Rng, delay: u16| match kind {
+        0 => 0,
+        1 => delay,
+        2 | 3 => rng.pick(&[0, delay, delay / 2, delay.saturating_sub(1)]),
+        _ => rng.between(0, usize::from(delay)) as u16,
+    };
+    let mut cells = cells.to_vec();
+    for cell in &mut cells {
+        cell.lowest = cell.delays.map(|delay| lowest(rng, delay));
+    }
+    cells
+}
+
+/// A good library text of the shorter names line with lowest delays: of pin j at
+/// least j quarters of its delay.
+pub fn lowest_added(text: &[u8]) -> Vec<u8> {
+    let text = String::from_utf8_lossy(text);
+    let mut ranged = RANGED_LINE.to_string();
+    for line in text.lines().skip(1) {
+        let delays = line.split(' ').skip(4).map(|word| word.parse::<u32>().expect("a delay"));
+        let lowest = delays.enumerate().map(|(pin, delay)| format!(" {}", delay * pin as u32 / 4));
+        ranged += &format!("{line}{}\n", lowest.collect::<String>());
+    }
+    ranged.into_bytes()
+}
+
+/// Whether a library text has the longer names line.
+pub fn is_ranged(text: &[u8]) -> bool {
+    let line = text.split(|&byte| byte == b'\n').next().unwrap_or_default();
+    line.trim_ascii_end() == RANGED_LINE.trim_end().as_bytes()
+}
+
+/// The text of these cells with either names line.
+pub fn either_text(rng: &mut Rng, cells: &[Cell]) -> Vec<u8> {
+    if rng.one_in(2) {
+        return library_text(cells);
+    }
+    ranged_text(&with_ranges(rng, cells))
 }
 
 /// Pins and table of functions that libraries have, and of odd ones: one-pin
@@ -127,8 +187,14 @@ pub fn library(rng: &mut Rng, count: usize) -> Vec<Cell> {
             _ if rng.one_in(6) => (1, 0x0001),
             _ => rng.pick(&FUNCTIONS),
         };
-        let mut cell =
-            Cell { name: String::new(), pins, table, area: rng.pick(&[0, 1, 1, 2, 3, 9, 65_535]), delays: [0; 4] };
+        let mut cell = Cell {
+            name: String::new(),
+            pins,
+            table,
+            area: rng.pick(&[0, 1, 1, 2, 3, 9, 65_535]),
+            delays: [0; 4],
+            lowest: [0; 4],
+        };
         let even = rng.one_in(2).then(|| rng.pick(&delays));
         for delay in &mut cell.delays[..pins] {
             *delay = even.unwrap_or_else(|| rng.pick(&delays));
@@ -167,7 +233,8 @@ pub const LISTING: &str = "\
 
 /// The library of case B.
 pub fn small_library() -> Vec<Cell> {
-    let cell = |name: &str, pins, table, area, delays| Cell { name: name.into(), pins, table, area, delays };
+    let cell =
+        |name: &str, pins, table, area, delays| Cell { name: name.into(), pins, table, area, delays, lowest: [0; 4] };
     vec![cell("inv", 1, 1, 1, [10, 0, 0, 0]), cell("nand2", 2, 7, 2, [20, 20, 0, 0])]
 }
 
@@ -176,7 +243,8 @@ pub fn small_library() -> Vec<Cell> {
 pub fn full_library() -> Vec<Cell> {
     let mut cells = small_library();
     for (pins, table) in [(0, 0x0000), (0, 0x0001), (2, 0x0006)].into_iter().chain(WIDE) {
-        let mut cell = Cell { name: format!("w{}", cells.len()), pins, table, area: 1 + pins as u16, delays: [0; 4] };
+        let (name, area) = (format!("w{}", cells.len()), 1 + pins as u16);
+        let mut cell = Cell { name, pins, table, area, delays: [0; 4], lowest: [0; 4] };
         for (pin, delay) in cell.delays[..pins].iter_mut().enumerate() {
             *delay = (12 * pins - 2 * pin) as u16;
         }
@@ -785,7 +853,8 @@ pub fn case(rng: &mut Rng) -> Case {
 fn case_of_tens(rng: &mut Rng) -> Case {
     let kind = rng.below(125);
     let count = library_size(rng);
-    let cells = library_text(&library(rng, count));
+    let cells = library(rng, count);
+    let cells = either_text(rng, &cells);
     let mut case = match kind {
         0..=54 => {
             let most = rng.pick(&[3, 6, 12, 25, 40]);
@@ -815,13 +884,14 @@ fn case_of_tens(rng: &mut Rng) -> Case {
             Case::new("damage", cells, graph)
         }
         95 => {
-            let cells = library_text(&library(rng, 33));
+            let cells = library(rng, 33);
+            let cells = either_text(rng, &cells);
             let offset = cells[..cells.len() - 1].iter().rposition(|&byte| byte == 10).map_or(0, |end| end + 1);
             Case::new("33 cells", cells, graph(rng, 3, 3, CUT_LIMIT).text()).expect(3, offset)
         }
         96 => {
             let top = rng.between(60, 400);
-            let cells = if rng.one_in(3) { cells } else { library_text(&full_library()) };
+            let cells = if rng.one_in(3) { cells } else { either_text(rng, &full_library()) };
             Case::new("large", cells, large_graph(rng, top).text())
         }
         97..=99 => Case::new("tiny", cells, graph(rng, 2, 2, CUT_LIMIT).text()),
@@ -1196,6 +1266,164 @@ fn arrival_limits() -> Vec<Case> {
     cases
 }
 
+// ---------------------------------------------------------------- ranges
+
+/// 27 from both sides, beside 2 to 6 of its line and of others, and the length with
+/// timing lines.
+fn range_limits() -> Vec<Case> {
+    let b = Graph { top: 3, inputs: vec![1, 2], outputs: vec![6], ands: vec![(3, 2, 4)] };
+    let mut cases = Vec::new();
+    let mut add = |case: Case| cases.push(case);
+    let first = "inv 1 0001 1 10 0 0 0 10 0 0 0\n";
+    let at = RANGED_LINE.len() + first.len();
+    for (line, number) in [
+        ("nand2 2 0007 2 20 20 0 0 20 20 0 0", 0),
+        ("nand2 2 0007 2 20 20 0 0 0 0 0 0", 0),
+        ("nand2 2 0007 2 20 20 0 0 19 1 0 0", 0),
+        ("nand2 2 0007 2 65535 65535 0 0 65535 65534 0 0", 0),
+        ("nand2 2 0007 2 0 0 0 0 0 0 0 0", 0),
+        ("nand2 2 0007 2 0 0 0 0 0 1 0 0", 27),
+        ("nand2 2 0007 2 20 20 0 0 21 20 0 0", 27),
+        ("nand2 2 0007 2 20 20 0 0 20 21 0 0", 27),
+        ("nand2 2 0007 2 20 30 0 0 30 20 0 0", 27),
+        ("nand2 2 0007 2 65534 20 0 0 65535 0 0 0", 27),
+        ("nand2 2 0007 2 20 20 0 0 20 20 1 0", 6),
+        ("nand2 2 0007 2 20 20 0 0 20 20 0 1", 6),
+        ("nand2 2 0007 2 20 20 1 0 20 20 1 0", 6),
+        ("nand2 2 0007 2 20 20 0 1 20 20 0 0", 6),
+        ("nand2 2 0017 2 20 20 0 0 21 20 0 0", 6),
+        ("nand2 2 0007 2 20 20 0 0 21 20 1 0", 6),
+        ("inv 2 0007 2 20 20 0 0 21 20 1 0", 5),
+        ("inv 2 0007 2 20 20 0 0 21 20 0 0", 5),
+        ("nand2 2 0007 2 20 20 0 0", 4),
+        ("nand2 2 0007 2 20 20 0 0 20 20 0", 4),
+        ("nand2 2 0007 2 20 20 0 0 20 20 0 0 0", 4),
+        ("nand2 2 0007 2 20 20 0 0 020 20 0 0", 4),
+        ("nand2 2 0007 2 20 20 0 0 20 20 0 00", 4),
+        ("nand2 2 0007 2 20 20 0 0 65536 20 0 0", 4),
+        ("nand2 2 0007 2 20 20 0 0  20 20 0 0", 4),
+        ("nand2 2 0007 2 20 20 0 0 20 20 0 0 ", 4),
+        ("nand2 2 0007 2 20 20 0 0 21 20 0 x", 4),
+    ] {
+        // Alone, and with a line of another fault behind it: the first line decides.
+        for behind in [
+            "",
+            "x\n",
+            "inv 1 0001 1 10 0 0 0 10 0 0 0\n",
+            "x 1 0004 1 1 0 0 0 0 0 0 0\n",
+            "x 1 0001 1 1 0 0 0 2 0 0 0\n",
+        ] {
+            let cells = format!("{RANGED_LINE}{first}{line}\n{behind}");
+            let next = at + line.len() + 1;
+            let (number, place) = match (number, behind) {
+                (0, "") => (0, 0),
+                (0, _) => (
+                    if behind.starts_with("inv") {
+                        5
+                    } else if behind.contains("0004") {
+                        6
+                    } else if behind.len() > 2 {
+                        27
+                    } else {
+                        4
+                    },
+                    next,
+                ),
+                _ => (number, at),
+            };
+            let alike = with_ends(cells.as_bytes(), || true);
+            let in_two = if number == 0 { 0 } else { alike.place(place) };
+            add(Case::new(format!("{line:?} and {behind:?}"), cells.into_bytes(), b.text()).expect(number, place));
+            add(Case::new(format!("{line:?} and {behind:?}, 13 and 10"), alike.text, b.text()).expect(number, in_two));
+        }
+    }
+    // 27 before the graph's own numbers, and 2 by either names line.
+    let broken = format!("{RANGED_LINE}inv 1 0001 1 10 0 0 0 11 0 0 0\n").into_bytes();
+    for graph in ["", "aag 3 2 1 1 1\n", "aag 4096 0 0 0 0\n", "aig 4 2 0 1 1\n", "aag 2 0 0 0 2\n2 4 4\n4 2 2\n"] {
+        let case = Case::new("27 before the graph's", broken.clone(), graph.into()).words(Lent::This(0));
+        add(case.expect(27, RANGED_LINE.len()));
+    }
+    for names in [
+        "cell pins table area d0 d1 d2 d3 l0 l1 l2 l3",
+        "cell pins table area d0 d1 d2 d3 l0 l1 l2\n",
+        "cell pins table area d0 d1 d2 d3 l0\n",
+        "cell pins table area d0 d1 d2 d3 l0 l1 l2 l3 \n",
+        "cell pins table area d0 d1 d2 d3 l0 l1 l2 l3 l4\n",
+        "cell pins table area d0 d1 d2 d3 L0 L1 L2 L3\n",
+        "cell pins table area l0 l1 l2 l3 d0 d1 d2 d3\n",
+        "cell pins table area l0 l1 l2 l3\n",
+    ] {
+        add(Case::new(format!("{names:?}"), format!("{names}{first}").into_bytes(), b.text()).expect(2, 0));
+    }
+    // Lines of one form under the other's names line.
+    let cells = format!("{NAMES_LINE}{first}");
+    add(Case::new("twelve fields under eight names", cells.into_bytes(), b.text()).expect(4, NAMES_LINE.len()));
+    let cells = format!("{RANGED_LINE}inv 1 0001 1 10 0 0 0\n");
+    add(Case::new("eight fields under twelve names", cells.into_bytes(), b.text()).expect(4, RANGED_LINE.len()));
+    // Cells.
+    for count in [0, 31, 32, 33] {
+        let mut many = small_library();
+        while many.len() < count {
+            let twin = Cell { name: format!("n{}", many.len()), ..many[1].clone() };
+            many.push(twin);
+        }
+        many.truncate(count);
+        let text = ranged_text(&many);
+        let last = text.len() - many.last().map_or(0, |cell| cell.ranged_line().len());
+        let case = Case::new(format!("{count} cells with ranges"), text, b.text());
+        add(match count {
+            0 => case.expect(17, 0),
+            33 => case.expect(3, last),
+            _ => case.expect(0, 0),
+        });
+    }
+    // "18 and the returned length count these lines": case B has 134 bytes and one
+    // line of 18, `# timing o0 30 30`.
+    let same: Vec<Cell> = small_library().into_iter().map(|cell| Cell { lowest: cell.delays, ..cell }).collect();
+    for (lent, number) in [(152, 0), (151, 18), (134, 18), (133, 18), (0, 18), (153, 0)] {
+        let case =
+            Case::new(format!("B with ranges, {lent} bytes"), ranged_text(&same), b.text()).text(Lent::This(lent));
+        add(case.expect(number, if number == 18 { 152 } else { 0 }));
+    }
+    // No cells at all: outputs that are inputs have timing lines all the same.
+    for outputs in [vec![], vec![2], vec![4, 2, 4]] {
+        let graph = Graph { outputs, ands: vec![], top: 2, ..b.clone() };
+        for arrivals in ["", "input arrival\n0 7\n1 65535\n"] {
+            let case = Case::new("ranges without cells", RANGED_LINE.into(), graph.text()).arrivals(arrivals);
+            add(case.clone().expect(0, 0));
+            add(case.text(Lent::OneShort));
+        }
+    }
+    // The most outputs: a line of `# timing oK 65535 65535` takes 23 bytes and the
+    // digits of K, 10 + 180 + 2,700 + 12,384 of them.
+    let most = "aag 1 1 0 4096 0\n2\n".to_string() + &"2\n".repeat(4_096);
+    let length = 63 + 4 + 10 * 20 + 90 * 22 + 900 * 24 + 3_096 * 26 + 4_096 * 23 + 15_274;
+    for (lent, number) in [(65_536, 18), (length - 1, 18), (length, 0)] {
+        let case = Case::new(format!("4,096 outputs, {lent} bytes"), RANGED_LINE.into(), most.clone().into_bytes());
+        let case = case.arrivals("input arrival\n0 65535\n").words(Lent::This(32_768)).text(Lent::This(lent));
+        add(case.expect(number, if number == 18 { length } else { 0 }));
+    }
+    // The largest figures.
+    let slow = "inv 1 0001 65535 65535 0 0 0 65534 0 0 0\nnand2 2 0007 65535 65535 65535 0 0 65535 0 0 0\n";
+    let chain = Graph {
+        top: 4_095,
+        inputs: vec![1, 2, 3, 4],
+        outputs: vec![2 * 4_095, 2 * 4_095 + 1],
+        ands: (5..=4_095).map(|variable| (variable, 2 * variable - 2, 2 * (1 + variable % 4))).collect(),
+    };
+    let case = Case::new("a slow chain with ranges", format!("{RANGED_LINE}{slow}").into_bytes(), chain.text());
+    add(case.clone().expect(0, 0));
+    add(case.arrivals(arrivals_of(&[65_535; 4])).expect(0, 0));
+    let rich = ranged_text(&with_ranges(&mut Rng::new(4), &full_library()));
+    let full = large_graph(&mut Rng::new(3), 4_095);
+    add(Case::new("full graph with ranges", rich.clone(), full.text())
+        .words(Lent::Exact)
+        .text(Lent::Exact)
+        .expect(0, 0));
+    add(Case::new("full graph with ranges, text one short", rich, full.text()).text(Lent::OneShort));
+    cases
+}
+
 // ---------------------------------------------------------------- line ends
 
 /// A text alike to another but for line ends: the same lines, "each ending in 10
@@ -1246,13 +1474,17 @@ pub fn mixed(rng: &mut Rng, text: &[u8]) -> Alike {
 /// The same case with other line ends in its library and its ASCII graph; a
 /// binary graph's stay.
 pub fn alike_but_for_ends(rng: &mut Rng, case: &Case) -> Case {
+    if matches!(case.expected, Some((1, _))) {
+        // Other ends could bring a text that is too long within the length in 1.
+        return case.clone();
+    }
     let cells = mixed(rng, &case.cells);
     let is_binary = case.graph.starts_with(b"aig");
     let graph = if is_binary { with_ends(&[], || false) } else { mixed(rng, &case.graph) };
     let arrivals = mixed(rng, &case.arrivals);
     let too_long = cells.text.len().max(graph.text.len()).max(arrivals.text.len()) > 65_536;
     let expected = case.expected.map(|(number, place)| match number {
-        2..=6 => (number, cells.place(place)),
+        2..=6 | 27 => (number, cells.place(place)),
         7..=14 if !is_binary => (number, graph.place(place)),
         25 | 26 => (number, arrivals.place(place)),
         _ => (number, place),
@@ -1516,18 +1748,24 @@ pub fn faults(rng: &mut Rng) -> Case {
     let rarity = rng.pick(&[3, 8, 30, 100]);
 
     // The library: no tie cell, so constants have no cover.
-    let mut cells = small_library();
+    let ranged = rng.one_in(2);
+    let mut cells = with_ranges(rng, &small_library());
     let thirty_three = wanted(rng, 12 * rarity);
     let size = if thirty_three { 33 } else { rng.between(2, 8) };
     while cells.len() < size {
         let twin = Cell { name: format!("n{}", cells.len()), ..cells[1].clone() };
         cells.push(twin);
     }
-    let mut text = String::from(NAMES_LINE);
+    let mut text = String::from(if ranged { RANGED_LINE } else { NAMES_LINE });
     if wanted(rng, 6 * rarity) {
         text = rng
             .pick(&[
                 "",
+                "cell pins table area d0 d1 d2 d3 l0 l1 l2 l3",
+                "cell pins table area d0 d1 d2 d3 l0 l1 l2\n",
+                "cell pins table area d0 d1 d2 d3  l0 l1 l2 l3\n",
+                "cell pins table area l0 l1 l2 l3 d0 d1 d2 d3\n",
+                "cell pins table area d0 l0 d1 l1 d2 l2 d3 l3\n",
                 "\n",
                 "cell pins table area d0 d1 d2 d3",
                 "cell pins table area d0 d1 d2\n",
@@ -1547,25 +1785,36 @@ pub fn faults(rng: &mut Rng) -> Case {
             found.push((3, offset));
         }
         let mut cell = cell.clone();
-        let (five, six, four) =
-            (index > 0 && wanted(rng, 6 * rarity), wanted(rng, 6 * rarity), wanted(rng, 6 * rarity));
+        let (five, six, four, higher) = (
+            index > 0 && wanted(rng, 6 * rarity),
+            wanted(rng, 6 * rarity),
+            wanted(rng, 6 * rarity),
+            ranged && wanted(rng, 6 * rarity),
+        );
         if five {
             cell.name = cells[rng.below(index)].name.clone();
         }
         if six {
-            if rng.one_in(2) {
-                cell.table |= 1 << rng.between(1 << cell.pins, 15);
-            } else {
-                let pin = rng.between(cell.pins, 3);
-                cell.delays[pin] = rng.pick(&[1, 65_535]);
+            let pin = rng.between(cell.pins, 3);
+            match rng.below(if ranged { 4 } else { 2 }) {
+                0 => cell.table |= 1 << rng.between(1 << cell.pins, 15),
+                1 => cell.delays[pin] = rng.pick(&[1, 65_535]),
+                2 => cell.lowest[pin] = rng.pick(&[1, 65_535]),
+                _ => (cell.delays[pin], cell.lowest[pin]) = (9, rng.pick(&[1, 9])),
             }
         }
-        let mut line = cell.line();
+        if higher {
+            let pin = rng.below(cell.pins);
+            cell.lowest[pin] = rng.pick(&[cell.delays[pin] + 1, 65_535]);
+        }
+        let mut line = if ranged { cell.ranged_line() } else { cell.line() };
         if four {
             let words: Vec<&str> = line.trim_end().split(' ').collect();
             let (name, rest) = (words[0], words[1..].join(" "));
             let table = words[2];
-            line = match rng.below(12) {
+            line = match rng.below(13) {
+                12 if ranged => cell.line(),
+                12 => cell.ranged_line(),
                 0 => format!("{name}  {rest}\n"),
                 1 => format!(" {name} {rest}\n"),
                 2 => format!("{name} {rest} \n"),
@@ -1583,7 +1832,11 @@ pub fn faults(rng: &mut Rng) -> Case {
         }
         // One line's faults in their own order; the line's order decides first.
         found.extend(
-            [(four, 4), (five, 5), (six, 6)].iter().filter(|(is, _)| *is).map(|&(_, number)| (number, offset)).take(1),
+            [(four, 4), (five, 5), (six, 6), (higher, 27)]
+                .iter()
+                .filter(|(is, _)| *is)
+                .map(|&(_, number)| (number, offset))
+                .take(1),
         );
         text += &line;
     }
@@ -1888,7 +2141,7 @@ fn binary_faults(rng: &mut Rng) -> Case {
         text.resize(65_537, 0);
         first = Some((1, 0));
     }
-    let mut cells = library_text(&small_library());
+    let mut cells = either_text(rng, &small_library());
     if wanted(rng, 20 * rarity) {
         cells.push(b'x');
         first = first.filter(|&(number, _)| number == 1).or(Some((4, cells.len() - 1)));
@@ -1907,6 +2160,7 @@ pub fn limits() -> Vec<Case> {
     cases.extend(binary_limits());
     cases.extend(end_limits());
     cases.extend(arrival_limits());
+    cases.extend(range_limits());
     cases
 }
 

@@ -1,4 +1,4 @@
-//! A second reader for refusals 1 to 14, 19 to 21, 25 and 26, made another way round:
+//! A second reader for refusals 1 to 14, 19 to 21 and 25 to 27, made another way round:
 //! it reads loosely, prints what it understood and compares the bytes. Used
 //! where no one knows by construction what a damaged text brings.
 
@@ -28,25 +28,24 @@ struct Cell {
     name: String,
     pins: u8,
     table: u16,
-    delays: [u16; 4],
+    /// The `d` figures, then the `l` figures where the names line has them.
+    delays: Vec<u16>,
 }
 
-fn cell(line: &[u8]) -> Option<Cell> {
+fn cell(line: &[u8], figures: usize) -> Option<Cell> {
     let words = loosely(line)?;
-    let [name, pins, table, area, d0, d1, d2, d3] = words[..] else { return None };
+    let [name, pins, table, area, ..] = words[..] else { return None };
+    let delays: Vec<u16> = words[4..].iter().map(|word| word.parse().ok()).collect::<Option<_>>()?;
     let pins: u8 = pins.parse().ok()?;
     let table = u16::from_str_radix(table, 16).ok()?;
     let area: u16 = area.parse().ok()?;
-    let mut delays = [0u16; 4];
-    for (delay, word) in delays.iter_mut().zip([d0, d1, d2, d3]) {
-        *delay = word.parse().ok()?;
-    }
-    let [d0, d1, d2, d3] = delays;
-    let again = format!("{name} {pins} {table:04x} {area} {d0} {d1} {d2} {d3}");
+    let again =
+        delays.iter().fold(format!("{name} {pins} {table:04x} {area}"), |again, delay| format!("{again} {delay}"));
     let letters =
         name.chars().all(|c| c == '_' || c.is_ascii_digit() || c.is_ascii_lowercase() || c.is_ascii_uppercase());
     let starts_well = !name.starts_with(|c: char| c == '_' || c.is_ascii_digit());
     let good = reads_again(&again, line, true) && pins < 5 && name.len() < 9 && letters && starts_well;
+    let good = good && delays.len() == figures;
     good.then(|| Cell { name: name.to_string(), pins, table, delays })
 }
 
@@ -63,7 +62,7 @@ fn figures(line: &[u8], head: &str, wanted: usize, either_end: bool) -> Option<V
     (figures.len() == wanted && reads_again(&again.join(" "), line, either_end)).then_some(figures)
 }
 
-/// The refusal among 1 to 14, 19 to 21, 25 and 26 that the texts bring, if one
+/// The refusal among 1 to 14, 19 to 21 and 25 to 27 that the texts bring, if one
 /// does.
 pub fn judge(cells: &[u8], graph: &[u8], arrivals: &[u8], words: usize) -> Option<(u32, usize)> {
     if cells.len().max(graph.len()).max(arrivals.len()) > 65_536 {
@@ -93,7 +92,9 @@ pub fn judge(cells: &[u8], graph: &[u8], arrivals: &[u8], words: usize) -> Optio
 fn judge_two(cells: &[u8], graph: &[u8], words: usize) -> Result<usize, (u32, usize)> {
     let mut listed = lines(cells);
     let names = listed.next().map_or(&cells[..0], |(_, line)| line);
-    if !reads_again("cell pins table area d0 d1 d2 d3", names, true) {
+    let short = "cell pins table area d0 d1 d2 d3";
+    let figures = if reads_again(&format!("{short} l0 l1 l2 l3"), names, true) { 8 } else { 4 };
+    if figures == 4 && !reads_again(short, names, true) {
         return Err((2, 0));
     }
     let mut seen: BTreeSet<String> = BTreeSet::new();
@@ -101,19 +102,23 @@ fn judge_two(cells: &[u8], graph: &[u8], words: usize) -> Result<usize, (u32, us
         if seen.len() == 32 {
             return Err((3, offset));
         }
-        let Some(cell) = cell(line) else { return Err((4, offset)) };
+        let Some(cell) = cell(line, figures) else { return Err((4, offset)) };
         if !seen.insert(cell.name) {
             return Err((5, offset));
         }
         let rows = 1u32 << cell.pins;
-        if u32::from(cell.table) >= 1 << rows || cell.delays.iter().skip(cell.pins.into()).any(|&delay| delay > 0) {
+        let absent = |ends: &[u16]| ends.iter().skip(cell.pins.into()).any(|&delay| delay > 0);
+        if u32::from(cell.table) >= 1 << rows || cell.delays.chunks(4).any(absent) {
             return Err((6, offset));
+        }
+        if (4..figures).any(|at| cell.delays[at] > cell.delays[at - 4]) {
+            return Err((27, offset));
         }
     }
     let mut due = lines(graph);
     let first = due.next().map_or(&graph[..0], |(_, line)| line);
     let is_binary = first.starts_with(b"aig");
-    let Some(header) = figures(first, if is_binary { "aig" } else { "aag" }, 5, !is_binary) else {
+    let Some(header) = self::figures(first, if is_binary { "aig" } else { "aag" }, 5, !is_binary) else {
         return Err((7, 0));
     };
     let [m, i, l, o, a] = [0, 1, 2, 3, 4].map(|index: usize| usize::from(header[index]));
@@ -138,7 +143,7 @@ fn judge_two(cells: &[u8], graph: &[u8], words: usize) -> Result<usize, (u32, us
     for (sort, (count, wanted)) in sorts.into_iter().enumerate() {
         for _ in 0..count {
             let Some((offset, line)) = due.next() else { return Err((11, graph.len())) };
-            let Some(literals) = figures(line, "", wanted, !is_binary) else { return Err((11, offset)) };
+            let Some(literals) = self::figures(line, "", wanted, !is_binary) else { return Err((11, offset)) };
             end = offset + line.len();
             let literals: Vec<usize> = literals.into_iter().map(usize::from).collect();
             if literals.iter().any(|literal| literal / 2 > m) {

@@ -29,6 +29,9 @@ pub const CUT_LIMIT: usize = 18;
 /// 6 for each of its cuts.
 pub const WORDS_EACH: usize = 16 + 6 * CUT_LIMIT;
 
+/// One more than the highest number of a refusal.
+pub const NUMBERS: usize = 28;
+
 pub mod blif;
 pub mod brute;
 pub mod checks;

@@ -22,7 +22,7 @@ pub fn which() -> u32 {
 }
 
 /// Number and what is wrong.
-pub const LIST: [(u32, &str); 49] = [
+pub const LIST: [(u32, &str); 63] = [
     (1, "an AND with a cut too many is accepted"),
     (2, "a tie between cell and inverter goes to the inverter"),
     (3, "a cut's function walks on below a leaf whose operands are leaves too"),
@@ -72,6 +72,20 @@ pub const LIST: [(u32, &str); 49] = [
     (61, "an inverter adds its delay to 0 where an input feeds it"),
     (62, "any first line is accepted in the arrivals text"),
     (63, "1 doesn't cover the arrivals text"),
+    (72, "a low arrival is made of the `d` delays"),
+    (73, "a low arrival is that of the earliest pin"),
+    (74, "27 is tried before 6 of its line"),
+    (75, "27 is tried after the faults of later lines"),
+    (76, "6 doesn't look at the lowest delay of an absent pin"),
+    (77, "a low arrival follows the pins that decide the high one"),
+    (78, "a low arrival takes all inputs as if they arrived at 0"),
+    (79, "the choice goes by the lowest delays"),
+    (80, "without cells there are no timing lines"),
+    (81, "a cell line may leave out its lowest delays"),
+    (82, "the shorter names line brings timing lines too"),
+    (83, "the place of 18 leaves out the timing lines"),
+    (84, "a lowest delay that equals its `d` is refused"),
+    (85, "a timing line has the latest output's high arrival"),
 ];
 
 /// Those of the reader of genlib.

@@ -1,6 +1,6 @@
 //! Another mapper, plain and slow. Quoted sentences are document 01's and, for
-//! binary graph texts, the names of outputs, line ends and late inputs, those of
-//! requests N1, N3, N5 and N7 in document 02.
+//! binary graph texts, the names of outputs, line ends, late inputs and ranges of
+//! delays, those of requests N1, N3, N5, N7 and N10 in document 02.
 
 use crate::{CUT_LIMIT, WORDS_EACH};
 use std::collections::{BTreeMap, BTreeSet};
@@ -49,7 +49,7 @@ pub fn answer(printed: Result<Printed, Refusal>, text_len: usize) -> (Answer, Ve
         let length = printed.text.len();
         let short = plain_or!(16, text_len < length, text_len <= length);
         if short {
-            refuse(18, length)
+            refuse(18, plain_or!(83, length, length - timing_lines(&printed.text)))
         } else {
             Ok(printed)
         }
@@ -62,13 +62,20 @@ pub fn answer(printed: Result<Printed, Refusal>, text_len: usize) -> (Answer, Ve
     }
 }
 
-/// Refusals 1 to 17, 19 to 21, 25 and 26, or the netlist.
+/// The length of the timing lines at a netlist's end.
+#[cfg(feature = "mutants")]
+fn timing_lines(text: &[u8]) -> usize {
+    text.split_inclusive(|&byte| byte == b'\n').filter(|line| line.starts_with(b"# timing")).map(<[u8]>::len).sum()
+}
+
+/// Refusals 1 to 17, 19 to 21 and 25 to 27, or the netlist.
 pub fn print_all(cells: &[u8], graph: &[u8], arrivals: &[u8], words: usize) -> Result<Printed, Refusal> {
     // "1 covers this text too."
     if cells.len() > 65_536 || graph.len() > 65_536 || arrivals.len() > plain_or!(63, 65_536, usize::MAX) {
         return refuse(1, 0);
     }
     let library = read_library(cells).map_err(|refusal| plain_or!(35, refusal, uncounted(cells, refusal)))?;
+    let Library { cells, ranged } = library;
     let early = plain_or!(57, None, fault_of_arrivals(graph, arrivals));
     let graph = read_graph(graph, words).map_err(|refusal| {
         let refusal = plain_or!(35, refusal, uncounted(graph, refusal));
@@ -79,17 +86,25 @@ pub fn print_all(cells: &[u8], graph: &[u8], arrivals: &[u8], words: usize) -> R
     let order = placing_order(&graph);
     let (late, order) = plain_or!(58, (late?, order?), order.and_then(|order| Ok((late?, order)))?);
     let cuts = cut_lists(&graph, &order)?;
+    let chosen_by = plain_or!(79, cells.clone(), by_lowest(&cells));
     let mapped = plain_or!(
         55,
-        cover(&library, &graph, &late, &order, &cuts),
-        timed_again(&library, &graph, &late, &cuts, cover(&library, &graph, &[], &order, &cuts))
+        cover(&chosen_by, &graph, &late, &order, &cuts),
+        timed_again(&cells, &graph, &late, &cuts, cover(&cells, &graph, &[], &order, &cuts))
     );
+    let mapped = plain_or!(79, mapped, timed_again(&cells, &graph, &late, &cuts, mapped));
     for (index, &literal) in graph.outputs.iter().enumerate() {
         if !mapped.contains_key(&phase_of(literal)) {
             return refuse(17, index);
         }
     }
-    Ok(netlist(&library, &graph, &cuts, &mapped))
+    let printed = netlist(&cells, &graph, &cuts, &mapped);
+    let low = low_arrivals(&cells, &order, &cuts, &mapped);
+    Ok(if plain_or!(82, plain_or!(80, ranged, ranged && !cells.is_empty()), true) {
+        timed(printed, &graph, &mapped, &low)
+    } else {
+        printed
+    })
 }
 
 // ---------------------------------------------------------------- texts
@@ -170,41 +185,63 @@ pub struct Cell {
     pub table: u16,
     pub area: u32,
     pub delays: [u32; 4],
+    /// "the lowest delays"; where the names line has none they are 0 and unused.
+    pub lowest: [u32; 4],
 }
 
-const NAMES: &[u8] = b"cell pins table area d0 d1 d2 d3";
+/// A library text, and whether it has `l0` to `l3` "after `d3` in its names line".
+#[derive(Clone, Debug, PartialEq, Eq)]
+pub struct Library {
+    pub cells: Vec<Cell>,
+    pub ranged: bool,
+}
 
-/// Refusals 2 to 6.
-pub fn read_library(text: &[u8]) -> Result<Vec<Cell>, Refusal> {
+/// "2 takes either names line"
+const NAMES: [&[u8]; 2] = [b"cell pins table area d0 d1 d2 d3", b"cell pins table area d0 d1 d2 d3 l0 l1 l2 l3"];
+
+/// Refusals 2 to 6 and 27.
+pub fn read_library(text: &[u8]) -> Result<Library, Refusal> {
     let names = line_at(text, 0, plain_or!(39, Ends::Either, Ends::TenAlone));
-    let Some(names) = names.filter(|line| line.contents == NAMES) else {
+    let Some(names) = names.filter(|line| NAMES.contains(&line.contents)) else {
         return refuse(2, 0);
     };
-    let mut offset = names.next;
-    let mut cells: Vec<Cell> = Vec::new();
+    let ranged = names.contents == NAMES[1];
+    read_cells(text, names.next, ranged, Vec::new()).map(|cells| Library { cells, ranged })
+}
+
+/// The cell lines from here on, after these cells.
+fn read_cells(text: &[u8], from: usize, ranged: bool, mut cells: Vec<Cell>) -> Result<Vec<Cell>, Refusal> {
+    let mut offset = from;
     while offset < text.len() {
         if cells.len() == 32 {
             return refuse(3, offset);
         }
         let line = line_at(text, offset, Ends::Either);
-        let Some((line, cell)) = line.and_then(|line| Some((line, read_cell(line.contents)?))) else {
+        let Some((line, cell)) = line.and_then(|line| Some((line, read_cell(line.contents, ranged)?))) else {
             return refuse(4, offset);
         };
         let repeated = cells.iter().any(|earlier| earlier.name == cell.name);
         if plain_or!(20, repeated, repeated && absent_pins_are_zero(&cell)) {
             return refuse(5, offset);
         }
-        if !absent_pins_are_zero(&cell) {
+        let exceeds = cell.lowest.iter().zip(&cell.delays).any(|(l, d)| plain_or!(84, l > d, l >= d && *d > 0));
+        if !absent_pins_are_zero(&cell) && plain_or!(74, true, !exceeds) {
             return refuse(6, offset);
         }
-        offset = line.next;
         cells.push(cell);
+        // "27 when a lowest delay exceeds its `d`, after 6 on its line, at that line's offset"
+        if exceeds {
+            let refused = refuse(27, offset);
+            return plain_or!(75, refused, read_cells(text, line.next, ranged, cells).and(refused));
+        }
+        offset = line.next;
     }
     Ok(cells)
 }
 
-fn read_cell(line: &[u8]) -> Option<Cell> {
-    let fields = fields(line, 8)?;
+fn read_cell(line: &[u8], ranged: bool) -> Option<Cell> {
+    let wanted = if ranged { 12 } else { 8 };
+    let fields = fields(line, wanted).or_else(|| plain_or!(81, None, fields(line, 8)))?;
     let [name, pins, table] = [fields[0], fields[1], fields[2]];
     let figures = numbers(&fields[3..])?;
     let name_is_good = (1..=8).contains(&name.len())
@@ -221,13 +258,15 @@ fn read_cell(line: &[u8]) -> Option<Cell> {
         table: u16::from_str_radix(std::str::from_utf8(table).ok()?, 16).ok()?,
         area: figures[0],
         delays: [figures[1], figures[2], figures[3], figures[4]],
+        lowest: [5, 6, 7, 8].map(|index| figures.get(index).copied().unwrap_or(0)),
     })
 }
 
 /// "A table bit at or above row 2^pins, or the delay of an absent pin, isn't
-/// 0", turned round.
+/// 0", turned round. "An absent pin has lowest delay 0, else 6 applies."
 fn absent_pins_are_zero(cell: &Cell) -> bool {
-    (1 << cell.pins..16).all(|row| cell.table >> row & 1 == 0) && (cell.pins..4).all(|pin| cell.delays[pin] == 0)
+    let no_delay = |pin: usize| cell.delays[pin] == 0 && plain_or!(76, cell.lowest[pin] == 0, true);
+    (1 << cell.pins..16).all(|row| cell.table >> row & 1 == 0) && (cell.pins..4).all(no_delay)
 }
 
 // ---------------------------------------------------------------- graph
@@ -279,9 +318,9 @@ pub fn words_needed(text: &[u8]) -> Option<usize> {
 }
 
 /// "Work memory is unchanged by every refusal tried up to 10": 19 is "tried
-/// after 9", and so before it.
+/// after 9", and so before it, and 27 stands "after 6 on its line".
 pub fn leaves_work_memory(number: u32) -> bool {
-    (1..=10).contains(&number) || number == 19
+    (1..=10).contains(&number) || number == 19 || number == 27
 }
 
 /// Refusals 7 to 14 and 19 to 21.
@@ -617,13 +656,13 @@ struct Fed {
 
 /// Every cell under every order and mask, in that order, by the table that it
 /// then gives over the 16 rows of a cut.
-struct Library<'a> {
+struct Ways<'a> {
     cells: &'a [Cell],
     fed: BTreeMap<u16, Vec<Fed>>,
 }
 
-impl<'a> Library<'a> {
-    fn new(cells: &'a [Cell]) -> Library<'a> {
+impl<'a> Ways<'a> {
+    fn new(cells: &'a [Cell]) -> Ways<'a> {
         let mut fed: BTreeMap<u16, Vec<Fed>> = BTreeMap::new();
         for (line, cell) in cells.iter().enumerate() {
             for (number, &places) in orders().iter().enumerate() {
@@ -639,7 +678,7 @@ impl<'a> Library<'a> {
                 }
             }
         }
-        Library { cells, fed }
+        Ways { cells, fed }
     }
 
     /// The ways that match a cut of so many leaves with this function.
@@ -682,17 +721,26 @@ pub struct Net {
 /// The phases that have a source.
 pub type Mapped = BTreeMap<Phase, Net>;
 
-/// The phases that feed a source, with the delays of the pins they feed.
-pub fn feeds(cells: &[Cell], cuts: &[Vec<Vec<u16>>], phase: Phase, source: Source) -> Vec<(Phase, u32)> {
+/// What feeds a pin, and the pin's delays.
+#[derive(Clone, Copy, Debug, PartialEq, Eq)]
+pub struct Feed {
+    pub phase: Phase,
+    pub delay: u32,
+    pub lowest: u32,
+}
+
+/// The feeds of a source, pin by pin.
+pub fn feeds(cells: &[Cell], cuts: &[Vec<Vec<u16>>], phase: Phase, source: Source) -> Vec<Feed> {
     let (variable, negative) = phase;
+    let feed = |phase, cell: &Cell, pin: usize| Feed { phase, delay: cell.delays[pin], lowest: cell.lowest[pin] };
     match source {
         Source::Input => Vec::new(),
-        Source::Inverter { cell } => vec![((variable, !negative), cells[cell].delays[0])],
+        Source::Inverter { cell } => vec![feed((variable, !negative), &cells[cell], 0)],
         Source::Cell { cut, cell, order, mask } => {
             let (cell, places) = (&cells[cell], orders()[order]);
             let leaves = &cuts[usize::from(variable)][cut];
             let fed_by = |pin: usize| (leaves[places[pin]], mask >> pin & 1 == 1);
-            (0..cell.pins).map(|pin| (fed_by(pin), cell.delays[pin])).collect()
+            (0..cell.pins).map(|pin| feed(fed_by(pin), cell, pin)).collect()
         }
     }
 }
@@ -701,7 +749,7 @@ pub fn feeds(cells: &[Cell], cuts: &[Vec<Vec<u16>>], phase: Phase, source: Sourc
 /// every phase's source by the choice, where it has one. "The input record gains
 /// this number, every arrival starts from it": the inputs' arrivals stand by index.
 pub fn cover(cells: &[Cell], graph: &Graph, late: &[u32], order: &[u16], cuts: &[Vec<Vec<u16>>]) -> Mapped {
-    let library = Library::new(cells);
+    let ways = Ways::new(cells);
     let inverters = cells.iter().enumerate().filter(|(_, cell)| cell.pins == 1 && cell.table == 0x0001);
     let inverter = inverters.min_by_key(|(line, cell)| (cell.delays[0], plain_or!(8, *line, 99 - *line)));
     let mut mapped = Mapped::new();
@@ -713,7 +761,7 @@ pub fn cover(cells: &[Cell], graph: &Graph, late: &[u32], order: &[u16], cuts: &
                 let arrival = late.get(index).copied().unwrap_or(0);
                 return (!negative).then_some(Net { arrival, source: Source::Input });
             }
-            matched(&library, graph, &mapped, variable, negative, lists)
+            matched(&ways, graph, &mapped, variable, negative, lists)
         });
         for (negative, own, opposite) in [(false, own[0], own[1]), (true, own[1], own[0])] {
             let inverted = opposite.zip(inverter).map(|(opposite, (line, cell))| Net {
@@ -745,17 +793,13 @@ pub fn cover(cells: &[Cell], graph: &Graph, late: &[u32], order: &[u16], cuts: &
 /// A cover with its sources kept and the arrivals of late inputs.
 #[cfg(feature = "mutants")]
 fn timed_again(cells: &[Cell], graph: &Graph, late: &[u32], cuts: &[Vec<Vec<u16>>], mapped: Mapped) -> Mapped {
-    fn arrival(
-        phase: Phase,
-        known: &mut BTreeMap<Phase, u32>,
-        of: &dyn Fn(Phase) -> Result<u32, Vec<(Phase, u32)>>,
-    ) -> u32 {
+    fn arrival(phase: Phase, known: &mut BTreeMap<Phase, u32>, of: &dyn Fn(Phase) -> Result<u32, Vec<Feed>>) -> u32 {
         if let Some(&arrival) = known.get(&phase) {
             return arrival;
         }
         let latest = match of(phase) {
             Ok(start) => start,
-            Err(feeds) => feeds.into_iter().map(|(feed, delay)| arrival(feed, known, of) + delay).max().unwrap_or(0),
+            Err(feeds) => feeds.iter().map(|feed| arrival(feed.phase, known, of) + feed.delay).max().unwrap_or(0),
         };
         known.insert(phase, latest);
         latest
@@ -777,7 +821,7 @@ type Rank = (u32, usize, usize, usize, usize);
 /// The best matched cell on a cut other than the variable alone: "earliest
 /// arrival; [...] then cut, cell line, order number, mask, lowest first".
 fn matched(
-    library: &Library,
+    ways: &Ways,
     graph: &Graph,
     mapped: &Mapped,
     variable: u16,
@@ -791,8 +835,8 @@ fn matched(
         }
         let positive = function(graph, variable, leaves);
         let table = if negative { !positive } else { positive };
-        for fed in library.matching(table, leaves.len()) {
-            let cell = &library.cells[fed.cell];
+        for fed in ways.matching(table, leaves.len()) {
+            let cell = &ways.cells[fed.cell];
             let mut arrival = Some(0);
             for pin in 0..cell.pins {
                 let feeding = mapped.get(&(leaves[fed.places[pin]], fed.mask >> pin & 1 == 1));
@@ -835,7 +879,7 @@ pub fn needed(cells: &[Cell], graph: &Graph, cuts: &[Vec<Vec<u16>>], mapped: &Ma
     while let Some(phase) = asked.pop() {
         if needed.insert(phase) {
             let feeding = feeds(cells, cuts, phase, mapped[&phase].source);
-            asked.extend(feeding.into_iter().map(|(feeding, _)| feeding));
+            asked.extend(feeding.iter().map(|feed| feed.phase));
         }
     }
     needed
@@ -871,7 +915,8 @@ fn netlist(cells: &[Cell], graph: &Graph, cuts: &[Vec<Vec<u16>>], mapped: &Mappe
             continue;
         }
         text += &format!(".gate {}", cell.name);
-        for ((feeding, _), pin) in feeds(cells, cuts, phase, net.source).into_iter().zip("ABCD".chars()) {
+        for (Feed { phase: feeding, .. }, pin) in feeds(cells, cuts, phase, net.source).into_iter().zip("ABCD".chars())
+        {
             let fed_by =
                 plain_or!(14, feeding, (feeding.0, feeding.1 && matches!(net.source, Source::Inverter { .. })));
             text += &format!(" {pin}={}", net_name(fed_by));
@@ -891,4 +936,54 @@ fn netlist(cells: &[Cell], graph: &Graph, cuts: &[Vec<Vec<u16>>], mapped: &Mappe
     let arrival = latest.unwrap_or(0);
     text += &format!(".end\n# gates {gates} area {area} arrival {arrival}\n");
     Printed { text: text.into_bytes(), gates, area, arrival }
+}
+
+// ---------------------------------------------------------------- ranges
+
+/// The low arrivals: the same gates with every pin at its lowest delay. An input's
+/// own arrival stands in both ends.
+fn low_arrivals(cells: &[Cell], order: &[u16], cuts: &[Vec<Vec<u16>>], mapped: &Mapped) -> BTreeMap<Phase, u32> {
+    let mut low: BTreeMap<Phase, u32> = BTreeMap::new();
+    for &variable in order {
+        let phases = [(variable, false), (variable, true)];
+        let mut nets: Vec<(Phase, Net)> =
+            phases.iter().filter_map(|phase| Some((*phase, *mapped.get(phase)?))).collect();
+        // An inverter's feed, the opposite phase, is no inverter: it comes first.
+        nets.sort_by_key(|(_, net)| matches!(net.source, Source::Inverter { .. }));
+        for (phase, net) in nets {
+            let feeds = feeds(cells, cuts, phase, net.source);
+            let feeds = plain_or!(77, feeds, latest_alone(feeds, mapped));
+            let ends = feeds.iter().map(|feed| low[&feed.phase] + plain_or!(72, feed.lowest, feed.delay));
+            let arrival = match net.source {
+                Source::Input => plain_or!(78, net.arrival, 0),
+                _ => plain_or!(73, ends.max(), ends.min()).unwrap_or(0),
+            };
+            low.insert(phase, arrival);
+        }
+    }
+    low
+}
+
+/// The feed that decides the high arrival, alone.
+#[cfg(feature = "mutants")]
+fn latest_alone(feeds: Vec<Feed>, mapped: &Mapped) -> Vec<Feed> {
+    feeds.into_iter().max_by_key(|feed| mapped[&feed.phase].arrival + feed.delay).into_iter().collect()
+}
+
+/// The cells with their lowest delays in place of the others.
+#[cfg(feature = "mutants")]
+fn by_lowest(cells: &[Cell]) -> Vec<Cell> {
+    cells.iter().map(|cell| Cell { delays: cell.lowest, ..cell.clone() }).collect()
+}
+
+/// "The netlist is then followed by a line per output, as `# timing o0 30 35`: a low
+/// and a high arrival."
+fn timed(printed: Printed, graph: &Graph, mapped: &Mapped, low: &BTreeMap<Phase, u32>) -> Printed {
+    let mut text = printed.text;
+    for (index, &literal) in graph.outputs.iter().enumerate() {
+        let phase = phase_of(literal);
+        let high = plain_or!(85, mapped[&phase].arrival, printed.arrival);
+        text.extend(format!("# timing o{index} {} {high}\n", low[&phase]).bytes());
+    }
+    Printed { text, ..printed }
 }

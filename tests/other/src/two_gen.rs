@@ -129,14 +129,15 @@ pub fn channel(rng: &mut Rng) -> Made {
 
 /// A pair by chance; some have one graph twice.
 pub fn pair(rng: &mut Rng) -> Pair {
-    let mut cells = match rng.below(4) {
-        0 => gen::library_text(&gen::small_library()),
-        1 => gen::library_text(&gen::full_library()),
+    let cells = match rng.below(4) {
+        0 => gen::small_library(),
+        1 => gen::full_library(),
         _ => {
             let count = gen::library_size(rng);
-            gen::library_text(&gen::library(rng, count))
+            gen::library(rng, count)
         }
     };
+    let mut cells = gen::either_text(rng, &cells);
     if rng.one_in(4) {
         cells = gen::mixed(rng, &cells).text;
     }

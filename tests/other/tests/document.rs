@@ -47,6 +47,11 @@ fn arrivals() {
 }
 
 #[test]
+fn ranges() {
+    passes(checks::ranges(1_500, 200, 1));
+}
+
+#[test]
 fn netlists() {
     passes(checks::netlists(4_000, 1));
 }
@@ -70,6 +75,7 @@ fn longer() {
     passes(checks::twins(40_000, 2));
     passes(checks::line_ends(40_000, 2));
     passes(checks::arrivals(40_000, 2));
+    passes(checks::ranges(20_000, 200, 2));
 }
 
 /// Runs where GRAPHS_DIR names a folder of graphs with its `graphs.tsv`.
@@ -278,6 +284,125 @@ fn in_the_place_given() {
     let short = |graph: &[u8]| reference::map_without_arrivals(&cells, graph, 32_768, 0).0;
     assert_eq!(short(B), Answer { number: 18, value: gen::LISTING.len() as u32, ..Answer::default() });
     assert_eq!(short(&B[..17]), Answer { number: 20, value: 17, ..Answer::default() });
+}
+
+// ---------------------------------------------------------------- request N10
+
+/// Case B's graph with these cell lines under the longer names line.
+fn with_ranges(lines: &[&str], arrivals: &str) -> (Answer, String) {
+    let cells = gen::RANGED_LINE.to_string() + &text(lines);
+    let graph = b"aag 3 2 0 1 1\n2\n4\n6\n6 2 4\n";
+    let (answer, netlist) = reference::map(cells.as_bytes(), graph, arrivals.as_bytes(), 32_768, 65_536);
+    (answer, String::from_utf8_lossy(&netlist).into_owned())
+}
+
+const INV_RANGE: &str = "inv 1 0001 1 10 0 0 0 10 0 0 0";
+
+/// "The netlist is then followed by a line per output, as `# timing o0 30 35`: a low
+/// and a high arrival. 18 and the returned length count these lines": a nand2 of 20
+/// to 25 and an inv of 10.
+#[test]
+fn timing_lines() {
+    let (answer, netlist) = with_ranges(&[INV_RANGE, "nand2 2 0007 2 25 25 0 0 20 20 0 0"], "");
+    let wanted = gen::LISTING.replace("arrival 30", "arrival 35") + "# timing o0 30 35\n";
+    assert_eq!(netlist, wanted);
+    let figures = Answer { number: 0, value: wanted.len() as u32, gates: 2, area: 3, arrival: 35 };
+    assert_eq!((answer, wanted.len()), (figures, 152));
+    // Both ends of one pin: the other one decides the low end.
+    let (_, netlist) = with_ranges(&[INV_RANGE, "nand2 2 0007 2 25 24 0 0 0 19 0 0"], "");
+    assert!(netlist.ends_with("\n# gates 2 area 3 arrival 35\n# timing o0 29 35\n"), "{netlist}");
+    // "input arrivals count in both ends": 5 + 20 + 10 and 7 + 19 + 10.
+    let (_, netlist) = with_ranges(&[INV_RANGE, "nand2 2 0007 2 20 19 0 0 20 19 0 0"], "input arrival\n0 5\n1 7\n");
+    assert!(netlist.ends_with("\n# gates 2 area 3 arrival 36\n# timing o0 36 36\n"), "{netlist}");
+}
+
+/// "mapping uses the `d` figures as before": nor2 is quickest by its lowest delay and
+/// slowest by `d`.
+#[test]
+fn the_choice_goes_by_d() {
+    let lines = [INV_RANGE, "nand2 2 0007 2 20 20 0 0 20 20 0 0", "and2 2 0008 2 31 31 0 0 0 0 0 0"];
+    let (answer, netlist) = with_ranges(&lines, "");
+    assert_eq!((answer.gates, answer.arrival), (2, 30), "{netlist}");
+    assert!(netlist.ends_with("\n# timing o0 30 30\n"), "{netlist}");
+    let lines = [INV_RANGE, "nand2 2 0007 2 20 20 0 0 20 20 0 0", "and2 2 0008 2 30 30 0 0 0 4 0 0"];
+    let (answer, netlist) = with_ranges(&lines, "");
+    assert_eq!((answer.gates, answer.arrival), (1, 30), "{netlist}");
+    assert!(netlist.ends_with("\n# timing o0 4 30\n"), "{netlist}");
+}
+
+/// "a line per output", in their order, with no cells too; without outputs none.
+#[test]
+fn a_line_per_output() {
+    let of = |graph: &str, arrivals: &str| {
+        let ranged = gen::RANGED_LINE.as_bytes();
+        let (answer, netlist) = reference::map(ranged, graph.as_bytes(), arrivals.as_bytes(), 32_768, 65_536);
+        assert_eq!((answer.number, answer.value as usize), (0, netlist.len()));
+        let netlist = String::from_utf8_lossy(&netlist).into_owned();
+        netlist.split_once("arrival ").map_or(String::new(), |(_, rest)| rest.to_string())
+    };
+    let late = "input arrival\n1 9\n";
+    assert_eq!(of("aag 2 2 0 3 0\n2\n4\n4\n2\n4\n", late), "9\n# timing o0 9 9\n# timing o1 0 0\n# timing o2 9 9\n");
+    assert_eq!(of("aag 2 2 0 0 0\n2\n4\n", late), "0\n");
+}
+
+/// "Every choice of pin delays, each within its range and fixed separately per gate":
+/// two gates of one cell, and only one of them at its slowest. The chain's second and
+/// gate is 0 to 10 after the first, whichever delay the first has.
+#[test]
+fn separately_per_gate() {
+    let cells = gen::RANGED_LINE.to_string() + "and2 2 0008 1 10 10 0 0 0 0 0 0\n";
+    let graph = "aag 5 3 0 2 2\n2\n4\n6\n8\n10\n8 2 4\n10 8 6\n";
+    let (_, netlist) = reference::map(cells.as_bytes(), graph.as_bytes(), b"", 32_768, 65_536);
+    let read = blif::read(&netlist).expect("a good netlist");
+    let kinds = blif::kinds(cells.as_bytes()).expect("a good library");
+    let ordered = read.ordered(&kinds).expect("a good netlist");
+    assert_eq!(read.timing, [("o0".into(), [0, 10]), ("o1".into(), [0, 20])]);
+    let slow = |net: &str| read.ends(&[0, 0, 0], &ordered, |gate, _| if gate.net == net { 10 } else { 0 });
+    assert_eq!((slow("p4"), slow("p5")), (vec![10, 10], vec![0, 10]));
+}
+
+/// "An absent pin has lowest delay 0, else 6 applies. 27 when a lowest delay exceeds
+/// its `d`, after 6 on its line, at that line's offset."
+#[test]
+fn twenty_seven() {
+    let at = (gen::RANGED_LINE.len() + INV_RANGE.len() + 1) as u32;
+    assert_eq!(at, 45 + 31);
+    for (line, number) in [
+        ("nand2 2 0007 2 20 20 0 0 20 20 0 0", 0),
+        ("nand2 2 0007 2 20 20 0 0 20 21 0 0", 27),
+        ("nand2 2 0007 2 20 20 0 0 21 0 0 0", 27),
+        ("nand2 2 0007 2 20 20 0 0 20 20 1 0", 6),
+        ("nand2 2 0007 2 20 20 0 0 21 20 0 1", 6),
+        ("nand2 2 0017 2 20 20 0 0 21 20 0 0", 6),
+        ("inv 2 0007 2 20 20 0 0 21 20 0 0", 5),
+        ("nand2 2 0007 2 20 20 0 0 21 20 0", 4),
+        ("nand2 2 0007 2 20 20 0 0", 4),
+    ] {
+        let (answer, _) = with_ranges(&[INV_RANGE, line], "");
+        assert_eq!((answer.number, number == 0 || answer.value == at), (number, true), "{line}: {answer:?}");
+        // The lines behind it don't matter.
+        if number > 0 {
+            assert_eq!(with_ranges(&[INV_RANGE, line, INV_RANGE, "x"], "").0, answer, "{line}");
+        }
+    }
+    // Work memory is left as it was.
+    let kept: Vec<u32> = (0..28).filter(|&number| reference::leaves_work_memory(number)).collect();
+    assert_eq!(kept, [1, 2, 3, 4, 5, 6, 7, 8, 9, 10, 19, 27]);
+}
+
+/// "2 takes either names line", and nothing else; a line has the fields of its own.
+#[test]
+fn either_names_line() {
+    let b = "aag 3 2 0 1 1\n2\n4\n6\n6 2 4\n";
+    assert_eq!(with_library(&format!("{}{}\n", gen::RANGED_LINE, CELLS[1]), b), (4, 45));
+    assert_eq!(with_library(&format!("{}{INV_RANGE}\n", gen::NAMES_LINE), b), (4, 33));
+    for names in
+        ["cell pins table area d0 d1 d2 d3 l0 l1 l2", "cell pins table area d0 d1 d2 d3 l0 l1 l2 l3 ", "l0 l1 l2 l3"]
+    {
+        assert_eq!(with_library(&format!("{names}\n{INV_RANGE}\n"), b), (2, 0));
+    }
+    assert_eq!(with_library(gen::RANGED_LINE.trim_end(), b), (2, 0), "without its end");
+    assert_eq!(with_library(&gen::RANGED_LINE.replace('\n', "\r\n"), "aag 0 0 0 0 0\n").0, 0);
 }
 
 // ---------------------------------------------------------------- request N5

@@ -1,11 +1,11 @@
 //! Every mutant of the reference is caught by a check of `tests/document.rs`,
 //! `tests/genlib.rs` or `tests/two.rs`.
-//! `MUTANTS=28,29` in the environment tries these alone.
+//! `MUTANTS=28,29` in the environment tries these alone, `CHECKS=limits,ranges` by these checks.
 
 use other::{checks, genlib_checks, mutants, two_checks};
 use std::panic::catch_unwind;
 
-type Checks = [(&'static str, fn() -> checks::Check); 10];
+type Checks = [(&'static str, fn() -> checks::Check); 11];
 
 const CHECKS: Checks = [
     ("marked_cases", checks::marked),
@@ -15,6 +15,7 @@ const CHECKS: Checks = [
     ("twins", || checks::twins(1_500, 1)),
     ("line_ends", || checks::line_ends(1_500, 1)),
     ("arrivals", || checks::arrivals(1_000, 1)),
+    ("ranges", || checks::ranges(500, 20, 1)),
     ("netlists", || checks::netlists(1_500, 1)),
     ("every_small_graph", checks::every_small_graph),
     ("all_covers", || checks::all_covers(1_500, 1)),
@@ -55,9 +56,9 @@ fn every_mutant_of_two_is_caught() {
 /// Prints a row for each mutant.
 fn caught(list: &[(u32, &str)], checks: &[(&str, fn() -> checks::Check)]) {
     std::panic::set_hook(Box::new(|_| {}));
-    let only = std::env::var("MUTANTS").ok();
-    let is_wanted =
-        |number: u32| only.as_ref().is_none_or(|only| only.split(',').any(|word| word == number.to_string()));
+    let left_out =
+        |name: &str, word: &str| std::env::var(name).is_ok_and(|list| !list.split(',').any(|one| one == word));
+    let is_wanted = |number: u32| !left_out("MUTANTS", &number.to_string());
     let mut missed = Vec::new();
     println!("| mutant | what is wrong | caught by |\n|---|---|---|");
     let all = [(0, "nothing")].into_iter().chain(list.iter().copied());
@@ -65,7 +66,7 @@ fn caught(list: &[(u32, &str)], checks: &[(&str, fn() -> checks::Check)]) {
         mutants::switch(number);
         let caught: Vec<&str> = checks
             .iter()
-            .filter(|(_, check)| !matches!(catch_unwind(check), Ok(Ok(_))))
+            .filter(|(name, check)| !left_out("CHECKS", name) && !matches!(catch_unwind(check), Ok(Ok(_))))
             .map(|(name, _)| *name)
             .collect();
         println!("| {number} | {what} | {} |", caught.join(", "));

@@ -1,10 +1,11 @@
 //! The cases of the program crate `map_run` and what it must print:
 //! `cases GRAPHS FOLDER` writes FOLDER/stdin and FOLDER/stdout.
 
-use other::{reference::map, WORDS_EACH};
+use other::{gen, reference::map, WORDS_EACH};
 use std::{env, fs, path::PathBuf};
 
 const NAMES: &str = "cell pins table area d0 d1 d2 d3\n";
+const RANGED: &str = "cell pins table area d0 d1 d2 d3 l0 l1 l2 l3\n";
 const LISTED: &str = "inv 1 0001 1 10 0 0 0\nnand2 2 0007 2 20 20 0 0\n";
 
 struct Cases {
@@ -209,6 +210,47 @@ fn main() {
     for outputs in [9, 10, 11, 99, 100, 101, 2604, 4096] {
         c.add(&library, format!("aag 1 1 0 {outputs} 0\n2\n") + &"2\n".repeat(outputs), 32768, 65536);
     }
+    // delays as ranges: case B with ends apart, a pin that decides each end, late inputs, no cells, no outputs; 27 beside
+    // 4, 5 and 6 of its line and before those of later lines; both names lines and their fields; 18 with timing lines
+    let inv = "inv 1 0001 1 10 0 0 0 10 0 0 0\n";
+    let ranged = |line: &str| format!("{RANGED}{inv}{line}\n");
+    let wide = ranged("nand2 2 0007 2 25 24 0 0 0 19 0 0");
+    for bytes in [65536, 152, 151, 134, 0] {
+        c.add(&wide, b, need, bytes);
+    }
+    for arrivals in ["", "input arrival\n0 5\n", "input arrival\n1 7\n0 65535\n"] {
+        c.add_late(&wide, b, arrivals, 32768, 65536);
+        c.add_late(&wide, "aag 3 2 0 5 1\n4\n2\n7\n6\n4\n3\n6\n6 2 4\n", arrivals, 32768, 65536);
+        c.add_late(RANGED, "aag 2 2 0 3 0\n2\n4\n4\n2\n4\n", arrivals, 32768, 65536);
+        c.add_late(&in_two(&wide), b_in_binary, arrivals, 32768, 65536);
+    }
+    c.add(&wide, "aag 0 0 0 0 0\n", 32768, 65536);
+    c.add(RANGED, b, 32768, 65536);
+    c.add(&ranged("and2 2 0008 2 30 31 0 0 0 0 0 0\nnand2 2 0007 2 20 20 0 0 20 20 0 0"), b, 32768, 65536);
+    c.add(
+        &ranged("nand2 2 0007 2 65535 65535 0 0 65535 65534 0 0\ntie1 0 0001 1 0 0 0 0 0 0 0 0"),
+        "aag 3 2 0 3 1\n2\n4\n6\n1\n0\n6 2 4\n",
+        32768,
+        65536,
+    );
+    for line in [
+        "nand2 2 0007 2 20 20 0 0 21 20 0 0",
+        "nand2 2 0007 2 20 20 0 0 20 21 0 0\nx",
+        "nand2 2 0007 2 20 20 0 0 20 20 1 0",
+        "nand2 2 0007 2 20 20 0 0 21 20 0 1",
+        "nand2 2 0007 2 20 20 0 1 20 20 0 1",
+        "inv 2 0007 2 20 20 0 0 21 20 0 0",
+        "nand2 2 0007 2 20 20 0 0 21 20 0",
+        "nand2 2 0007 2 20 20 0 0",
+        "nand2 2 0007 2 20 20 0 0 20 20 0 00",
+        "nand2 2 0007 2 20 20 0 0 20 20 0 0 0",
+    ] {
+        c.add(&ranged(line), b, 32768, 65536);
+        c.add(&ranged(line), "aag 3 2 0 1\n", 0, 0);
+    }
+    c.add(&format!("{NAMES}{inv}"), b, 32768, 65536);
+    c.add(RANGED.trim_end(), b, 32768, 65536);
+    c.add(&RANGED.replace(" l3", ""), b, 32768, 65536);
     // real graphs
     for name in [
         "b2g_w2.raw",
@@ -233,6 +275,10 @@ fn main() {
     ] {
         for library in ["tiny.txt", "array.txt", "full.txt"] {
             c.add(&read(library), &read(&format!("{name}.aag")), 65536, 65536);
+        }
+        if ["sorter4.st", "gt_w2.st", "mult2.st", "seg7_d4.st"].contains(&name) {
+            let cells = String::from_utf8(gen::lowest_added(read("full.txt").as_bytes())).expect("a library");
+            c.add(&cells, &read(&format!("{name}.aag")), 65536, 65536);
         }
     }
     assert!(c.input.len() <= 262144);

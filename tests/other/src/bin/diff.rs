@@ -12,7 +12,7 @@
 use other::gen::{self, Case, Lent, Rng};
 use other::memory::Memory;
 use other::reference::{self, Answer};
-use other::{checks, ours, WORDS_EACH};
+use other::{checks, ours, NUMBERS, WORDS_EACH};
 use std::path::{Path, PathBuf};
 use std::time::{Duration, Instant};
 use std::{env, fs, process};
@@ -54,7 +54,7 @@ fn usage(at: &str) -> ! {
 
 #[derive(Default)]
 struct Tally {
-    counts: [u64; 27],
+    counts: [u64; NUMBERS],
     reference: Duration,
     ours: Duration,
 }
@@ -133,7 +133,7 @@ fn fixed() -> Vec<Case> {
     let graph = |lines: &[&str]| lines.iter().map(|line| format!("{line}\n")).collect::<String>().into_bytes();
     let small = gen::small_library();
     let with = |name: &str, pins, table, delay| {
-        let mut cell = gen::Cell { name: name.into(), pins, table, area: 2, delays: [0; 4] };
+        let mut cell = gen::Cell { name: name.into(), pins, table, area: 2, delays: [0; 4], lowest: [0; 4] };
         cell.delays[..pins].fill(delay);
         gen::library_text(&[small.clone(), vec![cell]].concat())
     };
@@ -157,7 +157,8 @@ fn fixed() -> Vec<Case> {
     cases.push(Case::new("I", plain.clone(), h).expect(17, 0));
     cases.push(Case::new("J", plain.clone(), graph(&["aag 2 0 0 0 2", "2 4 4", "4 2 2"])).expect(15, 1));
     cases.push(Case::new("K", plain.clone(), graph(&["aag 3 1 0 1 2", "2", "4", "4 6 6", "6 2 2"])).expect(0, 0));
-    for damaged in gen::all_damage_of_ends(&plain) {
+    let ranged = gen::ranged_text(&gen::with_ranges(&mut Rng::new(9), &small));
+    for damaged in [&plain, &ranged].into_iter().flat_map(|text| gen::all_damage_of_ends(text)) {
         cases.push(Case::new("damaged library", damaged, b.clone()));
     }
     for damaged in gen::all_damage_of_ends(b"input arrival\n1 20\n0 7\n") {
@@ -166,7 +167,8 @@ fn fixed() -> Vec<Case> {
     let mut rng = Rng::new(4);
     for graph in gen::every_small_graph() {
         let count = gen::library_size(&mut rng);
-        let cells = gen::library_text(&gen::library(&mut rng, count));
+        let cells = gen::library(&mut rng, count);
+        let cells = gen::either_text(&mut rng, &cells);
         let arrivals = gen::arrivals(&mut rng, graph.inputs.len());
         cases.push(Case::new("small graph", cells.clone(), graph.text()));
         cases.push(Case::new("small binary graph", cells, graph.binary().expect("in sequence")).arrivals(arrivals));
@@ -197,7 +199,8 @@ fn folder(path: &Path) -> Vec<Case> {
             let case = Case::new(what, read(cells), read(graph)).words(Lent::Exact).text(Lent::Over(1));
             let inputs = reference::read_graph(&case.graph, usize::MAX).map_or(0, |graph| graph.inputs.len());
             let late = gen::arrivals(&mut Rng::new(cases.len() as u64), inputs);
-            cases.extend([case.clone(), case.arrivals(late)]);
+            let with_ranges = Case { cells: gen::lowest_added(&case.cells), ..case.clone().arrivals(late.clone()) };
+            cases.extend([case.clone(), case.arrivals(late), with_ranges]);
         }
     }
     cases
@@ -254,7 +257,7 @@ fn main() {
         }
     }
     let counts: Vec<String> =
-        (0..22).chain([25, 26]).map(|number: usize| format!("{number}:{}", tally.counts[number])).collect();
+        (0..22).chain([25, 26, 27]).map(|number: usize| format!("{number}:{}", tally.counts[number])).collect();
     let all: u64 = tally.counts.iter().sum();
     println!(
         "{all} cases, {twins} of them twins, by number {}, 0 differences; reference {:.1} s, under test {:.1} s",

@@ -11,11 +11,11 @@
 
 use other::gen::Rng;
 use other::memory::Memory;
-use other::ours;
 use other::reference::Answer;
 use other::two::{self, Outcome, Two};
 use other::two_checks::Kinds;
 use other::two_gen::{self, Pair};
+use other::{ours, NUMBERS};
 use std::time::{Duration, Instant};
 use std::{env, fs, process};
 
@@ -87,7 +87,7 @@ fn main() {
             _ => usage(&name),
         }
     }
-    let (mut kinds, mut counts) = (Kinds::default(), [0u64; 27]);
+    let (mut kinds, mut counts) = (Kinds::default(), [0u64; NUMBERS]);
     let (start, mut ours) = (Instant::now(), Duration::ZERO);
     for number in only.map_or(0..pairs, |only| only..only + 1) {
         // A pair depends on its number alone, so that it can be run alone.
@@ -114,7 +114,7 @@ fn main() {
             process::exit(1);
         }
     }
-    let numbers = (0..22).chain([25, 26]).map(|number: usize| format!("{number}:{}", counts[number]));
+    let numbers = (0..22).chain([25, 26, 27]).map(|number: usize| format!("{number}:{}", counts[number]));
     let told = kinds.every();
     if only.is_none() && pairs >= 1_000 && told.is_err() {
         println!("{told:?}");
