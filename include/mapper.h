@@ -1,11 +1,13 @@
 /* The array mapper's calls. What they answer and leave is proved (crates/capi); this page says it in words.
  *
  * mapper_map maps a cell library text, an AIGER graph text, in the ASCII or the binary form, and a text of the inputs' arrivals, empty for none.
- * It never reads or writes outside the five arrays, always returns, and asks nothing of what they hold; they may not overlap.
+ * It never reads or writes outside the five arrays, always returns, and asks nothing of what they hold; they may not overlap. The cells have one
+ * of two first lines; under the longer, `cell pins table area d0 d1 d2 d3 l0 l1 l2 l3`, a `# timing` line for each output, its low and its high
+ * arrival, stands behind the netlist and counts as part of it.
  *   success   number 0, value the netlist's length; text begins with the netlist and keeps its other bytes; gates, area and arrival are the
- *             figures of its last line; every word of work is 0
+ *             figures of its `# gates` line; every word of work is 0
  *   refusal   number and value are the refusal's number and place (docs/GUIDE.md), the figures are 0; text is unchanged; work is unchanged
- *             for numbers up to 10 and for 19, and every word of it is 0 for any other
+ *             for numbers up to 10, for 19 and for 27, and every word of it is 0 for any other
  * The call keeps nothing between calls and is safe from several threads at once, each with work and text of its own. The thread needs 1.5 MB of stack. */
 #ifndef MAPPER_H
 #define MAPPER_H
@@ -16,24 +18,25 @@
 extern "C" {
 #endif
 
-/* The words of work that a graph of M variables and O outputs needs, and bytes of text that its netlist does not exceed. M is at most 4,095 and
- * O at most 4,096: MAPPER_WORDS(4095, 4096) and MAPPER_TEXT(4095, 4096), 1 MB and 0.6 MB, are enough for every graph. */
+/* The words of work that a graph of M variables and O outputs needs, and bytes of text that its netlist does not exceed, of which 43 an output are
+ * for the `# timing` lines. M is at most 4,095 and O at most 4,096: MAPPER_WORDS(4095, 4096) and MAPPER_TEXT(4095, 4096), 1 MB and 0.8 MB, are
+ * enough for every graph. */
 #define MAPPER_WORDS(m, o) (124 * ((size_t)(m) + 1) + (size_t)(o))
-#define MAPPER_TEXT(m, o) (116 * ((size_t)(m) + 1) + 29 * (size_t)(o) + 128)
+#define MAPPER_TEXT(m, o) (116 * ((size_t)(m) + 1) + 72 * (size_t)(o) + 128)
 
 /* The longest text that is read: of a longer file hand over one byte more, and the answer is MAPPER_TOO_LONG. */
 #define MAPPER_LIMIT 65536
 
-/* Numbers of the answer. What its value is: a byte's offset in the cells (3 to 6), in the graph (11 to 14, 20, 21), in the genlib text (22 to 24) or in the
- * arrivals (25, 26), a variable (15, 16), an output's index from 0 (17), the bytes needed (18), and otherwise 0. */
+/* Numbers of the answer. What its value is: a byte's offset in the cells (3 to 6, 27), in the graph (11 to 14, 20, 21), in the genlib text (22 to 24) or in
+ * the arrivals (25, 26), a variable (15, 16), an output's index from 0 (17), the bytes needed (18), and otherwise 0. */
 enum {
     MAPPER_MAPPED = 0,
     MAPPER_TOO_LONG = 1,             /* a text is longer than 65,536 bytes */
-    MAPPER_NAMES_LINE = 2,           /* the cells' first line isn't the names line */
+    MAPPER_NAMES_LINE = 2,           /* the cells' first line is neither names line */
     MAPPER_CELLS_OVER_32 = 3,        /* a thirty-third cell line begins */
-    MAPPER_CELL_FORM = 4,            /* a cell line breaks its form */
+    MAPPER_CELL_FORM = 4,            /* a cell line breaks its form: it has 8 fields, or 12 under the longer names line */
     MAPPER_CELL_REPEATED = 5,        /* a cell name is repeated */
-    MAPPER_CELL_BEYOND_PINS = 6,     /* a table bit or delay beyond the cell's pins isn't 0 */
+    MAPPER_CELL_BEYOND_PINS = 6,     /* a table bit, delay or lowest delay beyond the cell's pins isn't 0 */
     MAPPER_HEADER_FORM = 7,          /* the graph's header breaks its form */
     MAPPER_LATCHES = 8,              /* the graph has latches */
     MAPPER_GRAPH_TOO_LARGE = 9,      /* M exceeds 4,095, O exceeds 4,096, or I + A exceeds M */
@@ -53,7 +56,8 @@ enum {
     MAPPER_GENLIB_PINS = 23,         /* a gate has more than four pins, or brackets more than 16 deep */
     MAPPER_GENLIB_FIGURE = 24,       /* an area or block delay has more than three decimals or exceeds 65.535 */
     MAPPER_ARRIVAL_FORM = 25,        /* a line of the arrivals breaks its form */
-    MAPPER_ARRIVAL_INPUT = 26        /* its input is I or more, or is repeated */
+    MAPPER_ARRIVAL_INPUT = 26,       /* its input is I or more, or is repeated */
+    MAPPER_LOW_DELAY = 27            /* a pin's lowest delay exceeds its delay */
 };
 
 typedef struct {
@@ -68,8 +72,9 @@ MapperAnswer mapper_map(const uint8_t *cells, size_t cells_len, const uint8_t *g
                         size_t arrivals_len, uint16_t *work, size_t work_len, uint8_t *text, size_t text_len);
 
 /* Maps two graphs over one cells text and one work memory, each with an arrivals text and a text memory of its own. work holds at least the sum of
- * both graphs' words. Where a refusal tried up to 10 (1 to 10, 19) applies to either, both answers are that refusal, the first channel's if both have one, and
- * work is unchanged; any other refusal is its own channel's, and the other is mapped as if alone. Else of each answer and text what mapper_map says. */
+ * both graphs' words. Where a refusal tried up to 10 (1 to 10, 19, 27) applies to either, both answers are that refusal, the first channel's if
+ * both have one, and work is unchanged; any other refusal is its own channel's, and the other is mapped as if alone. Else of each answer and
+ * text what mapper_map says. */
 typedef struct {
     MapperAnswer first;
     MapperAnswer second;

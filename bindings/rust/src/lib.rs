@@ -26,7 +26,7 @@ pub use refusal::{Place, Refusal};
 /// The longest text that is read: a longer one is refusal 1.
 pub const TEXT_LIMIT: usize = 65_536;
 
-/// The figures of the netlist's last line.
+/// The figures of the netlist's `# gates` line.
 #[derive(Clone, Copy, Debug, PartialEq, Eq)]
 pub struct Figures {
     pub gates: u32,
@@ -39,7 +39,7 @@ pub struct Figures {
 /// A mapped graph.
 #[derive(Clone, Debug, PartialEq, Eq)]
 pub struct Netlist {
-    /// BLIF, as document 01 fixes it.
+    /// BLIF, as document 01 fixes it; with a library whose delays are ranges, a `# timing` line for each output behind it.
     pub text: String,
     pub figures: Figures,
 }
@@ -69,10 +69,10 @@ pub fn words_needed(graph: &[u8]) -> usize {
 }
 
 /// A length that the graph's netlist does not exceed, by its header: 55 bytes for each phase's gate, 6 for an input's name, 29 for an output's
-/// name and lines, and the frame.
+/// name and lines, 43 for its `# timing` line, and the frame.
 pub fn bytes_enough(graph: &[u8]) -> usize {
     match header(graph) {
-        Some([m, _, _, o, _]) if m <= 4_095 && o <= 4_096 => 116 * (m + 1) + 29 * o + 128,
+        Some([m, _, _, o, _]) if m <= 4_095 && o <= 4_096 => 116 * (m + 1) + 72 * o + 128,
         _ => 0,
     }
 }
@@ -90,8 +90,8 @@ pub fn map(cells: &[u8], graph: &[u8], arrivals: &[u8]) -> Result<Netlist, Refus
 }
 
 /// Maps the graph with the cells over lent memory, and answers the netlist's length and its figures: `text` begins with the netlist and keeps
-/// its other bytes. A refusal leaves `text` as it is. `work` is left unchanged by the refusals 1 to 10 and 19, and is all 0 after any other
-/// refusal and after success.
+/// its other bytes. A refusal leaves `text` as it is. `work` is left unchanged by the refusals 1 to 10, 19 and 27, and is all 0 after any
+/// other refusal and after success.
 pub fn map_in(
     cells: &[u8],
     graph: &[u8],
@@ -112,8 +112,8 @@ fn answered(Answer { number, value, gates, area, arrival }: Answer) -> Result<(u
     }
 }
 
-/// Maps two graphs with the same cells in one call, on memory of its own. A refusal 1 to 9 or 19 of either channel is returned for both, the
-/// first channel's if both have one; with any other the other channel is mapped as if alone.
+/// Maps two graphs with the same cells in one call, on memory of its own. A refusal 1 to 9, 19 or 27 of either channel is returned for both,
+/// the first channel's if both have one; with any other the other channel is mapped as if alone.
 pub fn map_two(cells: &[u8], first: Channel, second: Channel) -> [Result<Netlist, Refusal>; 2] {
     let channels = [first, second];
     let mut work = vec![0; channels.iter().map(|channel| words_needed(channel.graph)).sum()];

@@ -33,7 +33,7 @@ pub enum Place {
 impl Refusal {
     pub fn place(&self) -> Place {
         match self.number {
-            2..=6 => Place::Cells(self.place),
+            2..=6 | 27 => Place::Cells(self.place),
             7..=9 | 11..=14 | 19..=21 => Place::Graph(self.place),
             22..=24 => Place::Genlib(self.place),
             25 | 26 => Place::Arrivals(self.place),
@@ -52,7 +52,7 @@ impl Refusal {
             3 => "a thirty-third cell line",
             4 => "not a cell line",
             5 => "a cell name is repeated",
-            6 => "a table bit at or above row 2^pins, or the delay of an absent pin, isn't 0",
+            6 => "a table bit at or above row 2^pins, or a delay or lowest delay of an absent pin, isn't 0",
             7 => "not an AIGER header",
             8 => "the graph has latches",
             9 => "M exceeds 4,095, O exceeds 4,096, or I + A exceeds M",
@@ -73,6 +73,7 @@ impl Refusal {
             24 => "an area or block delay has more than three decimals or exceeds 65.535",
             25 => "a line of the arrivals breaks its form",
             26 => "an arrival's input is I or more, or is repeated",
+            27 => "a pin's lowest delay exceeds its delay",
             _ => "a refusal that docs/GUIDE.md does not list",
         }
     }

@@ -39,6 +39,22 @@ fn arrivals_start_from_the_inputs() {
 }
 
 #[test]
+fn ranges_bring_timing_lines() {
+    let cells = b"cell pins table area d0 d1 d2 d3 l0 l1 l2 l3\ninv 1 0001 1 10 0 0 0 5 0 0 0\nnand2 2 0007 2 20 20 0 0 10 15 0 0\n";
+    assert_eq!(map(cells, GRAPH, b"").unwrap().text, format!("{NETLIST}# timing o0 20 30\n"));
+    // 27, at the line's offset: work memory stays as it is.
+    let exceeds = [&cells[..], b"buf 1 0002 1 10 0 0 0 11 0 0 0\n"].concat();
+    let (mut work, mut text) = (vec![7; words_needed(GRAPH)], vec![b'x'; bytes_enough(GRAPH)]);
+    let refused = map_in(&exceeds, GRAPH, b"", &mut work, &mut text).unwrap_err();
+    assert_eq!((refused.number, refused.place()), (27, Place::Cells(cells.len())));
+    assert_eq!(
+        refused.to_string(),
+        format!("refused 27 at byte {} of the cells: a pin's lowest delay exceeds its delay", cells.len())
+    );
+    assert!(work.iter().all(|&word| word == 7) && text.iter().all(|&byte| byte == b'x'));
+}
+
+#[test]
 fn words_and_bytes_go_by_the_header() {
     assert_eq!(words_needed(GRAPH), 124 * 4 + 1);
     assert_eq!(words_needed(TWIN), 124 * 4 + 1);
@@ -93,8 +109,9 @@ fn refusals_say_where_and_what() {
 #[test]
 fn the_longest_netlist_is_within_the_bound() {
     // Every phase of many ANDs is an output, with the longest names.
-    let cells = "cell pins table area d0 d1 d2 d3\ninverter 1 0001 65535 65535 0 0 0\nnand4444 4 7fff 65535 65535 65535 65535 65535\n\
-                 nand2222 2 0007 65535 65535 65535 0 0\n";
+    let cells = "cell pins table area d0 d1 d2 d3 l0 l1 l2 l3\ninverter 1 0001 65535 65535 0 0 0 65535 0 0 0\n\
+                 nand4444 4 7fff 65535 65535 65535 65535 65535 65535 65535 65535 65535\n\
+                 nand2222 2 0007 65535 65535 65535 0 0 65535 65535 0 0\n";
     let mut graph = String::from("aag 4095 2000 0 4096 2047\n");
     (1..=2_000).for_each(|v| writeln!(graph, "{}", 2 * v).unwrap());
     (0..4_096).for_each(|k| writeln!(graph, "{}", 4_002 + k % 4_094).unwrap());

@@ -8,6 +8,8 @@ use std::collections::BTreeMap;
 
 const CELLS: &[u8] =
     b"cell pins table area d0 d1 d2 d3\ninv 1 0001 1 10 0 0 0\nnand2 2 0007 2 20 20 0 0\noai21 3 001f 3 32 29 18 0\n";
+const RANGES: &[u8] = b"cell pins table area d0 d1 d2 d3 l0 l1 l2 l3\ninv 1 0001 1 10 0 0 0 6 0 0 0\n\
+    nand2 2 0007 2 20 20 0 0 20 15 0 0\noai21 3 001f 3 32 29 18 0 9 2 1 0\n";
 const GRAPH: &[u8] = b"aag 7 3 0 2 4\n2\n4\n6\n14\n9\n8 2 4\n10 9 6\n12 10 3\n14 12 8\ni0 a\no1 sum\n";
 const BINARY: &[u8] = b"aig 7 3 0 2 4\n14\n9\n\x04\x02\x02\x02\x02\x07\x02\x04i0 a\no1 sum\n";
 
@@ -53,7 +55,8 @@ fn every_refusal_is_told() {
     let mut chance = Chance(26);
     let mut numbers: BTreeMap<u32, usize> = BTreeMap::new();
     for k in 0..60_000 {
-        let (mut cells, mut graph) = (CELLS.to_vec(), if k % 2 == 0 { GRAPH } else { BINARY }.to_vec());
+        let library = if k / 2 % 2 == 0 { CELLS } else { RANGES };
+        let (mut cells, mut graph) = (library.to_vec(), if k % 2 == 0 { GRAPH } else { BINARY }.to_vec());
         match k % 3 {
             0 => cells = damaged(&cells, &mut chance),
             _ => graph = damaged(&graph, &mut chance),
@@ -65,7 +68,7 @@ fn every_refusal_is_told() {
         let none = Source { name: String::new(), text: Vec::new() };
         let told = message(refusal, &cells, &graph, &none);
         let first = told.lines().next().unwrap();
-        let file = if (2..=6).contains(&refusal.number) { "CELLS" } else { "GRAPH" };
+        let file = if matches!(refusal.number, 2..=6 | 27) { "CELLS" } else { "GRAPH" };
         let behind =
             first.strip_prefix(file).and_then(|rest| rest.split_once(&format!(": refused {}: ", refusal.number)));
         let (line, what) = behind.unwrap_or_else(|| panic!("{refusal}: {told}"));
@@ -77,7 +80,7 @@ fn every_refusal_is_told() {
         let told_in_full = [1, 2, 15, 16, 17].contains(&refusal.number) || !general.contains(&what) && !breaks;
         assert!(told_in_full, "{refusal}: {told}\n{:?}\n{:?}", cells.text().escape_ascii(), graph.text.escape_ascii());
     }
-    for number in [2, 4, 5, 6, 7, 8, 9, 11, 12, 13, 14, 15, 17, 19, 20, 21] {
+    for number in [2, 4, 5, 6, 7, 8, 9, 11, 12, 13, 14, 15, 17, 19, 20, 21, 27] {
         assert!(numbers.contains_key(&number), "no refusal {number} among {numbers:?}");
     }
 }

@@ -21,7 +21,8 @@ const USAGE: &str = "\
 usage: amap [-o NETLIST] [-g PICTURE.dot] [-s] CELLS GRAPH [ARRIVALS]
   -o NETLIST      write the netlist there and not to standard output; nothing is written after a refusal
   -g PICTURE.dot  draw the netlist for Graphviz, the latest path marked
-  -s              figures to standard error: gates, area, arrival, gates of each cell, the latest path
+  -s              figures to standard error: gates, area, arrival, gates of each cell, the latest path,
+                  and the low and high arrival of each output where delays are ranges
 CELLS is a cell text or a genlib text, GRAPH an AND graph in either AIGER form, - for standard input,
 ARRIVALS when late inputs arrive: docs/GUIDE.md has them.
 status: 0 mapped; 1 refused, with the place on standard error; 2 a file or the command line is at fault

@@ -18,6 +18,7 @@ usage: cells2genlib [-o FILE] [-t] [-w] CELLS
   -w       also a gate netlist_wire without area and delay, for a netlist's .names lines in ABC
   -v       Verilog modules of the cells, and no genlib
 CELLS is a cell text or a genlib text: of the latter the pins become A to D, in the order of the netlist.
+Of delays that are ranges genlib has the highest, `d0` to `d3`.
 status: 0 written; 1 CELLS is refused; 2 a file or the command line is at fault
 ";
 

@@ -4,13 +4,16 @@ use super::lines::{counted, ending, number, offset_of, shown, spacing, Line, NUM
 
 pub const NAMES_LINE: &str = "cell pins table area d0 d1 d2 d3";
 
+/// The names line of a library whose delays are ranges.
+pub const RANGED_LINE: &str = "cell pins table area d0 d1 d2 d3 l0 l1 l2 l3";
+
 #[derive(Clone, Debug, PartialEq, Eq)]
 pub struct Cell {
     pub name: String,
     /// Bit r is the value in row r, and bit j of r is the value of pin j.
     pub table: u16,
     pub area: u32,
-    /// The delay of each pin that is there.
+    /// The delay of each pin that is there, the highest of its range.
     pub delays: Vec<u32>,
 }
 
@@ -46,6 +49,11 @@ pub fn line_of(text: &[u8], name: &[u8], before: usize) -> Option<usize> {
         let offset = offset_of(text, k).unwrap_or(text.len());
         text[offset..].starts_with(name) && text.get(offset + name.len()) == Some(&b' ')
     })
+}
+
+/// Whether the library has the longer names line.
+pub fn is_ranged(text: &[u8]) -> bool {
+    super::lines::line_at(text, 0).bytes == RANGED_LINE.as_bytes()
 }
 
 /// The field names of the library's first line.
@@ -103,4 +111,13 @@ pub fn beyond(text: &[u8], line: &Line) -> Option<String> {
         let k: usize = what.get(1..)?.parse().ok()?;
         (k >= pins && number(field)? != 0).then(|| format!("`{what}` is {}, and the cell has no pin {k}", shown(field)))
     })
+}
+
+/// The first lowest delay above its delay in a cell line in form (refusal 27).
+pub fn above(line: &Line) -> Option<String> {
+    let fields: Vec<usize> =
+        line.bytes.split(|&byte| byte == b' ').map(|field| number(field).unwrap_or_default()).collect();
+    let (delays, lows) = (fields.get(4..8)?, fields.get(8..12)?);
+    let k = delays.iter().zip(lows).position(|(delay, low)| low > delay)?;
+    Some(format!("`l{k}` is {}, more than `d{k}`, {}", lows[k], delays[k]))
 }

@@ -69,12 +69,15 @@ fn marked(line: &Line) -> Option<String> {
 fn in_cells(refusal: Refusal, file: &str, text: &[u8], byte: usize) -> Told {
     let line = line_at(text, byte);
     let name = line.bytes.split(|&byte| byte == b' ').next().unwrap_or_default();
-    let names_line = format!("the first line is `{}`, ended by byte 10", cells::NAMES_LINE);
+    let names_line = format!(
+        "the first line is `{}`, ended by byte 10, with `l0 l1 l2 l3` behind `d3` where delays are ranges",
+        cells::NAMES_LINE
+    );
     let (what, help): (String, String) = match refusal.number {
         2 if text.is_empty() => ("the file is empty".into(), names_line),
         2 => {
             let why = marked(&line).or_else(|| {
-                let names = line.bytes == cells::NAMES_LINE.as_bytes();
+                let names = [cells::NAMES_LINE, cells::RANGED_LINE].iter().any(|names| line.bytes == names.as_bytes());
                 ending(&line).filter(|_| names)
             });
             let genlib = text.windows(6).any(|word| word == b"\nGATE ");
@@ -87,11 +90,19 @@ fn in_cells(refusal: Refusal, file: &str, text: &[u8], byte: usize) -> Told {
         3 => ("a thirty-third cell".into(), "leave out cells: a library has 32 at most".into()),
         4 => {
             let why = cells::fault(text, &line);
-            let example = "a cell line is NAME PINS TABLE AREA D0 D1 D2 D3, as `nand2 2 0007 2 20 18 0 0`";
-            (
-                format!("not a cell line{}", behind(why)),
-                if line.bytes.is_empty() || line.bytes.starts_with(b"#") { "remove it".into() } else { example.into() },
-            )
+            let fields = line.bytes.split(|&byte| byte == b' ').count();
+            let help = if line.bytes.is_empty() || line.bytes.starts_with(b"#") {
+                "remove it".into()
+            } else if cells::is_ranged(text) {
+                "with this names line a cell line is NAME PINS TABLE AREA D0 D1 D2 D3 L0 L1 L2 L3, as\n\
+                 `nand2 2 0007 2 20 18 0 0 14 12 0 0`"
+                    .into()
+            } else if fields == 12 {
+                format!("a library with lowest delays has the first line `{}`", cells::RANGED_LINE)
+            } else {
+                "a cell line is NAME PINS TABLE AREA D0 D1 D2 D3, as `nand2 2 0007 2 20 18 0 0`".into()
+            };
+            (format!("not a cell line{}", behind(why)), help)
         }
         5 => {
             let first = cells::line_of(text, name, line.number);
@@ -101,6 +112,10 @@ fn in_cells(refusal: Refusal, file: &str, text: &[u8], byte: usize) -> Told {
         6 => {
             let what = cells::beyond(text, &line).unwrap_or_else(|| refusal.what().into());
             (what, "clear it, or correct `pins`: rows at or above 2^pins and the delays of absent pins are 0".into())
+        }
+        27 => {
+            let what = cells::above(&line).unwrap_or_else(|| refusal.what().into());
+            (what, "a pin's lowest delay, `l`, is at most its delay, `d`: correct one of the two".into())
         }
         _ => (refusal.what().into(), String::new()),
     };

@@ -19,6 +19,8 @@ pub struct Netlist<'t> {
     pub gates: Vec<Gate<'t>>,
     /// The name of each output, and the net that it is joined to.
     pub outputs: Vec<(&'t str, &'t str)>,
+    /// The low and the high arrival of each output, where the library's delays are ranges.
+    pub ranges: Vec<(u32, u32)>,
     /// What drives each net.
     drivers: HashMap<&'t str, Driver>,
     arrivals: HashMap<&'t str, u32>,
@@ -35,7 +37,8 @@ impl<'t> Netlist<'t> {
     pub fn read(text: &'t str, cells: &[Cell], late: &[u8]) -> Option<Netlist<'t>> {
         let by_name: HashMap<&str, usize> = cells.iter().enumerate().map(|(k, cell)| (cell.name.as_str(), k)).collect();
         let (mut inputs, mut gates, mut outputs) = (Vec::new(), Vec::new(), Vec::new());
-        for line in text.lines() {
+        let (mut lines, mut ranges) = (text.lines(), Vec::new());
+        for line in lines.by_ref() {
             let mut words = line.split(' ');
             match words.next()? {
                 ".inputs" => inputs.extend(words),
@@ -54,10 +57,20 @@ impl<'t> Netlist<'t> {
                 _ => {}
             }
         }
+        for line in lines {
+            if let Some(range) = line.strip_prefix("# timing ") {
+                let (_, ends) = range.split_once(' ')?;
+                let (low, high) = ends.split_once(' ')?;
+                ranges.push((low.parse().ok()?, high.parse().ok()?));
+            }
+        }
+        if !ranges.is_empty() && ranges.len() != outputs.len() {
+            return None;
+        }
         let mut drivers: HashMap<&str, Driver> =
             inputs.iter().enumerate().map(|(k, &net)| (net, Driver::Input(k))).collect();
         drivers.extend(gates.iter().enumerate().map(|(k, gate)| (gate.output, Driver::Gate(k))));
-        let mut netlist = Netlist { inputs, gates, outputs, drivers, arrivals: HashMap::new() };
+        let mut netlist = Netlist { inputs, gates, outputs, ranges, drivers, arrivals: HashMap::new() };
         netlist.arrivals = netlist.arrive(cells, &arrivals::read(late, netlist.inputs.len()))?;
         Some(netlist)
     }

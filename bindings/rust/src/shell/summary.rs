@@ -9,11 +9,12 @@ use super::{
 use crate::Figures;
 use std::fmt::Write;
 
-/// Gates, area and arrival; the gates of each cell; the latest path.
+/// Gates, area and arrival; the gates of each cell; when each output comes, where delays are ranges; the latest path.
 pub fn summary(figures: Figures, netlist: &Netlist, cells: &[Cell], graph: Option<&Graph>) -> String {
     let Figures { gates, area, arrival } = figures;
     let mut text = format!("gates {gates}, area {area}, arrival {arrival}\n");
     table(&mut text, netlist, cells);
+    ranges(&mut text, netlist, graph);
     path(&mut text, netlist, cells, graph);
     text
 }
@@ -29,18 +30,31 @@ fn table(text: &mut String, netlist: &Netlist, cells: &[Cell]) {
     }
 }
 
+/// Both ends of each output's arrival: the `# timing` lines with the outputs' names.
+fn ranges(text: &mut String, netlist: &Netlist, graph: Option<&Graph>) {
+    if !netlist.ranges.is_empty() {
+        text.push_str("\n     low      high  output\n");
+    }
+    for (k, ((low, high), (name, _))) in netlist.ranges.iter().zip(&netlist.outputs).enumerate() {
+        let _ = writeln!(text, "{low:8}{high:10}  {name}{}", meant(graph.and_then(|graph| graph.output_name(k))));
+    }
+}
+
+/// A symbol behind what it names.
+fn meant(name: Option<&str>) -> String {
+    name.map(|name| format!(" ({})", shown(name.as_bytes()))).unwrap_or_default()
+}
+
 fn path(text: &mut String, netlist: &Netlist, cells: &[Cell], graph: Option<&Graph>) {
     let Some((last, steps)) = netlist.latest(cells) else { return };
     let (name, _) = netlist.outputs[last];
-    let meant = graph.and_then(|graph| graph.output_name(last)).map(|name| format!(" ({})", shown(name.as_bytes())));
-    let _ = writeln!(text, "\nlatest path, to {name}{}\n arrival  net     driven by", meant.unwrap_or_default());
+    let of = meant(graph.and_then(|graph| graph.output_name(last)));
+    let _ = writeln!(text, "\nlatest path, to {name}{of}\n arrival  net     driven by");
     let mut into = None;
     for step in steps.iter().rev() {
         let by = match netlist.driver(step.net) {
             Some(Driver::Input(k)) => {
-                let name =
-                    graph.and_then(|graph| graph.input_name(k)).map(|name| format!(" ({})", shown(name.as_bytes())));
-                format!("input {k}{}", name.unwrap_or_default())
+                format!("input {k}{}", meant(graph.and_then(|graph| graph.input_name(k))))
             }
             Some(Driver::Gate(k)) => {
                 let cell = &cells[netlist.gates[k].cell].name;
