@@ -1,5 +1,6 @@
-// Each text of the standard input, ended by byte 0, is read as a cell library, and one line says what was found:
-// `refused`, number and place; or `read`, the number of cells and their values in the order of the names line. cases.py writes the texts, and the lines by a reader of its own.
+// Each text of the standard input, ended by byte 0, is read as a cell library, and one line says what was found: `refused`, number and place; or
+// `read`, under the longer names line `ranged`, then the number of cells and their values in the order of that line. cases.py writes the texts, and
+// the lines by a reader of its own.
 ghost use Prim.Native.Nat.{_≤_};
 use libc::STDIN_FILENO;
 use libc::STDOUT_FILENO;
@@ -38,6 +39,8 @@ fn show_cell(c: Cell) {
     number(wide(c.area));
     let delays = c.delays;
     show_delays(delays);
+    let lows = c.lows;
+    show_delays(lows);
 }
 
 fn show_cells(l: Library) {
@@ -52,12 +55,20 @@ fn show_cells(l: Library) {
     }
 }
 
+fn show_kind(ranged: bool) {
+    if ranged {
+        io::write_all(STDOUT_FILENO, b"ranged");
+    } else {
+        io::write_all(STDOUT_FILENO, b"read");
+    }
+}
+
 fn show(text: &[u8]) {
     let a = library::read(text);
     let v = a.verdict;
     match v {
         Verdict::Accepted => {
-            io::write_all(STDOUT_FILENO, b"read");
+            show_kind(library::is_ranged(text));
             let l = a.library;
             show_cells(l);
         }
