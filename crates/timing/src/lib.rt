@@ -99,8 +99,8 @@ fn inverter_low(lib: Library, line: usize) -> u16
     ensures { λ r. ⌜ r ≡ getD (getD (lib .cells) line noCell .lows) 0 0 ⌝ }
 {
     let c = lib.cells[line];
-    let lows = c.lows;
-    lows[0]
+    let lowest = c.lows;
+    lowest[0]
 }
 
 // The low arrival of a phase: an inverter's waits for the other phase's own.
