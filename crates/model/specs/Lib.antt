@@ -20,6 +20,8 @@ pub mod Mapper
 pub mod Channels
 pub mod Demands
 pub mod TwoDemands
+pub mod NetlistLines
+pub mod Tally
 pub mod GenlibWords
 pub mod GenlibFormula
 pub mod Genlib

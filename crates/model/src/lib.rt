@@ -107,3 +107,18 @@ pub struct Two {
     pub first: Answer,
     pub second: Answer,
 }
+
+// The netlists counted so far: for each of the library's 32 lines the gates of its cell, their total area and in how many netlists it occurs, and how
+// many netlists were counted. "a tally handed on by these calls from an empty one".
+pub struct Tally {
+    pub gates: [u64; 32],
+    pub areas: [u64; 32],
+    pub occurs: [u64; 32],
+    pub netlists: u64,
+}
+
+// What counting answers: the tally handed on stands beside the verdict. After a refusal it is the tally as it was.
+pub struct Counted {
+    pub verdict: Verdict,
+    pub tally: Tally,
+}

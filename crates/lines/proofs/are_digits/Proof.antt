@@ -1,0 +1,22 @@
+-- `lines::are_digits` meets its contract: an empty field has none.
+-- Assumes nothing.
+use Rattle.lines.proofs.Digits.{digits-none, digits-some}
+use mathlib.Core.Path.{sym, ap, _∙_}
+use borrow.Author.Needs.{needs}
+use Rattle.lines.proofs.are_digits.Statement.{statement}
+use Rattle.lines.proofs.are_digits.Tie as tie
+use Rattle.lines.proofs.are_digits.Reads as reads
+use Rattle.lines.proofs.are_digits.Lts as lts
+use Rattle.lines.proofs.all_digits.Reads as all-digits-reads
+
+returns : tie.Need-returns
+returns c = digits-none _ (c .if1 .taken)
+
+all-digits-requires : tie.Need-all-digits-requires
+all-digits-requires c κs = search needs
+
+returns-2 : tie.Need-returns-2
+returns-2 c = c .all-digits .ensures ∙ digits-some _ (c .before .if1 .left)
+
+pub are-digits-spec : {M : Type 1} → statement M
+are-digits-spec = tie.close (tie.spec returns all-digits-requires returns-2)

@@ -1,0 +1,69 @@
+-- `lines::field` meets its contract: by the test of the field's bytes.
+-- Assumes nothing.
+use Rattle.lines.specs.Kinds.{kindTest}
+use Rattle.lines.proofs.Fields.{field-fits, field-from}
+use Rattle.lines.proofs.Forms.{step-past, step-takes, step-fails}
+use native.Mathlib.Omega.{arith}
+use mathlib.Core.Path.{sym, ap, _∙_}
+use borrow.Author.Needs.{needs}
+use Rattle.lines.proofs.field.Statement.{statement}
+use Rattle.lines.proofs.field.Tie as tie
+use Rattle.lines.proofs.field.Reads as reads
+use Rattle.lines.proofs.field.Lts as lts
+use Rattle.lines.proofs.field_end.Reads as field-end-reads
+use Rattle.lines.proofs.is_kind.Reads as is-kind-reads
+
+add-result : tie.Need-add-result
+add-result c = search needs
+
+returns : tie.Need-returns
+returns c = sym (step-past (kindTest _) _ _ (c .if1 .taken))
+
+field-end-requires : tie.Need-field-end-requires
+field-end-requires c κs = search needs
+
+sub-is-kind : tie.Need-sub-is-kind
+sub-is-kind c = omega (arith, c .field-end .ensures, field-from (c .before .before .before .args .w .now) (c .before .before .before .args .at))
+
+part-is-kind-start : tie.Need-part-is-kind-start
+part-is-kind-start c = omega (arith, c .field-end .ensures, field-from (c .before .before .before .args .w .now) (c .before .before .before .args .at))
+
+part-is-kind-end : tie.Need-part-is-kind-end
+part-is-kind-end c = omega (arith, c .field-end .ensures, field-fits (c .before .before .before .args .w .now) (c .before .before .before .args .at) (omega arith))
+
+is-kind-requires : tie.Need-is-kind-requires
+is-kind-requires c κs = search needs
+
+add-result-2 : tie.Need-add-result-2
+add-result-2 c =
+    let a = c .before .before .before .before .before .before .args in
+    omega (arith, c .before .before .before .field-end .ensures, field-fits (a .w .now) (a .at) (omega arith))
+
+add-result-3 : tie.Need-add-result-3
+add-result-3 c = search needs
+
+returns-2 : tie.Need-returns-2
+returns-2 c =
+    let a = c .before .before .before .before .before .before .args in
+    step-takes (kindTest (a .kind)) (a .w .now) (a .at) (omega arith) (c .before .before .before .field-end .result) (c .before .before .before .field-end .ensures) (sym (c .before .is-kind .ensures) ∙ c .if2 .taken)
+
+returns-3 : tie.Need-returns-3
+returns-3 c =
+    let a = c .before .before .before .before .before .before .args in
+    step-fails (kindTest (a .kind)) (a .w .now) (a .at) (omega arith) (c .before .before .before .field-end .result) (c .before .before .before .field-end .ensures) (sym (c .before .is-kind .ensures) ∙ c .if2 .left)
+
+pub field-spec : {M : Type 1} → statement M
+field-spec =
+    tie.close
+    (tie.spec
+    add-result
+    returns
+    field-end-requires
+    sub-is-kind
+    part-is-kind-start
+    part-is-kind-end
+    is-kind-requires
+    add-result-2
+    add-result-3
+    returns-2
+    returns-3)

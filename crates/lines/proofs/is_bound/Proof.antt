@@ -1,0 +1,59 @@
+-- `lines::is_bound` meets its contract: each return knows what was met in the field.
+-- Assumes nothing.
+use Rattle.model.specs.NetlistLines.{isGateNet}
+use Rattle.lines.proofs.Digits.{rest-part, bound-short, bound-letter, bound-sign, bound-is}
+use native.Mathlib.Omega.{arith}
+use mathlib.Core.Path.{ap, _∙_}
+use borrow.Author.Needs.{needs}
+use Rattle.lines.proofs.is_bound.Statement.{statement}
+use Rattle.lines.proofs.is_bound.Tie as tie
+use Rattle.lines.proofs.is_bound.Reads as reads
+use Rattle.lines.proofs.is_bound.Lts as lts
+use Rattle.lines.proofs.is_gate_net.Reads as is-gate-net-reads
+
+returns : tie.Need-returns
+returns c = bound-short _ _ (c .if1 .taken)
+
+shared-slice-read-if2 : tie.Need-shared-slice-read-if2
+shared-slice-read-if2 c = search needs
+
+returns-2 : tie.Need-returns-2
+returns-2 c = bound-letter _ _ (c .if2 .taken)
+
+shared-slice-read-if3 : tie.Need-shared-slice-read-if3
+shared-slice-read-if3 c = search needs
+
+returns-3 : tie.Need-returns-3
+returns-3 c = bound-sign _ _ (c .if3 .taken)
+
+sub-is-gate-net : tie.Need-sub-is-gate-net
+sub-is-gate-net c = search needs
+
+part-is-gate-net-start : tie.Need-part-is-gate-net-start
+part-is-gate-net-start c = search needs
+
+part-is-gate-net-end : tie.Need-part-is-gate-net-end
+part-is-gate-net-end c = search needs
+
+is-gate-net-requires : tie.Need-is-gate-net-requires
+is-gate-net-requires c κs = search needs
+
+returns-4 : tie.Need-returns-4
+returns-4 c =
+    let a = c .before .before .before .before .before .before .before .before .args in
+    c .is-gate-net .ensures ∙ ap isGateNet (rest-part (a .w .now) 2) ∙ bound-is (a .b) (a .w .now) (omega arith) (omega arith)
+
+pub is-bound-spec : {M : Type 1} → statement M
+is-bound-spec =
+    tie.close
+    (tie.spec
+    returns
+    shared-slice-read-if2
+    returns-2
+    shared-slice-read-if3
+    returns-3
+    sub-is-gate-net
+    part-is-gate-net-start
+    part-is-gate-net-end
+    is-gate-net-requires
+    returns-4)

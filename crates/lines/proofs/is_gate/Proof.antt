@@ -1,0 +1,48 @@
+-- `lines::is_gate` meets its contract: by steps over its fields behind `.gate`.
+-- Assumes nothing.
+use native.Mathlib.Omega.{arith}
+use Rattle.lines.specs.Kinds.{kindTest}
+use Rattle.lines.proofs.Forms.{form-yes, form-no}
+use Rattle.lines.proofs.Gates.{gate-steps}
+use lib.ListN.{drop}
+use Rattle.model.specs.NetlistLines.{gateForm}
+use borrow.Author.Needs.{needs}
+use Rattle.lines.proofs.is_gate.Statement.{statement}
+use Rattle.lines.proofs.is_gate.Tie as tie
+use Rattle.lines.proofs.is_gate.Reads as reads
+use Rattle.lines.proofs.is_gate.Lts as lts
+use Rattle.lines.proofs.cell_name.Reads as cell-name-reads
+use Rattle.lines.proofs.field.Reads as field-reads
+use Rattle.lines.proofs.pins.Reads as pins-reads
+
+cell-name-requires : tie.Need-cell-name-requires
+cell-name-requires c κs = search needs
+
+pins-requires : tie.Need-pins-requires
+pins-requires c κs = search needs
+
+field-requires : tie.Need-field-requires
+field-requires c κs = search needs
+
+add-if1 : tie.Need-add-if1
+add-if1 c = search needs
+
+returns : tie.Need-returns
+unfolding kindTest
+returns c =
+    let a = c .before .before .before .before .before .before .args in
+    form-yes (drop 1 (gateForm (a .c))) (a .w .now) (a .at) (omega arith) (c .before .field .result)
+    (gate-steps (a .c) (a .w .now) (a .at) (c .before .before .before .cell-name .result) (c .before .before .pins .result) (c .before .field .result) (c .before .before .before .cell-name .ensures) (c .before .before .pins .ensures) (c .before .field .ensures))
+    (c .if1 .taken)
+
+returns-2 : tie.Need-returns-2
+unfolding kindTest
+returns-2 c =
+    let a = c .before .before .before .before .before .before .args in
+    form-no (drop 1 (gateForm (a .c))) (a .w .now) (a .at) (omega arith) (c .before .field .result)
+    (gate-steps (a .c) (a .w .now) (a .at) (c .before .before .before .cell-name .result) (c .before .before .pins .result) (c .before .field .result) (c .before .before .before .cell-name .ensures) (c .before .before .pins .ensures) (c .before .field .ensures))
+    (c .if1 .left)
+
+pub is-gate-spec : {M : Type 1} → statement M
+is-gate-spec =
+    tie.close (tie.spec cell-name-requires pins-requires field-requires add-if1 returns returns-2)

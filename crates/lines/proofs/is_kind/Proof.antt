@@ -1,0 +1,87 @@
+-- `lines::is_kind` meets its contract: the field is judged by its kind.
+-- Assumes nothing.
+use Rattle.lines.specs.declared.Kind.{Kind}
+use mathlib.Core.List.{List}
+use Prim.Native.Nat.{ℕ}
+use Rattle.lines.specs.Kinds.{kindTest}
+use mathlib.Core.Path.{sym, ap, _∙_}
+use borrow.Author.Needs.{needs}
+use Rattle.lines.proofs.is_kind.Statement.{statement}
+use Rattle.lines.proofs.is_kind.Tie as tie
+use Rattle.lines.proofs.is_kind.Reads as reads
+use Rattle.lines.proofs.is_kind.Lts as lts
+use Rattle.lines.proofs.are_digits.Reads as are-digits-reads
+use Rattle.lines.proofs.is_bound.Reads as is-bound-reads
+use Rattle.lines.proofs.is_label.Reads as is-label-reads
+use Rattle.lines.proofs.is_number.Reads as is-number-reads
+use Rattle.lines.proofs.is_phase_net.Reads as is-phase-net-reads
+
+enum-told : tie.Need-enum-told
+enum-told c = search needs
+
+are-digits-requires : tie.Need-are-digits-requires
+are-digits-requires c κs = search needs
+
+enum-known-kind : tie.Need-enum-known-kind
+enum-known-kind c = search needs
+
+is-label-requires : tie.Need-is-label-requires
+is-label-requires c κs = search needs
+
+enum-told-2 : tie.Need-enum-told-2
+enum-told-2 c = search needs
+
+is-phase-net-requires : tie.Need-is-phase-net-requires
+is-phase-net-requires c κs = search needs
+
+enum-known-kind-2 : tie.Need-enum-known-kind-2
+enum-known-kind-2 c = search needs
+
+is-bound-requires : tie.Need-is-bound-requires
+is-bound-requires c κs = search needs
+
+enum-known-kind-3 : tie.Need-enum-known-kind-3
+enum-known-kind-3 c = search needs
+
+is-number-requires : tie.Need-is-number-requires
+is-number-requires c κs = search needs
+
+returns : tie.Need-returns
+unfolding kindTest
+returns c = c .are-digits .ensures ∙ ap (λ (k : Kind). kindTest k (c .before .before .before .before .args .w .now)) (sym (c .before .enum-told .given .1))
+
+returns-2 : tie.Need-returns-2
+unfolding kindTest
+returns-2 c = c .is-label .ensures ∙ ap (λ (k : Kind). kindTest k (c .before .before .before .before .before .args .w .now)) (sym (c .before .before .kind .given .1))
+
+returns-3 : tie.Need-returns-3
+unfolding kindTest
+returns-3 c = c .is-phase-net .ensures ∙ ap (λ (k : Kind). kindTest k (c .before .before .before .before .args .w .now)) (sym (c .before .enum-told2 .given .1))
+
+returns-4 : tie.Need-returns-4
+unfolding kindTest
+returns-4 c = c .is-bound .ensures ∙ ap (λ (k : Kind). kindTest k (c .before .before .before .before .before .args .w .now)) (sym (c .before .before .kind2 .given .1))
+
+returns-5 : tie.Need-returns-5
+unfolding kindTest
+returns-5 c = c .is-number .ensures ∙ ap (λ (k : Kind). kindTest k (c .before .before .before .before .before .args .w .now)) (sym (c .before .before .kind3 .given .1))
+
+pub is-kind-spec : {M : Type 1} → statement M
+is-kind-spec =
+    tie.close
+    (tie.spec
+    enum-told
+    are-digits-requires
+    enum-known-kind
+    is-label-requires
+    enum-told-2
+    is-phase-net-requires
+    enum-known-kind-2
+    is-bound-requires
+    enum-known-kind-3
+    is-number-requires
+    returns
+    returns-2
+    returns-3
+    returns-4
+    returns-5)

@@ -1,0 +1,72 @@
+-- `lines::is_timing` meets its contract: by steps over its fields.
+-- Assumes nothing.
+use mathlib.Core.List.{List, _∷_, []}
+use Rattle.model.specs.Base.{same}
+use mathlib.Core.Path.{_≡_, sym, ap, _∙_}
+use Rattle.model.specs.Text.{text}
+use Rattle.model.specs.NetlistLines.{isTiming, areDigits, isLabel}
+use Rattle.lines.specs.Steps.{stepAt, stepsAt}
+use Rattle.lines.specs.Kinds.{kindTest}
+use Rattle.lines.proofs.Forms.{line-yes, line-no}
+use borrow.Author.Needs.{needs}
+use Rattle.lines.proofs.is_timing.Statement.{statement}
+use Rattle.lines.proofs.is_timing.Tie as tie
+use Rattle.lines.proofs.is_timing.Reads as reads
+use Rattle.lines.proofs.is_timing.Lts as lts
+use Rattle.lines.proofs.field.Reads as field-reads
+use Rattle.lines.proofs.word.Reads as word-reads
+
+slice-aggregate-word : tie.Need-slice-aggregate-word
+slice-aggregate-word c = search needs
+
+word-requires : tie.Need-word-requires
+word-requires c κs = search needs
+
+slice-aggregate-word-2 : tie.Need-slice-aggregate-word-2
+slice-aggregate-word-2 c = search needs
+
+word-requires-2 : tie.Need-word-requires-2
+word-requires-2 c κs = search needs
+
+field-requires : tie.Need-field-requires
+field-requires c κs = search needs
+
+field-requires-2 : tie.Need-field-requires-2
+field-requires-2 c κs = search needs
+
+field-requires-3 : tie.Need-field-requires-3
+field-requires-3 c κs = search needs
+
+add-if1 : tie.Need-add-if1
+add-if1 c = search needs
+
+returns : tie.Need-returns
+unfolding isTiming stepsAt kindTest text
+returns c =
+    let a = c .before .before .before .before .before .before .before .before .before .args in
+    line-yes (same (text "#") ∷ same (text "timing") ∷ isLabel 111 ∷ areDigits ∷ areDigits ∷ []) (a .w .now) (c .before .field3 .result)
+    (c .before .field3 .ensures ∙ ap (stepAt (areDigits) (a .w .now)) (c .before .before .field2 .ensures ∙ ap (stepAt (areDigits) (a .w .now)) (c .before .before .before .field .ensures ∙ ap (stepAt (isLabel 111) (a .w .now)) (c .before .before .before .before .word2 .ensures ∙ ap (stepAt (same (text "timing")) (a .w .now)) (c .before .before .before .before .before .before .word .ensures)))))
+    (c .if1 .taken)
+
+returns-2 : tie.Need-returns-2
+unfolding isTiming stepsAt kindTest text
+returns-2 c =
+    let a = c .before .before .before .before .before .before .before .before .before .args in
+    line-no (same (text "#") ∷ same (text "timing") ∷ isLabel 111 ∷ areDigits ∷ areDigits ∷ []) (a .w .now) (c .before .field3 .result)
+    (c .before .field3 .ensures ∙ ap (stepAt (areDigits) (a .w .now)) (c .before .before .field2 .ensures ∙ ap (stepAt (areDigits) (a .w .now)) (c .before .before .before .field .ensures ∙ ap (stepAt (isLabel 111) (a .w .now)) (c .before .before .before .before .word2 .ensures ∙ ap (stepAt (same (text "timing")) (a .w .now)) (c .before .before .before .before .before .before .word .ensures)))))
+    (c .if1 .left)
+
+pub is-timing-spec : {M : Type 1} → statement M
+is-timing-spec =
+    tie.close
+    (tie.spec
+    slice-aggregate-word
+    word-requires
+    slice-aggregate-word-2
+    word-requires-2
+    field-requires
+    field-requires-2
+    field-requires-3
+    add-if1
+    returns
+    returns-2)

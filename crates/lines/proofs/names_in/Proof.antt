@@ -1,0 +1,59 @@
+-- `lines::names_in` meets its contract. The invariant: the fields from here on and the spaces passed are all fields; the measure is what is left of the line.
+-- Assumes nothing.
+use borrow.Author.Needs.{needs}
+use native.Mathlib.Omega.{arith}
+use mathlib.Core.Path.{_≡_}
+use mathlib.Core.Logic.{⊎-elim}
+use Prim.Native.Nat.{_+_, _-_, _≤_}
+use lib.ListN.{length, drop}
+use Rattle.model.specs.Text.{fields}
+use Rattle.lines.proofs.Fields.{count-space, count-step, count-out}
+use Rattle.lines.proofs.names_in.Statement.{statement}
+use Rattle.lines.proofs.names_in.Tie as tie
+
+abbrev Inv-loop : tie.InvT-loop
+Inv-loop w n₀ i₀ n i = (n ≤ i) × (i ≤ length w) × (n + length (fields (drop i w)) ≡ length (fields w))
+
+abbrev μ-loop : tie.MeasureT-loop
+μ-loop w n₀ i₀ n i = length w - i
+
+loop-holds : tie.Need-loop-holds Inv-loop μ-loop
+loop-holds c = (omega arith, omega arith, omega arith)
+
+shared-slice-read-if1 : tie.Need-shared-slice-read-if1 Inv-loop μ-loop
+shared-slice-read-if1 c = search needs
+
+add-n : tie.Need-add-n Inv-loop μ-loop
+add-n c = omega arith
+
+add-i : tie.Need-add-i Inv-loop μ-loop
+add-i c = omega arith
+
+loop-less : tie.Need-loop-less Inv-loop μ-loop
+loop-less c = omega arith
+
+loop-again : tie.Need-loop-again Inv-loop μ-loop
+loop-again c =
+    let l = c .before .before .before in
+    let w = l .before .args .w .now in
+    ⊎-elim
+    (λ y. (omega arith, omega arith, omega (arith, count-space w (l .loop .i) (c .before .before .loop-test .taken) (y .0 .taken))))
+    (λ y. (omega arith, omega arith, omega (arith, count-step w (l .loop .i) (c .before .before .loop-test .taken) (y .0 .left))))
+    (c .if1 .came)
+
+returns : tie.Need-returns Inv-loop μ-loop
+returns c = omega (arith, count-out (c .before .before .args .w .now) (c .before .loop .i) (c .loop-test .left))
+
+pub names-in-spec : {M : Type 1} → statement M
+names-in-spec =
+    tie.close
+    (tie.spec
+    Inv-loop
+    μ-loop
+    loop-holds
+    shared-slice-read-if1
+    add-n
+    add-i
+    loop-less
+    loop-again
+    returns)

@@ -1,0 +1,63 @@
+-- `lines::pins` meets its contract. The invariant: the steps over the pins from here on lead where all lead; the measure is the pins left.
+-- Assumes nothing.
+use Prim.Native.Nat.{_+_, _-_, _≤_}
+use native.Mathlib.Omega.{arith}
+use mathlib.Core.Path.{_≡_, sym, ap, _∙_}
+use Rattle.model.specs.Base.{from, below}
+use Rattle.lines.specs.Steps.{stepsAt}
+use Rattle.lines.specs.Kinds.{kindTest}
+use Rattle.lines.proofs.Gates.{pinTests, pins-first, pins-step, pins-end}
+use Rattle.lines.proofs.pins.Statement.{statement}
+use Rattle.lines.proofs.pins.Tie as tie
+use Rattle.lines.proofs.pins.Reads as reads
+use Rattle.lines.proofs.pins.Lts as lts
+use Rattle.lines.proofs.field.Reads as field-reads
+
+abbrev Inv-loop : tie.InvT-loop
+Inv-loop w from n at₀ j₀ at j = (j ≤ n) × (stepsAt (pinTests (below n)) w from ≡ stepsAt (pinTests (Rattle.model.specs.Base.from j (n - j))) w at)
+
+abbrev μ-loop : tie.MeasureT-loop
+μ-loop w from n at₀ j₀ at j = n - j
+
+loop-holds : tie.Need-loop-holds Inv-loop μ-loop
+loop-holds c = (omega arith, pins-first (c .before .args .n) (c .before .args .w .now) (c .before .args .from))
+
+cast-t7 : tie.Need-cast-t7 Inv-loop μ-loop
+cast-t7 c = omega arith
+
+add-t8 : tie.Need-add-t8 Inv-loop μ-loop
+add-t8 c = omega arith
+
+field-requires : tie.Need-field-requires Inv-loop μ-loop
+field-requires c κs = omega arith
+
+add-j : tie.Need-add-j Inv-loop μ-loop
+add-j c = omega arith
+
+loop-less : tie.Need-loop-less Inv-loop μ-loop
+loop-less c = omega arith
+
+loop-again : tie.Need-loop-again Inv-loop μ-loop
+unfolding kindTest
+loop-again c =
+    let a = c .before .before .before .before .args in
+    let p = c .before .before .loop in
+    (omega arith, p .inv .1 ∙ pins-step (p .j) (a .n) (a .w .now) (p .at) (c .field .result) (omega arith) (c .field .ensures))
+
+returns : tie.Need-returns Inv-loop μ-loop
+returns c = sym (c .before .loop .inv .1 ∙ pins-end _ _ _ _ (c .loop-test .left))
+
+pub pins-spec : {M : Type 1} → statement M
+pins-spec =
+    tie.close
+    (tie.spec
+    Inv-loop
+    μ-loop
+    loop-holds
+    cast-t7
+    add-t8
+    field-requires
+    add-j
+    loop-less
+    loop-again
+    returns)

@@ -1,0 +1,3 @@
+-- `Steps`: the fields of a line from a place on, and a step over one that passes its test. `Kinds`: the test of each kind of field, and what stands for a gate line.
+pub mod Steps
+pub mod Kinds
