@@ -11,9 +11,6 @@ use Rattle.lines.specs.Kinds.{kindTest}
 use Rattle.lines.proofs.Forms.{step-low, step-on, Labels, labels-first, labels-step, labels-yes, labels-no}
 use Rattle.lines.proofs.all_labels.Statement.{statement}
 use Rattle.lines.proofs.all_labels.Tie as tie
-use Rattle.lines.proofs.all_labels.Reads as reads
-use Rattle.lines.proofs.all_labels.Lts as lts
-use Rattle.lines.proofs.field.Reads as field-reads
 
 abbrev Inv-loop : tie.InvT-loop
 Inv-loop w from b at₀ at = (at ≤ length w + 2) × (Labels (isLabel b) w at ≡ all (isLabel b) (fieldsAt w from))

@@ -5,9 +5,6 @@ use mathlib.Core.Path.{sym, ap, _∙_}
 use borrow.Author.Needs.{needs}
 use Rattle.lines.proofs.are_digits.Statement.{statement}
 use Rattle.lines.proofs.are_digits.Tie as tie
-use Rattle.lines.proofs.are_digits.Reads as reads
-use Rattle.lines.proofs.are_digits.Lts as lts
-use Rattle.lines.proofs.all_digits.Reads as all-digits-reads
 
 returns : tie.Need-returns
 returns c = digits-none _ (c .if1 .taken)

@@ -12,9 +12,6 @@ use Rattle.lines.specs.Steps.{stepAt}
 use borrow.Author.Needs.{needs}
 use Rattle.lines.proofs.cell_name.Statement.{statement}
 use Rattle.lines.proofs.cell_name.Tie as tie
-use Rattle.lines.proofs.cell_name.Reads as reads
-use Rattle.lines.proofs.cell_name.Lts as lts
-use Rattle.lines.proofs.word.Reads as word-reads
 
 array-share-prefix-name : tie.Need-array-share-prefix-name
 array-share-prefix-name c =

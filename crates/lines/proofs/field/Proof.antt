@@ -8,10 +8,6 @@ use mathlib.Core.Path.{sym, ap, _∙_}
 use borrow.Author.Needs.{needs}
 use Rattle.lines.proofs.field.Statement.{statement}
 use Rattle.lines.proofs.field.Tie as tie
-use Rattle.lines.proofs.field.Reads as reads
-use Rattle.lines.proofs.field.Lts as lts
-use Rattle.lines.proofs.field_end.Reads as field-end-reads
-use Rattle.lines.proofs.is_kind.Reads as is-kind-reads
 
 add-result : tie.Need-add-result
 add-result c = search needs

@@ -15,10 +15,6 @@ use Rattle.lines.specs.Kinds.{whichOf}
 use Rattle.lines.proofs.Gates.{cells-count, cells-at, gate-end, gate-here, gate-later, gate-behind, gate-never}
 use Rattle.lines.proofs.gate_of.Statement.{statement}
 use Rattle.lines.proofs.gate_of.Tie as tie
-use Rattle.lines.proofs.gate_of.Reads as reads
-use Rattle.lines.proofs.gate_of.Lts as lts
-use Rattle.lines.proofs.is_gate.Reads as is-gate-reads
-use Rattle.lines.proofs.word.Reads as word-reads
 
 abbrev Inv-loop : tie.InvT-loop
 Inv-loop w lib at n i₀ i = (i ≤ n) × (gateOf 0 (cellsOf lib) w ≡ gateOf i (drop i (cellsOf lib)) w)

@@ -7,9 +7,6 @@ use mathlib.Core.Path.{ap, _∙_}
 use borrow.Author.Needs.{needs}
 use Rattle.lines.proofs.is_bound.Statement.{statement}
 use Rattle.lines.proofs.is_bound.Tie as tie
-use Rattle.lines.proofs.is_bound.Reads as reads
-use Rattle.lines.proofs.is_bound.Lts as lts
-use Rattle.lines.proofs.is_gate_net.Reads as is-gate-net-reads
 
 returns : tie.Need-returns
 returns c = bound-short _ _ (c .if1 .taken)

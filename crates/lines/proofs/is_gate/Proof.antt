@@ -9,11 +9,6 @@ use Rattle.model.specs.NetlistLines.{gateForm}
 use borrow.Author.Needs.{needs}
 use Rattle.lines.proofs.is_gate.Statement.{statement}
 use Rattle.lines.proofs.is_gate.Tie as tie
-use Rattle.lines.proofs.is_gate.Reads as reads
-use Rattle.lines.proofs.is_gate.Lts as lts
-use Rattle.lines.proofs.cell_name.Reads as cell-name-reads
-use Rattle.lines.proofs.field.Reads as field-reads
-use Rattle.lines.proofs.pins.Reads as pins-reads
 
 cell-name-requires : tie.Need-cell-name-requires
 cell-name-requires c κs = search needs

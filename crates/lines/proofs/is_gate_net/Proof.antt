@@ -8,9 +8,6 @@ use mathlib.Core.Bool.{true, false}
 use borrow.Author.Needs.{needs}
 use Rattle.lines.proofs.is_gate_net.Statement.{statement}
 use Rattle.lines.proofs.is_gate_net.Tie as tie
-use Rattle.lines.proofs.is_gate_net.Reads as reads
-use Rattle.lines.proofs.is_gate_net.Lts as lts
-use Rattle.lines.proofs.is_phase_net.Reads as is-phase-net-reads
 
 is-phase-net-requires : tie.Need-is-phase-net-requires
 is-phase-net-requires c κs = search needs

@@ -8,13 +8,6 @@ use mathlib.Core.Path.{sym, ap, _∙_}
 use borrow.Author.Needs.{needs}
 use Rattle.lines.proofs.is_kind.Statement.{statement}
 use Rattle.lines.proofs.is_kind.Tie as tie
-use Rattle.lines.proofs.is_kind.Reads as reads
-use Rattle.lines.proofs.is_kind.Lts as lts
-use Rattle.lines.proofs.are_digits.Reads as are-digits-reads
-use Rattle.lines.proofs.is_bound.Reads as is-bound-reads
-use Rattle.lines.proofs.is_label.Reads as is-label-reads
-use Rattle.lines.proofs.is_number.Reads as is-number-reads
-use Rattle.lines.proofs.is_phase_net.Reads as is-phase-net-reads
 
 enum-told : tie.Need-enum-told
 enum-told c = search needs

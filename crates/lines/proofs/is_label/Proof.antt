@@ -7,9 +7,6 @@ use mathlib.Core.Path.{sym, ap, _∙_}
 use borrow.Author.Needs.{needs}
 use Rattle.lines.proofs.is_label.Statement.{statement}
 use Rattle.lines.proofs.is_label.Tie as tie
-use Rattle.lines.proofs.is_label.Reads as reads
-use Rattle.lines.proofs.is_label.Lts as lts
-use Rattle.lines.proofs.are_digits.Reads as are-digits-reads
 
 returns : tie.Need-returns
 returns c = label-none _ _ (c .if1 .taken)

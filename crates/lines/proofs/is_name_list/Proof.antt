@@ -10,10 +10,6 @@ use Rattle.lines.proofs.Forms.{list-no, list-yes}
 use borrow.Author.Needs.{needs}
 use Rattle.lines.proofs.is_name_list.Statement.{statement}
 use Rattle.lines.proofs.is_name_list.Tie as tie
-use Rattle.lines.proofs.is_name_list.Reads as reads
-use Rattle.lines.proofs.is_name_list.Lts as lts
-use Rattle.lines.proofs.all_labels.Reads as all-labels-reads
-use Rattle.lines.proofs.word.Reads as word-reads
 
 word-requires : tie.Need-word-requires
 word-requires c κs = search needs

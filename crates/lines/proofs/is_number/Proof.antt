@@ -11,10 +11,6 @@ use Rattle.model.specs.Base.{same}
 use Rattle.lines.proofs.Digits.{ten-digits, written}
 use Rattle.lines.proofs.is_number.Statement.{statement}
 use Rattle.lines.proofs.is_number.Tie as tie
-use Rattle.lines.proofs.is_number.Reads as reads
-use Rattle.lines.proofs.is_number.Lts as lts
-use Rattle.text.proofs.put_number.Reads as put-number-reads
-use Rattle.text.proofs.same_bytes.Reads as same-bytes-reads
 
 slice-aggregate-put-number : tie.Need-slice-aggregate-put-number
 slice-aggregate-put-number c = search needs

@@ -5,9 +5,6 @@ use mathlib.Core.Path.{sym, ap, _∙_}
 use borrow.Author.Needs.{needs}
 use Rattle.lines.proofs.is_phase_net.Statement.{statement}
 use Rattle.lines.proofs.is_phase_net.Tie as tie
-use Rattle.lines.proofs.is_phase_net.Reads as reads
-use Rattle.lines.proofs.is_phase_net.Lts as lts
-use Rattle.lines.proofs.is_label.Reads as is-label-reads
 
 is-label-requires : tie.Need-is-label-requires
 is-label-requires c κs = search needs

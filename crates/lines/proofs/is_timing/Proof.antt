@@ -11,10 +11,6 @@ use Rattle.lines.proofs.Forms.{line-yes, line-no}
 use borrow.Author.Needs.{needs}
 use Rattle.lines.proofs.is_timing.Statement.{statement}
 use Rattle.lines.proofs.is_timing.Tie as tie
-use Rattle.lines.proofs.is_timing.Reads as reads
-use Rattle.lines.proofs.is_timing.Lts as lts
-use Rattle.lines.proofs.field.Reads as field-reads
-use Rattle.lines.proofs.word.Reads as word-reads
 
 slice-aggregate-word : tie.Need-slice-aggregate-word
 slice-aggregate-word c = search needs

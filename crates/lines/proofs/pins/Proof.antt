@@ -9,9 +9,6 @@ use Rattle.lines.specs.Kinds.{kindTest}
 use Rattle.lines.proofs.Gates.{pinTests, pins-first, pins-step, pins-end}
 use Rattle.lines.proofs.pins.Statement.{statement}
 use Rattle.lines.proofs.pins.Tie as tie
-use Rattle.lines.proofs.pins.Reads as reads
-use Rattle.lines.proofs.pins.Lts as lts
-use Rattle.lines.proofs.field.Reads as field-reads
 
 abbrev Inv-loop : tie.InvT-loop
 Inv-loop w from n at₀ j₀ at j = (j ≤ n) × (stepsAt (pinTests (below n)) w from ≡ stepsAt (pinTests (Rattle.model.specs.Base.from j (n - j))) w at)

@@ -8,10 +8,6 @@ use mathlib.Core.Path.{sym, ap, _∙_}
 use borrow.Author.Needs.{needs}
 use Rattle.lines.proofs.word.Statement.{statement}
 use Rattle.lines.proofs.word.Tie as tie
-use Rattle.lines.proofs.word.Reads as reads
-use Rattle.lines.proofs.word.Lts as lts
-use Rattle.lines.proofs.field_end.Reads as field-end-reads
-use Rattle.text.proofs.same_bytes.Reads as same-bytes-reads
 
 add-result : tie.Need-add-result
 add-result c = search needs
