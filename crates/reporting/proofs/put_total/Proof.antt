@@ -1,0 +1,47 @@
+-- `reporting::put_total` meets its contract: the sums over the listed cells.
+-- Assumes nothing.
+use mathlib.Core.Path.{_≡_, sym, subst}
+use mathlib.Core.List.{List}
+use Prim.Native.Nat.{ℕ, _+_, _≤_}
+use lib.ListN.{length}
+use Rattle.text.specs.Writing.{Wrote}
+use Rattle.reporting.proofs.Lines.{total-is}
+use borrow.Author.Needs.{needs}
+use Rattle.reporting.proofs.put_total.Statement.{statement}
+use Rattle.reporting.proofs.put_total.Tie as tie
+
+sum-of-requires : tie.Need-sum-of-requires
+sum-of-requires c κs = search needs
+
+sum-of-requires-2 : tie.Need-sum-of-requires-2
+sum-of-requires-2 c κs = search needs
+
+slice-aggregate-put-line : tie.Need-slice-aggregate-put-line
+slice-aggregate-put-line c = search needs
+
+put-line-requires : tie.Need-put-line-requires
+put-line-requires c κs =
+    let s = c .before .before .before .before .before .before .before in
+    let a = s .args in
+    subst (λ (x : List ℕ). a .at + length x ≤ length (a .out .now)) (total-is (a .lib) (s .pre .0) (a .t) (c .before .before .before .sum-of .result) (c .before .before .sum-of2 .result) (c .before .before .before .sum-of .ensures) (c .before .before .sum-of2 .ensures)) (s .pre .2)
+
+same-length : tie.Need-same-length
+same-length c = search needs
+
+returns : tie.Need-returns
+returns c =
+    let s = c .before .before .before .before .before .before .before .before .before .before in
+    let a = s .args in
+    subst (λ (x : List ℕ). Wrote (a .out .now) (c .before .before .put-line .last .0) (a .at) (c .before .before .put-line .result) x)
+    (sym (total-is (a .lib) (s .pre .0) (a .t) (c .before .before .before .before .before .before .sum-of .result) (c .before .before .before .before .before .sum-of2 .result) (c .before .before .before .before .before .before .sum-of .ensures) (c .before .before .before .before .before .sum-of2 .ensures))) (c .before .before .put-line .ensures)
+
+pub put-total-spec : {M : Type 1} → statement M
+put-total-spec =
+    tie.close
+    (tie.spec
+    sum-of-requires
+    sum-of-requires-2
+    slice-aggregate-put-line
+    put-line-requires
+    same-length
+    returns)

@@ -1,0 +1,65 @@
+-- `reporting::sum_of` meets its contract. The invariant: the places before this one are summed; the measure is the places left.
+-- Assumes nothing.
+use borrow.Author.Needs.{needs}
+use native.Mathlib.Omega.{arith}
+use mathlib.Core.Path.{_≡_, sym, ap, _∙_, refl}
+use Prim.Native.Nat.{ℕ, _+_, _-_, _*_, _^_, _≤_}
+use lib.ListN.{length, take, getD}
+use Rattle.model.specs.Netlist.{sum}
+use Rattle.reporting.proofs.Lines.{sum-none, sum-step}
+use Rattle.reporting.proofs.sum_of.Statement.{statement}
+use Rattle.reporting.proofs.sum_of.Tie as tie
+
+abbrev Inv-loop : tie.InvT-loop
+Inv-loop n xs total₀ i₀ total i = (i ≤ n) × (total ≡ sum (take i xs)) × (total ≤ i * 2 ^ 40)
+
+abbrev μ-loop : tie.MeasureT-loop
+μ-loop n xs total₀ i₀ total i = n - i
+
+loop-holds : tie.Need-loop-holds Inv-loop μ-loop
+unfolding sum
+loop-holds c = (omega arith, refl, omega arith)
+
+mul-total : tie.Need-mul-total Inv-loop μ-loop
+mul-total c = omega arith
+
+array-read-total : tie.Need-array-read-total Inv-loop μ-loop
+array-read-total c = omega arith
+
+add-total : tie.Need-add-total Inv-loop μ-loop
+add-total c = omega (arith, c .before .before .pre .1 (c .before .loop .i))
+
+add-i : tie.Need-add-i Inv-loop μ-loop
+add-i c = omega arith
+
+loop-less : tie.Need-loop-less Inv-loop μ-loop
+loop-less c = omega arith
+
+loop-again : tie.Need-loop-again Inv-loop μ-loop
+loop-again c =
+    let p = c .before .loop in
+    let xs = c .before .before .args .t1 in
+    let long : length xs ≡ 32 = search needs in
+    let low : getD xs (p .i) 0 ≤ 2 ^ 40 = c .before .before .pre .1 (p .i) in
+    (omega arith, ap (λ (x : ℕ). x + getD xs (p .i) 0) (p .inv .1) ∙ sym (sum-step xs (p .i) (omega arith)), omega arith)
+
+returns : tie.Need-returns Inv-loop μ-loop
+returns c =
+    let p = c .before .loop in
+    let e : p .i ≡ c .before .before .args .n = omega arith in
+    p .inv .1 ∙ ap (λ (k : ℕ). sum (take k (c .before .before .args .t1))) e
+
+pub sum-of-spec : {M : Type 1} → statement M
+sum-of-spec =
+    tie.close
+    (tie.spec
+    Inv-loop
+    μ-loop
+    loop-holds
+    mul-total
+    array-read-total
+    add-total
+    add-i
+    loop-less
+    loop-again
+    returns)

@@ -1,0 +1,2 @@
+-- `Pages`: a report's lines from one cell on.
+pub mod Pages
