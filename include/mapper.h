@@ -27,8 +27,8 @@ extern "C" {
 /* The longest text that is read: of a longer file hand over one byte more, and the answer is MAPPER_TOO_LONG. */
 #define MAPPER_LIMIT 65536
 
-/* Numbers of the answer. What its value is: a byte's offset in the cells (3 to 6, 27), in the graph (11 to 14, 20, 21), in the genlib text (22 to 24) or in
- * the arrivals (25, 26), a variable (15, 16), an output's index from 0 (17), the bytes needed (18), and otherwise 0. */
+/* Numbers of the answer. What its value is: a byte's offset in the cells (3 to 6, 27), in the graph (11 to 14, 20, 21), in the genlib text (22 to 24), in the
+ * arrivals (25, 26) or in the netlist (29), 64 (28), a variable (15, 16), an output's index from 0 (17), the bytes needed (18), and otherwise 0. */
 enum {
     MAPPER_MAPPED = 0,
     MAPPER_TOO_LONG = 1,             /* a text is longer than 65,536 bytes */
@@ -57,7 +57,9 @@ enum {
     MAPPER_GENLIB_FIGURE = 24,       /* an area or block delay has more than three decimals or exceeds 65.535 */
     MAPPER_ARRIVAL_FORM = 25,        /* a line of the arrivals breaks its form */
     MAPPER_ARRIVAL_INPUT = 26,       /* its input is I or more, or is repeated */
-    MAPPER_LOW_DELAY = 27            /* a pin's lowest delay exceeds its delay */
+    MAPPER_LOW_DELAY = 27,           /* a pin's lowest delay exceeds its delay */
+    MAPPER_TALLY_FULL = 28,          /* 64 netlists are counted already, or a figure of the tally exceeds 2^40 */
+    MAPPER_NETLIST_LINE = 29         /* a line of the netlist isn't one that mapping prints there */
 };
 
 typedef struct {
@@ -89,6 +91,22 @@ MapperTwo mapper_map_two(const uint8_t *cells, size_t cells_len, const uint8_t *
  *   refusal   MAPPER_TOO_LONG, MAPPER_GENLIB_FORM, MAPPER_GENLIB_PINS or MAPPER_GENLIB_FIGURE, or MAPPER_TEXT_SHORT; text is unchanged
  * Of both the figures are 0. */
 MapperAnswer mapper_cells(const uint8_t *genlib, size_t genlib_len, uint8_t *text, size_t text_len);
+
+/* Counts a netlist that was mapped by the cells into a tally, which the caller keeps from call to call and clears before the first. The tally is 97 numbers: the
+ * gates of the 32 cells, the areas of the 32, the netlists in which each occurs, and the netlists counted.
+ *   success   number 0, value 0; the tally has this netlist too
+ *   refusal   MAPPER_TOO_LONG, the cells' (2 to 6, 27), MAPPER_TALLY_FULL or MAPPER_NETLIST_LINE; the tally is unchanged
+ * A tally of another length is refused as a full one is: number 28, value 64, after the cells' refusals. Of both the figures are 0. */
+#define MAPPER_TALLY 97
+MapperAnswer mapper_count(const uint8_t *cells, size_t cells_len, const uint8_t *netlist, size_t netlist_len, uint64_t *tally, size_t tally_len);
+
+/* Writes the report of a tally: a line per cell in the order of the cells, as `inv 3 3 2`: its gates, their total area and in how many netlists it occurs; then
+ * `total` with gates, area and netlists counted. MAPPER_REPORT bytes are enough for every report.
+ *   success   number 0, value the report's length; text begins with it and keeps its other bytes
+ *   refusal   MAPPER_TOO_LONG, the cells', MAPPER_TALLY_FULL for a figure over 2^40 or a tally of another length, or MAPPER_TEXT_SHORT; text is unchanged
+ * Of both the figures are 0. */
+#define MAPPER_REPORT 2048
+MapperAnswer mapper_report(const uint8_t *cells, size_t cells_len, const uint64_t *tally, size_t tally_len, uint8_t *text, size_t text_len);
 
 #ifdef __cplusplus
 }

@@ -20,7 +20,7 @@ mod refusal;
 #[doc(hidden)]
 pub mod shell;
 
-pub use raw::{call, call_cells, call_two, Answer, AnswerTwo, Channel};
+pub use raw::{call, call_cells, call_count, call_report, call_two, Answer, AnswerTwo, Channel};
 pub use refusal::{Place, Refusal};
 
 /// The longest text that is read: a longer one is refusal 1.
@@ -155,5 +155,41 @@ pub fn cells(genlib: &[u8]) -> Result<Vec<u8>, Refusal> {
             Ok(text)
         }
         number => Err(Refusal { number: number as u32, place: answer.value as usize }),
+    }
+}
+
+/// The netlists of one library counted so far: for each of its cells the gates, their area and the netlists in which it occurs.
+#[derive(Clone, Debug, PartialEq, Eq)]
+pub struct Tally {
+    numbers: [u64; 97],
+}
+
+impl Default for Tally {
+    fn default() -> Tally {
+        Tally { numbers: [0; 97] }
+    }
+}
+
+impl Tally {
+    /// Counts a netlist that was mapped by the library; a refusal leaves the tally as it was.
+    pub fn count(&mut self, cells: &[u8], netlist: &[u8]) -> Result<(), Refusal> {
+        let answer = call_count(cells, netlist, &mut self.numbers);
+        match answer.number {
+            0 => Ok(()),
+            number => Err(Refusal { number: number as u32, place: answer.value as usize }),
+        }
+    }
+
+    /// A line per cell, as `inv 3 3 2`, and the total.
+    pub fn report(&self, cells: &[u8]) -> Result<Vec<u8>, Refusal> {
+        let mut text = vec![0; 2048];
+        let answer = call_report(cells, &self.numbers, &mut text);
+        match answer.number {
+            0 => {
+                text.truncate(answer.value as usize);
+                Ok(text)
+            }
+            number => Err(Refusal { number: number as u32, place: answer.value as usize }),
+        }
     }
 }

@@ -44,6 +44,24 @@ extern "C" {
 
     fn mapper_cells(genlib: *const u8, genlib_len: usize, text: *mut u8, text_len: usize) -> Answer;
 
+    fn mapper_count(
+        cells: *const u8,
+        cells_len: usize,
+        netlist: *const u8,
+        netlist_len: usize,
+        tally: *mut u64,
+        tally_len: usize,
+    ) -> Answer;
+
+    fn mapper_report(
+        cells: *const u8,
+        cells_len: usize,
+        tally: *const u64,
+        tally_len: usize,
+        text: *mut u8,
+        text_len: usize,
+    ) -> Answer;
+
     fn mapper_map_two(
         cells: *const u8,
         cells_len: usize,
@@ -87,6 +105,18 @@ pub fn call(cells: &[u8], graph: &[u8], arrivals: &[u8], work: &mut [u16], text:
 pub fn call_cells(genlib: &[u8], text: &mut [u8]) -> Answer {
     // As above.
     unsafe { mapper_cells(genlib.as_ptr(), genlib.len(), text.as_mut_ptr(), text.len()) }
+}
+
+/// A netlist counted into a tally, answered as C has it; the figures are 0.
+pub fn call_count(cells: &[u8], netlist: &[u8], tally: &mut [u64]) -> Answer {
+    // As above.
+    unsafe { mapper_count(cells.as_ptr(), cells.len(), netlist.as_ptr(), netlist.len(), tally.as_mut_ptr(), tally.len()) }
+}
+
+/// The report of a tally, answered as C has it; the figures are 0.
+pub fn call_report(cells: &[u8], tally: &[u64], text: &mut [u8]) -> Answer {
+    // As above.
+    unsafe { mapper_report(cells.as_ptr(), cells.len(), tally.as_ptr(), tally.len(), text.as_mut_ptr(), text.len()) }
 }
 
 /// The call on two channels over one work memory, with a text memory each, answered as C has it.

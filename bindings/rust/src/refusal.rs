@@ -22,6 +22,8 @@ pub enum Place {
     Graph(usize),
     /// A byte of the arrivals, from 0.
     Arrivals(usize),
+    /// A byte of a netlist, from 0; its length where a line is missing.
+    Netlist(usize),
     /// A variable of the graph.
     Variable(usize),
     /// An output, from 0.
@@ -37,6 +39,7 @@ impl Refusal {
             7..=9 | 11..=14 | 19..=21 => Place::Graph(self.place),
             22..=24 => Place::Genlib(self.place),
             25 | 26 => Place::Arrivals(self.place),
+            29 => Place::Netlist(self.place),
             15 | 16 => Place::Variable(self.place),
             17 => Place::Output(self.place),
             18 => Place::Length(self.place),
@@ -74,6 +77,8 @@ impl Refusal {
             25 => "a line of the arrivals breaks its form",
             26 => "an arrival's input is I or more, or is repeated",
             27 => "a pin's lowest delay exceeds its delay",
+            28 => "64 netlists are counted already, or a figure of the tally exceeds 2^40",
+            29 => "a line isn't one that mapping prints there, or its cell or figures aren't the netlist's",
             _ => "a refusal that docs/GUIDE.md does not list",
         }
     }
@@ -88,6 +93,7 @@ impl fmt::Display for Refusal {
             Place::Genlib(byte) => write!(f, " at byte {byte} of the genlib text")?,
             Place::Graph(byte) => write!(f, " at byte {byte} of the graph")?,
             Place::Arrivals(byte) => write!(f, " at byte {byte} of the arrivals")?,
+            Place::Netlist(byte) => write!(f, " at byte {byte} of the netlist")?,
             Place::Variable(variable) => write!(f, " at variable {variable}")?,
             Place::Output(output) => write!(f, " at output {output}")?,
             Place::Length(length) => write!(f, ", {length} bytes needed")?,

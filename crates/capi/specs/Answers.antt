@@ -1,6 +1,8 @@
 -- The answers of the exported calls, by the five values that document 01 names. Assumes nothing.
 use Prim.Native.Nat.{ℕ}
 use Rattle.model.specs.Mapper.{Returned}
+use Rattle.model.specs.declared.Verdict.{Verdict}
+use Rattle.model.specs.declared.Verdict.the-variants.{Accepted, Refused}
 use Rattle.capi.specs.declared.MapperAnswer.{MapperAnswer}
 
 abbrev pub answered : Returned → MapperAnswer
@@ -9,3 +11,8 @@ answered r = record { number = r .number; value = r .value; gates = r .gates; ar
 -- a number and a value, without figures
 abbrev pub answeredText : ℕ × ℕ → MapperAnswer
 answeredText p = record { number = p .0; value = p .1; gates = 0; area = 0; arrival = 0 }
+
+-- a verdict's number and place
+unfoldable pub verdictPair : Verdict → ℕ × ℕ
+verdictPair Accepted = (0, 0)
+verdictPair (Refused n k) = (n, k)

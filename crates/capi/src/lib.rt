@@ -1,5 +1,6 @@
 // The calls for C and Rust. A slice is a pointer and a number of elements; the answer is the five values that document 01 names.
 use model::Answer;
+use model::Verdict;
 use model::Written;
 ghost use mathlib.Core.Path.{_≡_};
 ghost use lib.ListN.{length};
@@ -9,7 +10,10 @@ ghost use Rattle.model.specs.Genlib.{genlibText, writtenAnswer, writtenPair, wr
 ghost use Rattle.model.specs.GenlibDemands.{GenlibDemand};
 ghost use Rattle.model.specs.Channels.{channelOf, twoCallOf, needsOf, mapTwo, twoWorkAfter};
 ghost use Rattle.model.specs.TwoDemands.{TogetherRefused, Independent, Each, TwinChannels, EitherEndTwo};
-ghost use Rattle.capi.specs.Answers.{answered, answeredText};
+ghost use Rattle.model.specs.Reading.{verdictOf};
+ghost use Rattle.model.specs.Tally.{countText, reportOf};
+ghost use Rattle.stock.specs.Numbers.{tallyOf, numbersAfter};
+ghost use Rattle.capi.specs.Answers.{answered, answeredText, verdictPair};
 
 // "Success returns number 0, the netlist's length and the three figures of its `# gates` line; a refusal its number, its place and zero figures".
 #[repr(C)]
@@ -90,6 +94,34 @@ pub extern "C" fn mapper_cells(genlib: &[u8], text: &mut [u8]) -> MapperAnswer
     ensures cells { λ _. ⌜ GenlibDemand (now (genlib .entry)) (length (now (text .entry))) ⌝ }
 {
     text_answer(genlib::convert(genlib, text))
+}
+
+// A verdict: number 0 and value 0 where nothing is refused.
+fn verdict_answer(v: Verdict) -> MapperAnswer
+    ensures { λ r. ⌜ r ≡ answeredText (verdictPair v) ⌝ }
+{
+    match v {
+        Verdict::Accepted => plain(0, 0),
+        Verdict::Refused(number, place) => plain(number, place),
+    }
+}
+
+// "Stock planning reads up to 64 mapped netlists of one library, one after another, into a tally": one netlist more, in a tally of 97 numbers.
+#[no_mangle]
+pub extern "C" fn mapper_count(cells: &[u8], netlist: &[u8], tally: &mut [u64]) -> MapperAnswer
+    ensures answers { λ r. ⌜ r ≡ answeredText (verdictPair (verdictOf (countText (tallyOf (now (tally .entry))) (now (cells .entry)) (now (netlist .entry))))) ⌝ }
+    ensures numbers { λ _. ⌜ now (tally .exit) ≡ numbersAfter (countText (tallyOf (now (tally .entry))) (now (cells .entry)) (now (netlist .entry))) (now (tally .entry)) ⌝ }
+{
+    verdict_answer(stock::count(cells, netlist, tally))
+}
+
+// "Report a line per cell in library order .. then `total`": the report of a tally of 97 numbers, into lent bytes.
+#[no_mangle]
+pub extern "C" fn mapper_report(cells: &[u8], tally: &[u64], text: &mut [u8]) -> MapperAnswer
+    ensures answers { λ r. ⌜ r ≡ answeredText (writtenPair (writtenAnswer (reportOf (tallyOf (now (tally .entry))) (now (cells .entry)) (length (now (text .entry)))))) ⌝ }
+    ensures bytes { λ _. ⌜ now (text .exit) ≡ writtenAfter (reportOf (tallyOf (now (tally .entry))) (now (cells .entry)) (length (now (text .entry)))) (now (text .entry)) ⌝ }
+{
+    text_answer(stock::report(cells, tally, text))
 }
 
 // An answer for each channel.

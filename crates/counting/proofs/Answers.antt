@@ -11,7 +11,7 @@ use borrow.Author.Tests.{lt-ltb, le-ltb, le-leb, lt-leb}
 use Rattle.model.specs.Base.{one}
 use Rattle.model.specs.Reading.{Read, holds, fault, next, unless}
 use Rattle.model.specs.Cells.{noCell, blank, cellAt, cellsOf, libraryOf, libraryAnswer}
-use Rattle.model.specs.LibraryText.{readLibrary}
+use Rattle.model.specs.LibraryText.{readLibrary, isRanged}
 use Rattle.model.specs.Tally.{inWidth, readCounted, times, addEach, counted, countText, countedAnswer}
 use Rattle.model.specs.declared.Cell.{Cell}
 use Rattle.model.specs.declared.Library.{Library}
@@ -151,6 +151,6 @@ module _ (t : Tally) (library netlist : List ℕ) where
     unfolding countText unless next
     count-refused n p e = rw (le-leb (length library) 65536 h, le-leb (length netlist) 65536 k, e)
 
-    pub count-read : (cs : List Cell) → readLibrary library ≡ holds cs → countText t library netlist ≡ countRead t false cs netlist
+    pub count-read : (cs : List Cell) → readLibrary library ≡ holds cs → countText t library netlist ≡ countRead t (isRanged library) cs netlist
     unfolding countText countRead unless next
     count-read cs e = rw (le-leb (length library) 65536 h, le-leb (length netlist) 65536 k, e)

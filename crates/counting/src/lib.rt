@@ -417,7 +417,10 @@ pub fn count(t: Tally, cells: &[u8], netlist: &[u8]) -> Counted
     let verdict = a.verdict;
     let lib = a.library;
     match verdict {
-        Verdict::Accepted => count_in(t, lib, false, netlist),
+        Verdict::Accepted => {
+            let ranged = library::is_ranged(cells);
+            count_in(t, lib, ranged, netlist)
+        },
         Verdict::Refused(number, place) => refused(t, number, place),
     }
 }

@@ -10,7 +10,7 @@ use Rattle.model.specs.Base.{one, all, each, same, below}
 use Rattle.model.specs.Text.{Line, endedByTen, text, decimal, linesFrom, fields}
 use Rattle.model.specs.Reading.{Read, holds, fault, next, unless}
 use Rattle.model.specs.Cells.{nameOf, cellAt}
-use Rattle.model.specs.LibraryText.{readLibrary}
+use Rattle.model.specs.LibraryText.{readLibrary, isRanged}
 use Rattle.model.specs.Netlist.{sum}
 use Rattle.model.specs.NetlistLines.{isNameList, gateOf, isWire, isFigures, isTiming}
 use Rattle.model.specs.declared.Cell.{Cell}
@@ -126,12 +126,12 @@ counted cells used t = record {
 
 -- the tally handed on: 1, the library's refusals, "28 when 64 netlists are counted already or .. a tally figure exceeds 2^40, place 64; then 29"
 unfoldable pub countText : Tally → List ℕ → List ℕ → Read Tally
-unfolding next unless readLibrary inWidth readCounted counted
+unfolding next unless readLibrary isRanged inWidth readCounted counted
 countText t library netlist =
     unless (leb (length library) 65536 && leb (length netlist) 65536) 1 0
     (next (readLibrary library) (λ cells.
     unless (ltb (t .netlists) 64 && inWidth t) 28 64
-    (next (readCounted false cells netlist) (λ used. holds (counted cells used t)))))
+    (next (readCounted (isRanged library) cells netlist) (λ used. holds (counted cells used t)))))
 
 -- "A refused netlist adds nothing."
 unfoldable pub countedAnswer : Tally → Read Tally → Counted

@@ -29,7 +29,7 @@ pub fn message(refusal: Refusal, cells: &Library, graph: &Source, arrivals: &Sou
         Place::Arrivals(byte) => in_arrivals(refusal, graph, arrivals, byte),
         Place::Variable(variable) => at_variable(refusal, graph, variable),
         Place::Output(output) => at_output(refusal, graph, output),
-        Place::Whole | Place::Length(_) => whole(refusal, &cells.file, graph, arrivals),
+        Place::Whole | Place::Length(_) | Place::Netlist(_) => whole(refusal, &cells.file, graph, arrivals),
     };
     let Told { at, what, line, help } = told;
     let line = line.map(|line| format!("    {line}\n")).unwrap_or_default();

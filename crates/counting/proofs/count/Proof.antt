@@ -2,10 +2,10 @@
 -- Assumes nothing.
 use native.Mathlib.Omega.{arith}
 use mathlib.Core.Path.{_≡_, sym, ap, subst, _∙_}
-use mathlib.Core.Bool.{false}
+use mathlib.Core.Bool.{Bool}
 use mathlib.Core.List.{List}
 use Rattle.model.specs.Cells.{cellsOf, libraryOf}
-use Rattle.model.specs.LibraryText.{readLibrary}
+use Rattle.model.specs.LibraryText.{readLibrary, isRanged}
 use Rattle.model.specs.Tally.{countText, countedAnswer}
 use Rattle.model.specs.declared.Cell.{Cell}
 use Rattle.model.specs.declared.Library.{Library}
@@ -39,11 +39,14 @@ read-requires c κs = search needs
 enum-told : tie.Need-enum-told
 enum-told c = search needs
 
+is-ranged-requires : tie.Need-is-ranged-requires
+is-ranged-requires c κs = search needs
+
 count-in-requires : tie.Need-count-in-requires
 count-in-requires c κs =
-    let a = c .before .before .before .before .before .before .before .before .args in
-    let r = c .before .before .before .read in
-    let o = accepted (readLibrary (a .cells .now)) (r .result) (r .ensures .0) (c .enum-told .given .1) in
+    let a = c .before .before .before .before .before .before .before .before .before .args in
+    let r = c .before .before .before .before .read in
+    let o = accepted (readLibrary (a .cells .now)) (r .result) (r .ensures .0) (c .before .enum-told .given .1) in
     (omega arith, subst Listed (sym (o .isLibrary)) (listed (a .cells .now) (o .cells) (o .isRead)), subst Blank (sym (o .isLibrary)) (blanks (a .cells .now) (o .cells) (o .isRead)))
 
 enum-known-verdict : tie.Need-enum-known-verdict
@@ -54,12 +57,13 @@ refused-requires-3 c κs = search needs
 
 returns-3 : tie.Need-returns-3
 returns-3 c =
-    let a = c .before .before .before .before .before .before .before .before .before .args in
-    let r = c .before .before .before .before .read in
-    let o = accepted (readLibrary (a .cells .now)) (r .result) (r .ensures .0) (c .before .enum-told .given .1) in
+    let a = c .before .before .before .before .before .before .before .before .before .before .args in
+    let r = c .before .before .before .before .before .read in
+    let o = accepted (readLibrary (a .cells .now)) (r .result) (r .ensures .0) (c .before .before .enum-told .given .1) in
     c .count-in .ensures
-    ∙ ap (λ (l : Library). countedAnswer (a .t) (countRead (a .t) false (cellsOf l) (a .netlist .now))) (o .isLibrary)
-    ∙ ap (λ (cs : List Cell). countedAnswer (a .t) (countRead (a .t) false cs (a .netlist .now))) (cells-back (o .cells))
+    ∙ ap (λ (b : Bool). countedAnswer (a .t) (countRead (a .t) b (cellsOf (r .result .library)) (a .netlist .now))) (c .before .is-ranged .ensures)
+    ∙ ap (λ (l : Library). countedAnswer (a .t) (countRead (a .t) (isRanged (a .cells .now)) (cellsOf l) (a .netlist .now))) (o .isLibrary)
+    ∙ ap (λ (cs : List Cell). countedAnswer (a .t) (countRead (a .t) (isRanged (a .cells .now)) cs (a .netlist .now))) (cells-back (o .cells))
     ∙ sym (ap (countedAnswer (a .t)) (count-read (a .t) (a .cells .now) (a .netlist .now) (omega arith) (omega arith) (o .cells) (o .isRead)))
 
 returns-4 : tie.Need-returns-4
@@ -79,6 +83,7 @@ count-spec =
     returns-2
     read-requires
     enum-told
+    is-ranged-requires
     count-in-requires
     enum-known-verdict
     refused-requires-3

@@ -11,6 +11,7 @@ use Rattle.model.specs.Text.{decimal}
 use Rattle.text.proofs.Decimal.{dec-small, dec-big, dec-small-length, dec-big-length}
 use borrow.Fn.Kinds.{In}
 use borrow.Fn.PlainCycle.{Measures, is, falls, and}
+use Rattle.reporting.proofs.put_long.Reads as put-long
 use Rattle.reporting.proofs.put_long.Kinds as put-long-kinds
 use Rattle.reporting.proofs.+put_long.Lts-put_long as put-long-lts
 use Rattle.reporting.proofs.+put_long.{statement}

@@ -1,0 +1,2 @@
+-- `Columns`: the numbers, column by column.
+pub mod Columns

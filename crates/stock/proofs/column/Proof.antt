@@ -1,0 +1,71 @@
+-- `stock::column` meets its contract. The invariant: the numbers before this one are copied; the measure is what is left.
+-- Assumes nothing.
+use borrow.Author.Needs.{needs}
+use native.Mathlib.Omega.{arith}
+use mathlib.Core.Path.{_≡_, refl, sym, ap, _∙_}
+use Prim.Native.Nat.{ℕ, _+_, _-_, _≤_}
+use lib.ListN.{length, take, drop}
+use Rattle.words.specs.Put.{putAt, zeros}
+use Rattle.words.proofs.Putting.{put-none}
+use Rattle.stock.proofs.Columns.{column-step, column-end}
+use Rattle.stock.proofs.column.Statement.{statement}
+use Rattle.stock.proofs.column.Tie as tie
+
+abbrev Inv-loop : tie.InvT-loop
+Inv-loop s from xs₀ i₀ xs i = (i ≤ 32) × (xs ≡ putAt (zeros 32) 0 (take i (drop from s)))
+
+abbrev μ-loop : tie.MeasureT-loop
+μ-loop s from xs₀ i₀ xs i = 32 - i
+
+loop-holds : tie.Need-loop-holds Inv-loop μ-loop
+loop-holds c = (omega arith, sym (put-none (zeros 32) 0))
+
+add-xs : tie.Need-add-xs Inv-loop μ-loop
+add-xs c = omega arith
+
+mul-xs : tie.Need-mul-xs Inv-loop μ-loop
+mul-xs c = search needs
+
+shared-slice-read-xs : tie.Need-shared-slice-read-xs Inv-loop μ-loop
+shared-slice-read-xs c = omega arith
+
+mul-xs-2 : tie.Need-mul-xs-2 Inv-loop μ-loop
+mul-xs-2 c = omega arith
+
+array-write-xs : tie.Need-array-write-xs Inv-loop μ-loop
+array-write-xs c = omega arith
+
+add-i : tie.Need-add-i Inv-loop μ-loop
+add-i c = omega arith
+
+loop-less : tie.Need-loop-less Inv-loop μ-loop
+loop-less c = omega arith
+
+loop-again : tie.Need-loop-again Inv-loop μ-loop
+loop-again c =
+    let a = c .before .before .before .args in
+    let p = c .before .before .loop in
+    (omega arith, column-step (a .s .now) (a .from) (p .i) (p .xs) (omega arith) (omega arith) (p .inv .1))
+
+returns : tie.Need-returns Inv-loop μ-loop
+returns c =
+    let a = c .before .before .args in
+    let p = c .before .loop in
+    column-end (a .s .now) (a .from) (p .i) (p .xs) (omega arith) (omega arith) (p .inv .1)
+
+pub column-spec : {M : Type 1} → statement M
+column-spec =
+    tie.close
+    (tie.spec
+    Inv-loop
+    μ-loop
+    loop-holds
+    add-xs
+    mul-xs
+    shared-slice-read-xs
+    mul-xs-2
+    array-write-xs
+    add-i
+    loop-less
+    loop-again
+    returns)

@@ -1,0 +1,2 @@
+-- `Numbers`: a tally as 97 numbers.
+pub mod Numbers

@@ -1,0 +1,2 @@
+-- `Within`: a report is within the memory lent to it.
+pub mod Within

@@ -1,0 +1,66 @@
+-- `tally::count_next` meets its contract: a name has at most fifteen bytes.
+-- Assumes nothing.
+use native.Mathlib.Omega.{arith}
+use mathlib.Core.Path.{_≡_, sym, _∙_}
+use lib.ListN.{length}
+use lib.Seq.{length-take-le}
+use Rattle.tally.proofs.Within.{ten-digits}
+use borrow.Author.Needs.{needs}
+use Rattle.tally.proofs.count_next.Statement.{statement}
+use Rattle.tally.proofs.count_next.Tie as tie
+
+slice-aggregate-put-number : tie.Need-slice-aggregate-put-number
+slice-aggregate-put-number c = search needs
+
+put-number-requires : tie.Need-put-number-requires
+put-number-requires c κs = omega (arith, ten-digits (c .before .before .before .args .k) (search needs))
+
+slice-aggregate-put-bytes : tie.Need-slice-aggregate-put-bytes
+slice-aggregate-put-bytes c = search needs
+
+slice-aggregate-put-bytes-2 : tie.Need-slice-aggregate-put-bytes-2
+slice-aggregate-put-bytes-2 c = search needs
+
+put-bytes-requires : tie.Need-put-bytes-requires
+put-bytes-requires c κs =
+    let p = c .before .before .before .put-number in
+    let long : length (p .last .0) ≡ 16 = search needs in
+    omega (arith, p .ensures .0, ten-digits (c .before .before .before .before .before .before .before .args .k) (search needs))
+
+array-share-prefix-name : tie.Need-array-share-prefix-name
+array-share-prefix-name c =
+    let p = c .before .before .before .before .before .put-number in
+    let q = c .before .put-bytes in
+    let long : length (q .last .0) ≡ 16 = search needs in
+    omega (arith, p .ensures .0, q .ensures .ends, ten-digits (c .before .before .before .before .before .before .before .before .before .args .k) (search needs))
+
+slice-aggregate-count-file : tie.Need-slice-aggregate-count-file
+slice-aggregate-count-file c =
+    let p = c .before .before .before .before .before .before .put-number in
+    let q = c .before .before .put-bytes in
+    let long : length (q .last .0) ≡ 16 = search needs in
+    sym (length-take-le (q .result) (q .last .0) (omega (arith, p .ensures .0, q .ensures .ends, ten-digits (c .before .before .before .before .before .before .before .before .before .before .args .k) (search needs))))
+
+count-file-requires : tie.Need-count-file-requires
+count-file-requires c κs = search needs
+
+same-length : tie.Need-same-length
+same-length c = search needs
+
+returns : tie.Need-returns
+returns c = search needs
+
+pub count-next-spec : {M : Type 1} → statement M
+count-next-spec =
+    tie.close
+    (tie.spec
+    slice-aggregate-put-number
+    put-number-requires
+    slice-aggregate-put-bytes
+    slice-aggregate-put-bytes-2
+    put-bytes-requires
+    array-share-prefix-name
+    slice-aggregate-count-file
+    count-file-requires
+    same-length
+    returns)

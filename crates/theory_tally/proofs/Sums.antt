@@ -1,0 +1,156 @@
+-- The sums of a tally, and its figures: "a tally handed on by these calls from an empty one" is never refused for its figures. Assumes nothing.
+use Prim.Native.Nat.{ℕ, zero, suc, _+_, _*_, _^_, _≤_, _<_}
+use native.Mathlib.Nat.{mul-le-mul}
+use native.Mathlib.Omega.{arith}
+use mathlib.Core.Path.{_≡_, refl, sym, _∙_, ap, ap₂, subst}
+use mathlib.Core.Bool.{Bool, true, false, _&&_}
+use mathlib.Core.List.{List, [], _∷_, map, List·Memᴰ, List·Memᴰ·head, List·Memᴰ·tail}
+use lib.Dec.{T, leb, ltb}
+use lib.ListN.{length, take, getD, replicate}
+use borrow.Author.Tests.{le-leb}
+use mir.Facts.{and-yes, ltb-yes, leb-yes}
+use Rattle.model.specs.Base.{all, one}
+use Rattle.model.specs.Reading.{holds}
+use Rattle.model.specs.Cells.{noCell, cellAt}
+use Rattle.model.specs.LibraryText.{readLibrary, isRanged}
+use Rattle.model.specs.Netlist.{sum}
+use Rattle.model.specs.Tally.{emptyTally, inWidth, areaOf, readCounted, times, addEach, counted, countText}
+use Rattle.model.specs.declared.Cell.{Cell}
+use Rattle.model.specs.declared.Tally.{Tally}
+use Rattle.theory_text.proofs.Steps.{holds-once}
+use Rattle.theory_text.proofs.ReadLibrary.{library-few, library-written}
+use Rattle.theory_tally.specs.Sums.{Handed, Counting, Sums}
+use Rattle.theory_tally.specs.Sums as promised
+use Rattle.theory_tally.proofs.Weights.{added-first, added-length, added-at, weights, ones, times-low}
+use Rattle.theory_tally.proofs.Used.{IsUsed, used-is, IsCounted, counted-by}
+
+-- ---- the sums
+
+-- 32 places, with these sums
+record Totals (cells : List Cell) (gs : List (List ℕ)) (t : Tally) : Type 0 where
+  gatesLong : length (t .gates) ≡ 32
+  areasLong : length (t .areas) ≡ 32
+  sums : Sums cells gs t
+
+none-summed : (n k : ℕ) → sum (take n (replicate k 0)) ≡ 0
+unfolding sum
+none-summed zero k = refl
+none-summed (suc n) zero = refl
+none-summed (suc n) (suc k) = omega (arith, none-summed n k)
+
+module _ (library : List ℕ) (cells : List Cell) (e : readLibrary library ≡ holds cells) where
+  first : Totals cells [] emptyTally
+  unfolding emptyTally sum
+  first = record {
+    gatesLong = refl;
+    areasLong = refl;
+    sums = record { gates = none-summed (length cells) 32; areas = none-summed (length cells) 32; netlists = refl };
+  }
+
+  later : (gs : List (List ℕ)) (t : Tally) (netlist used : List ℕ) → Totals cells gs t → readCounted (isRanged library) cells netlist ≡ holds used → Totals cells (used ∷ gs) (counted cells used t)
+  unfolding counted sum areaOf
+  later gs t netlist used h r =
+      let few = library-few library cells e in
+      let is = used-is (isRanged library) cells netlist used r in
+      record {
+        gatesLong = added-length (λ i. times i used) 0 (t .gates) ∙ h .gatesLong;
+        areasLong = added-length (λ i. times i used * cellAt cells i .area) 0 (t .areas) ∙ h .areasLong;
+        sums =
+            record {
+              gates =
+                  omega (
+                    arith,
+                    added-first (λ i. times i used) (length cells) (t .gates) (omega (arith, h .gatesLong)),
+                    ones (length cells) used (is .listed),
+                    h .sums .gates,
+                  );
+              areas =
+                  omega (
+                    arith,
+                    added-first (λ i. times i used * cellAt cells i .area) (length cells) (t .areas) (omega (arith, h .areasLong)),
+                    weights (λ (i : ℕ). cellAt cells i .area) (length cells) used (is .listed),
+                    h .sums .areas,
+                  );
+              netlists = omega (arith, h .sums .netlists);
+            };
+      }
+
+  totals : (gs : List (List ℕ)) (t : Tally) → Counting library cells gs t → Totals cells gs t
+  totals gs t promised.Counting.empty = first
+  totals gs t (promised.Counting.more {gs = hs} {t = s} netlist used c n r) =
+      let b = counted-by s library netlist t n in
+      let same : b .cells ≡ cells = holds-once (sym (b .isLibrary) ∙ e) in
+      let uses : b .used ≡ used = holds-once (sym (b .isRead) ∙ ap (λ (x : List Cell). readCounted (isRanged library) x netlist) same ∙ r) in
+      subst (Totals cells (used ∷ hs)) (ap₂ (λ (x : List Cell) (y : List ℕ). counted x y s) (sym same) (sym uses) ∙ b .isTally) (later hs s netlist used (totals hs s c) r)
+
+  -- "Its gates and area equal the sums of the counted netlists' `# gates` lines, and the sums over cells."
+  pub tally-sums : (gs : List (List ℕ)) (t : Tally) → Counting library cells gs t → Sums cells gs t
+  tally-sums gs t c = totals gs t c .sums
+
+-- ---- the figures
+
+-- a figure of so many netlists
+record Small (t : Tally) : Type 0 where
+  gates : (i : ℕ) → getD (t .gates) i 0 ≤ t .netlists * 4294967296
+  areas : (i : ℕ) → getD (t .areas) i 0 ≤ t .netlists * 4294967296
+  occurs : (i : ℕ) → getD (t .occurs) i 0 ≤ t .netlists * 4294967296
+  few : t .netlists ≤ 64
+
+none-at : (k i : ℕ) → _≡_ {A = ℕ} (getD (replicate k 0) i 0) 0
+none-at zero i = refl
+none-at (suc k) zero = refl
+none-at (suc k) (suc i) = none-at k i
+
+area-at : (cells : List Cell) → ((c : Cell) → List·Memᴰ c cells → c .area ≤ 65535) → (i : ℕ) → cellAt cells i .area ≤ 65535
+unfolding cellAt
+area-at [] h i = omega arith
+area-at (c ∷ cs) h zero = h c (List·Memᴰ·head refl)
+area-at (c ∷ cs) h (suc i) = area-at cs (λ d m. h d (List·Memᴰ·tail m)) i
+
+one-low : (b : Bool) → one b ≤ 1
+unfolding one
+one-low true = omega arith
+one-low false = omega arith
+
+product-low : (n a : ℕ) → n ≤ 65536 → a ≤ 65535 → n * a ≤ 65536 * 65535
+product-low n a h k = mul-le-mul h k
+
+more-small : (t : Tally) (cells : List Cell) (used : List ℕ) → Small t → length used ≤ 65536 → ((i : ℕ) → cellAt cells i .area ≤ 65535) → t .netlists < 64 → Small (counted cells used t)
+unfolding counted
+more-small t cells used s few area low = record {
+  gates = λ i. let z : 0 + i ≡ i = omega arith in omega (arith, added-at (λ k. times k used) 0 (t .gates) i, s .gates i, times-low (0 + i) used);
+  areas =
+      λ i. omega (
+        arith,
+        added-at (λ k. times k used * cellAt cells k .area) 0 (t .areas) i,
+        s .areas i,
+        product-low (times (0 + i) used) (cellAt cells (0 + i) .area) (omega (arith, times-low (0 + i) used)) (area (0 + i)),
+      );
+  occurs = λ i. omega (arith, added-at (λ k. one (ltb 0 (times k used))) 0 (t .occurs) i, s .occurs i, one-low (ltb 0 (times (0 + i) used)));
+  few = omega arith;
+}
+
+small : (t : Tally) → Handed t → Small t
+small t promised.Handed.empty = start
+  where
+    start : Small emptyTally
+    start = unfold emptyTally in record { gates = λ i. omega (arith, none-at 32 i); areas = λ i. omega (arith, none-at 32 i); occurs = λ i. omega (arith, none-at 32 i); few = omega arith }
+small t (promised.Handed.more {t = s} library netlist h n) =
+    let b = counted-by s library netlist t n in
+    let u = used-is (isRanged library) (b .cells) netlist (b .used) (b .isRead) in
+    let short : length netlist ≤ 65536 = leb-yes (and-yes (leb (length library) 65536) (leb (length netlist) 65536) (b .short) .1) in
+    let low : s .netlists < 64 = ltb-yes (and-yes (ltb (s .netlists) 64) (inWidth s) (b .notFull) .0) in
+    subst Small (b .isTally) (more-small s (b .cells) (b .used) (small s h) (omega (arith, u .few)) (area-at (b .cells) (λ c m. library-written library (b .cells) (b .isLibrary) c m .0 .area)) low)
+
+all-low : (xs : List ℕ) → ((i : ℕ) → getD xs i 0 ≤ 2 ^ 40) → all (λ (n : ℕ). leb n (2 ^ 40)) xs ≡ true
+unfolding all
+all-low [] h = refl
+all-low (x ∷ xs) h = rw (le-leb x (2 ^ 40) (h 0)) (all-low xs (λ i. h (suc i)))
+
+-- a tally handed on from an empty one has no "tally figure" that "exceeds 2^40"
+pub handed-fits : (t : Tally) → Handed t → inWidth t ≡ true
+unfolding inWidth
+handed-fits t h =
+    let s = small t h in
+    rw (all-low (t .gates) (λ i. omega (arith, s .gates i, s .few)), all-low (t .areas) (λ i. omega (arith, s .areas i, s .few)), all-low (t .occurs) (λ i. omega (arith, s .occurs i, s .few)))
+    (le-leb (t .netlists) (2 ^ 40) (omega (arith, s .few)))

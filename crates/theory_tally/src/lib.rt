@@ -1,0 +1,1 @@
+// Laws of tallies and of the netlists counted into them. No code.
