@@ -72,29 +72,12 @@ phase-none : (w : List ℕ) → length w ≡ 0 → isPhaseNet w ≡ false
 unfolding isPhaseNet
 phase-none w e = rw (sym (label-none 112 w e), sym (label-none 109 w e))
 
-drop-none : (w : List ℕ) → length w ≡ 0 → drop 1 w ≡ []
-drop-none [] e = refl
-drop-none (b ∷ w) e = absurd (omega arith)
-
-pub gate-first : (w : List ℕ) → isPhaseNet w ≡ true → true ≡ isGateNet w
+pub gate-net : (w : List ℕ) → isPhaseNet w ≡ isGateNet w
 unfolding isGateNet
-gate-first w e = sym (rw e)
-
-module _ (w : List ℕ) (n : isPhaseNet w ≡ false) where
-  pub gate-none : length w ≡ 0 → false ≡ isGateNet w
-  unfolding isGateNet
-  gate-none e = sym (rw (n, drop-none w e, phase-none [] refl) (and-false (eqb (getD w 0 0) 115)))
-
-  pub gate-other : (getD w 0 0 ≡ 115 → ⊥) → false ≡ isGateNet w
-  unfolding isGateNet
-  gate-other d = sym (rw (n, ne-eqb (getD w 0 0) 115 d))
-
-  pub gate-inner : getD w 0 0 ≡ 115 → isPhaseNet (drop 1 w) ≡ isGateNet w
-  unfolding isGateNet
-  gate-inner e = sym (rw (n, eq-eqb (getD w 0 0) 115 e))
+gate-net w = refl
 
 net-none : isGateNet [] ≡ false
-net-none = sym (gate-none [] (phase-none [] refl) refl)
+net-none = sym (gate-net []) ∙ phase-none [] refl
 
 drop-short : (w : List ℕ) → length w < 2 → drop 2 w ≡ []
 drop-short [] h = refl

@@ -80,20 +80,11 @@ pub fn is_phase_net(w: &[u8]) -> bool
     is_label(w, b'm')
 }
 
-// "a net `s` followed by the root's net name, which N11 takes in gate lines".
+// A net of a gate line, at a pin or at the output.
 pub fn is_gate_net(w: &[u8]) -> bool
     ensures { λ r. ⌜ r ≡ isGateNet (now (w .entry)) ⌝ }
 {
-    if is_phase_net(w) {
-        return true;
-    }
-    if w.len() == 0 {
-        return false;
-    }
-    if w[0] != b's' {
-        return false;
-    }
-    is_phase_net(&w[1..])
+    is_phase_net(w)
 }
 
 pub fn is_bound(w: &[u8], b: u8) -> bool

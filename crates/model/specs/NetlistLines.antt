@@ -28,10 +28,10 @@ unfoldable pub isPhaseNet : List ℕ → Bool
 unfolding isLabel
 isPhaseNet w = isLabel 112 w || isLabel 109 w
 
--- a net of a gate line: also "a net `s` followed by the root's net name, which N11 takes in gate lines"
+-- a net of a gate line, at a pin or at the output
 unfoldable pub isGateNet : List ℕ → Bool
 unfolding isPhaseNet
-isGateNet w = isPhaseNet w || (eqb (getD w 0 0) 115 && isPhaseNet (drop 1 w))
+isGateNet w = isPhaseNet w
 
 -- "each pin in order with `=` and its net": the pin of letter b
 unfoldable pub isBound : ℕ → List ℕ → Bool
