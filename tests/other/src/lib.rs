@@ -30,7 +30,7 @@ pub const CUT_LIMIT: usize = 18;
 pub const WORDS_EACH: usize = 16 + 6 * CUT_LIMIT;
 
 /// One more than the highest number of a refusal.
-pub const NUMBERS: usize = 28;
+pub const NUMBERS: usize = 30;
 
 pub mod blif;
 pub mod brute;
@@ -46,6 +46,9 @@ pub mod mutants;
 #[cfg(feature = "boundary")]
 pub mod ours;
 pub mod reference;
+pub mod tally;
+pub mod tally_checks;
+pub mod tally_gen;
 pub mod two;
 pub mod two_checks;
 pub mod two_gen;

@@ -117,3 +117,25 @@ pub const TWO: [(u32, &str); 8] = [
     (70, "the second channel takes the first's arrivals"),
     (71, "work memory is unchanged where both channels are refused after 10"),
 ];
+
+/// Those of the calls that count and report.
+pub const TALLY: [(u32, &str); 18] = [
+    (86, "a refused netlist is counted as one"),
+    (87, "netlists in which a cell occurs are counted by gates"),
+    (88, "the area is that of the next line's cell"),
+    (89, "a 65th netlist is counted"),
+    (90, "a figure of 2^40 is refused"),
+    (91, "28 doesn't look at the netlists in which cells occur"),
+    (92, "a report is refused where 64 netlists are counted"),
+    (93, "28 is tried after 29"),
+    (94, "leading zeros are refused in nets and times"),
+    (95, "leading zeros are accepted in the gate count"),
+    (96, "any area is accepted"),
+    (97, "timing lines are no part of the netlist"),
+    (98, "what follows the last line isn't read"),
+    (99, "`.names` pairs may be left out before `.end`"),
+    (100, "the netlists counted are those of the cell that occurs in most"),
+    (101, "pins are accepted in any order"),
+    (102, "a missing line's place is 0"),
+    (103, "a gate line may leave out its last pins"),
+];

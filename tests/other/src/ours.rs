@@ -68,3 +68,62 @@ pub fn map_two(cells: &[u8], channels: [Channel; 2], work: &mut [u16], texts: [&
     }
     two.answers
 }
+
+#[cfg(all(feature = "ours", feature = "tally"))]
+extern "C" {
+    fn mapper_count(
+        cells: *const u8,
+        cells_len: usize,
+        netlist: *const u8,
+        netlist_len: usize,
+        tally: *mut u64,
+        tally_len: usize,
+    ) -> mapper::Answer;
+
+    fn mapper_report(
+        cells: *const u8,
+        cells_len: usize,
+        tally: *const u64,
+        tally_len: usize,
+        text: *mut u8,
+        text_len: usize,
+    ) -> mapper::Answer;
+}
+
+#[cfg(all(feature = "ours", feature = "tally"))]
+fn answered(mapper::Answer { number, value, gates, area, arrival }: mapper::Answer) -> Answer {
+    Answer { number: number as u32, value: value as u32, gates, area, arrival }
+}
+
+/// The call under test that counts a netlist.
+#[cfg(all(feature = "ours", feature = "tally"))]
+pub fn count(cells: &[u8], netlist: &[u8], tally: &mut [u64]) -> Answer {
+    // Each pointer comes with the length of its own slice; the one that is written overlaps nothing.
+    answered(unsafe {
+        mapper_count(cells.as_ptr(), cells.len(), netlist.as_ptr(), netlist.len(), tally.as_mut_ptr(), tally.len())
+    })
+}
+
+/// The call under test that reports.
+#[cfg(all(feature = "ours", feature = "tally"))]
+pub fn report(cells: &[u8], tally: &[u64], text: &mut [u8]) -> Answer {
+    answered(unsafe {
+        mapper_report(cells.as_ptr(), cells.len(), tally.as_ptr(), tally.len(), text.as_mut_ptr(), text.len())
+    })
+}
+
+/// The other in its place.
+#[cfg(all(feature = "self", feature = "tally", not(feature = "ours")))]
+pub fn count(cells: &[u8], netlist: &[u8], tally: &mut [u64]) -> Answer {
+    let (answer, after) = crate::tally::count(cells, netlist, tally);
+    tally.copy_from_slice(&after);
+    answer
+}
+
+/// The other in its place.
+#[cfg(all(feature = "self", feature = "tally", not(feature = "ours")))]
+pub fn report(cells: &[u8], tally: &[u64], text: &mut [u8]) -> Answer {
+    let (answer, lines) = crate::tally::report(cells, tally, text.len());
+    text[..lines.len()].copy_from_slice(&lines);
+    answer
+}

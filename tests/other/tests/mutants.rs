@@ -1,8 +1,8 @@
 //! Every mutant of the reference is caught by a check of `tests/document.rs`,
-//! `tests/genlib.rs` or `tests/two.rs`.
+//! `tests/genlib.rs`, `tests/two.rs` or `tests/tally.rs`.
 //! `MUTANTS=28,29` in the environment tries these alone, `CHECKS=limits,ranges` by these checks.
 
-use other::{checks, genlib_checks, mutants, two_checks};
+use other::{checks, genlib_checks, mutants, tally_checks, two_checks};
 use std::panic::catch_unwind;
 
 type Checks = [(&'static str, fn() -> checks::Check); 11];
@@ -38,6 +38,16 @@ const TWO: [(&str, fn() -> checks::Check); 7] = [
     ("pairs", || two_checks::pairs(600, 1)),
 ];
 
+const TALLY: [(&str, fn() -> checks::Check); 7] = [
+    ("as_listed", tally_checks::as_listed),
+    ("sixty_four", tally_checks::sixty_four),
+    ("figures", tally_checks::figures),
+    ("in_order", tally_checks::in_order),
+    ("sums", || tally_checks::sums(100, 1)),
+    ("netlists", || tally_checks::netlists(1_500, 1)),
+    ("damage", tally_checks::damage),
+];
+
 #[test]
 fn every_mutant_is_caught() {
     caught(&mutants::LIST, &CHECKS);
@@ -51,6 +61,11 @@ fn every_mutant_of_genlib_is_caught() {
 #[test]
 fn every_mutant_of_two_is_caught() {
     caught(&mutants::TWO, &TWO);
+}
+
+#[test]
+fn every_mutant_of_tally_is_caught() {
+    caught(&mutants::TALLY, &TALLY);
 }
 
 /// Prints a row for each mutant.
