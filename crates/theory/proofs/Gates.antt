@@ -158,7 +158,7 @@ module _ (cells : List Cell) (fit : T (libraryFits cells)) (g : Graph) (ok : Acc
       let few : getD cells (m .cell) noCell .pins ≤ 4 = cell-form (getD cells (m .cell) noCell) (library-cell cells fit (getD cells (m .cell) noCell) (getD-in cells (m .cell) noCell h)) .fewPins in
       fed-count (getD cells (m .cell) noCell .pins) (getD orders (m .order) []) (m .mask) cut (omega (arith, order-long (m .order) o))
 
-  of-cell : (l : ℕ) → NeedsOf cells g l → isOwn (sourceOf cells g l) ≡ false → OfCell l (sourceOf cells g l)
+  pub of-cell : (l : ℕ) → NeedsOf cells g l → isOwn (sourceOf cells g l) ≡ false → OfCell l (sourceOf cells g l)
   unfolding cellOf cellAt isOwn feeds isInverter
   of-cell l n h = go (sourceOf cells g l) (chosen-fine cells g (order-once g ok) l (present l n) .0 .allowed) h
     where

@@ -19,7 +19,7 @@ use Rattle.model.specs.declared.Cell.{Cell}
 use Rattle.model.specs.declared.Tally.{Tally}
 use Rattle.theory_text.proofs.Steps.{holds-once}
 use Rattle.theory_text.proofs.ReadLibrary.{library-few, library-written}
-use Rattle.theory_tally.specs.Sums.{Handed, Counting, Sums}
+use Rattle.theory_tally.specs.Sums.{Handed, Counting, Sums, Grown}
 use Rattle.theory_tally.specs.Sums as promised
 use Rattle.theory_tally.proofs.Weights.{added-first, added-length, added-at, weights, ones, times-low}
 use Rattle.theory_tally.proofs.Used.{IsUsed, used-is, IsCounted, counted-by}
@@ -47,30 +47,35 @@ module _ (library : List ℕ) (cells : List Cell) (e : readLibrary library ≡ h
     sums = record { gates = none-summed (length cells) 32; areas = none-summed (length cells) 32; netlists = refl };
   }
 
-  later : (gs : List (List ℕ)) (t : Tally) (netlist used : List ℕ) → Totals cells gs t → readCounted (isRanged library) cells netlist ≡ holds used → Totals cells (used ∷ gs) (counted cells used t)
-  unfolding counted sum areaOf
-  later gs t netlist used h r =
+  -- one netlist more
+  pub grown : (t : Tally) (netlist used : List ℕ) → length (t .gates) ≡ 32 → length (t .areas) ≡ 32 → readCounted (isRanged library) cells netlist ≡ holds used
+      → Grown cells t (counted cells used t) (length used) (areaOf cells used)
+  unfolding counted areaOf
+  grown t netlist used g a r =
       let few = library-few library cells e in
       let is = used-is (isRanged library) cells netlist used r in
+      record {
+        gatesGrown = omega (arith, added-first (λ i. times i used) (length cells) (t .gates) (omega (arith, g)), ones (length cells) used (is .listed));
+        areasGrown =
+            omega (
+              arith,
+              added-first (λ i. times i used * cellAt cells i .area) (length cells) (t .areas) (omega (arith, a)),
+              weights (λ (i : ℕ). cellAt cells i .area) (length cells) used (is .listed),
+            );
+        netlistsGrown = refl;
+      }
+
+  later : (gs : List (List ℕ)) (t : Tally) (netlist used : List ℕ) → Totals cells gs t → readCounted (isRanged library) cells netlist ≡ holds used → Totals cells (used ∷ gs) (counted cells used t)
+  unfolding counted sum
+  later gs t netlist used h r =
+      let w = grown t netlist used (h .gatesLong) (h .areasLong) r in
       record {
         gatesLong = added-length (λ i. times i used) 0 (t .gates) ∙ h .gatesLong;
         areasLong = added-length (λ i. times i used * cellAt cells i .area) 0 (t .areas) ∙ h .areasLong;
         sums =
             record {
-              gates =
-                  omega (
-                    arith,
-                    added-first (λ i. times i used) (length cells) (t .gates) (omega (arith, h .gatesLong)),
-                    ones (length cells) used (is .listed),
-                    h .sums .gates,
-                  );
-              areas =
-                  omega (
-                    arith,
-                    added-first (λ i. times i used * cellAt cells i .area) (length cells) (t .areas) (omega (arith, h .areasLong)),
-                    weights (λ (i : ℕ). cellAt cells i .area) (length cells) used (is .listed),
-                    h .sums .areas,
-                  );
+              gates = omega (arith, w .gatesGrown, h .sums .gates);
+              areas = omega (arith, w .areasGrown, h .sums .areas);
               netlists = omega (arith, h .sums .netlists);
             };
       }

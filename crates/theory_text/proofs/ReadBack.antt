@@ -195,7 +195,7 @@ unfolding body nameOf
 bodyOf t = body (nameOf (t .cell)) (t .pins) (t .net)
 
 -- a gate's line is its body and a line end
-gate-line : (t : Gate) (rest : List ℕ) → gateLine t ++ rest ≡ bodyOf t ++ (10 ∷ rest)
+pub gate-line : (t : Gate) (rest : List ℕ) → gateLine t ++ rest ≡ bodyOf t ++ (10 ∷ rest)
 unfolding gateLine bodyOf body text
 gate-line t rest =
     ap (λ (x : List ℕ). text ".gate " ++ x)
@@ -233,7 +233,7 @@ unfolding text wireBody
 wireBodies k [] = []
 wireBodies k (l ∷ ls) = wireBody k l ∷ text "1 1" ∷ wireBodies (suc k) ls
 
-wire-line : (k l : ℕ) (rest : List ℕ) → wireLine k l ++ rest ≡ wireBody k l ++ (10 ∷ text "1 1" ++ (10 ∷ rest))
+pub wire-line : (k l : ℕ) (rest : List ℕ) → wireLine k l ++ rest ≡ wireBody k l ++ (10 ∷ text "1 1" ++ (10 ∷ rest))
 unfolding wireLine wireBody namesOf each text
 wire-line k l rest =
     ap (λ (x : List ℕ). text ".names " ++ x)

@@ -1,0 +1,366 @@
+-- The lines of a printed netlist, by their words: each is of the form that is due, and together they are the text. Assumes nothing.
+use Prim.Native.Nat.{ℕ, zero, suc, _+_, _/_, _%_, _<_}
+use native.Mathlib.Omega.{arith}
+use mathlib.Core.Path.{_≡_, refl, sym, _∙_, ap, ap₂}
+use mathlib.Core.Bool.{Bool, true, false, cond, _&&_, _||_}
+use mathlib.Core.List.{List, [], _∷_, _++_, map, append-assoc}
+use lib.Dec.{T, ltb, ltb→lt, lit<}
+use lib.ListN.{length}
+use borrow.Author.Tests.{eq-eqb, le-leb, lt-ltb}
+use Rattle.model.specs.Base.{all, each, same, from, below}
+use Rattle.model.specs.Text.{text, digits, decimal, fields, between}
+use Rattle.model.specs.Cells.{nameOf}
+use Rattle.model.specs.Graph.{Graph, literal, negated, varOf}
+use Rattle.model.specs.Netlist.{Gate, netName, outName, pinWords, gateLine, namesLine, wireLine, wireLines, netlistText}
+use Rattle.model.specs.Timing.{timingLines}
+use Rattle.model.specs.NetlistLines.{areDigits, isLabel, isPhaseNet, isGateNet, isBound, ofForm, ofList, isNameList, gateForm, isWire, isFigures, isTiming}
+use Rattle.model.specs.declared.Cell.{Cell}
+use Rattle.model.specs.declared.Figures.{Figures}
+use Rattle.theory_graph.proofs.Lists.{is-true, same-refl}
+use Rattle.theory_graph.proofs.Literals.{lit-neg}
+use Rattle.theory_text.proofs.Plain.{above, decimal-free, net-free}
+use mir.Facts.{and-yes}
+use Rattle.theory_text.proofs.ReadBack.{namesOf, body, bodyOf, gate-line, wireBody, wire-line, inputNames, outputNames}
+use Rattle.theory_tally.proofs.Worded.{Clear, Clears, clears-map, Whole, Wholes, names-whole, names-fields, names-ended, lined}
+use Rattle.theory_tally.proofs.DueMet.{Meets}
+
+-- ---- words
+
+digit-is : (d : ℕ) → d < 10 → between 48 57 (48 + d) ≡ true
+unfolding between
+digit-is d h = rw (le-leb 48 (48 + d) (omega arith), le-leb (48 + d) 57 (omega arith)) refl
+
+digits-are : (fuel n : ℕ) (after : List ℕ) → all (between 48 57) after ≡ true → all (between 48 57) (digits fuel n after) ≡ true
+unfolding digits all
+digits-are zero n after h = h
+digits-are (suc fuel) n after h = go (ltb n 10) (ltb→lt n 10) (digits-are fuel (n / 10) ((48 + n % 10) ∷ after) (rw (digit-is (n % 10) (omega arith)) h))
+  where
+    go : (b : Bool) → (T b → n < 10) → all (between 48 57) (digits fuel (n / 10) ((48 + n % 10) ∷ after)) ≡ true
+        → all (between 48 57) (cond b ((48 + n) ∷ after) (digits fuel (n / 10) ((48 + n % 10) ∷ after))) ≡ true
+    go true e more = rw (digit-is n (e tt)) h
+    go false e more = more
+
+digits-some : (fuel n : ℕ) (after : List ℕ) → 0 < length after → 0 < length (digits fuel n after)
+unfolding digits
+digits-some zero n after h = h
+digits-some (suc fuel) n after h = go (ltb n 10) (digits-some fuel (n / 10) ((48 + n % 10) ∷ after) (omega arith))
+  where
+    go : (b : Bool) → 0 < length (digits fuel (n / 10) ((48 + n % 10) ∷ after)) → 0 < length (cond b ((48 + n) ∷ after) (digits fuel (n / 10) ((48 + n % 10) ∷ after)))
+    go true more = omega arith
+    go false more = more
+
+decimal-some : (n : ℕ) → 0 < length (decimal n)
+unfolding decimal digits
+decimal-some n = go (ltb n 10) (digits-some n (n / 10) ((48 + n % 10) ∷ []) (omega arith))
+  where
+    go : (b : Bool) → 0 < length (digits n (n / 10) ((48 + n % 10) ∷ [])) → 0 < length (cond b ((48 + n) ∷ []) (digits n (n / 10) ((48 + n % 10) ∷ [])))
+    go true more = omega arith
+    go false more = more
+
+decimal-digits : (n : ℕ) → areDigits (decimal n) ≡ true
+unfolding areDigits decimal all
+decimal-digits n = rw (lt-ltb 0 (length (decimal n)) (decimal-some n)) (digits-are (suc n) n [] refl)
+
+label-is : (b n : ℕ) → isLabel b (b ∷ decimal n) ≡ true
+unfolding isLabel
+label-is b n = rw (eq-eqb b b refl) (decimal-digits n)
+
+net-is : (l : ℕ) → isPhaseNet (netName l) ≡ true
+unfolding isPhaseNet netName
+net-is l = go (negated l)
+  where
+    go : (b : Bool) → (isLabel 112 (cond b 109 112 ∷ decimal (varOf l)) || isLabel 109 (cond b 109 112 ∷ decimal (varOf l))) ≡ true
+    go true = rw (label-is 109 (varOf l)) (or-true (isLabel 112 (109 ∷ decimal (varOf l))))
+      where
+        or-true : (x : Bool) → (x || true) ≡ true
+        or-true true = refl
+        or-true false = refl
+    go false = rw (label-is 112 (varOf l)) refl
+
+bound-is : (b c l : ℕ) → b ≡ c → isBound c (b ∷ 61 ∷ netName l) ≡ true
+unfolding isBound isGateNet
+bound-is b c l e = rw (eq-eqb b c e) (net-is l)
+
+out-is : (k : ℕ) → isLabel 111 (outName k) ≡ true
+unfolding outName
+out-is k = label-is 111 k
+
+net-clear : (l : ℕ) → Clear (netName l)
+net-clear l s h = net-free s l h
+
+out-clear : (k : ℕ) → Clear (outName k)
+unfolding outName
+out-clear k s h = (above s 111 (omega arith), decimal-free s k h)
+
+decimal-clear : (n : ℕ) → Clear (decimal n)
+decimal-clear n s h = decimal-free s n h
+
+-- ---- a gate's line
+
+-- the words of pins from letter b on, and of the output
+unfoldable pub boundWords : ℕ → List ℕ → ℕ → List (List ℕ)
+boundWords b [] o = (79 ∷ 61 ∷ netName o) ∷ []
+boundWords b (l ∷ ls) o = (b ∷ 61 ∷ netName l) ∷ boundWords (suc b) ls o
+
+unfoldable pub gateWords : Gate → List (List ℕ)
+unfolding boundWords nameOf
+gateWords t = nameOf (t .cell) ∷ boundWords 65 (t .pins) (t .net)
+
+abbrev pub gateRow : Gate → List ℕ
+gateRow t = namesOf (text ".gate") (gateWords t)
+
+bound-words : (b : ℕ) (ls : List ℕ) (o : ℕ) → each (λ (n : List ℕ). 32 ∷ n) (boundWords b ls o) ≡ pinWords b ls ++ pinWords 79 (o ∷ [])
+unfolding each boundWords pinWords
+bound-words b [] o = refl
+bound-words b (l ∷ ls) o =
+    ap (λ (x : List ℕ). 32 ∷ b ∷ 61 ∷ netName l ++ x) (bound-words (suc b) ls o) ∙ ap (λ (x : List ℕ). 32 ∷ b ∷ 61 ∷ x) (sym (append-assoc (netName l) (pinWords (suc b) ls) (pinWords 79 (o ∷ []))))
+
+row-body : (t : Gate) → bodyOf t ≡ gateRow t
+unfolding bodyOf body namesOf gateWords each text
+row-body t = ap (λ (x : List ℕ). text ".gate " ++ (nameOf (t .cell) ++ x)) (sym (bound-words 65 (t .pins) (t .net)))
+
+pub gates-lined : (ts : List Gate) (vs : List (List ℕ)) → each gateLine ts ++ lined vs ≡ lined (map gateRow ts ++ vs)
+unfolding each lined
+gates-lined [] vs = refl
+gates-lined (t ∷ ts) vs =
+    append-assoc (gateLine t) (each gateLine ts) (lined vs) ∙ gate-line t (each gateLine ts ++ lined vs)
+    ∙ ap₂ (λ (x y : List ℕ). x ++ (10 ∷ y)) (row-body t) (gates-lined ts vs)
+
+bound-clear : (b : ℕ) → 48 < b → (ls : List ℕ) (o : ℕ) → Clears (boundWords b ls o)
+unfolding boundWords
+bound-clear b h [] o = ((λ s k. (above s 79 (omega arith), (above s 61 (omega arith), net-clear o s k))), tt)
+bound-clear b h (l ∷ ls) o = ((λ s k. (above s b (omega arith), (above s 61 (omega arith), net-clear l s k))), bound-clear (suc b) (omega arith) ls o)
+
+gate-clear : (t : Gate) → Clear (nameOf (t .cell)) → Clears (gateWords t)
+unfolding gateWords
+gate-clear t c = (c, bound-clear 65 (lit< tt) (t .pins) (t .net))
+
+pub gate-fields : (t : Gate) → Clear (nameOf (t .cell)) → fields (gateRow t) ≡ text ".gate" ∷ gateWords t
+unfolding text
+gate-fields t c = names-fields (text ".gate") (gateWords t) (refl, (refl, (refl, (refl, (refl, tt))))) (gate-clear t c)
+
+pub gate-whole : (t : Gate) → Clear (nameOf (t .cell)) → Whole (gateRow t)
+unfolding text
+gate-whole t c = names-whole (text ".gate") (gateWords t) ((refl, (refl, (refl, (refl, (refl, tt))))), (refl, (refl, (refl, (refl, (refl, tt)))))) (gate-clear t c)
+
+pins-form : (i b : ℕ) → b ≡ 65 + i → (ls : List ℕ) (o : ℕ) → ofForm (map (λ (j : ℕ). isBound (65 + j)) (from i (length ls)) ++ (isBound 79 ∷ [])) (boundWords b ls o) ≡ true
+unfolding ofForm boundWords from
+pins-form i b e [] o = rw (bound-is 79 79 o refl) refl
+pins-form i b e (l ∷ ls) o = rw (bound-is b (65 + i) l e) (pins-form (suc i) (suc b) (omega arith) ls o)
+
+-- it is of its cell's form, and of no form with another name
+pub gate-form : (t : Gate) → Clear (nameOf (t .cell)) → length (t .pins) ≡ t .cell .pins → ofForm (gateForm (t .cell)) (fields (gateRow t)) ≡ true
+unfolding gateForm gateWords below ofForm same text
+gate-form t c n =
+    ap (ofForm (gateForm (t .cell))) (gate-fields t c)
+    ∙ ap₂ (λ (b : Bool) (k : ℕ). b && ofForm (map (λ (j : ℕ). isBound (65 + j)) (from 0 k) ++ (isBound 79 ∷ [])) (boundWords 65 (t .pins) (t .net)))
+    (is-true (same (nameOf (t .cell)) (nameOf (t .cell))) (same-refl (nameOf (t .cell)))) (sym n)
+    ∙ pins-form 0 65 refl (t .pins) (t .net)
+
+pub other-form : (t : Gate) (d : Cell) → Clear (nameOf (t .cell)) → same (nameOf d) (nameOf (t .cell)) ≡ false → ofForm (gateForm d) (fields (gateRow t)) ≡ false
+unfolding gateForm gateWords ofForm same text
+other-form t d c n =
+    ap (ofForm (gateForm d)) (gate-fields t c)
+    ∙ ap (λ (b : Bool). b && ofForm (map (λ (j : ℕ). isBound (65 + j)) (below (d .pins)) ++ (isBound 79 ∷ [])) (boundWords 65 (t .pins) (t .net))) n
+
+-- ---- the first lines
+
+abbrev pub modelRow : List ℕ
+modelRow = text ".model top"
+
+abbrev pub inputsRow : Graph → List ℕ
+inputsRow g = namesOf (text ".inputs") (inputNames g)
+
+abbrev pub outputsRow : Graph → List ℕ
+outputsRow g = namesOf (text ".outputs") (outputNames g)
+
+pub model-whole : Whole modelRow
+unfolding text
+model-whole = ((refl, (refl, (refl, (refl, (refl, (refl, (refl, (refl, (refl, (refl, tt)))))))))), (refl, (refl, (refl, (refl, (refl, (refl, (refl, (refl, (refl, (refl, tt)))))))))))
+
+-- names of one kind
+all-named : (p : List ℕ → Bool) (f : ℕ → List ℕ) → ((x : ℕ) → p (f x) ≡ true) → (xs : List ℕ) → all p (map f xs) ≡ true
+unfolding all
+all-named p f h [] = refl
+all-named p f h (x ∷ xs) = rw (h x) (all-named p f h xs)
+
+own-is : (v : ℕ) → isLabel 112 (netName (literal false v)) ≡ true
+unfolding netName
+own-is v = ap (λ (b : Bool). isLabel 112 (cond b 109 112 ∷ decimal (varOf (literal false v)))) (lit-neg false v) ∙ label-is 112 (varOf (literal false v))
+
+module _ (g : Graph) where
+  inputs-clear : Clears (inputNames g)
+  inputs-clear = clears-map (λ (v : ℕ). netName (literal false v)) (λ v. net-clear (literal false v)) (g .inputs)
+
+  outputs-clear : Clears (outputNames g)
+  outputs-clear = clears-map outName out-clear (below (length (g .outputs)))
+
+  inputs-fields : fields (inputsRow g) ≡ text ".inputs" ∷ inputNames g
+  inputs-fields = names-fields (text ".inputs") (inputNames g) (unfold text in (refl, (refl, (refl, (refl, (refl, (refl, (refl, tt)))))))) inputs-clear
+
+  pub outputs-fields : fields (outputsRow g) ≡ text ".outputs" ∷ outputNames g
+  outputs-fields = names-fields (text ".outputs") (outputNames g) (unfold text in (refl, (refl, (refl, (refl, (refl, (refl, (refl, (refl, tt))))))))) outputs-clear
+
+  pub inputs-whole : Whole (inputsRow g)
+  inputs-whole = names-whole (text ".inputs") (inputNames g)
+      (unfold text in ((refl, (refl, (refl, (refl, (refl, (refl, (refl, tt))))))), (refl, (refl, (refl, (refl, (refl, (refl, (refl, tt))))))))) inputs-clear
+
+  pub outputs-whole : Whole (outputsRow g)
+  outputs-whole = names-whole (text ".outputs") (outputNames g)
+      (unfold text in ((refl, (refl, (refl, (refl, (refl, (refl, (refl, (refl, tt)))))))), (refl, (refl, (refl, (refl, (refl, (refl, (refl, (refl, tt)))))))))) outputs-clear
+
+  pub inputs-met : isNameList (text ".inputs") 112 (inputsRow g) ≡ true
+  unfolding isNameList ofList same text
+  inputs-met = ap (ofList (text ".inputs") (isLabel 112)) inputs-fields ∙ all-named (isLabel 112) (λ (v : ℕ). netName (literal false v)) own-is (g .inputs)
+
+  pub outputs-met : isNameList (text ".outputs") 111 (outputsRow g) ≡ true
+  unfolding isNameList ofList same text
+  outputs-met = ap (ofList (text ".outputs") (isLabel 111)) outputs-fields ∙ all-named (isLabel 111) outName out-is (below (length (g .outputs)))
+
+-- ---- the outputs' own names
+
+abbrev pub wireRow : ℕ → ℕ → List ℕ
+wireRow k l = namesOf (text ".names") (netName l ∷ outName k ∷ [])
+
+unfoldable pub wireRows : ℕ → List ℕ → List (List ℕ)
+unfolding namesOf text netName outName
+wireRows k [] = []
+wireRows k (l ∷ ls) = wireRow k l ∷ text "1 1" ∷ wireRows (suc k) ls
+
+pub wires-lined : (k : ℕ) (ls : List ℕ) (vs : List (List ℕ)) → wireLines k ls ++ lined vs ≡ lined (wireRows k ls ++ vs)
+unfolding wireLines wireRows lined wireBody
+wires-lined k [] vs = refl
+wires-lined k (l ∷ ls) vs =
+    append-assoc (wireLine k l) (wireLines (suc k) ls) (lined vs) ∙ wire-line k l (wireLines (suc k) ls ++ lined vs)
+    ∙ ap (λ (x : List ℕ). wireRow k l ++ (10 ∷ text "1 1" ++ (10 ∷ x))) (wires-lined (suc k) ls vs)
+
+wire-clear : (k l : ℕ) → Clears (netName l ∷ outName k ∷ [])
+wire-clear k l = (net-clear l, (out-clear k, tt))
+
+pub wire-fields : (k l : ℕ) → fields (wireRow k l) ≡ text ".names" ∷ netName l ∷ outName k ∷ []
+wire-fields k l = names-fields (text ".names") (netName l ∷ outName k ∷ []) (unfold text in (refl, (refl, (refl, (refl, (refl, (refl, tt))))))) (wire-clear k l)
+
+wire-met : (k l : ℕ) → isWire (wireRow k l) ≡ true
+unfolding isWire ofForm same text
+wire-met k l = ap (ofForm (same (text ".names") ∷ isPhaseNet ∷ isLabel 111 ∷ [])) (wire-fields k l) ∙ rw (net-is l, out-is k) refl
+
+pub wires-met : (i k : ℕ) (ls : List ℕ) → Meets (each (λ (_ : ℕ). isWire ∷ same (text "1 1") ∷ []) (from i (length ls))) (wireRows k ls)
+unfolding each from wireRows
+wires-met i k [] = tt
+wires-met i k (l ∷ ls) = (wire-met k l, ((unfold same text in refl), wires-met (suc i) (suc k) ls))
+
+pub wires-whole : (k : ℕ) (ls : List ℕ) → Wholes (wireRows k ls)
+unfolding wireRows
+wires-whole k [] = tt
+wires-whole k (l ∷ ls) = (
+  names-whole (text ".names") (netName l ∷ outName k ∷ []) (unfold text in ((refl, (refl, (refl, (refl, (refl, (refl, tt)))))), (refl, (refl, (refl, (refl, (refl, (refl, tt)))))))) (wire-clear k l),
+  ((unfold text in ((refl, (refl, (refl, tt))), (refl, (refl, (refl, tt))))), wires-whole (suc k) ls),
+)
+
+-- ---- the `# gates` line
+
+abbrev pub figureWords : Figures → List (List ℕ)
+figureWords f = text "gates" ∷ decimal (f .gates) ∷ text "area" ∷ decimal (f .area) ∷ text "arrival" ∷ decimal (f .arrival) ∷ []
+
+abbrev pub figureRow : Figures → List ℕ
+figureRow f = namesOf (text "#") (figureWords f)
+
+letters : (w : List ℕ) → T (all (λ (b : ℕ). ltb 48 b) w) → Clear w
+unfolding all
+letters [] t s h = tt
+letters (b ∷ w) t s h =
+    let p = and-yes (ltb 48 b) (all (λ (b : ℕ). ltb 48 b) w) t in
+    let q : 48 < b = ltb→lt 48 b (p .0) in (above s b (omega arith), letters w (p .1) s h)
+
+figure-clear : (f : Figures) → Clears (figureWords f)
+figure-clear f =
+    (letters (text "gates") word, (decimal-clear (f .gates), (letters (text "area") area, (decimal-clear (f .area), (letters (text "arrival") arrival, (decimal-clear (f .arrival), tt))))))
+  where
+    word : T (all (λ (b : ℕ). ltb 48 b) (text "gates"))
+    word = unfold all text in tt
+
+    area : T (all (λ (b : ℕ). ltb 48 b) (text "area"))
+    area = unfold all text in tt
+
+    arrival : T (all (λ (b : ℕ). ltb 48 b) (text "arrival"))
+    arrival = unfold all text in tt
+
+pub figure-whole : (f : Figures) → Whole (figureRow f)
+figure-whole f = names-whole (text "#") (figureWords f) (unfold text in ((refl, tt), (refl, tt))) (figure-clear f)
+
+pub figure-met : (f : Figures) → isFigures (f .gates) (f .area) (figureRow f) ≡ true
+unfolding isFigures ofForm same text
+figure-met f =
+    ap (ofForm (same (text "#") ∷ same (text "gates") ∷ same (decimal (f .gates)) ∷ same (text "area") ∷ same (decimal (f .area)) ∷ same (text "arrival") ∷ areDigits ∷ []))
+    (names-fields (text "#") (figureWords f) (refl, tt) (figure-clear f))
+    ∙ rw (is-true (same (decimal (f .gates)) (decimal (f .gates))) (same-refl (decimal (f .gates))), is-true (same (decimal (f .area)) (decimal (f .area))) (same-refl (decimal (f .area))), decimal-digits (f .arrival)) refl
+
+-- ---- the timing lines
+
+module _ (low high : ℕ → ℕ) where
+  abbrev timingWords : ℕ → ℕ → List (List ℕ)
+  timingWords k l = text "timing" ∷ outName k ∷ decimal (low l) ∷ decimal (high l) ∷ []
+
+  unfoldable pub timingRows : ℕ → List ℕ → List (List ℕ)
+  unfolding namesOf text outName
+  timingRows k [] = []
+  timingRows k (l ∷ ls) = namesOf (text "#") (timingWords k l) ∷ timingRows (suc k) ls
+
+  pub timings-lined : (k : ℕ) (ls : List ℕ) → timingLines low high k ls ≡ lined (timingRows k ls)
+  unfolding timingLines timingRows lined namesOf each text
+  timings-lined k [] = refl
+  timings-lined k (l ∷ ls) =
+      ap (λ (x : List ℕ). text "# timing " ++ (outName k ++ (32 ∷ decimal (low l) ++ (32 ∷ decimal (high l) ++ (10 ∷ x))))) (timings-lined (suc k) ls) ∙ sym (simp append-assoc)
+
+  timing-clear : (k l : ℕ) → Clears (timingWords k l)
+  timing-clear k l = (letters (text "timing") (unfold all text in tt), (out-clear k, (decimal-clear (low l), (decimal-clear (high l), tt))))
+
+  pub timings-whole : (k : ℕ) (ls : List ℕ) → Wholes (timingRows k ls)
+  unfolding timingRows
+  timings-whole k [] = tt
+  timings-whole k (l ∷ ls) = (names-whole (text "#") (timingWords k l) (unfold text in ((refl, tt), (refl, tt))) (timing-clear k l), timings-whole (suc k) ls)
+
+  timing-met : (k l : ℕ) → isTiming (namesOf (text "#") (timingWords k l)) ≡ true
+  unfolding isTiming ofForm same text
+  timing-met k l =
+      ap (ofForm (same (text "#") ∷ same (text "timing") ∷ isLabel 111 ∷ areDigits ∷ areDigits ∷ [])) (names-fields (text "#") (timingWords k l) (refl, tt) (timing-clear k l))
+      ∙ rw (out-is k, decimal-digits (low l), decimal-digits (high l)) refl
+
+  pub timings-met : (i k : ℕ) (ls : List ℕ) → Meets (map (λ (_ : ℕ). isTiming) (from i (length ls))) (timingRows k ls)
+  unfolding from timingRows
+  timings-met i k [] = tt
+  timings-met i k (l ∷ ls) = (timing-met k l, timings-met (suc i) (suc k) ls)
+
+-- ---- the text
+
+-- the lines from the gates on
+abbrev pub behindRows : Graph → Figures → List (List ℕ) → List (List ℕ)
+behindRows g f times = wireRows 0 (g .outputs) ++ (text ".end" ∷ figureRow f ∷ times)
+
+abbrev pub netlistRows : Graph → List Gate → Figures → List (List ℕ) → List (List ℕ)
+netlistRows g ts f times = modelRow ∷ inputsRow g ∷ outputsRow g ∷ map gateRow ts ++ behindRows g f times
+
+pub netlist-lined : (g : Graph) (ts : List Gate) (f : Figures) (times : List (List ℕ)) → netlistText g ts f ++ lined times ≡ lined (netlistRows g ts f times)
+unfolding netlistText lined text
+netlist-lined g ts f times =
+    (simp append-assoc)
+    ∙ ap (λ (x : List ℕ). text ".model top\n" ++ x)
+    (names-ended (text ".inputs") (inputNames g) after-inputs
+    ∙ ap (λ (x : List ℕ). inputsRow g ++ (10 ∷ x))
+    (names-ended (text ".outputs") (outputNames g) after-outputs
+    ∙ ap (λ (x : List ℕ). outputsRow g ++ (10 ∷ x))
+    (ap (λ (x : List ℕ). each gateLine ts ++ (wireLines 0 (g .outputs) ++ x)) ended
+    ∙ ap (λ (x : List ℕ). each gateLine ts ++ x) (wires-lined 0 (g .outputs) (text ".end" ∷ figureRow f ∷ times))
+    ∙ gates-lined ts (behindRows g f times))))
+  where
+    figures : List ℕ
+    figures = text ".end\n# gates " ++ (decimal (f .gates) ++ (text " area " ++ (decimal (f .area) ++ (text " arrival " ++ (decimal (f .arrival) ++ (10 ∷ lined times))))))
+
+    after-outputs : List ℕ
+    after-outputs = each gateLine ts ++ (wireLines 0 (g .outputs) ++ figures)
+
+    after-inputs : List ℕ
+    after-inputs = namesLine (text ".outputs") (outputNames g) ++ after-outputs
+
+    ended : figures ≡ lined (text ".end" ∷ figureRow f ∷ times)
+    ended = unfold namesOf each in sym (simp append-assoc)
