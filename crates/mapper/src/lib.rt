@@ -42,13 +42,13 @@ fn print_timed(work: &[u16], lib: Library, h: Header, text: &mut [u8]) -> Answer
     let figures = m.figures;
     let start = m.length;
     let lines = timing::lines_len(work, h.size, h.outputs);
-    let length = start + lines;
-    if text.len() < length {
-        return Answer::Refused(18, length);
+    let whole = start + lines;
+    if text.len() < whole {
+        return Answer::Refused(18, whole);
     }
     netlist::write(work, lib, h, figures, text);
     timing::put_lines(work, h.size, h.outputs, text, start);
-    Answer::Mapped(length, figures)
+    Answer::Mapped(whole, figures)
 }
 
 // The netlist, and where delays are ranges the low arrivals and the lines that say them.

@@ -19,8 +19,8 @@ measure-requires c κs = let p = c .before .before .pre in (p .0, p .1)
 lines-len-requires : tie.Need-lines-len-requires
 lines-len-requires c κs = let s = c .before .before .before .before in lines-asked (s .args .work .now) (s .args .lib) (s .args .h) (s .pre .0) (s .pre .1)
 
-add-length : tie.Need-add-length
-add-length c = search needs
+add-whole : tie.Need-add-whole
+add-whole c = search needs
 
 returns : tie.Need-returns
 returns c =
@@ -68,7 +68,7 @@ print-timed-spec =
     (tie.spec
     measure-requires
     lines-len-requires
-    add-length
+    add-whole
     returns
     write-requires
     put-lines-requires
