@@ -5,7 +5,7 @@ use model::Written;
 ghost use mathlib.Core.Path.{_≡_};
 ghost use lib.ListN.{length};
 ghost use Rattle.model.specs.Mapper.{callOf, mapTexts, returned, returnedBy, textAfter, workAfter};
-ghost use Rattle.model.specs.Demands.{Values, Earliest, Twins, Sequenced, EitherEnd, Untimed, Listed};
+ghost use Rattle.model.specs.Demands.{Values, Earliest, Twins, Sequenced, EitherEnd, Untimed, Listed, Former};
 ghost use Rattle.model.specs.Genlib.{genlibText, writtenAnswer, writtenPair, writtenAfter};
 ghost use Rattle.model.specs.GenlibDemands.{GenlibDemand};
 ghost use Rattle.model.specs.Channels.{channelOf, twoCallOf, needsOf, mapTwo, twoWorkAfter};
@@ -82,6 +82,7 @@ pub extern "C" fn mapper_map(
     ensures ends { λ _. ⌜ EitherEnd (callOf (now (cells .entry)) (now (graph .entry)) (now (arrivals .entry)) (now (work .entry)) (now (text .entry))) ⌝ }
     ensures untimed { λ _. ⌜ Untimed (callOf (now (cells .entry)) (now (graph .entry)) (now (arrivals .entry)) (now (work .entry)) (now (text .entry))) ⌝ }
     ensures listed { λ _. ⌜ Listed (callOf (now (cells .entry)) (now (graph .entry)) (now (arrivals .entry)) (now (work .entry)) (now (text .entry))) ⌝ }
+    ensures former { λ _. ⌜ Former (callOf (now (cells .entry)) (now (graph .entry)) (now (arrivals .entry)) (now (work .entry)) (now (text .entry))) ⌝ }
 {
     answer(mapper::map_texts(cells, graph, arrivals, work, text))
 }
