@@ -295,7 +295,7 @@ fn clamp(len: usize) -> usize
 }
 
 // A cell's name has the same bytes.
-fn name_is(name: [u8; 8], len: usize, w: &[u8]) -> bool
+pub fn name_is(name: [u8; 8], len: usize, w: &[u8]) -> bool
     ensures { λ r. ⌜ r ≡ same (now (w .entry)) (take len name) ⌝ }
 {
     let n = clamp(len);

@@ -26,3 +26,5 @@ pub mod GenlibWords
 pub mod GenlibFormula
 pub mod Genlib
 pub mod GenlibDemands
+pub mod Check
+pub mod CheckDemands

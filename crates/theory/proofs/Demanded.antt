@@ -63,7 +63,7 @@ record Known (t : List ℕ) (f : Figures) (d : Design) : Type 0 where
   says : readFigures t ≡ some f
 
 -- what is read of the netlist whatever follows it is read with the timing lines and without
-with-timings : {X : Type 0} (read : List ℕ → X) (x : X) (r : Bool) (cells : List Cell) (g : Graph) → ((after : List ℕ) → read (choiceText cells g ++ after) ≡ x) → read (printedText r cells g) ≡ x
+pub with-timings : {X : Type 0} (read : List ℕ → X) (x : X) (r : Bool) (cells : List Cell) (g : Graph) → ((after : List ℕ) → read (choiceText cells g ++ after) ≡ x) → read (printedText r cells g) ≡ x
 with-timings read x true cells g h = h (timingLines (lowOf cells g) (λ (l : ℕ). chosen cells g l .arrival) 0 (g .outputs))
 with-timings read x false cells g h = ap read (sym (append-nil (choiceText cells g))) ∙ h []
 

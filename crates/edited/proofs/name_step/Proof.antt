@@ -1,0 +1,156 @@
+-- `edited::name_step` meets its contract: each return knows which line was met. Assumes nothing.
+use borrow.Author.Needs.{needs}
+use borrow.Author.Tests.{not-true, not-false}
+use mathlib.Core.Path.{_≡_, refl, sym, _∙_, ap, subst}
+use mathlib.Core.Bool.{true≢false}
+use mathlib.Core.List.{List, _∷_}
+use Prim.Native.Nat.{ℕ, suc, _+_, _*_, _≤_, _<_}
+use native.Mathlib.Omega.{arith}
+use lib.ListN.{length}
+use Rattle.model.specs.Text.{text}
+use Rattle.model.specs.Reading.{Read, holds, fault, next}
+use Rattle.model.specs.Check.{Driver, isLine, readNames}
+use Rattle.words.specs.Put.{putAt}
+use Rattle.words.proofs.Putting.{length-put}
+use Rattle.text.specs.Lines.{lineAt, pastLine}
+use Rattle.edited.specs.Store.{gateWords, linesAt}
+use Rattle.edited.proofs.Gathering.{gate-eight, stop-from, stop-next, line-next}
+use Rattle.edited.proofs.Naming.{name-none, name-some, names-missing, names-broken, names-rowless, row-broken, row-fine}
+use Rattle.edited.proofs.name_step.Statement.{statement}
+use Rattle.edited.proofs.name_step.Tie as tie
+
+returns : tie.Need-returns
+returns c =
+    let a = c .before .before .before .args in
+    record { size = refl; refused = λ _ left. names-missing (a .s .now) (a .k) (a .at) (c .if1 .taken) left; due = λ q. absurd (true≢false q) }
+
+line-requires : tie.Need-line-requires
+line-requires c κs = search needs
+
+name-at-requires : tie.Need-name-at-requires
+name-at-requires c κs = let b = c .before .before .before .before in (b .pre .0, omega (arith, c .before .if1 .left), c .line .ensures)
+
+returns-2 : tie.Need-returns-2
+returns-2 c =
+    let n = c .before in
+    let e = n .before .before in
+    let a = e .before .before .before .args in
+    record {
+      size = refl;
+      refused = λ _ left. names-broken (a .s .now) (a .k) (a .at) (e .if1 .left) (name-none (a .k) (lineAt (a .s .now) (a .at)) (sym (n .name-at .ensures) ∙ c .if2 .taken)) left;
+      due = λ q. absurd (true≢false q);
+    }
+
+returns-3 : tie.Need-returns-3
+returns-3 c =
+    let f = c .before in
+    let n = f .before in
+    let m = n .before in
+    let e = m .before in
+    let b = e .before .before .before in
+    let a = b .args in
+    let s = a .s .now in
+    let d = name-some (a .k) (lineAt s (a .at)) (n .name-at .result) (n .name-at .ensures) (f .if2 .left) in
+    let behind = line-next s (a .at) (m .line .result) (m .line .ensures) in
+    record {
+      size = refl;
+      refused = λ _ left. names-rowless s (a .k) (a .at) (e .if1 .left) (d .0) (d .1) (d .2) (subst (λ (x : ℕ). length s ≤ x) behind (c .if3 .taken)) left;
+      due = λ q. absurd (true≢false q);
+    }
+
+slice-aggregate-is-line : tie.Need-slice-aggregate-is-line
+slice-aggregate-is-line c = search needs
+
+is-line-requires : tie.Need-is-line-requires
+is-line-requires c κs = let t = c .before in omega (arith, t .if3 .left)
+
+returns-4 : tie.Need-returns-4
+unfolding text
+returns-4 c =
+    let i = c .before in
+    let t = i .before .before in
+    let f = t .before in
+    let n = f .before in
+    let m = n .before in
+    let e = m .before in
+    let b = e .before .before .before in
+    let a = b .args in
+    let s = a .s .now in
+    let d = name-some (a .k) (lineAt s (a .at)) (n .name-at .result) (n .name-at .ensures) (f .if2 .left) in
+    let behind = line-next s (a .at) (m .line .result) (m .line .ensures) in
+    record {
+      size = refl;
+      refused = λ _ left.
+          row-broken s (a .k) (a .at) (e .if1 .left) (d .0) (d .1) (d .2) (subst (λ (x : ℕ). x < length s) behind (t .if3 .left))
+          (sym (ap (λ (x : ℕ). isLine (text "1 1") (lineAt s x)) behind) ∙ sym (i .is-line .ensures) ∙ not-true _ (c .if4 .taken)) left
+          ∙ ap (λ (x : ℕ). fault 32 x) (sym behind);
+      due = λ q. absurd (true≢false q);
+    }
+
+wire-requires : tie.Need-wire-requires
+wire-requires c κs = let t = c .before .before .before .before in let b = t .before .before .before .before .before .before .before in b .pre .0
+
+store-requires : tie.Need-store-requires
+store-requires c κs = let t = c .before .before .before .before .before in let b = t .before .before .before .before .before .before .before in b .pre .1
+
+add-t10 : tie.Need-add-t10
+add-t10 c = search needs
+
+add-t21 : tie.Need-add-t21
+add-t21 c = search needs
+
+same-length : tie.Need-same-length
+same-length c = search needs
+
+returns-5 : tie.Need-returns-5
+unfolding text lineAt
+returns-5 c =
+    let st = c .before .before in
+    let w = st .before in
+    let x = w .before .before in
+    let i = x .before in
+    let t = i .before .before in
+    let f = t .before in
+    let n = f .before in
+    let m = n .before in
+    let e = m .before in
+    let b = e .before .before .before in
+    let a = b .args in
+    let s = a .s .now in
+    let d = name-some (a .k) (lineAt s (a .at)) (n .name-at .result) (n .name-at .ensures) (f .if2 .left) in
+    let behind = line-next s (a .at) (m .line .result) (m .line .ensures) in
+    let puts : st .store .last .0 ≡ putAt (a .nets .now) (8 * a .i) (gateWords (a .at) (w .wire .result)) = st .store .ensures in
+    record {
+      size = ap length puts ∙ length-put (a .nets .now) (8 * a .i) (gateWords (a .at) (w .wire .result)) (omega (arith, b .pre .1, gate-eight (a .at) (w .wire .result)));
+      refused = λ q. absurd (true≢false (sym q));
+      due = λ _. (
+        d .0,
+        puts ∙ ap (putAt (a .nets .now) (8 * a .i)) (ap (gateWords (a .at)) (w .wire .ensures) ∙ d .3),
+        refl,
+        (let y : m .line .result .next ≡ m .line .result .stop + lineAt s (a .at) .ending = stop-next s (a .at) (m .line .result) (m .line .ensures) in
+            let z : lineAt s (a .at) .ending ≡ 1 = d .2 in omega (arith, stop-from s (a .at) (m .line .result) (m .line .ensures))),
+        (λ left.
+            row-fine s (a .k) (a .at) (e .if1 .left) (d .0) (d .1) (d .2) (subst (λ (v : ℕ). v < length s) behind (t .if3 .left))
+            (sym (ap (λ (v : ℕ). isLine (text "1 1") (lineAt s v)) behind) ∙ sym (i .is-line .ensures) ∙ not-false _ (x .if4 .left)) left
+            ∙ ap (λ (v : ℕ). next (readNames (length s) (suc (a .k)) left (linesAt s (v + 4))) (λ ds. holds (d .0 ∷ ds))) (sym behind)),
+      );
+    }
+
+pub name-step-spec : {M : Type 1} → statement M
+name-step-spec =
+    tie.close
+    (tie.spec
+    returns
+    line-requires
+    name-at-requires
+    returns-2
+    returns-3
+    slice-aggregate-is-line
+    is-line-requires
+    returns-4
+    wire-requires
+    store-requires
+    add-t10
+    add-t21
+    same-length
+    returns-5)

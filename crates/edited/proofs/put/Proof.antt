@@ -1,0 +1,80 @@
+-- `edited::put` meets its contract. The invariant: the first i words of `from` stand from `at` on, and the others as they were; the length stays. The measure is what is left of `from`.
+-- Assumes nothing.
+use mathlib.Core.Path.{_≡_, refl, sym, ap, _∙_}
+use mathlib.Core.List.{List}
+use Prim.Native.Nat.{ℕ, _+_, _-_, _≤_}
+use native.Mathlib.Omega.{arith}
+use lib.ListN.{length, getD, set, take, length-set}
+use lib.Seq.{take-all}
+use Rattle.words.specs.Put.{putAt}
+use Rattle.words.proofs.Putting.{put-none, put-taken}
+use Rattle.edited.proofs.put.Statement.{statement}
+use Rattle.edited.proofs.put.Tie as tie
+
+abbrev Inv-loop : tie.InvT-loop
+Inv-loop nets₀ at from i₀ nets i = (i ≤ length from) × (length nets ≡ length nets₀) × (nets ≡ putAt nets₀ at (take i from))
+
+abbrev μ-loop : tie.MeasureT-loop
+μ-loop nets₀ at from i₀ nets i = length from - i
+
+loop-holds : tie.Need-loop-holds Inv-loop μ-loop
+loop-holds c = (omega arith, refl, sym (put-none (c .args .nets .now) (c .args .at)))
+
+mul-nets : tie.Need-mul-nets Inv-loop μ-loop
+mul-nets c = omega arith
+
+shared-slice-read-nets : tie.Need-shared-slice-read-nets Inv-loop μ-loop
+shared-slice-read-nets c = omega arith
+
+add-nets : tie.Need-add-nets Inv-loop μ-loop
+add-nets c = omega arith
+
+mul-nets-2 : tie.Need-mul-nets-2 Inv-loop μ-loop
+mul-nets-2 c = omega arith
+
+slice-write-nets : tie.Need-slice-write-nets Inv-loop μ-loop
+slice-write-nets c = omega arith
+
+add-i : tie.Need-add-i Inv-loop μ-loop
+add-i c = omega arith
+
+loop-less : tie.Need-loop-less Inv-loop μ-loop
+loop-less c = omega arith
+
+loop-again : tie.Need-loop-again Inv-loop μ-loop
+loop-again c =
+    let l = c .before .before in
+    let w : List ℕ = l .before .args .nets .now in
+    let from : List ℕ = l .before .args .from .now in
+    let at : ℕ = l .before .args .at in (
+      omega arith,
+      length-set (l .loop .nets) (at + l .loop .i) (getD from (l .loop .i) 0) ∙ l .loop .inv .1,
+      ap (λ (x : List ℕ). set x (at + l .loop .i) (getD from (l .loop .i) 0)) (l .loop .inv .2)
+          ∙ put-taken w at from (l .loop .i) (omega arith) (c .before .loop-test .taken),
+    )
+
+same-length : tie.Need-same-length Inv-loop μ-loop
+same-length c = omega arith
+
+returns : tie.Need-returns Inv-loop μ-loop
+returns c =
+    c .before .loop .inv .2
+    ∙ ap (putAt (c .before .before .args .nets .now) (c .before .before .args .at)) (take-all (c .before .loop .i) (c .before .before .args .from .now) (c .loop-test .left))
+
+pub put-spec : {M : Type 1} → statement M
+put-spec =
+    tie.close
+    (tie.spec
+    Inv-loop
+    μ-loop
+    loop-holds
+    mul-nets
+    shared-slice-read-nets
+    add-nets
+    mul-nets-2
+    slice-write-nets
+    add-i
+    loop-less
+    loop-again
+    same-length
+    returns)

@@ -1,0 +1,114 @@
+-- `edited::read_pairs` meets its contract. The invariant: the drivers of the outputs so far stand in the array, and the lines from here on are due; the measure is how many
+-- outputs are left. Assumes nothing.
+use borrow.Author.Needs.{needs}
+use mathlib.Core.Path.{_≡_, refl, sym, _∙_, ap}
+use Prim.Native.Nat.{ℕ, _+_, _-_, _*_, _≤_}
+use native.Mathlib.Omega.{arith}
+use lib.ListN.{length}
+use Rattle.edited.proofs.Naming.{Pairs, pairs-start, pairs-broken, pairs-step, pairs-end}
+use Rattle.edited.proofs.read_pairs.Statement.{statement}
+use Rattle.edited.proofs.read_pairs.Tie as tie
+
+abbrev Inv-loop : tie.InvT-loop
+Inv-loop s from outs nets₀ first at₀ k₀ nets at k = (k ≤ outs) × Pairs s outs from first at k nets₀ nets
+
+abbrev μ-loop : tie.MeasureT-loop
+μ-loop s from outs nets₀ first at₀ k₀ nets at k = outs - k
+
+loop-holds : tie.Need-loop-holds Inv-loop μ-loop
+loop-holds c = let a = c .before .before .args in (omega arith, pairs-start (a .s .now) (a .outs) (a .from) (a .first) (a .nets .now))
+
+add-name-step : tie.Need-add-name-step Inv-loop μ-loop
+add-name-step c = let l = c .before .before in let b = l .before .before .before in let size : length (l .loop .nets) ≡ length (b .args .nets .now) = l .loop .inv .1 .size in omega (arith, b .pre .2, c .before .loop-test .taken)
+
+name-step-requires : tie.Need-name-step-requires Inv-loop μ-loop
+name-step-requires c κs =
+    let l = c .before .before in
+    let b = l .before .before .before in
+    let size : length (l .loop .nets) ≡ length (b .args .nets .now) = l .loop .inv .1 .size in
+    (omega (arith, b .pre .0, c .before .loop-test .taken), omega (arith, b .pre .2, c .before .loop-test .taken), b .pre .1)
+
+add-t14 : tie.Need-add-t14 Inv-loop μ-loop
+add-t14 c =
+    let t = c .before .before .before in
+    let l = t .before .before .before in
+    let b = l .before .before .before in
+    let size : length (l .loop .nets) ≡ length (b .args .nets .now) = l .loop .inv .1 .size in
+    omega (arith, b .pre .2, t .before .before .loop-test .taken)
+
+same-length : tie.Need-same-length Inv-loop μ-loop
+same-length c =
+    let t = c .before .before .before in
+    let l = t .before .before .before in
+    t .name-step .ensures .size ∙ l .loop .inv .1 .size
+
+returns : tie.Need-returns Inv-loop μ-loop
+returns c =
+    let t = c .before .before .before in
+    let l = t .before .before .before in
+    let b = l .before .before .before in
+    let a = b .args in
+    pairs-broken (a .s .now) (a .outs) (a .from) (a .first) (l .loop .at) (l .loop .k) (a .nets .now) (l .loop .nets) (l .loop .inv .1) (t .before .before .loop-test .taken)
+    (t .name-step .result) _ (t .name-step .ensures) (c .if1 .taken)
+
+add-k : tie.Need-add-k Inv-loop μ-loop
+add-k c =
+    let t = c .before .before .before in
+    let l = t .before .before .before in
+    let b = l .before .before .before in
+    let a = b .args in
+    omega (arith, b .pre .0, t .before .before .loop-test .taken)
+
+loop-less : tie.Need-loop-less Inv-loop μ-loop
+loop-less c =
+    let t = c .before .before .before in
+    let l = t .before .before .before in
+    let b = l .before .before .before in
+    let a = b .args in
+    omega (arith, t .before .before .loop-test .taken)
+
+loop-again : tie.Need-loop-again Inv-loop μ-loop
+loop-again c =
+    let t = c .before .before .before in
+    let l = t .before .before .before in
+    let b = l .before .before .before in
+    let a = b .args in (
+      omega (arith, t .before .before .loop-test .taken),
+      pairs-step (a .s .now) (a .outs) (a .from) (a .first) (l .loop .at) (l .loop .k) (a .nets .now) (l .loop .nets) (l .loop .inv .1) (t .before .before .loop-test .taken)
+          (t .name-step .result) _ (t .name-step .ensures) (b .pre .2) (c .if1 .left),
+    )
+
+add-t15 : tie.Need-add-t15 Inv-loop μ-loop
+add-t15 c =
+    let l = c .before in
+    let b = l .before .before .before in
+    let size : length (l .loop .nets) ≡ length (b .args .nets .now) = l .loop .inv .1 .size in
+    omega (arith, b .pre .2)
+
+same-length-2 : tie.Need-same-length-2 Inv-loop μ-loop
+same-length-2 c = c .before .loop .inv .1 .size
+
+returns-2 : tie.Need-returns-2 Inv-loop μ-loop
+returns-2 c =
+    let l = c .before in
+    let a = l .before .before .before .args in
+    pairs-end (a .s .now) (a .outs) (a .from) (a .first) (l .loop .at) (l .loop .k) (a .nets .now) (l .loop .nets) (l .loop .inv .1) (omega arith)
+
+pub read-pairs-spec : {M : Type 1} → statement M
+read-pairs-spec =
+    tie.close
+    (tie.spec
+    Inv-loop
+    μ-loop
+    loop-holds
+    add-name-step
+    name-step-requires
+    add-t14
+    same-length
+    returns
+    add-k
+    loop-less
+    loop-again
+    add-t15
+    same-length-2
+    returns-2)

@@ -1,0 +1,2 @@
+-- `Store`: the numbers of a driver, and what is gathered of a text's lines.
+pub mod Store

@@ -1,0 +1,76 @@
+-- `netnames::cell_named` meets its contract. The invariant: none of the first i cells has the name; the measure is what is left. Assumes nothing.
+use borrow.Author.Needs.{needs}
+use mathlib.Core.Path.{_≡_, refl, sym, _∙_, ap}
+use Prim.Native.Nat.{ℕ, _+_, _-_, _≤_}
+use native.Mathlib.Omega.{arith}
+use lib.ListN.{length, drop}
+use Rattle.model.specs.Cells.{nameOf, cellsOf}
+use Rattle.netnames.specs.Bound.{cellIndex}
+use Rattle.netnames.proofs.Binding.{index-start, index-found, index-next, index-end}
+use Rattle.netnames.proofs.cell_named.Statement.{statement}
+use Rattle.netnames.proofs.cell_named.Tie as tie
+
+abbrev Inv-loop : tie.InvT-loop
+Inv-loop w lib n i₀ i = (i ≤ n) × (n ≤ 32) × (cellIndex w (cellsOf lib) ≡ i + cellIndex w (drop i (cellsOf lib)))
+
+abbrev μ-loop : tie.MeasureT-loop
+μ-loop w lib n i₀ i = n - i
+
+loop-holds : tie.Need-loop-holds Inv-loop μ-loop
+loop-holds c = (omega arith, c .before .pre .0, index-start _ _)
+
+mul-c : tie.Need-mul-c Inv-loop μ-loop
+mul-c c = search needs
+
+element-copy-out-c : tie.Need-element-copy-out-c Inv-loop μ-loop
+element-copy-out-c c = search needs
+
+name-is-requires : tie.Need-name-is-requires Inv-loop μ-loop
+name-is-requires c κs = search needs
+
+returns : tie.Need-returns Inv-loop μ-loop
+unfolding nameOf
+returns c =
+    let k = c .before in
+    let l = k .before .before .before .before in
+    let start = l .before .before in
+    let a = start .args in
+    sym (l .loop .inv .2 ∙ index-found (a .w .now) (a .t1) (l .loop .i) (k .before .before .before .loop-test .taken) (omega arith) (start .pre .1) (sym (k .name-is .ensures) ∙ c .if1 .taken))
+
+add-i : tie.Need-add-i Inv-loop μ-loop
+add-i c = search needs
+
+loop-less : tie.Need-loop-less Inv-loop μ-loop
+loop-less c = search needs
+
+loop-again : tie.Need-loop-again Inv-loop μ-loop
+unfolding nameOf
+loop-again c =
+    let k = c .before in
+    let l = k .before .before .before .before in
+    let start = l .before .before in
+    let a = start .args in
+    (omega arith, omega arith, l .loop .inv .2 ∙ index-next (a .w .now) (a .t1) (l .loop .i) (k .before .before .before .loop-test .taken) (omega arith) (start .pre .1) (sym (k .name-is .ensures) ∙ c .if1 .left))
+
+returns-2 : tie.Need-returns-2 Inv-loop μ-loop
+returns-2 c =
+    let l = c .before in
+    let a = l .before .before .args in
+    let long : length (a .t1 .cells) ≡ 32 = l .before .before .pre .1 in
+    sym (l .loop .inv .2 ∙ index-end (a .w .now) (a .t1) (l .loop .i) (omega arith) (omega arith))
+
+pub cell-named-spec : {M : Type 1} → statement M
+cell-named-spec =
+    tie.close
+    (tie.spec
+    Inv-loop
+    μ-loop
+    loop-holds
+    mul-c
+    element-copy-out-c
+    name-is-requires
+    returns
+    add-i
+    loop-less
+    loop-again
+    returns-2)

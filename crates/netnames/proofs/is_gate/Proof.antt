@@ -1,0 +1,45 @@
+-- `netnames::is_gate` meets its contract: the first field is the keyword. Assumes nothing.
+use borrow.Author.Needs.{needs}
+use mathlib.Core.Path.{sym, _∙_, ap}
+use mathlib.Core.List.{List}
+use Prim.Native.Nat.{ℕ}
+use native.Mathlib.Omega.{arith}
+use lib.Seq.{length-take-le}
+use Rattle.model.specs.Base.{same}
+use Rattle.model.specs.Text.{text}
+use Rattle.netnames.proofs.Parting.{space-fits}
+use Rattle.netnames.proofs.Named.{first-is}
+use Rattle.netnames.proofs.is_gate.Statement.{statement}
+use Rattle.netnames.proofs.is_gate.Tie as tie
+
+space-from-requires : tie.Need-space-from-requires
+space-from-requires c κs = search needs
+
+slice-aggregate-same-bytes : tie.Need-slice-aggregate-same-bytes
+slice-aggregate-same-bytes c =
+    let k = c .before in
+    let a = k .before .before .args in
+    sym (length-take-le (k .space-from .result) (a .l .now) (omega (arith, k .space-from .ensures, space-fits (a .l .now) 0 (omega arith))))
+
+slice-aggregate-same-bytes-2 : tie.Need-slice-aggregate-same-bytes-2
+slice-aggregate-same-bytes-2 c = search needs
+
+same-bytes-requires : tie.Need-same-bytes-requires
+same-bytes-requires c κs = search needs
+
+returns : tie.Need-returns
+unfolding text
+returns c =
+    let k = c .before .before .before in
+    let a = k .before .before .args in
+    c .same-bytes .ensures ∙ ap (λ (w : List ℕ). same w (text ".gate")) (sym (first-is (a .l .now) (k .space-from .result) (k .space-from .ensures)))
+
+pub is-gate-spec : {M : Type 1} → statement M
+is-gate-spec =
+    tie.close
+    (tie.spec
+    space-from-requires
+    slice-aggregate-same-bytes
+    slice-aggregate-same-bytes-2
+    same-bytes-requires
+    returns)

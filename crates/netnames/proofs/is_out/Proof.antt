@@ -1,0 +1,71 @@
+-- `netnames::is_out` meets its contract: an `o`, and behind it the number as it is written. Assumes nothing.
+use borrow.Author.Needs.{needs}
+use mathlib.Core.Path.{sym, _∙_, ap}
+use Rattle.model.specs.Text.{number}
+use Rattle.text.proofs.Hex.{value-is, value-none}
+use Rattle.netnames.proofs.Pins.{rest-all}
+use Rattle.netnames.proofs.Named.{out-empty, out-letter, out-number, out-none}
+use Rattle.netnames.proofs.is_out.Statement.{statement}
+use Rattle.netnames.proofs.is_out.Tie as tie
+
+returns : tie.Need-returns
+returns c = sym (out-empty _ _ (c .if1 .taken))
+
+shared-slice-read-if2 : tie.Need-shared-slice-read-if2
+shared-slice-read-if2 c = search needs
+
+returns-2 : tie.Need-returns-2
+returns-2 c = sym (out-letter _ _ (c .before .before .if1 .left) (c .if2 .taken))
+
+sub-number-of : tie.Need-sub-number-of
+sub-number-of c = search needs
+
+part-number-of-start : tie.Need-part-number-of-start
+part-number-of-start c = search needs
+
+part-number-of-end : tie.Need-part-number-of-end
+part-number-of-end c = search needs
+
+number-of-requires : tie.Need-number-of-requires
+number-of-requires c κs = search needs
+
+enum-known-n : tie.Need-enum-known-n
+enum-known-n c = search needs
+
+cast-result : tie.Need-cast-result
+cast-result c = search needs
+
+enum-told : tie.Need-enum-told
+enum-told c = search needs
+
+returns-3 : tie.Need-returns-3
+returns-3 c =
+    let m = c .before .before .before in
+    let e = m .before .before in
+    let a = e .before .before .before .before .args in
+    out-number (a .w .now) (a .k) (e .before .before .if1 .left) (e .if2 .left) _ (sym (ap number (rest-all 1 (a .w .now))) ∙ value-is _ _ _ (m .number-of .ensures) (c .before .n .given .1))
+
+returns-4 : tie.Need-returns-4
+returns-4 c =
+    let m = c .before .before in
+    let e = m .before .before in
+    let s = e .before .before .before .before in
+    let a = s .args in
+    sym (out-none (a .w .now) (a .k) (e .before .before .if1 .left) (e .if2 .left) (s .pre) (sym (ap number (rest-all 1 (a .w .now))) ∙ value-none _ _ (m .number-of .ensures) (c .enum-told .given .1)))
+
+pub is-out-spec : {M : Type 1} → statement M
+is-out-spec =
+    tie.close
+    (tie.spec
+    returns
+    shared-slice-read-if2
+    returns-2
+    sub-number-of
+    part-number-of-start
+    part-number-of-end
+    number-of-requires
+    enum-known-n
+    cast-result
+    enum-told
+    returns-3
+    returns-4)

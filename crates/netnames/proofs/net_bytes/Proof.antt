@@ -1,0 +1,57 @@
+-- `netnames::net_bytes` meets its contract. The invariant: all bytes pass where all that are left do; the measure is what is left.
+-- Assumes nothing.
+use borrow.Author.Needs.{needs}
+use mathlib.Core.Path.{_≡_, refl, sym, _∙_}
+use Prim.Native.Nat.{_-_}
+use borrow.Author.Tests.{not-true, not-false}
+use lib.ListN.{length, drop}
+use Rattle.model.specs.Base.{all}
+use Rattle.text.proofs.Bytes.{all-step, all-end}
+use Rattle.netnames.specs.Codes.{isNetByte}
+use Rattle.netnames.proofs.net_bytes.Statement.{statement}
+use Rattle.netnames.proofs.net_bytes.Tie as tie
+
+abbrev Inv-loop : tie.InvT-loop
+Inv-loop w i₀ i = all isNetByte w ≡ all isNetByte (drop i w)
+
+abbrev μ-loop : tie.MeasureT-loop
+μ-loop w i₀ i = length w - i
+
+loop-holds : tie.Need-loop-holds Inv-loop μ-loop
+loop-holds c = refl
+
+shared-slice-read-net-byte : tie.Need-shared-slice-read-net-byte Inv-loop μ-loop
+shared-slice-read-net-byte c = search needs
+
+net-byte-requires : tie.Need-net-byte-requires Inv-loop μ-loop
+net-byte-requires c κs = search needs
+
+returns : tie.Need-returns Inv-loop μ-loop
+returns c = sym (c .before .before .before .before .loop .inv ∙ all-step isNetByte _ _ (c .before .before .before .loop-test .taken) ∙ rw (sym (c .before .net-byte .ensures) ∙ not-true _ (c .if1 .taken)))
+
+add-i : tie.Need-add-i Inv-loop μ-loop
+add-i c = search needs
+
+loop-less : tie.Need-loop-less Inv-loop μ-loop
+loop-less c = search needs
+
+loop-again : tie.Need-loop-again Inv-loop μ-loop
+loop-again c = c .before .before .before .before .loop .inv ∙ all-step isNetByte _ _ (c .before .before .before .loop-test .taken) ∙ rw (sym (c .before .net-byte .ensures) ∙ not-false _ (c .if1 .left))
+
+returns-2 : tie.Need-returns-2 Inv-loop μ-loop
+returns-2 c = sym (c .before .loop .inv ∙ all-end isNetByte _ _ (c .loop-test .left))
+
+pub net-bytes-spec : {M : Type 1} → statement M
+net-bytes-spec =
+    tie.close
+    (tie.spec
+    Inv-loop
+    μ-loop
+    loop-holds
+    shared-slice-read-net-byte
+    net-byte-requires
+    returns
+    add-i
+    loop-less
+    loop-again
+    returns-2)

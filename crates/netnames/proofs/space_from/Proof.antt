@@ -1,0 +1,51 @@
+-- `netnames::space_from` meets its contract. The invariant: the field from here on ends where that from the start does; the measure is what is left of the
+-- line. Assumes nothing.
+use borrow.Author.Needs.{needs}
+use mathlib.Core.Path.{_≡_, refl, sym, _∙_}
+use Prim.Native.Nat.{_-_}
+use lib.ListN.{length}
+use Rattle.netnames.specs.Fields.{spaceFrom}
+use Rattle.netnames.proofs.Parting.{space-here, space-later, space-end}
+use Rattle.netnames.proofs.space_from.Statement.{statement}
+use Rattle.netnames.proofs.space_from.Tie as tie
+
+abbrev Inv-loop : tie.InvT-loop
+Inv-loop l from at₀ at = spaceFrom l from ≡ spaceFrom l at
+
+abbrev μ-loop : tie.MeasureT-loop
+μ-loop l from at₀ at = length l - at
+
+loop-holds : tie.Need-loop-holds Inv-loop μ-loop
+loop-holds c = refl
+
+shared-slice-read-if1 : tie.Need-shared-slice-read-if1 Inv-loop μ-loop
+shared-slice-read-if1 c = search needs
+
+returns : tie.Need-returns Inv-loop μ-loop
+returns c = sym (c .before .before .before .loop .inv ∙ space-here _ _ (c .before .before .loop-test .taken) (c .if1 .taken))
+
+add-at : tie.Need-add-at Inv-loop μ-loop
+add-at c = search needs
+
+loop-less : tie.Need-loop-less Inv-loop μ-loop
+loop-less c = search needs
+
+loop-again : tie.Need-loop-again Inv-loop μ-loop
+loop-again c = c .before .before .before .loop .inv ∙ space-later _ _ (c .before .before .loop-test .taken) (c .if1 .left)
+
+returns-2 : tie.Need-returns-2 Inv-loop μ-loop
+returns-2 c = sym (c .before .loop .inv ∙ space-end _ _ (c .loop-test .left))
+
+pub space-from-spec : {M : Type 1} → statement M
+space-from-spec =
+    tie.close
+    (tie.spec
+    Inv-loop
+    μ-loop
+    loop-holds
+    shared-slice-read-if1
+    returns
+    add-at
+    loop-less
+    loop-again
+    returns-2)

@@ -1,0 +1,25 @@
+-- The fields of a line from a place on. Assumes nothing.
+use Prim.Native.Nat.{ℕ, _+_}
+use mathlib.Core.Bool.{Bool, true, false, cond}
+use mathlib.Core.List.{List, [], _∷_}
+use lib.Dec.{eqb, leb}
+use lib.ListN.{length, drop}
+use Rattle.model.specs.Text.{fields}
+
+abbrev pub pickBytes : Bool → List ℕ → List ℕ → List ℕ
+pickBytes true a b = a
+pickBytes false a b = b
+
+-- the bytes before the first space
+unfoldable pub untilSpace : List ℕ → List ℕ
+untilSpace [] = []
+untilSpace (b ∷ bs) = pickBytes (eqb b 32) [] (b ∷ untilSpace bs)
+
+-- where the field at a place ends
+unfoldable pub spaceFrom : List ℕ → ℕ → ℕ
+spaceFrom l at = at + length (untilSpace (drop at l))
+
+-- the fields from a place on; none where the place is behind the line's end
+unfoldable pub fieldsFrom : List ℕ → ℕ → List (List ℕ)
+unfolding fields
+fieldsFrom l at = cond (leb at (length l)) (fields (drop at l)) []

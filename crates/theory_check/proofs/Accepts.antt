@@ -1,0 +1,315 @@
+-- "every netlist that `map` prints from the same texts with I up to 12 is accepted". Assumes nothing.
+use Prim.Native.Nat.{ℕ, suc, _+_, _*_, _≤_, _<_}
+use mathlib.Core.Path.{_≡_, refl, sym, _∙_, ap, ap₂, subst}
+use mathlib.Core.Bool.{Bool, true, false, cond, _&&_}
+use mathlib.Core.Option.{none}
+use mathlib.Core.List.{List, [], _∷_, _++_, map, append-assoc, append-nil, List·Memᴰ, Memᴰ·append-left}
+use lib.Dec.{T, leb, le→leb}
+use lib.ListN.{length, getD}
+use Rattle.model.specs.Base.{each, same, flip, below, lowest}
+use Rattle.model.specs.Limits.{need}
+use Rattle.model.specs.Text.{Line, text, decimal, linesFrom}
+use Rattle.model.specs.Reading.{Read, holds, next, unless, from?}
+use Rattle.model.specs.Cells.{nameOf}
+use Rattle.model.specs.Graph.{And, Graph, literal, varOf, negated, unplaced, literalValue}
+use Rattle.model.specs.Choice.{absent, chosen}
+use Rattle.model.specs.Cover.{output}
+use Rattle.model.specs.LibraryText.{readLibrary}
+use Rattle.model.specs.GraphText.{readHeader, readGraph}
+use Rattle.model.specs.ArrivalsText.{Late, timedBy}
+use Rattle.model.specs.Netlist.{Gate, netName, outName, pinWords, gateLine, namesLine, wireLine, wireLines, netlistText}
+use Rattle.model.specs.Mapper.{Call}
+use Rattle.model.specs.Demands.{choiceText, choiceFigures}
+use Rattle.model.specs.Check.{Driver, gateDriver, isGate, isLine, unlessAt, readNames, readDrivers, pastLines, frameOf, inputNets, outputNets, readNetlist, judgeNets, lineEnds, settingOf, readEdited}
+use Rattle.model.specs.CheckDemands.{Right, AcceptsPrinted}
+use Rattle.model.specs.declared.Cell.{Cell}
+use Rattle.model.specs.declared.Header.{Header}
+use Rattle.model.specs.declared.Figures.{Figures}
+use Rattle.theory_graph.specs.Accepted.{Accepted, libraryFits}
+use Rattle.theory_graph.proofs.Lists.{is-true, same-refl, getD-in}
+use Rattle.theory_graph.proofs.Distinct.{length-map}
+use Rattle.theory_graph.proofs.Placing.{defined-placed}
+use Rattle.theory_graph.proofs.GraphValue.{values-only}
+use Rattle.theory_graph.proofs.Timed.{timed-values, timed-unplaced}
+use Rattle.theory_text.proofs.Plain.{Free, net-free}
+use Rattle.theory_text.proofs.LineLaws.{lineOfBytes, line-first}
+use Rattle.theory_text.proofs.ReadBack.{blifOf}
+use Rattle.theory_text.proofs.ReadGraph.{Counted, graph-counted}
+use Rattle.theory_text.proofs.ReadTexts.{Texts, texts-read, design-library, design-accepted, design-graph}
+use Rattle.theory.proofs.Gates.{chosenGates}
+use Rattle.theory.proofs.Wires.{at-output}
+use Rattle.theory.proofs.Values.{net-value}
+use Rattle.theory.proofs.Outcomes.{FromChoice, FromDesign, printed-choice}
+use Rattle.theory.proofs.Demanded.{with-timings}
+use Rattle.theory_check.proofs.PrintedLines.{Clear, Clears, AreNets, worded, worded-line, bindWords, Shown, shownWords, shownLine, gatesAt, behindGates, gates-read, namesText, namesAt, names-read, names-fields, out-clear}
+use Rattle.theory_check.proofs.PrintedNets.{shownOf, printedDrivers, outputs-form, gates-fine, drivers-pass, drivers-values}
+use Rattle.theory_check.proofs.Whole.{edited-compared}
+
+-- ---- the printed text by its words
+
+pin-words : (b : ℕ) (ls : List ℕ) → pinWords b ls ≡ each (λ (n : List ℕ). 32 ∷ n) (bindWords b (map netName ls))
+unfolding pinWords bindWords each
+pin-words b [] = refl
+pin-words b (l ∷ ls) = ap (λ (x : List ℕ). 32 ∷ b ∷ 61 ∷ netName l ++ x) (pin-words (suc b) ls)
+
+each-append : (ws vs : List (List ℕ)) → each (λ (n : List ℕ). 32 ∷ n) (ws ++ vs) ≡ each (λ (n : List ℕ). 32 ∷ n) ws ++ each (λ (n : List ℕ). 32 ∷ n) vs
+unfolding each
+each-append [] vs = refl
+each-append (w ∷ ws) vs = ap (λ (x : List ℕ). 32 ∷ w ++ x) (each-append ws vs) ∙ ap (λ (x : List ℕ). 32 ∷ x) (sym (append-assoc w (each (λ (n : List ℕ). 32 ∷ n) ws) (each (λ (n : List ℕ). 32 ∷ n) vs)))
+
+gate-shown : (t : Gate) → gateLine t ≡ shownLine (shownOf t) ++ (10 ∷ [])
+unfolding gateLine shownWords text each
+gate-shown t =
+    ap (λ (x : List ℕ). text ".gate " ++ x)
+    (ap₂ (λ (a b : List ℕ). nameOf (t .cell) ++ (a ++ (b ++ text "\n"))) (pin-words 65 (t .pins)) (pin-words 79 (t .net ∷ []))
+    ∙ ap (λ (x : List ℕ). nameOf (t .cell) ++ x)
+    (sym (append-assoc (spaced (bindWords 65 (map netName (t .pins)))) (spaced (bindWords 79 (netName (t .net) ∷ []))) (10 ∷ []))
+    ∙ ap (λ (x : List ℕ). x ++ (10 ∷ [])) (sym (each-append (bindWords 65 (map netName (t .pins))) (bindWords 79 (netName (t .net) ∷ [])))))
+    ∙ sym (append-assoc (nameOf (t .cell)) (spaced (bindWords 65 (map netName (t .pins)) ++ bindWords 79 (netName (t .net) ∷ []))) (10 ∷ [])))
+    ∙ (unfold bindWords in refl)
+  where
+    spaced : List (List ℕ) → List ℕ
+    spaced ws = each (λ (n : List ℕ). 32 ∷ n) ws
+
+gates-shown : (ts : List Gate) → each gateLine ts ≡ each (λ (x : Shown). shownLine x ++ (10 ∷ [])) (map shownOf ts)
+unfolding each
+gates-shown [] = refl
+gates-shown (t ∷ ts) = ap₂ (λ (a b : List ℕ). a ++ b) (gate-shown t) (gates-shown ts)
+
+wire-shown : (k : ℕ) (ls : List ℕ) → wireLines k ls ≡ namesText k (map netName ls)
+unfolding wireLines wireLine namesText text each
+wire-shown k [] = refl
+wire-shown k (l ∷ ls) =
+    ap (λ (x : List ℕ). wireLine k l ++ x) (wire-shown (suc k) ls)
+    ∙ ap (λ (x : List ℕ). text ".names " ++ x)
+    (append-assoc (netName l) (32 ∷ outName k ++ text "\n1 1\n") rest
+    ∙ ap (λ (x : List ℕ). netName l ++ (32 ∷ x)) (append-assoc (outName k) (text "\n1 1\n") rest ∙ ap (λ (x : List ℕ). x ++ (text "\n1 1\n" ++ rest)) (sym (append-nil (outName k))))
+    ∙ sym (append-assoc (netName l) (32 ∷ outName k ++ []) (text "\n1 1\n" ++ rest)))
+  where
+    rest : List ℕ
+    rest = namesText (suc k) (map netName ls)
+
+-- ---- read
+
+-- where no gate stands first, the outputs' lines are due
+names-due : (cells : List Cell) (end outs : ℕ) (l : Line) (ls : List Line) → isGate l ≡ false → readDrivers cells end outs (l ∷ ls) ≡ readNames end 0 outs (l ∷ ls)
+unfolding readDrivers
+names-due cells end outs l ls e =
+    ap (λ (b : Bool). cond b (next (from? (gateDriver cells l) 32 (l .offset)) (λ d. next (readDrivers cells end outs ls) (λ ds. holds (d ∷ ds)))) (readNames end 0 outs (l ∷ ls))) e
+
+names-first : (cells : List Cell) (end outs : ℕ) (ns : List (List ℕ)) → AreNets ns → (at : ℕ) (rest : List ℕ)
+    → readDrivers cells end outs (linesFrom at [] (namesText 0 ns ++ (text ".end" ++ (10 ∷ rest)))) ≡ readNames end 0 outs (linesFrom at [] (namesText 0 ns ++ (text ".end" ++ (10 ∷ rest))))
+unfolding namesText text isGate same
+names-first cells end outs [] a at rest =
+    ap (readDrivers cells end outs) first ∙ names-due cells end outs (lineOfBytes at (text ".end")) _ refl ∙ sym (ap (readNames end 0 outs) first)
+  where
+    first : linesFrom at [] (text ".end" ++ (10 ∷ rest)) ≡ lineOfBytes at (text ".end") ∷ linesFrom (at + 5) [] rest
+    first = line-first at (text ".end") rest (refl, (refl, (refl, (refl, tt)))) (refl, (refl, (refl, (refl, tt))))
+names-first cells end outs (n ∷ ns) a at rest =
+    ap (readDrivers cells end outs) first
+    ∙ names-due cells end outs (lineOfBytes at (worded (text ".names") (n ∷ outName 0 ∷ []))) _ (ap (λ (ws : List (List ℕ)). same (getD ws 0 []) (text ".gate")) (names-fields n 0 (a .0 .1)))
+    ∙ sym (ap (readNames end 0 outs) first)
+  where
+    behind : List ℕ
+    behind = text "1 1" ++ (10 ∷ namesText 1 ns) ++ (text ".end" ++ (10 ∷ rest))
+
+    first : linesFrom at [] ((worded (text ".names") (n ∷ outName 0 ∷ []) ++ (10 ∷ text "1 1" ++ (10 ∷ namesText 1 ns))) ++ (text ".end" ++ (10 ∷ rest)))
+        ≡ lineOfBytes at (worded (text ".names") (n ∷ outName 0 ∷ [])) ∷ linesFrom (at + suc (length (worded (text ".names") (n ∷ outName 0 ∷ [])))) [] behind
+    first =
+        ap (linesFrom at []) (append-assoc (worded (text ".names") (n ∷ outName 0 ∷ [])) (10 ∷ text "1 1" ++ (10 ∷ namesText 1 ns)) (text ".end" ++ (10 ∷ rest)))
+        ∙ worded-line at (text ".names") (n ∷ outName 0 ∷ []) behind (refl, (refl, (refl, (refl, (refl, (refl, tt)))))) (refl, (refl, (refl, (refl, (refl, (refl, tt)))))) (a .0 .1, (out-clear 0, tt))
+
+-- a line of the frame
+frame-line : (end at : ℕ) (key : List ℕ) (ws : List (List ℕ)) (lines : List (List ℕ)) (rest : List ℕ) → Free 10 key → Free 13 key → Clears ws
+    → pastLines end (worded key ws ∷ lines) (linesFrom at [] (worded key ws ++ (10 ∷ rest))) ≡ pastLines end lines (linesFrom (at + suc (length (worded key ws))) [] rest)
+unfolding pastLines isLine unless
+frame-line end at key ws lines rest f h c =
+    ap (pastLines end (worded key ws ∷ lines)) (worded-line at key ws rest f h c)
+    ∙ ap (λ (b : Bool). unless (true && b) 32 at (pastLines end lines (linesFrom (at + suc (length (worded key ws))) [] rest))) (is-true (same (worded key ws) (worded key ws)) (same-refl (worded key ws)))
+
+frame-text : (key : List ℕ) (names : List (List ℕ)) (rest : List ℕ) → namesLine key names ++ rest ≡ worded key names ++ (10 ∷ rest)
+unfolding namesLine text
+frame-text key names rest =
+    append-assoc key (each (λ (n : List ℕ). 32 ∷ n) names ++ text "\n") rest
+    ∙ ap (λ (x : List ℕ). key ++ x) (append-assoc (each (λ (n : List ℕ). 32 ∷ n) names) (text "\n") rest)
+    ∙ sym (append-assoc key (each (λ (n : List ℕ). 32 ∷ n) names) (10 ∷ rest))
+
+clears-map : {A : Type 0} (f : A → List ℕ) → ((x : A) → Clear (f x)) → (xs : List A) → Clears (map f xs)
+clears-map f h [] = tt
+clears-map f h (x ∷ xs) = (h x, clears-map f h xs)
+
+module _ (cells : List Cell) (fit : T (libraryFits cells)) (g : Graph) (ok : Accepted g) (small : g .size ≤ 4095)
+    (present-outputs : (l : ℕ) → List·Memᴰ l (g .outputs) → absent (chosen cells g l .source) ≡ false) where
+  -- the printed text is read as the drivers of its lines, whatever follows it
+  printed-read : (f : Figures) → (at behind : ℕ) × ((after : List ℕ)
+      → readNetlist cells g (netlistText g (chosenGates cells g) f ++ after) ≡ holds (printedDrivers cells fit g ok small present-outputs at behind))
+  unfolding readNetlist frameOf
+  printed-read f = (third, behindGates third shown, λ after. ap (λ (r : Read (List Line)). next r (readDrivers cells (end after) outs)) (frame after) ∙ gates after)
+    where
+      shown : List Shown
+      shown = map shownOf (chosenGates cells g)
+
+      tail : List ℕ → List ℕ
+      tail after = text "# gates " ++ (decimal (f .gates) ++ (text " area " ++ (decimal (f .area) ++ (text " arrival " ++ (decimal (f .arrival) ++ (10 ∷ after))))))
+
+      body : List ℕ → List ℕ
+      body after = each gateLine (chosenGates cells g) ++ (wireLines 0 (g .outputs) ++ (text ".end" ++ (10 ∷ tail after)))
+
+      end : List ℕ → ℕ
+      end after = length (netlistText g (chosenGates cells g) f ++ after)
+
+      whole : (after : List ℕ) → netlistText g (chosenGates cells g) f ++ after
+          ≡ text ".model top" ++ (10 ∷ namesLine (text ".inputs") (inputNets g) ++ (namesLine (text ".outputs") (outputNets g) ++ body after))
+      whole after = unfold netlistText inputNets outputNets text in simp append-assoc
+
+      outs : ℕ
+      outs = length (g .outputs)
+
+      second : ℕ
+      second = 0 + suc (length (worded (text ".model top") [])) + suc (length (worded (text ".inputs") (inputNets g)))
+
+      third : ℕ
+      third = second + suc (length (worded (text ".outputs") (outputNets g)))
+
+      inputs-clear : Clears (inputNets g)
+      inputs-clear = unfold inputNets in clears-map (λ (v : ℕ). netName (literal false v)) (λ v s h. net-free s (literal false v) h) (g .inputs)
+
+      outputs-clear : Clears (outputNets g)
+      outputs-clear = unfold outputNets in clears-map outName out-clear (below (length (g .outputs)))
+
+      frame : (after : List ℕ) → pastLines (end after) (frameOf g) (linesFrom 0 [] (netlistText g (chosenGates cells g) f ++ after)) ≡ holds (linesFrom third [] (body after))
+      frame after = unfold inputNets outputNets pastLines in
+          ap (λ (t : List ℕ). pastLines (end after) (frameOf g) (linesFrom 0 [] t)) (whole after)
+          ∙ frame-line (end after) 0 (text ".model top") [] (worded (text ".inputs") (inputNets g) ∷ worded (text ".outputs") (outputNets g) ∷ []) (namesLine (text ".inputs") (inputNets g) ++ (namesLine (text ".outputs") (outputNets g) ++ body after))
+          (refl, (refl, (refl, (refl, (refl, (refl, (refl, (refl, (refl, (refl, tt)))))))))) (refl, (refl, (refl, (refl, (refl, (refl, (refl, (refl, (refl, (refl, tt)))))))))) tt
+          ∙ ap (λ (t : List ℕ). pastLines (end after) (worded (text ".inputs") (inputNets g) ∷ worded (text ".outputs") (outputNets g) ∷ []) (linesFrom 11 [] t)) (frame-text (text ".inputs") (inputNets g) (namesLine (text ".outputs") (outputNets g) ++ body after))
+          ∙ frame-line (end after) 11 (text ".inputs") (inputNets g) (worded (text ".outputs") (outputNets g) ∷ []) (namesLine (text ".outputs") (outputNets g) ++ body after)
+          (refl, (refl, (refl, (refl, (refl, (refl, (refl, tt))))))) (refl, (refl, (refl, (refl, (refl, (refl, (refl, tt))))))) inputs-clear
+          ∙ ap (λ (t : List ℕ). pastLines (end after) (worded (text ".outputs") (outputNets g) ∷ []) (linesFrom second [] t)) (frame-text (text ".outputs") (outputNets g) (body after))
+          ∙ frame-line (end after) second (text ".outputs") (outputNets g) [] (body after)
+          (refl, (refl, (refl, (refl, (refl, (refl, (refl, (refl, tt)))))))) (refl, (refl, (refl, (refl, (refl, (refl, (refl, (refl, tt)))))))) outputs-clear
+
+      gates : (after : List ℕ) → readDrivers cells (end after) outs (linesFrom third [] (body after)) ≡ holds (gatesAt third shown ++ namesAt (behindGates third shown) 0 (map netName (g .outputs)))
+      gates after =
+          ap₂ (λ (a b : List ℕ). readDrivers cells (end after) outs (linesFrom third [] (a ++ (b ++ (text ".end" ++ (10 ∷ tail after)))))) (gates-shown (chosenGates cells g)) (wire-shown 0 (g .outputs))
+          ∙ gates-read cells fit (end after) outs shown (gates-fine cells fit g ok small present-outputs 0 0) third (namesText 0 (map netName (g .outputs)) ++ (text ".end" ++ (10 ∷ tail after)))
+          (namesAt (behindGates third shown) 0 (map netName (g .outputs)))
+          (names-first cells (end after) outs (map netName (g .outputs)) (outputs-form cells fit g ok small present-outputs 0 0) (behindGates third shown) (tail after)
+          ∙ ap (λ (n : ℕ). readNames (end after) 0 n (linesFrom (behindGates third shown) [] (namesText 0 (map netName (g .outputs)) ++ (text ".end" ++ (10 ∷ tail after))))) (sym (length-map netName (g .outputs)))
+          ∙ names-read (end after) 0 (map netName (g .outputs)) (outputs-form cells fit g ok small present-outputs 0 0) (behindGates third shown) (tail after))
+
+  -- each output has the graph's value
+  printed-right : (at behind s k : ℕ) → k < length (g .outputs) → Right g (printedDrivers cells fit g ok small present-outputs at behind) s k
+  unfolding literalValue blifOf
+  printed-right at behind s k h v hv w hw =
+      let nets = drivers-values cells fit g ok small present-outputs at behind s w hw in
+      let l = getD (g .outputs) k 0 in
+      let m = getD-in (g .outputs) k 0 h in
+      at-output w (g .outputs) (nets .atWires) k h
+      ∙ net-value cells fit g ok present-outputs (settingOf s 0 (g .inputs)) w nets l (output m)
+      ∙ ap (flip (negated l)) (sym (values-only g ok (settingOf s 0 (g .inputs)) v hv (varOf l)
+      (defined-placed g ok (varOf l) (ok .used l (Memᴰ·append-left (each (λ (a : And). a .left ∷ a .right ∷ []) (g .ands)) m)))))
+
+-- ---- arrivals are no matter of the check
+
+module _ (g : Graph) (es : List Late) where
+  timed-netlist : (cells : List Cell) (t : List ℕ) → readNetlist cells (timedBy g es) t ≡ readNetlist cells g t
+  unfolding timedBy readNetlist frameOf inputNets outputNets
+  timed-netlist cells t = refl
+
+  timed-inputs : inputNets (timedBy g es) ≡ inputNets g
+  unfolding timedBy inputNets
+  timed-inputs = refl
+
+  timed-length : (length (timedBy g es .inputs) ≡ length (g .inputs)) × (timedBy g es .size ≡ g .size) × (length (timedBy g es .outputs) ≡ length (g .outputs))
+  unfolding timedBy
+  timed-length = (refl, refl, refl)
+
+  timed-right : (ds : List Driver) (s k : ℕ) → Right (timedBy g es) ds s k → Right g ds s k
+  unfolding timedBy inputNets
+  timed-right ds s k r v hv w hw = r v (timed-values g es (settingOf s 0 (g .inputs)) v hv) w (record { atInputs = hw .atInputs; atDrivers = hw .atDrivers })
+
+-- ---- the whole
+
+-- what is read of texts that hold
+module _ (library graph netlist : List ℕ) (words : ℕ) (cells : List Cell) (h : Header) (g : Graph) (ds : List Driver) where
+  pub edited-read : length library ≤ 65536 → length graph ≤ 65536 → length netlist ≤ 65536 → readLibrary library ≡ holds cells → readHeader graph ≡ holds h
+      → need (h .size) (h .outputs) + 8 * lineEnds netlist ≤ words → readGraph graph h ≡ holds g → lowest (unplaced g) ≡ none → length (g .inputs) ≤ 12
+      → readNetlist cells g netlist ≡ holds ds → judgeNets (inputNets g) ds ≡ holds ds → readEdited library graph netlist words ≡ holds (record { graph = g; drivers = ds })
+  unfolding readEdited next unless unlessAt
+  edited-read a b c l hd n gr p i r j =
+      let a′ = is-true (leb (length library) 65536) (le→leb (length library) 65536 a) in
+      let b′ = is-true (leb (length graph) 65536) (le→leb (length graph) 65536 b) in
+      let c′ = is-true (leb (length netlist) 65536) (le→leb (length netlist) 65536 c) in
+      let n′ = is-true (leb (need (h .size) (h .outputs) + 8 * lineEnds netlist) words) (le→leb (need (h .size) (h .outputs) + 8 * lineEnds netlist) words n) in
+      let i′ = is-true (leb (length (g .inputs)) 12) (le→leb (length (g .inputs)) 12 i) in
+      rw (a′, b′, c′, l, hd, n′, gr, p, i′, r, j)
+
+-- "Given memory enough, every netlist that `map` prints from the same texts with I up to 12 is accepted."
+pub accepts-printed : (c : Call) → AcceptsPrinted c
+accepts-printed c d t f words e o few short enough =
+    edited-compared (c .library) (c .graph) t words (record { graph = g; drivers = ds }) reads .accepts .1
+    (λ s b k h. timed-right g es ds s k
+    (subst (λ (x : Graph). Right x ds s k) (sym (tx .isTimed)) (printed-right cells fit (d .graph) ok small (ch .covered) (rd .0) (rd .1) s k (subst (λ (n : ℕ). k < n) (sym (outs-length .2)) h))))
+  where
+    tx : Texts c d
+    tx = texts-read c d e
+
+    cells : List Cell
+    cells = d .cells
+
+    g : Graph
+    g = tx .meant
+
+    es : List Late
+    es = tx .late
+
+    pr : FromDesign (d .ranged) (d .cells) (d .graph) t f
+    pr = printed-choice c d e t f o
+
+    ch : FromChoice (d .cells) (d .graph) (choiceText (d .cells) (d .graph)) f
+    ch = pr .choice
+
+    fit : T (libraryFits (d .cells))
+    fit = design-library c d e
+
+    ok : Accepted (d .graph)
+    ok = design-accepted c d e (ch .placed)
+
+    small : d .graph .size ≤ 4095
+    small = design-graph c d e .size
+
+    rd : (at behind : ℕ) × ((after : List ℕ) → readNetlist cells (d .graph) (choiceText cells (d .graph) ++ after) ≡ holds (printedDrivers cells fit (d .graph) ok small (ch .covered) at behind))
+    rd = printed-read cells fit (d .graph) ok small (ch .covered) (choiceFigures cells (d .graph))
+
+    ds : List Driver
+    ds = printedDrivers cells fit (d .graph) ok small (ch .covered) (rd .0) (rd .1)
+
+    -- the numbers of the design's graph are those of the graph meant
+    outs-length : (d .graph .size ≡ g .size) × (length (d .graph .inputs) ≡ length (g .inputs)) × (length (d .graph .outputs) ≡ length (g .outputs))
+    outs-length = let l = timed-length g es in (
+      ap (λ (x : Graph). x .size) (sym (tx .isTimed)) ∙ l .1,
+      ap (λ (x : Graph). length (x .inputs)) (sym (tx .isTimed)) ∙ l .0,
+      ap (λ (x : Graph). length (x .outputs)) (sym (tx .isTimed)) ∙ l .2,
+    )
+
+    counted : Counted (tx .header) g
+    counted = graph-counted (c .graph) (tx .header) g (tx .isHeader) (tx .isGraph)
+
+    netlist-read : readNetlist cells g t ≡ holds ds
+    netlist-read =
+        sym (timed-netlist g es cells t) ∙ ap (λ (x : Graph). readNetlist cells x t) (tx .isTimed)
+        ∙ ap (readNetlist cells (d .graph)) (pr .isText) ∙ with-timings (readNetlist cells (d .graph)) (holds ds) (d .ranged) cells (d .graph) (rd .2)
+
+    nets-judged : judgeNets (inputNets g) ds ≡ holds ds
+    nets-judged =
+        ap (λ (ns : List (List ℕ)). judgeNets ns ds) (sym (timed-inputs g es) ∙ ap inputNets (tx .isTimed))
+        ∙ drivers-pass cells fit (d .graph) ok small (ch .covered) (rd .0) (rd .1)
+
+    placed : lowest (unplaced g) ≡ none
+    placed = unfold lowest in ap lowest (sym (timed-unplaced g es) ∙ ap unplaced (tx .isTimed) ∙ ch .placed)
+
+    reads : readEdited (c .library) (c .graph) t words ≡ holds (record { graph = g; drivers = ds })
+    reads = edited-read (c .library) (c .graph) t words cells (tx .header) g ds (tx .shortLibrary) (tx .shortGraph) short (tx .isLibrary) (tx .isHeader)
+        (subst (λ (n : ℕ). n ≤ words) (ap₂ (λ (m k : ℕ). need m k + 8 * lineEnds t) (outs-length .0 ∙ counted .size) (outs-length .2 ∙ counted .outputs)) enough)
+        (tx .isGraph) placed (subst (λ (n : ℕ). n ≤ 12) (outs-length .1) few) netlist-read nets-judged

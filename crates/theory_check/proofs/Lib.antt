@@ -1,0 +1,9 @@
+pub mod Settling
+pub mod Circles
+pub mod NetRuns
+pub mod Comparing
+pub mod Judged
+pub mod Whole
+pub mod PrintedLines
+pub mod PrintedNets
+pub mod Accepts
