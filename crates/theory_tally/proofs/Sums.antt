@@ -3,34 +3,37 @@ use Prim.Native.Nat.{ℕ, zero, suc, _+_, _*_, _^_, _≤_, _<_}
 use native.Mathlib.Nat.{mul-le-mul}
 use native.Mathlib.Omega.{arith}
 use mathlib.Core.Path.{_≡_, refl, sym, _∙_, ap, ap₂, subst}
-use mathlib.Core.Bool.{Bool, true, false, _&&_}
-use mathlib.Core.List.{List, [], _∷_, map, List·Memᴰ, List·Memᴰ·head, List·Memᴰ·tail}
-use lib.Dec.{T, leb, ltb}
+use mathlib.Core.Bool.{Bool, true, false}
+use mathlib.Core.Option.{Option}
+use mathlib.Core.List.{List, [], _∷_, _++_, map, List·Memᴰ, List·Memᴰ·head, List·Memᴰ·tail}
+use lib.Dec.{leb, ltb}
 use lib.ListN.{length, take, getD, replicate}
 use borrow.Author.Tests.{le-leb}
 use mir.Facts.{and-yes, ltb-yes, leb-yes}
-use Rattle.model.specs.Base.{all, one}
+use Rattle.model.specs.Base.{all, each, one, from, below}
+use Rattle.model.specs.Text.{text}
 use Rattle.model.specs.Reading.{holds}
-use Rattle.model.specs.Cells.{noCell, cellAt}
+use Rattle.model.specs.Cells.{cellAt}
 use Rattle.model.specs.LibraryText.{readLibrary, isRanged}
 use Rattle.model.specs.Netlist.{sum}
-use Rattle.model.specs.Tally.{emptyTally, inWidth, areaOf, readCounted, times, addEach, counted, countText}
+use Rattle.model.specs.Tally.{emptyTally, inWidth, areaOf, readCounted, times, counted, countText, reportLine, cellLine, totalLine, reportText, reportOf}
 use Rattle.model.specs.declared.Cell.{Cell}
 use Rattle.model.specs.declared.Tally.{Tally}
-use Rattle.theory_text.proofs.Steps.{holds-once}
+use Rattle.theory_text.proofs.Steps.{holds-once, unless-out, next-out}
 use Rattle.theory_text.proofs.ReadLibrary.{library-few, library-written}
-use Rattle.theory_tally.specs.Sums.{Handed, Counting, Sums, Grown}
+use Rattle.theory_tally.specs.Sums.{Handed, GatesLine, gatesSum, areaSum, Counting, Sums, Reported, Grown, Added}
 use Rattle.theory_tally.specs.Sums as promised
 use Rattle.theory_tally.proofs.Weights.{added-first, added-length, added-at, weights, ones, times-low}
-use Rattle.theory_tally.proofs.Used.{IsUsed, used-is, IsCounted, counted-by}
+use Rattle.theory_tally.proofs.FiguresIn.{figures-in}
+use Rattle.theory_tally.proofs.Used.{used-is, counted-by}
 
 -- ---- the sums
 
 -- 32 places, with these sums
-record Totals (cells : List Cell) (gs : List (List ℕ)) (t : Tally) : Type 0 where
+record Totals (cells : List Cell) (ns : List (List ℕ)) (t : Tally) : Type 0 where
   gatesLong : length (t .gates) ≡ 32
   areasLong : length (t .areas) ≡ 32
-  sums : Sums cells gs t
+  sums : Sums cells ns t
 
 none-summed : (n k : ℕ) → sum (take n (replicate k 0)) ≡ 0
 unfolding sum
@@ -38,13 +41,30 @@ none-summed zero k = refl
 none-summed (suc n) zero = refl
 none-summed (suc n) (suc k) = omega (arith, none-summed n k)
 
+-- the first n places are those numbered below n
+shifted : (f : ℕ → ℕ) (k n : ℕ) → map f (from (suc k) n) ≡ map (λ (i : ℕ). f (suc i)) (from k n)
+unfolding from
+shifted f k zero = refl
+shifted f k (suc n) = ap (λ (xs : List ℕ). f (suc k) ∷ xs) (shifted f (suc k) n)
+
+none-first : (n : ℕ) (k : ℕ) → sum (map (λ (i : ℕ). getD [] i 0) (from k n)) ≡ 0
+unfolding sum from
+none-first zero k = refl
+none-first (suc n) k = omega (arith, none-first n (suc k))
+
+sum-first : (n : ℕ) (xs : List ℕ) → sum (map (λ (i : ℕ). getD xs i 0) (from 0 n)) ≡ sum (take n xs)
+unfolding sum from
+sum-first zero xs = refl
+sum-first (suc n) [] = none-first (suc n) 0
+sum-first (suc n) (x ∷ xs) = ap (λ (ys : List ℕ). x + sum ys) (shifted (λ (i : ℕ). getD (x ∷ xs) i 0) 0 n) ∙ ap (λ (y : ℕ). x + y) (sum-first n xs)
+
 module _ (library : List ℕ) (cells : List Cell) (e : readLibrary library ≡ holds cells) where
   first : Totals cells [] emptyTally
   unfolding emptyTally sum
   first = record {
     gatesLong = refl;
     areasLong = refl;
-    sums = record { gates = none-summed (length cells) 32; areas = none-summed (length cells) 32; netlists = refl };
+    sums = record { lines = []; areLines = refl; gates = none-summed (length cells) 32; areas = none-summed (length cells) 32; netlists = refl };
   }
 
   -- one netlist more
@@ -65,32 +85,72 @@ module _ (library : List ℕ) (cells : List Cell) (e : readLibrary library ≡ h
         netlistsGrown = refl;
       }
 
-  later : (gs : List (List ℕ)) (t : Tally) (netlist used : List ℕ) → Totals cells gs t → readCounted (isRanged library) cells netlist ≡ holds used → Totals cells (used ∷ gs) (counted cells used t)
-  unfolding counted sum
-  later gs t netlist used h r =
-      let w = grown t netlist used (h .gatesLong) (h .areasLong) r in
+  -- a netlist that is counted adds what its own `# gates` line says
+  pub counted-adds : (t u : Tally) (netlist : List ℕ) → length (t .gates) ≡ 32 → length (t .areas) ≡ 32 → countText t library netlist ≡ holds u → Added cells t u netlist
+  counted-adds t u netlist g a n =
+      let b = counted-by t library netlist u n in
+      let same : b .cells ≡ cells = holds-once (sym (b .isLibrary) ∙ e) in
+      let read : readCounted (isRanged library) cells netlist ≡ holds (b .used) = ap (λ (x : List Cell). readCounted (isRanged library) x netlist) (sym same) ∙ b .isRead in
       record {
-        gatesLong = added-length (λ i. times i used) 0 (t .gates) ∙ h .gatesLong;
-        areasLong = added-length (λ i. times i used * cellAt cells i .area) 0 (t .areas) ∙ h .areasLong;
+        line = record { gates = length (b .used); area = areaOf cells (b .used) };
+        isLine = figures-in (isRanged library) cells netlist (b .used) read;
+        grown =
+            subst (λ (v : Tally). Grown cells t v (length (b .used)) (areaOf cells (b .used))) (ap (λ (x : List Cell). counted x (b .used) t) (sym same) ∙ b .isTally)
+            (grown t netlist (b .used) g a read);
+      }
+
+  -- the places are as many as before
+  as-long : (t u : Tally) (netlist : List ℕ) → countText t library netlist ≡ holds u → (length (u .gates) ≡ length (t .gates)) × (length (u .areas) ≡ length (t .areas))
+  unfolding counted
+  as-long t u netlist n =
+      let b = counted-by t library netlist u n in (
+        ap (λ (v : Tally). length (v .gates)) (sym (b .isTally)) ∙ added-length (λ i. times i (b .used)) 0 (t .gates),
+        ap (λ (v : Tally). length (v .areas)) (sym (b .isTally)) ∙ added-length (λ i. times i (b .used) * cellAt (b .cells) i .area) 0 (t .areas),
+      )
+
+  totals : (ns : List (List ℕ)) (t : Tally) → Counting library ns t → Totals cells ns t
+  unfolding sum
+  totals ns t promised.Counting.empty = first
+  totals ns t (promised.Counting.more {ns = ms} {t = s} netlist c n) =
+      let h = totals ms s c in
+      let w = counted-adds s t netlist (h .gatesLong) (h .areasLong) n in
+      let l = as-long s t netlist n in
+      record {
+        gatesLong = l .0 ∙ h .gatesLong;
+        areasLong = l .1 ∙ h .areasLong;
         sums =
             record {
-              gates = omega (arith, w .gatesGrown, h .sums .gates);
-              areas = omega (arith, w .areasGrown, h .sums .areas);
-              netlists = omega (arith, h .sums .netlists);
+              lines = w .line ∷ h .sums .lines;
+              areLines = ap₂ (λ (o : Option GatesLine) (os : List (Option GatesLine)). o ∷ os) (w .isLine) (h .sums .areLines);
+              gates = omega (arith, w .grown .gatesGrown, h .sums .gates);
+              areas = omega (arith, w .grown .areasGrown, h .sums .areas);
+              netlists = omega (arith, w .grown .netlistsGrown, h .sums .netlists);
             };
       }
 
-  totals : (gs : List (List ℕ)) (t : Tally) → Counting library cells gs t → Totals cells gs t
-  totals gs t promised.Counting.empty = first
-  totals gs t (promised.Counting.more {gs = hs} {t = s} netlist used c n r) =
-      let b = counted-by s library netlist t n in
-      let same : b .cells ≡ cells = holds-once (sym (b .isLibrary) ∙ e) in
-      let uses : b .used ≡ used = holds-once (sym (b .isRead) ∙ ap (λ (x : List Cell). readCounted (isRanged library) x netlist) same ∙ r) in
-      subst (Totals cells (used ∷ hs)) (ap₂ (λ (x : List Cell) (y : List ℕ). counted x y s) (sym same) (sym uses) ∙ b .isTally) (later hs s netlist used (totals hs s c) r)
-
   -- "Its gates and area equal the sums of the counted netlists' `# gates` lines, and the sums over cells."
-  pub tally-sums : (gs : List (List ℕ)) (t : Tally) → Counting library cells gs t → Sums cells gs t
-  tally-sums gs t c = totals gs t c .sums
+  pub tally-sums : (ns : List (List ℕ)) (t : Tally) → Counting library ns t → Sums cells ns t
+  tally-sums ns t c = totals ns t c .sums
+
+  -- the same, as it is reported
+  pub report-sums : (ns : List (List ℕ)) (t : Tally) (bytes : ℕ) (report : List ℕ) → Counting library ns t → reportOf t library bytes ≡ holds report → Reported cells ns t report
+  unfolding reportOf reportText totalLine
+  report-sums ns t bytes report c r =
+      let s = tally-sums ns t c in
+      let a = unless-out (leb (length library) 65536) 1 0 _ report r in
+      let b = next-out (readLibrary library) _ report (a .1) in
+      let d = unless-out (inWidth t) 28 64 _ report (b .2) in
+      let f = unless-out (leb (length (reportText (b .0) t)) bytes) 18 (length (reportText (b .0) t)) (holds (reportText (b .0) t)) report (d .1) in
+      let same : b .0 ≡ cells = holds-once (sym (b .1) ∙ e) in
+      record {
+        sums = s;
+        isReport =
+            sym (holds-once (f .1)) ∙ ap (λ (x : List Cell). reportText x t) same
+            ∙ ap₂ (λ (x y : ℕ). each (cellLine cells t) (below (length cells)) ++ reportLine (text "total") x y (t .netlists)) (s .gates) (s .areas)
+            ∙ ap (λ (x : ℕ). each (cellLine cells t) (below (length cells)) ++ reportLine (text "total") (gatesSum (s .lines)) (areaSum (s .lines)) x) (s .netlists);
+        overGates = (unfold below in sum-first (length cells) (t .gates)) ∙ s .gates;
+        overAreas = (unfold below in sum-first (length cells) (t .areas)) ∙ s .areas;
+      }
 
 -- ---- the figures
 
