@@ -7,7 +7,7 @@
 -- Assumes nothing.
 use mathlib.Core.Path.{_≡_, refl, sym, ap, _∙_, subst}
 use mathlib.Core.Bool.{Bool, true, false, not}
-use mathlib.Core.List.{List, [], _∷_}
+use mathlib.Core.List.{List, [], _∷_, List·Memᴰ, List·Memᴰ·head, List·Memᴰ·tail}
 use Prim.Native.Nat.{ℕ, zero, suc, _+_, _*_, _/_, _≤_}
 use native.Mathlib.Omega.{arith}
 use lib.Dec.{eqb}
@@ -33,13 +33,14 @@ use Rattle.loading.proofs.Tests.{code, dueKind, due-code, Short, itemOf, fit-kn
 use Rattle.loading.proofs.Storing.{nothing}
 use Rattle.loading.proofs.States.{grown, more, State, state-first}
 use Rattle.loading.proofs.Lines.{linesOf}
-use Rattle.loading.proofs.Items.{fault-holds, verdict-next, next-holds, accepted-holds, Stored, stored-none, stored-more, stored-defined, graph-is, graph-held}
+use Rattle.loading.proofs.Items.{fault-holds, verdict-next, next-holds, accepted-holds, Stored, stored-none, stored-more, stored-defined, stored-holding, graph-is, graph-held}
 use Rattle.binary.specs.Passes.{binaryWords}
 use Rattle.binary.proofs.Loads.{binary-law}
 use Rattle.aiger.specs.declared.LineRead.the-variants.{Read as ALine}
-use Rattle.aiger.specs.Lines.{lineRead, isKnown, usesKnown}
+use Rattle.aiger.specs.Lines.{lineRead, isKnown, usesKnown, wordsKnown}
 use Rattle.aiger.specs.Passes.{turnAt, turnWords, linesVerdict, linesWords, checkAt, checkVerdict, asciiWords, loadedWords}
 use Rattle.aiger.proofs.DueLines.{due-end}
+use Rattle.aiger.proofs.Knowing.{line-known}
 use Rattle.aiger.proofs.Loading.{Step, stops, goes, step}
 
 -- ---- the lines once more
@@ -164,6 +165,15 @@ module _ (s : List ℕ) (h : Header) (w : List ℕ) (defined : List ℕ) (knows 
   check-law n k at is (one {n = n₁} {k = k₁} {at = at₁} {is = js} l r short f a) =
       check-one n₁ k₁ at₁ js l r f (uses-is (dueKind h k₁) at₁ l short f ∙ ap (λ (c : ℕ). usesKnown w (h .size) c l) (due-code h k₁)) (check-law n₁ (k₁ + 1) (l .next) js a)
 
+-- where what each line uses is defined, none is refused
+check-passes : (s : List ℕ) (h : Header) (w : List ℕ) (n k at : ℕ) (is : List Item) → Again s h n k at is
+    → ((j : Kind) (p : ℕ) (l : Literals) → Short j l → List·Memᴰ (itemOf j p l) is → usesKnown w (h .size) (code j) l ≡ true) → checkVerdict s h n k at w ≡ Accepted
+unfolding checkVerdict checkAt
+check-passes s h w n k at is done known = refl
+check-passes s h w n k at is (one {n = n₁} {k = k₁} {at = at₁} {is = js} l r short f a) known =
+    let u : usesKnown w (h .size) (dueCode h k₁) l ≡ true = ap (λ (c : ℕ). usesKnown w (h .size) c l) (sym (due-code h k₁)) ∙ known (dueKind h k₁) at₁ l short (List·Memᴰ·head refl) in
+    rw (r, f, u) (check-passes s h w n₁ (k₁ + 1) (l .next) js a (λ j p m e i. known j p m e (List·Memᴰ·tail i)))
+
 -- ---- the whole
 
 module _ (s : List ℕ) (h : Header) (w : List ℕ) (fit : Fit h w) (ascii : h .binary ≡ false) where
@@ -199,6 +209,20 @@ module _ (s : List ℕ) (h : Header) (w : List ℕ) (fit : Fit h w) (ascii : h .
       go (holds is) q x = checked is q
       go (fault a b) q x = let z : _≡_ {A = ℕ} 0 1 = cc in absurd (omega arith)
 
+  -- and none of 11 to 13 comes: the words hold what the lines say, and where all that they use is defined, 14 does not come either
+  lines-held : linesVerdict s h (dueCount h) 0 (h .next) (opened w (h .size)) ≡ Accepted → (is : List Item) × Taken s h w (dueCount h) 0 (h .next) words [] (nothing (h .size)) is
+  lines-held e = let r = accepted-holds (readItems s h) (sym lines-verdict ∙ e) in (r .0, taken (r .0) (r .1))
+
+  load-operands : linesVerdict s h (dueCount h) 0 (h .next) (opened w (h .size)) ≡ Accepted → Operands words (h .size)
+  load-operands e =
+      let t = lines-held e in
+      holding-operands w h words (graphOf (h .size) (t .0)) (0 ∷ graphOf (h .size) (t .0) .inputs) (stored-holding h w words (t .0) (t .1 .stored))
+
+  load-known : linesVerdict s h (dueCount h) 0 (h .next) (opened w (h .size)) ≡ Accepted → wordsKnown words h ≡ true → Accepted ≡ checkVerdict s h (dueCount h) 0 (h .next) words
+  load-known e k =
+      let t = lines-held e in
+      sym (check-passes s h words (dueCount h) 0 (h .next) (t .0) (t .1 .again) (line-known h w words (t .0) (stored-holding h w words (t .0) (t .1 .stored)) k))
+
   load-refused : (a b : ℕ) → linesVerdict s h (dueCount h) 0 (h .next) (opened w (h .size)) ≡ Refused a b → Refused a b ≡ verdictOf (readGraph s h)
   unfolding verdictOf next
   load-refused a b e = go (readItems s h) refl (sym lines-verdict ∙ e)
@@ -225,6 +249,14 @@ module _ (s : List ℕ) (h : Header) (w : List ℕ) (fit : Fit h w) (ascii : h .
 
     pub ascii-done : r ≡ Accepted → (q : Verdict) → q ≡ checkVerdict s h (dueCount h) 0 (h .next) y → (q ≡ verdictOf (readGraph s h)) × (y ≡ asciiWords w s h)
     ascii-done a q e = (e ∙ ap (checkVerdict s h (dueCount h) 0 (h .next)) same-words ∙ load-checked (same-verdict ∙ a), loaded)
+
+    -- what `all_known` asks, and its answer where all is defined
+    pub ascii-operands : r ≡ Accepted → Operands y (h .size)
+    ascii-operands a = subst (λ (x : List ℕ). Operands x (h .size)) (sym same-words) (load-operands (same-verdict ∙ a))
+
+    pub ascii-known : r ≡ Accepted → wordsKnown y h ≡ true → (Accepted ≡ verdictOf (readGraph s h)) × (y ≡ asciiWords w s h)
+    ascii-known a k =
+        ascii-done a Accepted (load-known (same-verdict ∙ a) (ap (λ (x : List ℕ). wordsKnown x h) (sym same-words) ∙ k) ∙ ap (checkVerdict s h (dueCount h) 0 (h .next)) (sym same-words))
 
     pub ascii-stop : (a b : ℕ) → r ≡ Refused a b → (Refused a b ≡ verdictOf (readGraph s h)) × (y ≡ asciiWords w s h)
     ascii-stop a b e = (load-refused a b (same-verdict ∙ e), loaded)

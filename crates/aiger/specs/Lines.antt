@@ -1,15 +1,15 @@
 -- What each reader of a line finds at a place of the text, composed of what the readers of the crate text find. Assumes nothing.
-use Prim.Native.Nat.{ℕ, _/_}
-use mathlib.Core.Bool.{Bool, true, false, not, _&&_}
+use Prim.Native.Nat.{ℕ, _+_, _*_, _/_}
+use mathlib.Core.Bool.{Bool, true, false, not, _&&_, _||_}
 use mathlib.Core.List.{List}
-use lib.Dec.{eqb}
-use Rattle.model.specs.Base.{same}
+use lib.Dec.{eqb, leb}
+use Rattle.model.specs.Base.{all, below, same}
 use Rattle.model.specs.Text.{text, endedByTen}
 use Rattle.model.specs.declared.Header.{Header}
 use Rattle.text.specs.declared.Cursor.{Cursor}
 use Rattle.text.specs.Fields.{wordAt, endAt, onNumber, onStep, numberThen, numberEnd, byteAt}
 use Rattle.text.specs.Lines.{pickBool, lineAt}
-use Rattle.words.specs.Layout.{undefinedKind, andKind, kindAt}
+use Rattle.words.specs.Layout.{undefinedKind, andKind, kindAt, leftAt, rightAt, outputAt}
 use Rattle.loading.specs.declared.Literals.{Literals}
 use Rattle.loading.specs.Tests.{literals, literalsFit, mayDefine, isTaken}
 use Rattle.aiger.specs.declared.LineRead.{LineRead}
@@ -118,3 +118,20 @@ isKnown w m l = not (eqb (kindAt w m (l / 2)) undefinedKind)
 unfoldable pub usesKnown : List ℕ → ℕ → ℕ → Literals → Bool
 unfolding isKnown
 usesKnown w m kind l = pickBool (eqb kind undefinedKind) (isKnown w m (l .first)) (isKnown w m (l .left) && isKnown w m (l .right))
+
+-- ---- the same of what is stored
+
+-- output i's literal is in range, and its variable is defined
+unfoldable pub outputKnown : List ℕ → ℕ → ℕ → Bool
+unfolding isKnown
+outputKnown w m i = leb (outputAt w m i) (2 * m + 1) && isKnown w m (outputAt w m i)
+
+-- an AND's operands' variables are defined
+unfoldable pub operandsKnown : List ℕ → ℕ → ℕ → Bool
+unfolding isKnown
+operandsKnown w m v = not (eqb (kindAt w m v) andKind) || (isKnown w m (leftAt w m v) && isKnown w m (rightAt w m v))
+
+-- every output's, and every AND's
+unfoldable pub wordsKnown : List ℕ → Header → Bool
+unfolding all below outputKnown operandsKnown
+wordsKnown w h = all (outputKnown w (h .size)) (below (h .outputs)) && all (operandsKnown w (h .size)) (below (h .size + 1))

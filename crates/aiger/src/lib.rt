@@ -4,13 +4,15 @@ ghost use mathlib.Core.Path.{_≡_};
 ghost use mathlib.Core.Bool.{false};
 ghost use Prim.Native.Nat.{_+_, _*_, _≤_, _<_};
 ghost use lib.ListN.{length};
+ghost use Rattle.model.specs.Base.{all, below};
 ghost use Rattle.model.specs.Limits.{need};
 ghost use Rattle.model.specs.Reading.{holds, verdictOf, rulingOf, verdictRuling};
 ghost use Rattle.model.specs.GraphText.{readHeader, headerAnswer, headerRuling, headerValues, headerNumbers, inLimits, inSequence, readGraph};
 ghost use Rattle.words.specs.Layout.{Room};
 ghost use Rattle.placing.specs.Loaded.{Fit};
+ghost use Rattle.placing.specs.Placing.{Operands};
 ghost use Rattle.loading.specs.Tests.{dueCount, LiteralsFit};
-ghost use Rattle.aiger.specs.Lines.{threeAt, tagBehind, tagAt, headerRecord, numbersForm, headerEnds, formAt, oneLine, andLine, lineRead, judgedAt, isKnown, usesKnown};
+ghost use Rattle.aiger.specs.Lines.{threeAt, tagBehind, tagAt, headerRecord, numbersForm, headerEnds, formAt, oneLine, andLine, lineRead, judgedAt, isKnown, usesKnown, outputKnown, operandsKnown, wordsKnown};
 ghost use Rattle.aiger.specs.Passes.{turnAt, turnWords, linesVerdict, linesWords, checkAt, checkVerdict, asciiWords, loadedWords};
 use loading::Literals;
 use loading::Turn;
@@ -357,6 +359,71 @@ fn uses_known(work: &[u16], m: usize, kind: usize, l: Literals) -> bool
     known(work, m, l.right)
 }
 
+// So it is of output i; a literal beyond 2M+1 has no variable.
+fn output_known(work: &[u16], h: Header, i: usize) -> bool
+    requires { ⌜ Fit h (now work) × (i < h .outputs) ⌝ }
+    ensures { λ r. ⌜ r ≡ outputKnown (now (work .entry)) (h .size) i ⌝ }
+{
+    let l = words::output(work, h.size, h.outputs, i);
+    if l > 2 * h.size + 1 {
+        return false;
+    }
+    known(work, h.size, l)
+}
+
+fn outputs_known(work: &[u16], h: Header) -> bool
+    requires { ⌜ Fit h (now work) ⌝ }
+    ensures { λ r. ⌜ r ≡ all (outputKnown (now (work .entry)) (h .size)) (below (h .outputs)) ⌝ }
+{
+    let mut i = 0;
+    while i < h.outputs {
+        if !output_known(work, h, i) {
+            return false;
+        }
+        i += 1;
+    }
+    true
+}
+
+// And of both operands of a variable that is an AND.
+fn operands_known(work: &[u16], m: usize, v: usize) -> bool
+    requires { ⌜ Room (now work) m × Operands (now work) m × (v ≤ m) ⌝ }
+    ensures { λ r. ⌜ r ≡ operandsKnown (now (work .entry)) m v ⌝ }
+{
+    if words::kind(work, m, v) != words::AND {
+        return true;
+    }
+    if !known(work, m, words::left(work, m, v)) {
+        return false;
+    }
+    known(work, m, words::right(work, m, v))
+}
+
+fn ands_known(work: &[u16], m: usize) -> bool
+    requires { ⌜ Room (now work) m × Operands (now work) m ⌝ }
+    ensures { λ r. ⌜ r ≡ all (operandsKnown (now (work .entry)) m) (below (m + 1)) ⌝ }
+{
+    let mut v = 0;
+    while v <= m {
+        if !operands_known(work, m, v) {
+            return false;
+        }
+        v += 1;
+    }
+    true
+}
+
+// All that the stored lines use is defined: no line is 14's.
+fn all_known(work: &[u16], h: Header) -> bool
+    requires { ⌜ Fit h (now work) × Operands (now work) (h .size) ⌝ }
+    ensures { λ r. ⌜ r ≡ wordsKnown (now (work .entry)) h ⌝ }
+{
+    if !outputs_known(work, h) {
+        return false;
+    }
+    ands_known(work, h.size)
+}
+
 // Due line k again, now that all are read.
 fn check_at(s: &[u8], at: usize, work: &[u16], h: Header, k: usize) -> Turn
     requires { ⌜ Fit h (now work) ⌝ }
@@ -402,7 +469,8 @@ fn check_lines(s: &[u8], work: &[u16], h: Header) -> Verdict
 
 // ---- the graph
 
-// The graph of an ASCII text behind an accepted header, into the lent words; or the first refusal of 11 to 14.
+// The graph of an ASCII text behind an accepted header, into the lent words; or the first refusal of 11 to 14. The words say whether 14 comes, and the
+// lines, read again, where.
 fn load_ascii(s: &[u8], h: Header, work: &mut [u16]) -> Verdict
     requires { ⌜ Fit h (now work) × (h .binary ≡ false) ⌝ }
     ensures answer { λ r. ⌜ r ≡ verdictOf (readGraph (now (s .entry)) h) ⌝ }
@@ -410,7 +478,13 @@ fn load_ascii(s: &[u8], h: Header, work: &mut [u16]) -> Verdict
 {
     loading::open_words(work, h.size);
     match read_lines(s, work, h) {
-        Verdict::Accepted => check_lines(s, work, h),
+        Verdict::Accepted => {
+            if all_known(work, h) {
+                Verdict::Accepted
+            } else {
+                check_lines(s, work, h)
+            }
+        }
         Verdict::Refused(n, place) => Verdict::Refused(n, place),
     }
 }

@@ -33,7 +33,7 @@ use Rattle.placing.proofs.Placed.{waits-kind, waits-place, waiting-is, 
 
 -- ---- which variables are placed
 
-mem-index : (xs : List ℕ) (u : ℕ) → List·Memᴰ u xs → (i : ℕ) × (i < length xs) × (getD xs i 0 ≡ u)
+pub mem-index : (xs : List ℕ) (u : ℕ) → List·Memᴰ u xs → (i : ℕ) × (i < length xs) × (getD xs i 0 ≡ u)
 mem-index (x ∷ xs) u (List·Memᴰ·head e) = (0, omega arith, sym e)
 mem-index (x ∷ xs) u (List·Memᴰ·tail n) = let r = mem-index xs u n in (suc (r .0), omega (arith, r .1), r .2)
 

@@ -1,7 +1,8 @@
--- `aiger::load_ascii` meets its contract, by the laws of its two passes.
+-- `aiger::load_ascii` meets its contract, by the laws of its passes.
 -- Assumes nothing.
+use mathlib.Core.Path.{sym, _∙_}
 use Rattle.placing.proofs.Slots.{fit-length, fit-room}
-use Rattle.aiger.proofs.Loads.{ascii-done, ascii-stop}
+use Rattle.aiger.proofs.Loads.{ascii-operands, ascii-known, ascii-done, ascii-stop}
 use borrow.Author.Needs.{needs}
 use Rattle.aiger.proofs.load_ascii.Statement.{statement}
 use Rattle.aiger.proofs.load_ascii.Tie as tie
@@ -19,9 +20,18 @@ read-lines-requires c κs =
 enum-told : tie.Need-enum-told
 enum-told c = search needs
 
+all-known-requires : tie.Need-all-known-requires
+all-known-requires c κs =
+    let at-enum-told = c .before in
+    let at-read-lines = at-enum-told .before .before .before .before in
+    let at-open-words = at-read-lines .before .before .before .before in
+    let start = at-open-words .before .before .before .before in
+    (fit-length _ _ _ (start .pre .0) (search needs), ascii-operands (start .args .s .now) (start .args .h) (start .args .work .now) (start .pre .0) (start .pre .1) _ _ _ (at-open-words .open-words .ensures) (at-read-lines .read-lines .ensures .1) (at-read-lines .read-lines .ensures .0) (at-enum-told .enum-told .given .1))
+
 check-lines-requires : tie.Need-check-lines-requires
 check-lines-requires c κs =
-    let start = c .before .before .before .before .before .before .before .before .before .before .before .before .before in
+    let at-enum-told = c .before .before .before .before in
+    let start = at-enum-told .before .before .before .before .before .before .before .before .before .before .before .before in
     fit-length _ _ _ (start .pre .0) (search needs)
 
 enum-known-n : tie.Need-enum-known-n
@@ -32,17 +42,28 @@ same-length c = search needs
 
 returns : tie.Need-returns
 returns c =
-    let at-enum-told = c .before .before in
+    let at-enum-told = c .before .before .before in
     let at-read-lines = at-enum-told .before .before .before .before in
     let at-open-words = at-read-lines .before .before .before .before in
     let start = at-open-words .before .before .before .before in
-    ascii-done (start .args .s .now) (start .args .h) (start .args .work .now) (start .pre .0) (start .pre .1) _ _ _ (at-open-words .open-words .ensures) (at-read-lines .read-lines .ensures .1) (at-read-lines .read-lines .ensures .0) (at-enum-told .enum-told .given .1) _ (c .check-lines .ensures)
+    ascii-known (start .args .s .now) (start .args .h) (start .args .work .now) (start .pre .0) (start .pre .1) _ _ _ (at-open-words .open-words .ensures) (at-read-lines .read-lines .ensures .1) (at-read-lines .read-lines .ensures .0) (at-enum-told .enum-told .given .1) (sym (c .before .all-known .ensures) ∙ c .if1 .taken)
 
 same-length-2 : tie.Need-same-length-2
 same-length-2 c = search needs
 
 returns-2 : tie.Need-returns-2
 returns-2 c =
+    let at-enum-told = c .before .before .before .before .before in
+    let at-read-lines = at-enum-told .before .before .before .before in
+    let at-open-words = at-read-lines .before .before .before .before in
+    let start = at-open-words .before .before .before .before in
+    ascii-done (start .args .s .now) (start .args .h) (start .args .work .now) (start .pre .0) (start .pre .1) _ _ _ (at-open-words .open-words .ensures) (at-read-lines .read-lines .ensures .1) (at-read-lines .read-lines .ensures .0) (at-enum-told .enum-told .given .1) _ (c .check-lines .ensures)
+
+same-length-3 : tie.Need-same-length-3
+same-length-3 c = search needs
+
+returns-3 : tie.Need-returns-3
+returns-3 c =
     let at-read-lines = c .before .before .before .before .before in
     let at-open-words = at-read-lines .before .before .before .before in
     let start = at-open-words .before .before .before .before in
@@ -55,9 +76,12 @@ load-ascii-spec =
     open-words-requires
     read-lines-requires
     enum-told
+    all-known-requires
     check-lines-requires
     enum-known-n
     same-length
     returns
     same-length-2
-    returns-2)
+    returns-2
+    same-length-3
+    returns-3)

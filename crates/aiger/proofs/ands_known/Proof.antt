@@ -1,0 +1,52 @@
+-- `aiger::ands_known` meets its contract. The invariant: what the variables from here on pass is what all pass; the measure is what is left.
+-- Assumes nothing.
+use borrow.Author.Needs.{needs}
+use borrow.Author.Tests.{not-true, not-false}
+use mathlib.Core.Path.{sym, _∙_}
+use Prim.Native.Nat.{_+_, _-_}
+use native.Mathlib.Omega.{arith}
+use Rattle.aiger.specs.Lines.{operandsKnown}
+use Rattle.aiger.proofs.Knowing.{Passing, passing-first, passing-on, passing-stop, passing-end}
+use Rattle.aiger.proofs.ands_known.Statement.{statement}
+use Rattle.aiger.proofs.ands_known.Tie as tie
+
+abbrev Inv-loop : tie.InvT-loop
+Inv-loop work m v₀ v = Passing (operandsKnown work m) (m + 1) v
+
+abbrev μ-loop : tie.MeasureT-loop
+μ-loop work m v₀ v = m + 1 - v
+
+loop-holds : tie.Need-loop-holds Inv-loop μ-loop
+loop-holds c = passing-first _ _
+
+operands-known-requires : tie.Need-operands-known-requires Inv-loop μ-loop
+operands-known-requires c κs = search needs
+
+returns : tie.Need-returns Inv-loop μ-loop
+returns c = sym (passing-stop _ _ _ (c .before .before .before .loop .inv) (omega arith) (sym (c .before .operands-known .ensures) ∙ not-true _ (c .if1 .taken)))
+
+add-v : tie.Need-add-v Inv-loop μ-loop
+add-v c = search needs
+
+loop-less : tie.Need-loop-less Inv-loop μ-loop
+loop-less c = search needs
+
+loop-again : tie.Need-loop-again Inv-loop μ-loop
+loop-again c = passing-on _ _ _ (c .before .before .before .loop .inv) (omega arith) (sym (c .before .operands-known .ensures) ∙ not-false _ (c .if1 .left))
+
+returns-2 : tie.Need-returns-2 Inv-loop μ-loop
+returns-2 c = sym (passing-end _ _ _ (c .before .loop .inv) (omega arith))
+
+pub ands-known-spec : {M : Type 1} → statement M
+ands-known-spec =
+    tie.close
+    (tie.spec
+    Inv-loop
+    μ-loop
+    loop-holds
+    operands-known-requires
+    returns
+    add-v
+    loop-less
+    loop-again
+    returns-2)

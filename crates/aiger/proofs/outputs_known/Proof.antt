@@ -1,0 +1,55 @@
+-- `aiger::outputs_known` meets its contract. The invariant: what the outputs from here on pass is what all pass; the measure is what is left.
+-- Assumes nothing.
+use borrow.Author.Needs.{needs}
+use borrow.Author.Tests.{not-true, not-false}
+use mathlib.Core.Path.{sym, _∙_}
+use Prim.Native.Nat.{_-_}
+use Rattle.aiger.specs.Lines.{outputKnown}
+use Rattle.aiger.proofs.Knowing.{Passing, passing-first, passing-on, passing-stop, passing-end}
+use Rattle.aiger.proofs.outputs_known.Statement.{statement}
+use Rattle.aiger.proofs.outputs_known.Tie as tie
+
+abbrev Inv-loop : tie.InvT-loop
+Inv-loop work h i₀ i = Passing (outputKnown work (h .size)) (h .outputs) i
+
+abbrev μ-loop : tie.MeasureT-loop
+μ-loop work h i₀ i = h .outputs - i
+
+loop-holds : tie.Need-loop-holds Inv-loop μ-loop
+loop-holds c = passing-first _ _
+
+output-known-requires : tie.Need-output-known-requires Inv-loop μ-loop
+output-known-requires c κs = search needs
+
+returns : tie.Need-returns Inv-loop μ-loop
+returns c =
+    let at-test = c .before .before in
+    sym (passing-stop _ _ _ (at-test .before .before .loop .inv) (at-test .if1 .taken) (sym (c .before .output-known .ensures) ∙ not-true _ (c .if2 .taken)))
+
+add-i : tie.Need-add-i Inv-loop μ-loop
+add-i c = search needs
+
+loop-less : tie.Need-loop-less Inv-loop μ-loop
+loop-less c = search needs
+
+loop-again : tie.Need-loop-again Inv-loop μ-loop
+loop-again c =
+    let at-test = c .before .before in
+    passing-on _ _ _ (at-test .before .before .loop .inv) (at-test .if1 .taken) (sym (c .before .output-known .ensures) ∙ not-false _ (c .if2 .left))
+
+returns-2 : tie.Need-returns-2 Inv-loop μ-loop
+returns-2 c = sym (passing-end _ _ _ (c .before .before .loop .inv) (c .if1 .left))
+
+pub outputs-known-spec : {M : Type 1} → statement M
+outputs-known-spec =
+    tie.close
+    (tie.spec
+    Inv-loop
+    μ-loop
+    loop-holds
+    output-known-requires
+    returns
+    add-i
+    loop-less
+    loop-again
+    returns-2)
