@@ -272,18 +272,38 @@ impl Netlist {
         [self.gates.len() as u64, area, latest.unwrap_or(0)]
     }
 
+    /// A net `s` is driven by the gate just before that of the net whose name follows, and
+    /// feeds one pin of that gate and nothing else.
+    fn pairs_stand_right(&self) -> Result<(), String> {
+        let uses = |net: &str| {
+            let of_gates = self.gates.iter().flat_map(|gate| gate.pins.iter().map(move |pin| (pin, &gate.net)));
+            let of_names = self.names.iter().map(|[net, name]| (net, name));
+            of_gates.chain(of_names).filter(|(used, _)| *used == net).map(|(_, by)| by.clone()).collect::<Vec<_>>()
+        };
+        for (index, gate) in self.gates.iter().enumerate() {
+            let Some(own) = gate.net.strip_prefix('s') else { continue };
+            let next = self.gates.get(index + 1).map(|next| next.net.as_str());
+            if next != Some(own) || uses(&gate.net) != [own] {
+                return Err(format!("net {} doesn't stand in its pair", gate.net));
+            }
+        }
+        Ok(())
+    }
+
     /// Gates stand "by ascending variable, `p` first", and each feeds an
     /// output, directly or through others.
     pub fn gates_stand_right(&self) -> Result<(), String> {
-        let key = |gate: &Gate| -> Result<(u32, bool), String> {
-            let (phase, variable) = gate.net.split_at(1);
+        let key = |gate: &Gate| -> Result<(u32, bool, bool), String> {
+            let own = gate.net.strip_prefix('s').unwrap_or(&gate.net);
+            let (phase, variable) = own.split_at(1);
             let variable = variable.parse().map_err(|_| format!("net {}", gate.net))?;
-            Ok((variable, phase == "m"))
+            Ok((variable, phase == "m", own == gate.net))
         };
-        let keys: Vec<(u32, bool)> = self.gates.iter().map(key).collect::<Result<_, _>>()?;
+        let keys: Vec<(u32, bool, bool)> = self.gates.iter().map(key).collect::<Result<_, _>>()?;
         if keys.windows(2).any(|pair| pair[0] >= pair[1]) {
             return Err("the gates don't ascend".into());
         }
+        self.pairs_stand_right()?;
         let mut feeding: BTreeMap<&str, &[String]> = BTreeMap::new();
         feeding.extend(self.gates.iter().map(|gate| (gate.net.as_str(), &gate.pins[..])));
         feeding.extend(self.names.iter().map(|names| (names[1].as_str(), &names[..1])));

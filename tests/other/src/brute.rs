@@ -1,7 +1,8 @@
 //! All covers of a tiny graph, one after the other: which phases have one, the
 //! least arrival each net gets in any of them, and the source that the choice
 //! names. Made another way than the reference: cuts are sets of bits, pins are
-//! laid on leaves one by one, arrivals come from whole covers.
+//! laid on leaves one by one, arrivals come from whole covers, a pair's value from its
+//! two gates.
 
 use crate::gen::{Cell, Graph};
 use std::collections::{BTreeMap, BTreeSet};
@@ -16,7 +17,7 @@ type Rank = (bool, usize, Vec<usize>, usize, [usize; 4], usize);
 #[derive(Clone, Debug)]
 pub struct Source {
     pub rank: Rank,
-    /// Line of the cell; none for an input's own net.
+    /// The kind's number; none for an input's own net.
     pub cell: Option<usize>,
     /// For each pin the phase that feeds it, and the pin's delay.
     pub feeds: Vec<(Phase, u64)>,
@@ -26,6 +27,59 @@ pub struct Source {
 
 pub struct Brute {
     pub sources: BTreeMap<Phase, Vec<Source>>,
+    /// The listed cells and, where they are wanted, the pairs, in the order of lines.
+    pub kinds: Vec<Kind>,
+}
+
+/// A listed cell, or a pair of two: the lines of root and inner, and the fed pin.
+#[derive(Clone, Debug)]
+pub struct Kind {
+    pub root: usize,
+    pub inner: Option<(usize, usize)>,
+    values: Vec<bool>,
+    delays: Vec<u64>,
+}
+
+/// The value of a listed cell where its pins have these.
+fn cell_value(cell: &Cell, pins: &[bool]) -> bool {
+    let row: usize = pins.iter().enumerate().map(|(pin, &is)| usize::from(is) << pin).sum();
+    cell.table >> row & 1 == 1
+}
+
+fn kinds(cells: &[Cell], pairs: bool) -> Vec<Kind> {
+    let bits = |row: usize, count: usize| (0..count).map(|bit| row >> bit & 1 == 1).collect::<Vec<bool>>();
+    let own = |cell: &Cell| cell.delays[..cell.pins].iter().map(|&delay| u64::from(delay)).collect::<Vec<u64>>();
+    let mut kinds = Vec::new();
+    for (root, cell) in cells.iter().enumerate() {
+        let values = (0..1 << cell.pins).map(|row| cell_value(cell, &bits(row, cell.pins))).collect();
+        kinds.push(Kind { root, inner: None, values, delays: own(cell) });
+    }
+    for (root, outer) in cells.iter().enumerate().filter(|_| pairs) {
+        for fed in 0..outer.pins {
+            for (inner, within) in cells.iter().enumerate() {
+                let count = outer.pins + within.pins - 1;
+                if within.pins == 0 || count > 4 {
+                    continue;
+                }
+                let value = |row: usize| {
+                    let all = bits(row, count);
+                    let (before, rest) = all.split_at(fed);
+                    let (inside, after) = rest.split_at(within.pins);
+                    cell_value(outer, &[before, &[cell_value(within, inside)], after].concat())
+                };
+                let (at_root, at_inner) = (own(outer), own(within));
+                let through = at_inner.iter().map(|delay| delay + at_root[fed]).collect();
+                let delays = [at_root[..fed].to_vec(), through, at_root[fed + 1..].to_vec()].concat();
+                kinds.push(Kind {
+                    root,
+                    inner: Some((fed, inner)),
+                    values: (0..1 << count).map(value).collect(),
+                    delays,
+                });
+            }
+        }
+    }
+    kinds
 }
 
 fn members(cut: u32) -> Vec<usize> {
@@ -83,7 +137,8 @@ fn first_order(laying: &[usize]) -> [usize; 4] {
 
 impl Brute {
     /// The arrivals of the inputs stand in the order of their lines.
-    pub fn new(cells: &[Cell], graph: &Graph, late: &[u64]) -> Brute {
+    pub fn new(cells: &[Cell], graph: &Graph, late: &[u64], pairs: bool) -> Brute {
+        let kinds = kinds(cells, pairs);
         let mut sources: BTreeMap<Phase, Vec<Source>> = BTreeMap::new();
         let ands = graph.ands.iter().map(|(left, _, _)| *left);
         for variable in [0].into_iter().chain(graph.inputs.iter().copied()).chain(ands) {
@@ -96,7 +151,7 @@ impl Brute {
                 for cut in cut_set(graph, variable) {
                     let leaves = members(cut);
                     if leaves != [variable] {
-                        matches(cells, graph, (variable, negative), &leaves, &mut list);
+                        matches(&kinds, graph, (variable, negative), &leaves, &mut list);
                     }
                 }
                 for (line, cell) in cells.iter().enumerate() {
@@ -109,7 +164,7 @@ impl Brute {
                 sources.insert((variable, negative), list);
             }
         }
-        Brute { sources }
+        Brute { sources, kinds }
     }
 
     /// Goes through all covers of these outputs. Gives for every net that some
@@ -179,7 +234,7 @@ impl Brute {
     }
 }
 
-fn matches(cells: &[Cell], graph: &Graph, phase: Phase, leaves: &[usize], list: &mut Vec<Source>) {
+fn matches(kinds: &[Kind], graph: &Graph, phase: Phase, leaves: &[usize], list: &mut Vec<Source>) {
     let count = leaves.len();
     let wanted: Vec<bool> = (0..1usize << count)
         .map(|row| {
@@ -187,16 +242,17 @@ fn matches(cells: &[Cell], graph: &Graph, phase: Phase, leaves: &[usize], list: 
             value(graph, phase.0, &setting) ^ phase.1
         })
         .collect();
-    for (line, cell) in cells.iter().enumerate() {
-        for laying in layings(cell.pins, count) {
-            for mask in 0..1usize << cell.pins {
+    for (line, kind) in kinds.iter().enumerate() {
+        let pins = kind.delays.len();
+        for laying in layings(pins, count) {
+            for mask in 0..1usize << pins {
                 let fits = wanted.iter().enumerate().all(|(row, &is)| {
                     let fed = laying.iter().enumerate().map(|(pin, &place)| (row >> place & 1) << pin);
-                    (cell.table >> (fed.sum::<usize>() ^ mask) & 1 == 1) == is
+                    kind.values[fed.sum::<usize>() ^ mask] == is
                 });
                 if fits {
                     let fed_by = |pin: usize| (leaves[laying[pin]], mask >> pin & 1 == 1);
-                    let feeds = (0..cell.pins).map(|pin| (fed_by(pin), u64::from(cell.delays[pin]))).collect();
+                    let feeds = (0..pins).map(|pin| (fed_by(pin), kind.delays[pin])).collect();
                     let rank = (false, count, leaves.to_vec(), line, first_order(&laying), mask);
                     list.push(Source { rank, cell: Some(line), feeds, start: 0 });
                 }

@@ -81,7 +81,7 @@ pub fn marked() -> Check {
 /// Runs a case through the reference with what it lends.
 pub fn run(case: &Case) -> (reference::Answer, Vec<u8>) {
     let words = case.words.of(reference::words_needed(&case.graph).unwrap_or(64));
-    let printed = reference::print_all(&case.cells, &case.graph, &case.arrivals, words);
+    let printed = reference::print_with(&case.cells, &case.graph, &case.arrivals, words, case.pairs);
     let length = printed.as_ref().map_or(64, |printed| printed.text.len());
     reference::answer(printed, case.text.of(length))
 }
@@ -199,7 +199,9 @@ pub fn judge_netlist(case: &Case, answer: &reference::Answer, netlist: &[u8]) ->
         graph.outputs.iter().zip(&outputs).map(|(&literal, name)| [net(literal), name.clone()]).collect();
     ensure!(read.inputs == inputs && read.outputs == outputs, "{}", told("names".into()));
     ensure!(read.names == named, "{}", told(".names lines".into()));
-    ensure!(read.gates.len() <= 2 * (graph.top + 1), "{}", told("too many gates".into()));
+    // "the gate bound becomes 4(M+1)"
+    let bound = if case.pairs { 4 } else { 2 } * (graph.top + 1);
+    ensure!(read.gates.len() <= bound, "{}", told("too many gates".into()));
 
     let placed = graph.placed().ok_or_else(|| told("a circle was mapped".into()))?;
     let count = graph.inputs.len();
@@ -300,7 +302,7 @@ pub fn ranges(cases: usize, choices: usize, seed: u64) -> Check {
 }
 
 /// The lines that are read, without what follows them; a binary text whole.
-fn good_part(text: &[u8]) -> Vec<u8> {
+pub fn good_part(text: &[u8]) -> Vec<u8> {
     if text.starts_with(b"aig ") {
         return text.to_vec();
     }
@@ -542,11 +544,13 @@ pub fn digest_without_arrivals() -> u64 {
 
 /// What the brute force has gone through.
 #[derive(Default)]
-struct Gone {
-    graphs: usize,
-    too_wide: usize,
-    mappings: usize,
-    bare: usize,
+pub struct Gone {
+    pub graphs: usize,
+    pub too_wide: usize,
+    pub mappings: usize,
+    pub bare: usize,
+    /// Gates of pairs.
+    pub paired: usize,
 }
 
 /// Tiny graphs: every phase's cover and arrival against all covers, and every
@@ -560,9 +564,9 @@ pub fn all_covers(cases: usize, seed: u64) -> Check {
         let ands = rng.between(1, 5);
         let graph = gen::graph(&mut rng, 4, ands, CUT_LIMIT);
         let late = some_late(&mut rng, graph.inputs.len());
-        against_all_covers(&cells, graph, &late, &mut gone)?;
+        against_all_covers(&cells, graph, &late, false, &mut gone)?;
     }
-    let Gone { graphs, too_wide, mappings, bare } = gone;
+    let Gone { graphs, too_wide, mappings, bare, .. } = gone;
     Ok(format!("{graphs} graphs ({too_wide} more too wide), {mappings} mappings, {bare} without a cover"))
 }
 
@@ -573,24 +577,31 @@ pub fn every_small_graph() -> Check {
     for graph in gen::every_small_graph() {
         let count = rng.between(1, 6);
         let late = some_late(&mut rng, graph.inputs.len());
-        against_all_covers(&gen::library(&mut rng, count), graph, &late, &mut gone)?;
+        against_all_covers(&gen::library(&mut rng, count), graph, &late, false, &mut gone)?;
     }
-    let Gone { graphs, too_wide, mappings, bare } = gone;
+    let Gone { graphs, too_wide, mappings, bare, .. } = gone;
     Ok(format!("{graphs} graphs ({too_wide} more too wide), {mappings} mappings, {bare} without a cover"))
 }
 
 /// Arrivals for so many inputs; none is late in one case of three.
-fn some_late(rng: &mut Rng, inputs: usize) -> Vec<u64> {
+pub fn some_late(rng: &mut Rng, inputs: usize) -> Vec<u64> {
     let kind = rng.below(5);
     let on_time = rng.one_in(3);
     (0..inputs).map(|_| if on_time || rng.one_in(3) { 0 } else { gen::arrival(rng, kind) }).collect()
 }
 
 /// "no cover so timed gives a printed net earlier"
-fn against_all_covers(cells: &[gen::Cell], mut graph: Graph, late: &[u64], gone: &mut Gone) -> Result<(), String> {
+pub fn against_all_covers(
+    cells: &[gen::Cell],
+    mut graph: Graph,
+    late: &[u64],
+    pairs: bool,
+    gone: &mut Gone,
+) -> Result<(), String> {
     let every = graph.ands.iter().map(|(left, _, _)| *left).chain(graph.inputs.iter().copied()).chain([0]);
     let every: Vec<brute::Phase> = every.flat_map(|variable| [(variable, false), (variable, true)]).collect();
-    let brute = brute::Brute::new(cells, &graph, late);
+    let brute = brute::Brute::new(cells, &graph, late, pairs);
+    let map = if pairs { reference::map_pairs } else { reference::map };
     let arrivals_text = if late.iter().all(|&arrival| arrival == 0) { Vec::new() } else { gen::arrivals_of(late) };
     let mut budget = 60_000;
     let mut least: BTreeMap<brute::Phase, u64> = BTreeMap::new();
@@ -611,7 +622,7 @@ fn against_all_covers(cells: &[gen::Cell], mut graph: Graph, late: &[u64], gone:
         gone.mappings += 1;
         let wanted: Vec<brute::Phase> = graph.outputs.iter().map(|literal| (literal / 2, literal % 2 == 1)).collect();
         let (library, text) = (gen::library_text(cells), graph.text());
-        let (answer, netlist) = reference::map(&library, &text, &arrivals_text, graph.words(), 65_536);
+        let (answer, netlist) = map(&library, &text, &arrivals_text, graph.words(), 65_536);
         let told = || {
             let texts = [&library, &text, &arrivals_text, &netlist].map(|text| String::from_utf8_lossy(text));
             texts.join("\n")
@@ -638,17 +649,35 @@ fn against_all_covers(cells: &[gen::Cell], mut graph: Graph, late: &[u64], gone:
             let arrival = arrivals.get(&format!("o{index}"));
             ensure!(arrival == Some(&least[phase]), "o{index} arrives at {arrival:?}\n{}", told());
         }
-        for gate in &read.gates {
+        for (index, gate) in read.gates.iter().enumerate().filter(|(_, gate)| !gate.net.starts_with('s')) {
             let (letter, variable) = gate.net.split_at(1);
             let phase = (variable.parse().unwrap_or(0), letter == "m");
             ensure!(arrivals[&gate.net] == least[&phase], "net {} isn't earliest\n{}", gate.net, told());
             let source = brute.choice(phase, &least).ok_or("no source")?;
-            let name = source.cell.map(|line| &cells[line].name);
             let net = |(variable, negative): brute::Phase| format!("{}{variable}", if negative { "m" } else { "p" });
             let pins: Vec<String> = source.feeds.iter().map(|&(phase, _)| net(phase)).collect();
-            let chosen = name == Some(&gate.cell) && pins == gate.pins;
+            let kind = &brute.kinds[source.cell.ok_or("an input's own net")?];
+            // "A pair prints as two gates, the inner first, on a net `s` followed by the root's net name".
+            let wanted = match kind.inner {
+                None => vec![(kind.root, pins, gate.net.clone())],
+                Some((fed, inner)) => {
+                    let between = format!("s{}", gate.net);
+                    let (before, rest) = pins.split_at(fed);
+                    let (inside, after) = rest.split_at(cells[inner].pins);
+                    let at_root = [before, std::slice::from_ref(&between), after].concat();
+                    vec![(inner, inside.to_vec(), between), (kind.root, at_root, gate.net.clone())]
+                }
+            };
+            gone.paired += wanted.len() - 1;
+            let first = (index + 1).checked_sub(wanted.len()).ok_or_else(told)?;
+            let chosen = read.gates[first..=index]
+                .iter()
+                .zip(wanted)
+                .all(|(gate, (line, pins, net))| gate.cell == cells[line].name && gate.pins == pins && gate.net == net);
             ensure!(chosen, "net {}: the choice is {source:?}\n{}", gate.net, told());
         }
+        let of_pairs = read.gates.iter().filter(|gate| gate.net.starts_with('s')).count();
+        ensure!(pairs || of_pairs == 0, "a pair where none is wanted\n{}", told());
     }
     Ok(())
 }

@@ -794,6 +794,8 @@ pub struct Case {
     pub cells: Vec<u8>,
     pub graph: Vec<u8>,
     pub arrivals: Vec<u8>,
+    /// Whether the call wants pairs of cells.
+    pub pairs: bool,
     pub words: Lent,
     pub text: Lent,
     /// Refusal number and place, where the making knows them; number 0 is
@@ -804,11 +806,16 @@ pub struct Case {
 impl Case {
     pub fn new(what: impl Into<String>, cells: Vec<u8>, graph: Vec<u8>) -> Case {
         let (words, text) = (Lent::Over(5), Lent::Over(9));
-        Case { what: what.into(), cells, graph, arrivals: Vec::new(), words, text, expected: None }
+        Case { what: what.into(), cells, graph, arrivals: Vec::new(), pairs: false, words, text, expected: None }
     }
 
     pub fn arrivals(mut self, arrivals: impl Into<Vec<u8>>) -> Case {
         self.arrivals = arrivals.into();
+        self
+    }
+
+    pub fn with_pairs(mut self) -> Case {
+        self.pairs = true;
         self
     }
 
@@ -1421,6 +1428,182 @@ fn range_limits() -> Vec<Case> {
         .text(Lent::Exact)
         .expect(0, 0));
     add(Case::new("full graph with ranges, text one short", rich, full.text()).text(Lent::OneShort));
+    cases
+}
+
+// ---------------------------------------------------------------- pairs
+
+/// A library and a graph in which two pairs tie, one of a later inner cell at an earlier
+/// pin: variable 10 is the complement of (1 xor 2) and 5, with no AND that is 1 xor 2,
+/// and 5 has both phases at 30. With xor at pin A of low, or xnor at its pin B, it is 31.
+pub const TIE_OF_PINS: (&str, &str) = (
+    "cell pins table area d0 d1 d2 d3\n\
+     inv 1 0001 1 1000 0 0 0\n\
+     low 2 0002 1 1 1 0 0\n\
+     xnor 2 0009 1 5 5 0 0\n\
+     xor 2 0006 1 5 5 0 0\n\
+     and2 2 0008 1 30 30 0 0\n\
+     nand2 2 0007 1 30 30 0 0\n",
+    "aag 10 4 0 1 6\n2\n4\n6\n8\n21\n10 6 8\n12 10 5\n14 12 2\n16 10 3\n18 16 4\n20 15 19\n",
+);
+
+/// How many cells and pairs a library has: a root of r pins takes, at each of them, the
+/// cells of one to 5 - r pins.
+pub fn cells_and_pairs(pins: &[usize]) -> usize {
+    let inner = |most: usize| pins.iter().filter(|&&pins| pins >= 1 && pins <= most).count();
+    pins.len() + pins.iter().map(|&root| root * inner(5 - root)).sum::<usize>()
+}
+
+/// A library whose pairs are mostly within the limit; in two of three the pins have
+/// delays of their own, and in some an inverter is rare, so that pairs are earlier or
+/// the only cover.
+pub fn library_of_pairs(rng: &mut Rng) -> Vec<Cell> {
+    const PARTS: [(usize, u16); 14] = [
+        (1, 0x0001),
+        (1, 0x0002),
+        (2, 0x0006),
+        (2, 0x0009),
+        (2, 0x0002),
+        (2, 0x0004),
+        (2, 0x000b),
+        (2, 0x000d),
+        (2, 0x0007),
+        (2, 0x0001),
+        (2, 0x0008),
+        (2, 0x000e),
+        (3, 0x00ca),
+        (3, 0x0007),
+    ];
+    let count = rng.pick(&[1, 2, 2, 3, 3, 4, 5, 6, 8]);
+    let mut cells = library(rng, count);
+    let kind = rng.below(6);
+    for cell in cells.iter_mut().filter(|_| kind < 4) {
+        let (pins, table) = if kind == 0 { rng.pick(&PARTS) } else { (cell.pins, cell.table) };
+        let mut delays = [0; 4];
+        delays[..pins].fill_with(|| rng.between(1, 60) as u16);
+        *cell = Cell { pins, table, delays, lowest: [0; 4], ..cell.clone() };
+    }
+    let pins = |cells: &[Cell]| cells_and_pairs(&cells.iter().map(|cell| cell.pins).collect::<Vec<_>>());
+    while pins(&cells) > 256 && !rng.one_in(40) {
+        cells.pop();
+    }
+    cells
+}
+
+/// Zero-pin cells added to eleven of two pins, 253 cells and pairs, up to this number.
+pub fn library_of(number: usize) -> Vec<Cell> {
+    let mut cells = small_library();
+    cells.remove(0);
+    while cells.len() < 11 {
+        cells.push(Cell { name: format!("n{}", cells.len()), ..cells[0].clone() });
+    }
+    let tie = Cell { name: String::new(), pins: 0, table: 0, area: 1, delays: [0; 4], lowest: [0; 4] };
+    cells.extend((253..number).map(|index| Cell { name: format!("t{index}"), ..tie.clone() }));
+    cells
+}
+
+/// A random case of a call that wants pairs.
+pub fn pair_case(rng: &mut Rng) -> Case {
+    let cells = library_of_pairs(rng);
+    let text = either_text(rng, &cells);
+    let mut case = match rng.below(20) {
+        0 | 1 => return faults(rng).with_pairs(),
+        // Its library may have more than 256 cells and pairs.
+        2 => return Case { expected: None, ..case(rng) }.with_pairs(),
+        3 => {
+            let most = rng.pick(&[250, 255, 256, 257, 260]);
+            let mut cells = library_of(most);
+            rng.shuffle(&mut cells);
+            let text = either_text(rng, &cells);
+            let case = Case::new(format!("{most} cells and pairs"), text, graph(rng, 4, 3, CUT_LIMIT).text());
+            if most > 256 {
+                case.expect(30, 0)
+            } else {
+                case
+            }
+        }
+        4 | 5 => {
+            let graph = graph(rng, 4, 6, CUT_LIMIT).text();
+            let (cells, graph) =
+                if rng.one_in(2) { (damaged(rng, &text), graph) } else { (text, damaged(rng, &graph)) };
+            Case::new("damage", cells, graph)
+        }
+        6 => Case::new("around the limit of cuts", text, graph(rng, 6, 20, CUT_LIMIT + 2).text()),
+        7 => {
+            let sequence = graph(rng, 6, 12, CUT_LIMIT).in_sequence().expect("no circle");
+            Case::new("binary", text, sequence.binary().expect("in sequence"))
+        }
+        _ => {
+            let most = rng.pick(&[1, 3, 6, 12, 25]);
+            Case::new("graph", text, graph(rng, 6, most, CUT_LIMIT).text())
+        }
+    };
+    case.words = lent(rng);
+    case.text = if rng.one_in(16) { Lent::OneShort } else { lent(rng) };
+    if rng.one_in(2) {
+        case.arrivals = arrivals(rng, inputs_of(&case.graph));
+    }
+    let case = if rng.one_in(3) { alike_but_for_ends(rng, &case) } else { case };
+    case.with_pairs()
+}
+
+/// 30 from both sides, beside the numbers before and after it, and some netlists.
+pub fn pair_limits() -> Vec<Case> {
+    let b = Graph { top: 3, inputs: vec![1, 2], outputs: vec![6], ands: vec![(3, 2, 4)] };
+    let mut cases = Vec::new();
+    let mut add = |case: Case| cases.push(case.with_pairs());
+    for number in [253, 255, 256, 257, 258] {
+        for text in [library_text(&library_of(number)), ranged_text(&library_of(number))] {
+            let case = Case::new(format!("{number} cells and pairs"), text.clone(), b.text());
+            // No inverter: the AND has no cover, its complement has.
+            add(case.clone().expect(if number > 256 { 30 } else { 17 }, 0));
+            let negative = Graph { outputs: vec![7], ..b.clone() };
+            let case = Case { graph: negative.text(), ..case };
+            add(case.expect(if number > 256 { 30 } else { 0 }, 0));
+        }
+    }
+    // After 2 to 6 and 27, before the graph's own.
+    let over = library_of(257);
+    for (lines, number) in [("x\n", 4), ("n3 0 0000 1 0 0 0 0\n", 5), ("x 1 0004 1 1 0 0 0\n", 6)] {
+        let text = library_text(&over);
+        let place = text.len();
+        add(Case::new("30 behind the library's", [&text[..], lines.as_bytes()].concat(), b.text())
+            .expect(number, place));
+    }
+    let text = ranged_text(&over);
+    let place = text.len();
+    let higher = b"x 1 0001 1 1 0 0 0 2 0 0 0\n";
+    add(Case::new("27 before 30", [&text[..], higher].concat(), b.text()).expect(27, place));
+    for graph in ["", "aag 3 2 1 1 1\n", "aag 4096 0 0 0 0\n", "aig 4 2 0 1 1\n", "aag 2 0 0 0 2\n2 4 4\n4 2 2\n"] {
+        let case = Case::new("30 before the graph's", library_text(&over), graph.into());
+        add(case.clone().words(Lent::This(0)).expect(30, 0));
+        add(case.arrivals("x").expect(30, 0));
+    }
+    add(Case::new("1 before 30", library_text(&over), vec![b'x'; 65_537]).expect(1, 0));
+    // 32 cells of four pins form no pairs, and of one pin 1,024.
+    for (pins, table, number) in [(4, 0x8000, 17), (0, 0, 17), (1, 1, 30)] {
+        let cell = |index| Cell { name: format!("c{index}"), pins, table, area: 1, delays: [0; 4], lowest: [0; 4] };
+        let cells: Vec<Cell> = (0..32).map(cell).collect();
+        add(Case::new(format!("32 cells of {pins} pins"), library_text(&cells), b.text()).expect(number, 0));
+    }
+    // Text memory: case B prints `sp3` where it had `m3`, twice.
+    for (lent, number) in [(LISTING.len() + 2, 0), (LISTING.len() + 1, 18), (0, 18)] {
+        let case = Case::new(format!("B with pairs, {lent} bytes"), library_text(&small_library()), b.text());
+        add(case.text(Lent::This(lent)).expect(number, if number == 18 { LISTING.len() + 2 } else { 0 }));
+    }
+    add(Case::new("a tie between pins", TIE_OF_PINS.0.into(), TIE_OF_PINS.1.into()).expect(0, 0));
+    // The largest figures: a pair's delay is 131,070.
+    let slow = "inv 1 0001 65535 65535 0 0 0 65535 0 0 0\nnand2 2 0007 65535 65535 65535 0 0 65535 0 0 0\n";
+    let chain = Graph {
+        top: 2_000,
+        inputs: vec![1, 2, 3, 4],
+        outputs: vec![2 * 2_000, 2 * 2_000 + 1],
+        ands: (5..=2_000).map(|variable| (variable, 2 * variable - 2, 2 * (1 + variable % 4))).collect(),
+    };
+    let case = Case::new("a slow chain", format!("{RANGED_LINE}{slow}").into_bytes(), chain.text());
+    add(case.arrivals(arrivals_of(&[65_535; 4])).words(Lent::Exact).text(Lent::Exact).expect(0, 0));
+    let slowest = "inv 1 0001 65535 65535 0 0 0\nnand2 2 0007 65535 65535 65535 0 0\n";
+    add(Case::new("a pair of 131,070", format!("{NAMES_LINE}{slowest}").into_bytes(), b.text()).expect(0, 0));
     cases
 }
 

@@ -65,10 +65,15 @@ fn figures(line: &[u8], head: &str, wanted: usize, either_end: bool) -> Option<V
 /// The refusal among 1 to 14, 19 to 21 and 25 to 27 that the texts bring, if one
 /// does.
 pub fn judge(cells: &[u8], graph: &[u8], arrivals: &[u8], words: usize) -> Option<(u32, usize)> {
+    judge_with(cells, graph, arrivals, words, false)
+}
+
+/// The same, with 30 where the call wants pairs.
+pub fn judge_with(cells: &[u8], graph: &[u8], arrivals: &[u8], words: usize, pairs: bool) -> Option<(u32, usize)> {
     if cells.len().max(graph.len()).max(arrivals.len()) > 65_536 {
         return Some((1, 0));
     }
-    let inputs = match judge_two(cells, graph, words) {
+    let inputs = match judge_two(cells, graph, words, pairs) {
         Ok(inputs) => inputs,
         Err(refusal) => return Some(refusal),
     };
@@ -89,7 +94,7 @@ pub fn judge(cells: &[u8], graph: &[u8], arrivals: &[u8], words: usize) -> Optio
 }
 
 /// The refusal of the library and the graph, or else the number of inputs.
-fn judge_two(cells: &[u8], graph: &[u8], words: usize) -> Result<usize, (u32, usize)> {
+fn judge_two(cells: &[u8], graph: &[u8], words: usize, pairs: bool) -> Result<usize, (u32, usize)> {
     let mut listed = lines(cells);
     let names = listed.next().map_or(&cells[..0], |(_, line)| line);
     let short = "cell pins table area d0 d1 d2 d3";
@@ -98,6 +103,7 @@ fn judge_two(cells: &[u8], graph: &[u8], words: usize) -> Result<usize, (u32, us
         return Err((2, 0));
     }
     let mut seen: BTreeSet<String> = BTreeSet::new();
+    let mut pins: Vec<usize> = Vec::new();
     for (offset, line) in listed {
         if seen.len() == 32 {
             return Err((3, offset));
@@ -114,6 +120,10 @@ fn judge_two(cells: &[u8], graph: &[u8], words: usize) -> Result<usize, (u32, us
         if (4..figures).any(|at| cell.delays[at] > cell.delays[at - 4]) {
             return Err((27, offset));
         }
+        pins.push(cell.pins.into());
+    }
+    if pairs && crate::gen::cells_and_pairs(&pins) > 256 {
+        return Err((30, 0));
     }
     let mut due = lines(graph);
     let first = due.next().map_or(&graph[..0], |(_, line)| line);

@@ -29,11 +29,18 @@ pub const CUT_LIMIT: usize = 18;
 /// 6 for each of its cuts.
 pub const WORDS_EACH: usize = 16 + 6 * CUT_LIMIT;
 
-/// One more than the highest number of a refusal.
-pub const NUMBERS: usize = 30;
+/// Whether netlists with pairs of cells are counted. A mapper under test that lacks the
+/// feature `pairs` refuses the nets between them until N12 lands.
+pub const COUNTS_PAIRS: bool = cfg!(any(feature = "pairs", not(feature = "ours")));
+
+/// One more than the highest number of a refusal of mapping.
+pub const NUMBERS: usize = 31;
 
 pub mod blif;
 pub mod brute;
+pub mod check;
+pub mod check_checks;
+pub mod check_gen;
 pub mod checks;
 pub mod gen;
 pub mod genlib;
@@ -45,7 +52,11 @@ pub mod memory;
 pub mod mutants;
 #[cfg(feature = "boundary")]
 pub mod ours;
+pub mod pairs;
+pub mod pairs_checks;
 pub mod reference;
+pub mod shuffled;
+pub mod shuffled_checks;
 pub mod tally;
 pub mod tally_checks;
 pub mod tally_gen;

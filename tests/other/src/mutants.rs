@@ -119,7 +119,7 @@ pub const TWO: [(u32, &str); 8] = [
 ];
 
 /// Those of the calls that count and report.
-pub const TALLY: [(u32, &str); 18] = [
+pub const TALLY: [(u32, &str); 19] = [
     (86, "a refused netlist is counted as one"),
     (87, "netlists in which a cell occurs are counted by gates"),
     (88, "the area is that of the next line's cell"),
@@ -138,4 +138,47 @@ pub const TALLY: [(u32, &str); 18] = [
     (101, "pins are accepted in any order"),
     (102, "a missing line's place is 0"),
     (103, "a gate line may leave out its last pins"),
+    (120, "`s` before a net is refused in gate lines"),
+];
+
+/// Those of pairs of cells.
+pub const PAIRS: [(u32, &str); 14] = [
+    (104, "the inner's pins stand behind the root's"),
+    (105, "an inner pin's delay leaves out the fed pin's"),
+    (106, "a pair is dropped where a listed cell has its table"),
+    (107, "pairs stand by root, then inner, then pin"),
+    (108, "an inner pin's delay has the root's first pin's"),
+    (110, "the root prints before the inner"),
+    (111, "256 cells and pairs are refused"),
+    (112, "30 is tried after 10"),
+    (114, "cells without pins are inner cells too"),
+    (115, "pairs have at most three pins"),
+    (116, "an inner pin's lowest delay leaves out the fed pin's"),
+    (117, "30 counts the pairs alone"),
+    (118, "no cell is paired with itself"),
+    (119, "the net between has the variable alone after `s`"),
+];
+
+/// Those that make arrivals depend on the order of lines.
+pub const SHUFFLED: [(u32, &str); 2] = [
+    (121, "the inverter is that of the first line, whatever its delay"),
+    (122, "a cell is left out where an earlier line has its table"),
+];
+
+/// Those of the call that checks a netlist.
+pub const CHECK: [(u32, &str); 14] = [
+    (123, "10 counts the bytes 10 up to `.end` alone"),
+    (124, "13 inputs are accepted"),
+    (125, "net names may have nine letters"),
+    (126, "a gate may drive an input's net"),
+    (127, "what gates that nothing uses use isn't looked at"),
+    (128, "a net behind a circle is taken for one on it"),
+    (129, "the first input is the highest bit of a setting"),
+    (130, "the last wrong output is returned"),
+    (131, "setting 0 is left out"),
+    (132, "the highest setting that differs is returned"),
+    (133, "a circle before a net that no line drives is returned first"),
+    (134, "pins may have any letter, in the file's order"),
+    (135, "the nets of `.names` lines may be driven by no line"),
+    (136, "pins may stand in any order, each by its letter"),
 ];

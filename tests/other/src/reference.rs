@@ -1,7 +1,8 @@
 //! Another mapper, plain and slow. Quoted sentences are document 01's and, for
 //! binary graph texts, the names of outputs, line ends, late inputs and ranges of
-//! delays, those of requests N1, N3, N5, N7 and N10 in document 02.
+//! delays, those of requests N1, N3, N5, N7 and N10 in document 02; pairs of cells are in `pairs`.
 
+use crate::pairs::{self, Joint, Pin};
 use crate::{CUT_LIMIT, WORDS_EACH};
 use std::collections::{BTreeMap, BTreeSet};
 
@@ -68,19 +69,52 @@ fn timing_lines(text: &[u8]) -> usize {
     text.split_inclusive(|&byte| byte == b'\n').filter(|line| line.starts_with(b"# timing")).map(<[u8]>::len).sum()
 }
 
+/// The whole mapper where the call wants pairs of cells.
+pub fn map_pairs(cells: &[u8], graph: &[u8], arrivals: &[u8], words: usize, text_len: usize) -> (Answer, Vec<u8>) {
+    answer(print_with(cells, graph, arrivals, words, true), text_len)
+}
+
 /// Refusals 1 to 17, 19 to 21 and 25 to 27, or the netlist.
 pub fn print_all(cells: &[u8], graph: &[u8], arrivals: &[u8], words: usize) -> Result<Printed, Refusal> {
+    print_with(cells, graph, arrivals, words, false)
+}
+
+/// Every phase's source, whether an output needs it or not: refusals before 17.
+pub fn mapped(cells: &[u8], graph: &[u8], arrivals: &[u8], with_pairs: bool) -> Result<Mapped, Refusal> {
+    let listed = read_library(cells)?.cells;
+    let cells = if with_pairs { pairs::joined(&listed)? } else { listed };
+    let graph = read_graph(graph, usize::MAX)?;
+    let late = read_arrivals(arrivals, graph.inputs.len())?;
+    let order = placing_order(&graph)?;
+    let cuts = cut_lists(&graph, &order)?;
+    Ok(cover(&cells, &graph, &late, &order, &cuts))
+}
+
+/// The same as `print_all`, "Where a call wants them" with pairs and refusal 30.
+pub fn print_with(
+    cells: &[u8],
+    graph: &[u8],
+    arrivals: &[u8],
+    words: usize,
+    with_pairs: bool,
+) -> Result<Printed, Refusal> {
     // "1 covers this text too."
     if cells.len() > 65_536 || graph.len() > 65_536 || arrivals.len() > plain_or!(63, 65_536, usize::MAX) {
         return refuse(1, 0);
     }
     let library = read_library(cells).map_err(|refusal| plain_or!(35, refusal, uncounted(cells, refusal)))?;
-    let Library { cells, ranged } = library;
+    let Library { cells: listed, ranged } = library;
+    let joined = if with_pairs { pairs::joined(&listed) } else { Ok(listed.clone()) };
+    let after_10 = plain_or!(112, false, joined.is_err());
+    let cells = if after_10 { listed } else { joined? };
     let early = plain_or!(57, None, fault_of_arrivals(graph, arrivals));
     let graph = read_graph(graph, words).map_err(|refusal| {
         let refusal = plain_or!(35, refusal, uncounted(graph, refusal));
         early.filter(|_| !leaves_work_memory(refusal.number)).unwrap_or(refusal)
     })?;
+    if after_10 {
+        return refuse(30, 0);
+    }
     // "both line by line after 14"
     let late = read_arrivals(arrivals, graph.inputs.len());
     let order = placing_order(&graph);
@@ -187,6 +221,8 @@ pub struct Cell {
     pub delays: [u32; 4],
     /// "the lowest delays"; where the names line has none they are 0 and unused.
     pub lowest: [u32; 4],
+    /// The parts of a pair; a listed cell has none.
+    pub made_of: Option<Joint>,
 }
 
 /// A library text, and whether it has `l0` to `l3` "after `d3` in its names line".
@@ -259,6 +295,7 @@ fn read_cell(line: &[u8], ranged: bool) -> Option<Cell> {
         area: figures[0],
         delays: [figures[1], figures[2], figures[3], figures[4]],
         lowest: [5, 6, 7, 8].map(|index| figures.get(index).copied().unwrap_or(0)),
+        made_of: None,
     })
 }
 
@@ -318,9 +355,9 @@ pub fn words_needed(text: &[u8]) -> Option<usize> {
 }
 
 /// "Work memory is unchanged by every refusal tried up to 10": 19 is "tried
-/// after 9", and so before it, and 27 stands "after 6 on its line".
+/// after 9", and so before it, 27 stands "after 6 on its line" and 30 "after 6".
 pub fn leaves_work_memory(number: u32) -> bool {
-    (1..=10).contains(&number) || number == 19 || number == 27
+    (1..=10).contains(&number) || [19, 27, 30].contains(&number)
 }
 
 /// Refusals 7 to 14 and 19 to 21.
@@ -664,8 +701,20 @@ struct Ways<'a> {
 impl<'a> Ways<'a> {
     fn new(cells: &'a [Cell]) -> Ways<'a> {
         let mut fed: BTreeMap<u16, Vec<Fed>> = BTreeMap::new();
+        let orders = orders();
         for (line, cell) in cells.iter().enumerate() {
-            for (number, &places) in orders().iter().enumerate() {
+            if plain_or!(
+                122,
+                false,
+                cells[..line].iter().any(|earlier| (earlier.pins, earlier.table) == (cell.pins, cell.table))
+            ) {
+                continue;
+            }
+            for (number, &places) in orders.iter().enumerate() {
+                // The same places of all pins under an earlier order would be chosen before.
+                if orders[..number].iter().any(|earlier| earlier[..cell.pins] == places[..cell.pins]) {
+                    continue;
+                }
                 for mask in 0..1 << cell.pins {
                     let gives = |row: &usize| {
                         let pins = (fed_row(places, *row) ^ mask) % (1 << cell.pins);
@@ -750,8 +799,11 @@ pub fn feeds(cells: &[Cell], cuts: &[Vec<Vec<u16>>], phase: Phase, source: Sourc
 /// this number, every arrival starts from it": the inputs' arrivals stand by index.
 pub fn cover(cells: &[Cell], graph: &Graph, late: &[u32], order: &[u16], cuts: &[Vec<Vec<u16>>]) -> Mapped {
     let ways = Ways::new(cells);
-    let inverters = cells.iter().enumerate().filter(|(_, cell)| cell.pins == 1 && cell.table == 0x0001);
-    let inverter = inverters.min_by_key(|(line, cell)| (cell.delays[0], plain_or!(8, *line, 99 - *line)));
+    // "The inverter role stays with listed cells."
+    let is_inverter = |cell: &Cell| cell.pins == 1 && cell.table == 0x0001 && cell.made_of.is_none();
+    let inverters = cells.iter().enumerate().filter(|(_, cell)| is_inverter(cell));
+    let inverter =
+        inverters.min_by_key(|(line, cell)| (plain_or!(121, cell.delays[0], 0), plain_or!(8, *line, 99 - *line)));
     let mut mapped = Mapped::new();
     for &variable in order {
         let lists = &cuts[usize::from(variable)];
@@ -885,6 +937,29 @@ pub fn needed(cells: &[Cell], graph: &Graph, cuts: &[Vec<Vec<u16>>], mapped: &Ma
     needed
 }
 
+/// The gates of a source: cell, nets of its pins, and the net that it drives. "A pair
+/// prints as two gates, the inner first, on a net `s` followed by the root's net name".
+fn gates_of(cells: &[Cell], line: usize, nets: Vec<String>, output: String) -> Vec<(usize, Vec<String>, String)> {
+    let Some(Joint { root, fed, inner, pins }) = &cells[line].made_of else {
+        return vec![(line, nets, output)];
+    };
+    let between = plain_or!(119, format!("s{output}"), format!("s{}", &output[1..]));
+    let mut at_root = vec![between.clone(); cells[*root].pins];
+    let mut at_inner = vec![String::new(); cells[*inner].pins];
+    for (pin, net) in pins.iter().zip(nets) {
+        match *pin {
+            Pin::Root(pin) => at_root[pin] = net,
+            Pin::Inner(pin) => at_inner[pin] = net,
+        }
+    }
+    debug_assert_eq!(at_root[*fed], between);
+    let mut gates = vec![(*inner, at_inner, between), (*root, at_root, output)];
+    if plain_or!(110, false, true) {
+        gates.reverse();
+    }
+    gates
+}
+
 fn netlist(cells: &[Cell], graph: &Graph, cuts: &[Vec<Vec<u16>>], mapped: &Mapped) -> Printed {
     let mut text = String::from(".model top\n.inputs");
     let inputs = plain_or!(18, graph.inputs.clone(), Vec::from_iter(BTreeSet::from_iter(graph.inputs.clone())));
@@ -907,23 +982,32 @@ fn netlist(cells: &[Cell], graph: &Graph, cuts: &[Vec<Vec<u16>>], mapped: &Mappe
     let (mut gates, mut area) = (0, 0);
     let needed = needed(cells, graph, cuts, mapped);
     for (&phase, net) in mapped {
-        let cell = match net.source {
+        let line = match net.source {
             Source::Input => continue,
-            Source::Cell { cell, .. } | Source::Inverter { cell } => &cells[cell],
+            Source::Cell { cell, .. } | Source::Inverter { cell } => cell,
         };
         if !needed.contains(&phase) {
             continue;
         }
-        text += &format!(".gate {}", cell.name);
-        for (Feed { phase: feeding, .. }, pin) in feeds(cells, cuts, phase, net.source).into_iter().zip("ABCD".chars())
-        {
-            let fed_by =
-                plain_or!(14, feeding, (feeding.0, feeding.1 && matches!(net.source, Source::Inverter { .. })));
-            text += &format!(" {pin}={}", net_name(fed_by));
+        let fed_by = |feed: Feed| {
+            let (variable, negative) = feed.phase;
+            net_name(plain_or!(
+                14,
+                (variable, negative),
+                (variable, negative && matches!(net.source, Source::Inverter { .. }))
+            ))
+        };
+        let nets: Vec<String> = feeds(cells, cuts, phase, net.source).into_iter().map(fed_by).collect();
+        for (line, nets, output) in gates_of(cells, line, nets, net_name(phase)) {
+            let cell = &cells[line];
+            text += &format!(".gate {}", cell.name);
+            for (net, pin) in nets.iter().zip("ABCD".chars()) {
+                text += &format!(" {pin}={net}");
+            }
+            text += &format!(" O={output}\n");
+            gates += 1;
+            area += plain_or!(10, cell.area, if cell.pins == 1 { 0 } else { cell.area });
         }
-        text += &format!(" O={}\n", net_name(phase));
-        gates += 1;
-        area += plain_or!(10, cell.area, if cell.pins == 1 { 0 } else { cell.area });
     }
     // "Before `.end`, each gets `.names` with its net and its own name, then
     // `1 1`. These lines aren't gates and add no delay."

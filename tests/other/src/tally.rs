@@ -1,6 +1,7 @@
 //! Which cells netlists use, request N11 of document 02. Quoted sentences are its own.
 
 use crate::reference::{self, Answer, Cell, Library, Refusal};
+use crate::COUNTS_PAIRS;
 
 /// The figures of a tally: the gates of 32 cells, their areas, the netlists in which
 /// each occurs, and the netlists counted.
@@ -158,7 +159,11 @@ fn gate(cells: &[Cell], words: &[&[u8]]) -> Option<usize> {
     let line = cells.iter().position(|cell| cell.name.as_bytes() == *name)?;
     let pins = [&b"ABCD"[..cells[line].pins], b"O"].concat();
     let is_feed = |(feed, pin): (&&[u8], &u8)| match feed {
-        [is, b'=', net @ ..] => plain_or!(101, is == pin, pins.contains(is)) && is_net(net, b"pm"),
+        // From N12 on "a net `s` followed by the root's net name, which N11 takes in gate lines".
+        [is, b'=', net @ ..] => {
+            let root = net.strip_prefix(b"s").filter(|_| plain_or!(120, COUNTS_PAIRS, false));
+            plain_or!(101, is == pin, pins.contains(is)) && is_net(root.unwrap_or(net), b"pm")
+        }
         _ => false,
     };
     let complete = plain_or!(103, feeds.len() == pins.len(), feeds.len() <= pins.len());

@@ -18,17 +18,18 @@ macro_rules! ensure {
 
 // ---------------------------------------------------------------- second reader
 
-/// Whether a line is the pattern, where `#` stands for one or more digits and `@` for
-/// `p` or `m`.
+/// Whether a line is the pattern, where `#` stands for one or more digits, `@` for `p` or
+/// `m`, and `&` for either of these or `s` before it.
 fn fits(pattern: &[u8], line: &[u8]) -> bool {
     match (pattern.split_first(), line.split_first()) {
         (None, None) => true,
         (Some((b'#', rest)), Some((digit, after))) if digit.is_ascii_digit() => {
             fits(rest, after) || fits(pattern, after)
         }
-        (Some((b'@', rest)), Some((b'p' | b'm', after))) => fits(rest, after),
+        (Some((b'&', rest)), Some((b's', b"p" | b"m" | [b'p' | b'm', ..]))) => fits(&[b"@", rest].concat(), &line[1..]),
+        (Some((b'@' | b'&', rest)), Some((b'p' | b'm', after))) => fits(rest, after),
         (Some((b'~', rest)), Some((b'#', after))) => fits(rest, after),
-        (Some((is, rest)), Some((byte, after))) => is == byte && !b"#@~".contains(is) && fits(rest, after),
+        (Some((is, rest)), Some((byte, after))) => is == byte && !b"#@&~".contains(is) && fits(rest, after),
         _ => false,
     }
 }
@@ -38,8 +39,8 @@ fn fits(pattern: &[u8], line: &[u8]) -> bool {
 pub fn by_patterns(cells: &[u8], netlist: &[u8]) -> Result<BTreeMap<String, u64>, usize> {
     let library = reference::read_library(cells).expect("a good library");
     let gate_of = |cell: &reference::Cell| {
-        let pins: String = "ABCD".chars().take(cell.pins).map(|pin| format!(" {pin}=@#")).collect();
-        format!(".gate {}{pins} O=@#\n", cell.name)
+        let pins: String = "ABCD".chars().take(cell.pins).map(|pin| format!(" {pin}=&#")).collect();
+        format!(".gate {}{pins} O=&#\n", cell.name)
     };
     let patterns: Vec<(String, u64, String)> =
         library.cells.iter().map(|cell| (cell.name.clone(), cell.area.into(), gate_of(cell))).collect();

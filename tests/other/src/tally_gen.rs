@@ -2,7 +2,7 @@
 //! edited and damaged netlists; tallies handed on and forged ones.
 
 use crate::gen::{self, Cell, Rng};
-use crate::{reference, tally, CUT_LIMIT};
+use crate::{reference, tally, COUNTS_PAIRS, CUT_LIMIT};
 
 /// A library text with the cells that it lists.
 #[derive(Clone, Debug)]
@@ -65,6 +65,12 @@ fn net(rng: &mut Rng, letters: &[u8]) -> String {
     format!("{}{}", rng.pick(letters) as char, digits(rng))
 }
 
+/// That of a gate line: sometimes `s` before it.
+fn gate_net(rng: &mut Rng) -> String {
+    let between = if COUNTS_PAIRS && rng.one_in(4) { "s" } else { "" };
+    format!("{between}{}", net(rng, b"pm"))
+}
+
 /// The lines of a netlist of any gates: which of them are gates, and how many outputs.
 #[derive(Clone, Debug)]
 struct Lines {
@@ -99,8 +105,8 @@ fn lines(rng: &mut Rng, library: &Listed) -> Lines {
     let count = if library.cells.is_empty() { 0 } else { rng.pick(&[0, 1, 2, 3, 9, 40]) };
     for _ in 0..count {
         let cell = &library.cells[rng.below(library.cells.len())];
-        let feeds: String = "ABCD".chars().take(cell.pins).map(|pin| format!(" {pin}={}", net(rng, b"pm"))).collect();
-        lines.push(format!(".gate {}{feeds} O={}\n", cell.name, net(rng, b"pm")));
+        let feeds: String = "ABCD".chars().take(cell.pins).map(|pin| format!(" {pin}={}", gate_net(rng))).collect();
+        lines.push(format!(".gate {}{feeds} O={}\n", cell.name, gate_net(rng)));
         gates += 1;
         area += u64::from(cell.area);
     }
@@ -126,7 +132,9 @@ pub fn printed(rng: &mut Rng, library: &Listed) -> Option<(reference::Answer, Ve
         let most = rng.pick(&[1, 4, 10, 25]);
         let graph = gen::graph(rng, 6, most, CUT_LIMIT);
         let arrivals = if rng.one_in(3) { gen::arrivals(rng, graph.inputs.len()) } else { Vec::new() };
-        let (answer, netlist) = reference::map(&library.text, &graph.text(), &arrivals, graph.words(), 65_536);
+        let pairs = COUNTS_PAIRS && library.cells.len() < 8 && rng.one_in(2);
+        let map = if pairs { reference::map_pairs } else { reference::map };
+        let (answer, netlist) = map(&library.text, &graph.text(), &arrivals, graph.words(), 65_536);
         if answer.number == 0 {
             return Some((answer, netlist));
         }
@@ -268,12 +276,18 @@ fn edited(rng: &mut Rng, lines: &mut Lines, library: &Listed) -> usize {
                     words.join(" ") + "\n"
                 }
                 6 => text.replacen(" O=", " Q=", 1) + "\n",
-                7 => text.replacen(" O=", " O=o", 1) + "\n",
+                7 => {
+                    text.replacen(
+                        " O=",
+                        rng.pick(&[" O=o", " O=ss", " O=ps", if COUNTS_PAIRS { " O=S" } else { " O=s" }]),
+                        1,
+                    ) + "\n"
+                }
                 8 => format!("{}{}\n", text, rng.pick(&["x", "=", "-", ".", "p1"])),
                 9 => text.replacen(" O=", " o=", 1) + "\n",
                 10 => text.replacen(".gate", ".names", 1) + "\n",
                 _ => {
-                    let at = text.find(" O=").map_or(0, |at| at + 4);
+                    let at = text.find(" O=").map_or(0, |at| at + 4 + usize::from(text[at + 3..].starts_with('s')));
                     format!("{}\n", &text[..at])
                 }
             };
@@ -283,17 +297,36 @@ fn edited(rng: &mut Rng, lines: &mut Lines, library: &Listed) -> usize {
             let text = lines.lines[line].trim_end().to_string();
             let bad: &[&str] = match () {
                 _ if line == 0 => &[".model Top", ".model", ".model top top", "# model top", ""],
-                _ if line == 1 => {
-                    &[".input p1", ".inputs m1", ".inputs o1", ".inputs 1", ".inputs p", ".inputs p1x", ".inputs s1"]
-                }
-                _ if line == 2 => {
-                    &[".output o1", ".outputs p1", ".outputs 1", ".outputs o", ".outputs oo1", ".outputs o-1"]
-                }
+                _ if line == 1 => &[
+                    ".input p1",
+                    ".inputs m1",
+                    ".inputs o1",
+                    ".inputs 1",
+                    ".inputs p",
+                    ".inputs p1x",
+                    ".inputs s1",
+                    ".inputs sp1",
+                ],
+                _ if line == 2 => &[
+                    ".output o1",
+                    ".outputs p1",
+                    ".outputs 1",
+                    ".outputs o",
+                    ".outputs oo1",
+                    ".outputs o-1",
+                    ".outputs so1",
+                ],
                 _ if text == "1 1" => &["1 0", "0 1", "11", "1", "1 1 1", "11 1", ".names p1 o1"],
                 _ if text == ".end" => &[".End", ".end top", "end", "1 1", ""],
-                _ if text.starts_with(".names") => {
-                    &[".names p1 p2", ".names o1 o2", ".names o1", ".names p1 o2 o3", ".names p1 o", "1 1"]
-                }
+                _ if text.starts_with(".names") => &[
+                    ".names p1 p2",
+                    ".names o1 o2",
+                    ".names o1",
+                    ".names p1 o2 o3",
+                    ".names sp1 o2",
+                    ".names p1 o",
+                    "1 1",
+                ],
                 _ => &[
                     "# timing o1 2",
                     "# timing o1 2 3 4",

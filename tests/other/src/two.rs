@@ -26,15 +26,20 @@ pub struct Two {
 
 /// The whole call, with so many words of work memory and bytes of each text memory.
 pub fn map_two(cells: &[u8], channels: [Channel; 2], words: usize, bytes: [usize; 2]) -> Two {
-    answers(together(alone(cells, channels), channels.map(need), words), bytes)
+    map_two_with(cells, channels, words, bytes, false)
+}
+
+/// The same where the call wants pairs of cells for both channels.
+pub fn map_two_with(cells: &[u8], channels: [Channel; 2], words: usize, bytes: [usize; 2], pairs: bool) -> Two {
+    answers(together(alone(cells, channels, pairs), channels.map(need), words), bytes)
 }
 
 /// "A channel's netlist or refusal depends on the library, its own graph, arrivals
 /// and text length": each channel as if work memory had no end.
-pub fn alone(cells: &[u8], channels: [Channel; 2]) -> [Outcome; 2] {
+pub fn alone(cells: &[u8], channels: [Channel; 2], pairs: bool) -> [Outcome; 2] {
     let [first, second] = channels;
     let second = plain_or!(70, second, Channel { arrivals: first.arrivals, ..second });
-    [first, second].map(|channel| reference::print_all(cells, channel.graph, channel.arrivals, usize::MAX))
+    [first, second].map(|channel| reference::print_with(cells, channel.graph, channel.arrivals, usize::MAX, pairs))
 }
 
 /// The words that 10 wants for a channel. A header that doesn't read is refused before.

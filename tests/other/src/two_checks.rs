@@ -223,7 +223,7 @@ pub fn pairs(count: usize, seed: u64) -> Check {
         let pair = two_gen::pair(&mut rng);
         let texts = pair.texts();
         let judged = texts.map(|Channel { graph, arrivals }| judge::judge(&pair.cells, graph, arrivals, usize::MAX));
-        let early = judged.map(|judged| judged.filter(|&(number, _)| number < 11 || number == 19 || number == 27));
+        let early = judged.map(|judged| judged.filter(|&(number, _)| number < 11 || [19, 27, 30].contains(&number)));
         for (made, judged) in pair.channels.iter().zip(judged) {
             let is_read = |number: u32| !matches!(number, 15..=17);
             let expected = made.expected.filter(|&(number, _)| is_read(number));

@@ -21,6 +21,8 @@ pub struct Made {
 pub struct Pair {
     pub cells: Vec<u8>,
     pub channels: [Made; 2],
+    /// Whether the call wants pairs of cells.
+    pub joined: bool,
 }
 
 impl Pair {
@@ -129,9 +131,23 @@ pub fn channel(rng: &mut Rng) -> Made {
 
 /// A pair by chance; some have one graph twice.
 pub fn pair(rng: &mut Rng) -> Pair {
+    pair_over(rng, gen::full_library())
+}
+
+/// A pair for a call that wants pairs of cells: mostly within the limit of 30.
+pub fn pair_of_pairs(rng: &mut Rng) -> Pair {
+    let cells = gen::library_of_pairs(rng);
+    let mut pair = pair_over(rng, cells.clone());
+    if !rng.one_in(8) {
+        pair.cells = gen::either_text(rng, &cells);
+    }
+    Pair { joined: true, ..pair }
+}
+
+fn pair_over(rng: &mut Rng, full: Vec<gen::Cell>) -> Pair {
     let cells = match rng.below(4) {
         0 => gen::small_library(),
-        1 => gen::full_library(),
+        1 => full,
         _ => {
             let count = gen::library_size(rng);
             gen::library(rng, count)
@@ -152,5 +168,5 @@ pub fn pair(rng: &mut Rng) -> Pair {
             made.expected = None;
         }
     }
-    Pair { cells, channels }
+    Pair { cells, channels, joined: false }
 }

@@ -1,8 +1,9 @@
 //! Every mutant of the reference is caught by a check of `tests/document.rs`,
-//! `tests/genlib.rs`, `tests/two.rs` or `tests/tally.rs`.
+//! `tests/genlib.rs`, `tests/two.rs`, `tests/tally.rs`,
+//! `tests/pairs.rs`, `tests/shuffled.rs` or `tests/check.rs`.
 //! `MUTANTS=28,29` in the environment tries these alone, `CHECKS=limits,ranges` by these checks.
 
-use other::{checks, genlib_checks, mutants, tally_checks, two_checks};
+use other::{check_checks, checks, genlib_checks, mutants, pairs_checks, shuffled_checks, tally_checks, two_checks};
 use std::panic::catch_unwind;
 
 type Checks = [(&'static str, fn() -> checks::Check); 11];
@@ -48,6 +49,28 @@ const TALLY: [(&str, fn() -> checks::Check); 7] = [
     ("damage", tally_checks::damage),
 ];
 
+const PAIRS: [(&str, fn() -> checks::Check); 8] = [
+    ("by_hand", pairs_checks::by_hand),
+    ("printed", pairs_checks::printed),
+    ("limits", pairs_checks::limits),
+    ("ranges", pairs_checks::ranges),
+    ("two_channels", pairs_checks::two_channels),
+    ("netlists", || pairs_checks::netlists(500, 1)),
+    ("all_covers", || pairs_checks::all_covers(100, 1)),
+    ("small_graphs", pairs_checks::small_graphs),
+];
+
+const SHUFFLED: [(&str, fn() -> checks::Check); 2] =
+    [("by_hand", shuffled_checks::by_hand), ("agree", || shuffled_checks::agree(900, 1))];
+
+const CHECK: [(&str, fn() -> checks::Check); 5] = [
+    ("by_hand", check_checks::by_hand),
+    ("limits", check_checks::limits),
+    ("cases", || check_checks::cases(800, 1)),
+    ("printed", || check_checks::printed(300, 1)),
+    ("damage", check_checks::damage),
+];
+
 #[test]
 fn every_mutant_is_caught() {
     caught(&mutants::LIST, &CHECKS);
@@ -66,6 +89,21 @@ fn every_mutant_of_two_is_caught() {
 #[test]
 fn every_mutant_of_tally_is_caught() {
     caught(&mutants::TALLY, &TALLY);
+}
+
+#[test]
+fn every_mutant_of_pairs_is_caught() {
+    caught(&mutants::PAIRS, &PAIRS);
+}
+
+#[test]
+fn every_mutant_of_shuffled_is_caught() {
+    caught(&mutants::SHUFFLED, &SHUFFLED);
+}
+
+#[test]
+fn every_mutant_of_check_is_caught() {
+    caught(&mutants::CHECK, &CHECK);
 }
 
 /// Prints a row for each mutant.

@@ -4,6 +4,7 @@
 //! `--cases N`   so many random cases after the fixed ones
 //! `--seed S`    where the random cases come from
 //! `--only K`    the random case number K alone
+//! `--pairs`     with the feature `pairs`: the call that wants pairs of cells
 //! `--graphs D`  also every `.aag` and `.aig` with every library `.txt` of a folder
 //! `--out D`     where the texts of the first difference go
 //! `--trace`     name every case before it runs, to find one that ends the run
@@ -24,12 +25,21 @@ struct Options {
     graphs: Option<PathBuf>,
     out: PathBuf,
     trace: bool,
+    pairs: bool,
     mutant: u32,
 }
 
 fn options() -> Options {
-    let mut options =
-        Options { cases: 20_000, seed: 1, only: None, graphs: None, out: "diff-out".into(), trace: false, mutant: 0 };
+    let mut options = Options {
+        cases: 20_000,
+        seed: 1,
+        only: None,
+        graphs: None,
+        out: "diff-out".into(),
+        trace: false,
+        pairs: false,
+        mutant: 0,
+    };
     let mut arguments = env::args().skip(1);
     while let Some(name) = arguments.next() {
         let mut next = || arguments.next().unwrap_or_else(|| usage(&name));
@@ -40,6 +50,7 @@ fn options() -> Options {
             "--graphs" => options.graphs = Some(next().into()),
             "--out" => options.out = next().into(),
             "--trace" => options.trace = true,
+            "--pairs" if cfg!(feature = "pairs") => options.pairs = true,
             "--mutant" => options.mutant = next().parse().unwrap_or_else(|_| usage(&name)),
             _ => usage(&name),
         }
@@ -48,7 +59,7 @@ fn options() -> Options {
 }
 
 fn usage(at: &str) -> ! {
-    eprintln!("not understood: {at}\nuse: diff [--cases N] [--seed S] [--only K] [--graphs D] [--out D] [--trace] [--mutant K]");
+    eprintln!("not understood: {at}\nuse: diff [--cases N] [--seed S] [--only K] [--pairs] [--graphs D] [--out D] [--trace] [--mutant K]");
     process::exit(2)
 }
 
@@ -74,7 +85,7 @@ const MOST_WORDS: usize = WORDS_EACH * 4_096 + 4_096 + 2_000;
 fn compare(case: &Case, rng: &mut Rng, tally: &mut Tally) -> Result<(), Difference> {
     let words = case.words.of(reference::words_needed(&case.graph).unwrap_or(64)).min(MOST_WORDS);
     let start = Instant::now();
-    let printed = reference::print_all(&case.cells, &case.graph, &case.arrivals, words);
+    let printed = reference::print_with(&case.cells, &case.graph, &case.arrivals, words, case.pairs);
     tally.reference += start.elapsed();
     let length = printed.as_ref().map_or(64, |printed| printed.text.len());
     let text_len = case.text.of(length);
@@ -106,16 +117,24 @@ fn compare(case: &Case, rng: &mut Rng, tally: &mut Tally) -> Result<(), Differen
     }
 }
 
+fn call(case: &Case, work: &mut [u16], text: &mut [u8]) -> Answer {
+    #[cfg(feature = "pairs")]
+    if case.pairs {
+        return ours::map_pairs(&case.cells, &case.graph, &case.arrivals, work, text);
+    }
+    ours::map(&case.cells, &case.graph, &case.arrivals, work, text)
+}
+
 #[cfg(not(feature = "mutants"))]
 fn behind_the_boundary(case: &Case, work: &mut [u16], text: &mut [u8]) -> Answer {
-    ours::map(&case.cells, &case.graph, &case.arrivals, work, text)
+    call(case, work, text)
 }
 
 /// The mistake is switched on only behind the boundary.
 #[cfg(feature = "mutants")]
 fn behind_the_boundary(case: &Case, work: &mut [u16], text: &mut [u8]) -> Answer {
     other::mutants::switch(MUTANT.with(|mutant| mutant.get()));
-    let answer = ours::map(&case.cells, &case.graph, &case.arrivals, work, text);
+    let answer = call(case, work, text);
     other::mutants::switch(0);
     answer
 }
@@ -183,6 +202,20 @@ fn fixed() -> Vec<Case> {
     cases
 }
 
+/// 30 from both sides, and every graph of two inputs and two ANDs with a library of
+/// pairs.
+fn fixed_pairs() -> Vec<Case> {
+    let mut cases = gen::pair_limits();
+    let mut rng = Rng::new(5);
+    for graph in gen::every_small_graph() {
+        let cells = gen::library_of_pairs(&mut rng);
+        let cells = gen::either_text(&mut rng, &cells);
+        let arrivals = gen::arrivals(&mut rng, graph.inputs.len());
+        cases.push(Case::new("small graph", cells, graph.text()).arrivals(arrivals).with_pairs());
+    }
+    cases
+}
+
 /// Every graph of a folder with every library in it.
 fn folder(path: &Path) -> Vec<Case> {
     let mut names: Vec<PathBuf> =
@@ -235,11 +268,11 @@ fn main() {
     };
     let mut rng = Rng::new(options.seed);
     if options.only.is_none() {
-        for (index, case) in fixed().iter().enumerate() {
+        for (index, case) in if options.pairs { fixed_pairs() } else { fixed() }.iter().enumerate() {
             run(format!("fixed case {index}"), case, &mut rng);
         }
         for case in options.graphs.iter().flat_map(|path| folder(path)) {
-            run("folder".into(), &case, &mut rng);
+            run("folder".into(), &Case { pairs: options.pairs, ..case }, &mut rng);
         }
     }
     let mut twins = 0;
@@ -247,7 +280,7 @@ fn main() {
     for number in numbers {
         // A case depends on its number alone, so that it can be run alone.
         let mut rng = Rng::new(options.seed.wrapping_mul(0x1_0000_0001).wrapping_add(number));
-        let case = gen::case(&mut rng);
+        let case = if options.pairs { gen::pair_case(&mut rng) } else { gen::case(&mut rng) };
         run(format!("seed {} case {number}", options.seed), &case, &mut rng);
         // Of every eighth also its graph in sequence, in both forms.
         let pair = if number % 8 == 0 { checks::twins_of(&case) } else { None };
@@ -257,7 +290,7 @@ fn main() {
         }
     }
     let counts: Vec<String> =
-        (0..22).chain([25, 26, 27]).map(|number: usize| format!("{number}:{}", tally.counts[number])).collect();
+        (0..22).chain([25, 26, 27, 30]).map(|number: usize| format!("{number}:{}", tally.counts[number])).collect();
     let all: u64 = tally.counts.iter().sum();
     println!(
         "{all} cases, {twins} of them twins, by number {}, 0 differences; reference {:.1} s, under test {:.1} s",

@@ -30,7 +30,7 @@ fn around(words: usize) -> Vec<Pair> {
     let first = variables / 3;
     [[40, outputs - 40], [41, outputs - 40], [40, outputs - 39]]
         .map(|[one, other]| [plain(first, one), plain(variables - first, other)])
-        .map(|channels| Pair { cells: cells.clone(), channels })
+        .map(|channels| Pair { cells: cells.clone(), channels, joined: false })
         .to_vec()
 }
 
@@ -48,7 +48,7 @@ fn main() {
     let mut rng = Rng::new(seed as u64);
     let mut pairs = around(words);
     let absent = Made { what: "absent".into(), graph: Vec::new(), ..plain(2, 0) };
-    pairs.push(Pair { cells: Vec::new(), channels: [absent.clone(), absent.clone()] });
+    pairs.push(Pair { cells: Vec::new(), channels: [absent.clone(), absent.clone()], joined: false });
     pairs.push(Pair { channels: [plain(3, 2), absent], ..pairs[0].clone() });
     pairs.extend((0..count).map(|_| two_gen::pair(&mut rng)));
     let (mut texts, mut refused) = (0, 0);

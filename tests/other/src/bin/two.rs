@@ -7,6 +7,7 @@
 //! `--seed S`    where they come from
 //! `--only K`    the pair number K alone
 //! `--out D`     where the texts of the first difference go
+//! `--joined`    with the feature `pairs`: the call that wants pairs of cells
 //! `--mutant K`  with the features `self,mutants`: a mistake behind the boundary
 
 use other::gen::Rng;
@@ -20,7 +21,7 @@ use std::time::{Duration, Instant};
 use std::{env, fs, process};
 
 fn usage(at: &str) -> ! {
-    eprintln!("not understood: {at}\nuse: two [--pairs N] [--seed S] [--only K] [--out D] [--mutant K]");
+    eprintln!("not understood: {at}\nuse: two [--pairs N] [--seed S] [--only K] [--out D] [--joined] [--mutant K]");
     process::exit(2)
 }
 
@@ -58,16 +59,24 @@ fn compare(
     (wanted, wrong)
 }
 
+fn call(pair: &Pair, work: &mut [u16], texts: [&mut [u8]; 2]) -> [Answer; 2] {
+    #[cfg(feature = "pairs")]
+    if pair.joined {
+        return ours::map_two_pairs(&pair.cells, pair.texts(), work, texts);
+    }
+    ours::map_two(&pair.cells, pair.texts(), work, texts)
+}
+
 #[cfg(not(feature = "mutants"))]
 fn behind_the_boundary(pair: &Pair, work: &mut [u16], texts: [&mut [u8]; 2], _: u32) -> [Answer; 2] {
-    ours::map_two(&pair.cells, pair.texts(), work, texts)
+    call(pair, work, texts)
 }
 
 /// The mistake is switched on only behind the boundary.
 #[cfg(feature = "mutants")]
 fn behind_the_boundary(pair: &Pair, work: &mut [u16], texts: [&mut [u8]; 2], mutant: u32) -> [Answer; 2] {
     other::mutants::switch(mutant);
-    let answers = ours::map_two(&pair.cells, pair.texts(), work, texts);
+    let answers = call(pair, work, texts);
     other::mutants::switch(0);
     answers
 }
@@ -75,7 +84,12 @@ fn behind_the_boundary(pair: &Pair, work: &mut [u16], texts: [&mut [u8]; 2], mut
 fn main() {
     let (mut pairs, mut seed, mut only, mut out, mut mutant) = (10_000, 1, None, String::from("two-out"), 0);
     let mut arguments = env::args().skip(1);
+    let mut joined = false;
     while let Some(name) = arguments.next() {
+        if name == "--joined" && cfg!(feature = "pairs") {
+            joined = true;
+            continue;
+        }
         let next = arguments.next().unwrap_or_else(|| usage(&name));
         let number = || next.parse::<u64>().unwrap_or_else(|_| usage(&name));
         match name.as_str() {
@@ -92,8 +106,8 @@ fn main() {
     for number in only.map_or(0..pairs, |only| only..only + 1) {
         // A pair depends on its number alone, so that it can be run alone.
         let mut rng = Rng::new(seed.wrapping_mul(0x1_0000_0001).wrapping_add(number));
-        let pair = two_gen::pair(&mut rng);
-        let alone = two::alone(&pair.cells, pair.texts());
+        let pair = if joined { two_gen::pair_of_pairs(&mut rng) } else { two_gen::pair(&mut rng) };
+        let alone = two::alone(&pair.cells, pair.texts(), joined);
         let early = alone.each_ref().map(|outcome| two::early(outcome).map(|refusal| refusal.number));
         for words in pair.words(&mut rng) {
             let (wanted, wrong) = compare(&pair, &alone, words, &mut rng, mutant, &mut ours);
@@ -114,7 +128,7 @@ fn main() {
             process::exit(1);
         }
     }
-    let numbers = (0..22).chain([25, 26, 27]).map(|number: usize| format!("{number}:{}", counts[number]));
+    let numbers = (0..22).chain([25, 26, 27, 30]).map(|number: usize| format!("{number}:{}", counts[number]));
     let told = kinds.every();
     if only.is_none() && pairs >= 1_000 && told.is_err() {
         println!("{told:?}");
