@@ -2,23 +2,23 @@
 --     Passing          a loop over numbers from 0 on: what those from here on pass is what all pass
 --     line-known       where the words say that all is defined, it is so of each line
 -- Assumes nothing.
-use mathlib.Core.Path.{_≡_, refl, sym, ap, _∙_, subst}
-use mathlib.Core.Bool.{Bool, true, false, not, _&&_, _||_}
-use mathlib.Core.List.{List, [], _∷_, List·Memᴰ}
+use mathlib.Core.Path.{_≡_, sym, ap, _∙_, subst}
+use mathlib.Core.Bool.{Bool, true, false, _&&_}
+use mathlib.Core.List.{List, _∷_, List·Memᴰ}
 use Prim.Native.Nat.{ℕ, suc, _+_, _-_, _*_, _/_, _≤_, _<_}
 use native.Mathlib.Numerals.{add-one}
 use native.Mathlib.Omega.{arith}
-use lib.Dec.{T, eqb, leb}
-use lib.ListN.{length, getD}
+use lib.Dec.{T, leb}
+use lib.ListN.{getD}
 use borrow.Author.Tests.{eq-eqb}
-use Rattle.model.specs.Base.{from, below, all, keep}
-use Rattle.model.specs.Graph.{And, Graph, node, varOf}
+use Rattle.model.specs.Base.{from, below, all}
+use Rattle.model.specs.Graph.{node, varOf}
 use Rattle.model.specs.GraphText.{Kind, anInput, anOutput, anAnd, Item, sameKind, isKind, graphOf}
 use Rattle.model.specs.declared.Header.{Header}
-use Rattle.words.specs.Layout.{undefinedKind, constantKind, andKind, kindAt, leftAt, rightAt, outputAt}
+use Rattle.words.specs.Layout.{constantKind, andKind, kindAt, leftAt, rightAt, outputAt}
 use Rattle.theory_graph.proofs.Lists.{map-in, keep-in, below-in, all-of, is-true}
 use Rattle.text.proofs.Bytes.{and-left, and-right}
-use Rattle.placing.specs.Loaded.{kindOf, leftOf, rightOf, Holding, Sure}
+use Rattle.placing.specs.Loaded.{kindOf, leftOf, rightOf, Holding}
 use Rattle.placing.proofs.Orders.{mem-index}
 use Rattle.loading.specs.declared.Literals.{Literals}
 use Rattle.loading.proofs.Tests.{code, Short, itemOf}
@@ -94,7 +94,6 @@ module _ (h : Header) (w₀ w : List ℕ) (is : List Item) (hold : Holding w₀ 
       ap (isKnown w (h .size)) (sym (hold .held .outs (j .0) (j .1) ∙ j .2)) ∙ output-is (j .0) (omega (arith, j .1, hold .outs))
   line-known anAnd at l e i =
       let a = hold .sure (andOf l) (ands-have at l i) in
-      let v : ℕ = l .first / 2 in
       let k : kindAt w (h .size) (l .first / 2) ≡ andKind = hold .held .kinds (l .first / 2) (a .var) ∙ ap kindOf (a .node) in
       let x : leftAt w (h .size) (l .first / 2) ≡ l .left = hold .held .lefts (l .first / 2) (a .var) ∙ ap leftOf (a .node) in
       let y : rightAt w (h .size) (l .first / 2) ≡ l .right = hold .held .rights (l .first / 2) (a .var) ∙ ap rightOf (a .node) in
