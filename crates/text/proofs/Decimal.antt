@@ -74,6 +74,28 @@ dec-small-length n h = ap length (dec-small n h)
 pub dec-big-length : (n : ℕ) → 10 ≤ n → length (decimal n) ≡ length (decimal (n / 10)) + 1
 dec-big-length n h = ap length (dec-big n h) ∙ length-append (decimal (n / 10)) ((48 + n % 10) ∷ [])
 
+-- by its last two
+pub dec-pair : (n : ℕ) → 10 ≤ n → n < 100 → decimal n ≡ (48 + n / 10) ∷ (48 + n % 10) ∷ []
+dec-pair n h l = dec-big n h ∙ ap (λ (x : List ℕ). x ++ ((48 + n % 10) ∷ [])) (dec-small (n / 10) (omega arith))
+
+pub dec-pairs : (n : ℕ) → 100 ≤ n → decimal n ≡ decimal (n / 100) ++ ((48 + n % 100 / 10) ∷ (48 + n % 100 % 10) ∷ [])
+dec-pairs n h =
+    let q : n / 10 / 10 ≡ n / 100 = omega arith in
+    let d : n / 10 % 10 ≡ n % 100 / 10 = omega arith in
+    let e : n % 10 ≡ n % 100 % 10 = omega arith in
+    dec-big n (omega arith)
+    ∙ ap (λ (x : List ℕ). x ++ ((48 + n % 10) ∷ [])) (dec-big (n / 10) (omega arith))
+    ∙ append-snoc (decimal (n / 10 / 10)) (48 + n / 10 % 10) ((48 + n % 10) ∷ [])
+    ∙ ap (λ (x : ℕ). decimal x ++ ((48 + n / 10 % 10) ∷ (48 + n % 10) ∷ [])) q
+    ∙ ap (λ (x : ℕ). decimal (n / 100) ++ ((48 + x) ∷ (48 + n % 10) ∷ [])) d
+    ∙ ap (λ (x : ℕ). decimal (n / 100) ++ ((48 + n % 100 / 10) ∷ (48 + x) ∷ [])) e
+
+pub dec-pair-length : (n : ℕ) → 10 ≤ n → n < 100 → length (decimal n) ≡ 2
+dec-pair-length n h l = ap length (dec-pair n h l)
+
+pub dec-pairs-length : (n : ℕ) → 100 ≤ n → length (decimal n) ≡ length (decimal (n / 100)) + 2
+dec-pairs-length n h = ap length (dec-pairs n h) ∙ length-append (decimal (n / 100)) ((48 + n % 100 / 10) ∷ (48 + n % 100 % 10) ∷ [])
+
 -- a number below a power of ten has no more digits than that
 pub dec-below : (k n : ℕ) → n < 10 ^ suc k → length (decimal n) ≤ suc k
 dec-below zero n h = let s : n < 10 = h in omega (arith, dec-small-length n s)

@@ -79,6 +79,15 @@ unfoldable pub numberAt : List ℕ → ℕ → Number
 unfolding endAt
 numberAt s at = numberOf (number (wordAt s at)) (endAt s at)
 
+-- a number that was read up to a place, if its field ends there
+abbrev pub pickNumber : Bool → Number → Number → Number
+pickNumber true a b = a
+pickNumber false a b = b
+
+unfoldable pub closedAt : List ℕ → ℕ → ℕ → Number
+unfolding wordAt
+closedAt s at n = pickNumber (eqb (length (wordAt s at)) 0) (Found n (record { at = at })) NoNumber
+
 unfoldable pub tableAt : List ℕ → ℕ → Number
 unfolding endAt
 tableAt s at = numberOf (hexTable (wordAt s at)) (endAt s at)

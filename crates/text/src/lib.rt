@@ -3,14 +3,14 @@
 // A field is what stands up to the next space, line's end or end of text; each field is judged whole, by the definition of the crate `model`.
 ghost use mathlib.Core.Path.{_≡_};
 ghost use mathlib.Core.List.{_∷_, []};
-ghost use Prim.Native.Nat.{_+_, _≤_, _<_};
+ghost use Prim.Native.Nat.{_+_, _/_, _%_, _≤_, _<_};
 ghost use lib.ListN.{length, getD, drop};
 ghost use Rattle.model.specs.Base.{all, same};
 ghost use Rattle.model.specs.Text.{decimal, number, hexDigit, hexFrom, hexTable, isLetter, isNameByte, isName};
 ghost use Rattle.model.specs.LibraryText.{nameBytes};
 ghost use Rattle.words.specs.Put.{putAt};
 ghost use Rattle.text.specs.Writing.{Wrote};
-ghost use Rattle.text.specs.Fields.{endOf, endAt, valueOf, byteAt, lineEndAt, numberAt, tableAt, nameAt, thenByte, thenEnd, numberThen, numberEnd, tableThen, differenceAt};
+ghost use Rattle.text.specs.Fields.{endOf, endAt, valueOf, byteAt, lineEndAt, numberAt, tableAt, nameAt, closedAt, thenByte, thenEnd, numberThen, numberEnd, tableThen, differenceAt};
 ghost use Rattle.text.specs.Lines.{spanAt};
 
 // A position in a text. The text itself is a parameter of each method.
@@ -158,6 +158,47 @@ pub fn number_of(w: &[u8]) -> Value
     digits_of(w)
 }
 
+// A number whose digits end at a place: it is one only if its field ends there.
+fn closed(s: &[u8], at: usize, n: u16) -> Number
+    ensures { λ r. ⌜ r ≡ closedAt (now (s .entry)) at n ⌝ }
+{
+    if s.len() <= at {
+        return Number::Value(n, Cursor { at });
+    }
+    if s[at] == 32 {
+        return Number::Value(n, Cursor { at });
+    }
+    if ends_at(s, at) == 0 {
+        Number::Broken
+    } else {
+        Number::Value(n, Cursor { at })
+    }
+}
+
+// The number's field at a place where no zero begins it: its digits and its end in one pass.
+fn digits_at(s: &[u8], from: usize) -> Number
+    requires { ⌜ (from < length (now s)) × (48 < getD (now s) from 0) ⌝ }
+    ensures { λ r. ⌜ r ≡ numberAt (now (s .entry)) from ⌝ }
+{
+    let mut n: u32 = 0;
+    let mut at = from;
+    while at < s.len() {
+        let b = s[at];
+        if b < 48 {
+            return closed(s, at, n as u16);
+        }
+        if b > 57 {
+            return Number::Broken;
+        }
+        n = n * 10 + (b as u32 - 48);
+        if n > 65535 {
+            return Number::Broken;
+        }
+        at += 1;
+    }
+    Number::Value(n as u16, Cursor { at })
+}
+
 // ---- "four lower-case hexadecimal digits"
 
 // The value of a digit of the foundry's sheet: "Write it as listed cases, digits and letters by range, so that they can tick them off." A digit's
@@ -291,10 +332,13 @@ impl Cursor {
         if s.len() <= from {
             return Number::Broken;
         }
-        let end = field_end(s, from);
-        match number_of(&s[from..end]) {
-            Value::Is(n) => Number::Value(n, Cursor { at: end }),
-            Value::Broken => Number::Broken,
+        if s[from] > 48 {
+            return digits_at(s, from);
+        }
+        if s[from] == 48 {
+            closed(s, from + 1, 0)
+        } else {
+            Number::Broken
         }
     }
 
@@ -448,6 +492,16 @@ pub fn number_len(n: u32) -> usize
     if n < 10 { 1 } else { number_len(n / 10) + 1 }
 }
 
+// Two digits, a zero first where the number is below ten; the answer is the place past them.
+fn put_pair(out: &mut [u8], at: usize, n: u32) -> usize
+    requires { ⌜ (at + 2 ≤ length (now out)) × (n < 100) ⌝ }
+    ensures { λ r. ⌜ (r ≡ at + 2) × (now (out .exit) ≡ putAt (now (out .entry)) at ((48 + n / 10) ∷ (48 + n % 10) ∷ [])) ⌝ }
+{
+    out[at] = 48 + (n / 10) as u8;
+    out[at + 1] = 48 + (n % 10) as u8;
+    at + 2
+}
+
 // A number's digits, from byte `at` on; the answer is the place past them.
 pub fn put_number(out: &mut [u8], at: usize, n: u32) -> usize
     requires { ⌜ at + length (decimal n) ≤ length (now out) ⌝ }
@@ -455,10 +509,12 @@ pub fn put_number(out: &mut [u8], at: usize, n: u32) -> usize
 {
     if n < 10 {
         out[at] = 48 + n as u8;
-        at + 1
+        return at + 1;
+    }
+    if n < 100 {
+        put_pair(out, at, n)
     } else {
-        let next = put_number(out, at, n / 10);
-        out[next] = 48 + (n % 10) as u8;
-        next + 1
+        let next = put_number(out, at, n / 100);
+        put_pair(out, next, n % 100)
     }
 }
