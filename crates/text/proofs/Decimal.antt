@@ -220,10 +220,6 @@ unfolding number only
 number-zeros b w = rw (not-same (48 ∷ b ∷ w) (decimal (asDigits 0 (48 ∷ b ∷ w))) (λ e. head-zero (asDigits 0 (48 ∷ b ∷ w)) b w (sym e)), and-false)
 
 -- the same, by the tests that the reader makes
-pub no-bytes : (w : List ℕ) → length w ≡ 0 → number w ≡ none
-no-bytes [] e = number-empty
-no-bytes (b ∷ w) e = absurd (omega arith)
-
 pub zero-alone : (w : List ℕ) → getD w 0 0 ≡ 48 → length w ≡ 1 → number w ≡ some 0
 zero-alone [] e l = absurd (omega arith)
 zero-alone (b ∷ []) e l = ap (λ (x : ℕ). number (x ∷ [])) e ∙ number-zero

@@ -2,24 +2,26 @@
 --     Run              up to a place all bytes are digits, of value n, to which the rest adds
 --     run-..           what the next byte makes of it
 --     zero-first, low-first     a field that begins with a zero or with no digit
+--     whole-..         a field that is all of a text
 -- Assumes nothing.
 use mathlib.Core.Path.{_≡_, refl, sym, ap, _∙_}
 use mathlib.Core.Bool.{Bool, true, false}
-use mathlib.Core.Option.{none, some}
+use mathlib.Core.Option.{Option, none, some}
 use mathlib.Core.List.{List, [], _∷_}
 use Prim.Native.Nat.{ℕ, suc, _+_, _-_, _*_, _≤_, _<_}
 use native.Mathlib.Numerals.{add-one}
 use native.Mathlib.Omega.{arith}
 use lib.Dec.{eqb}
 use lib.ListN.{length, drop, getD, length-drop}
-use lib.Seq.{drop-cons}
+use lib.Seq.{drop-cons, take-all}
 use borrow.Author.Count.{below-more}
 use borrow.Author.Tests.{eqb-true, eqb-false, ne-eqb}
 use Rattle.model.specs.Text.{asDigits, number}
+use Rattle.text.specs.declared.Cursor.{Cursor}
 use Rattle.text.specs.declared.Number.the-variants.{Value as Found, Broken as NoNumber}
-use Rattle.text.specs.Fields.{endOf, wordAt, endAt, numberAt, closedAt}
+use Rattle.text.specs.Fields.{pickBytes, endOf, stops, wordOf, wordAt, endAt, numberOf, numberAt, closedAt}
 use Rattle.text.proofs.Decimal.{number-other, number-large, number-all, number-empty, value-step, value-end, zero-alone, zero-leads}
-use Rattle.text.proofs.Words.{end-other, word-step, word-space, word-line, word-out}
+use Rattle.text.proofs.Words.{end-other, word-step, word-space, word-line, word-out, end-le, part-is}
 
 -- ---- a field that ends at a place, and one that goes on
 
@@ -191,3 +193,56 @@ module _ (s : List ℕ) (at : ℕ) (l : at < length s) where
       go (goes e) =
           let h : getD (wordAt s at) 0 0 ≡ getD s at 0 = ap (λ (x : List ℕ). getD x 0 0) e in
           number-other (wordAt s at) 0 (omega (arith, ap length e)) (λ d. omega (arith, h, d .0))
+
+-- ---- a field that is all of a text
+
+past-word : (l : List ℕ) → wordOf (drop (length (wordOf l)) l) ≡ []
+unfolding wordOf
+past-word [] = refl
+past-word (b ∷ l) = go (eqb b 32) (stops (b ∷ l)) refl refl (past-word l)
+  where
+    go : (t u : Bool) → eqb b 32 ≡ t → stops (b ∷ l) ≡ u → wordOf (drop (length (wordOf l)) l) ≡ [] → wordOf (drop (length (pickBytes t [] (pickBytes u [] (b ∷ wordOf l)))) (b ∷ l)) ≡ []
+    go true u p q more = rw p
+    go false true p q more = rw (p, q)
+    go false false p q more = more
+
+module _ (w : List ℕ) where
+  word-all : endAt w 0 ≡ length w → wordAt w 0 ≡ w
+  word-all e =
+      let n : length w ≤ length w - 0 = omega arith in
+      sym (part-is w 0 (length w) (sym e)) ∙ take-all (length w - 0) w n
+
+  -- a field that ends before the text does: what stands there is no digit
+  word-some : (endAt w 0 ≡ length w → ⊥) → number w ≡ none
+  unfolding endAt wordAt
+  word-some e =
+      let end : ℕ = length (wordOf w) in
+      let l : length (wordOf w) < length w = omega (arith, end-le w 0 (omega arith), e) in
+      number-other w (length (wordOf w)) l
+      (λ d.
+      let c : wordAt w (length (wordOf w)) ≡ getD w (length (wordOf w)) 0 ∷ wordAt w (length (wordOf w) + 1) = inner w (length (wordOf w)) l (omega (arith, d .0)) in
+      let z : _≡_ {A = ℕ} 0 1 = cc (past-word w) in
+      omega arith)
+
+  whole-found : (n : ℕ) (c : Cursor) → numberAt w 0 ≡ Found n c → (number (wordAt w 0) ≡ some n) × (c .at ≡ endAt w 0)
+  unfolding numberAt
+  whole-found n c e = go (number (wordAt w 0)) refl e
+    where
+      go : (o : Option ℕ) → number (wordAt w 0) ≡ o → numberOf o (endAt w 0) ≡ Found n c → (number (wordAt w 0) ≡ some n) × (c .at ≡ endAt w 0)
+      go none p q = let z : _≡_ {A = ℕ} 0 1 = cc in absurd (omega arith)
+      go (some k) p q = let k≡n : k ≡ n = cc in let c≡ : record { at = endAt w 0 } ≡ c = cc in (p ∙ ap some k≡n, sym (ap (λ (x : Cursor). x .at) c≡))
+
+  pub whole-is : (n : ℕ) (c : Cursor) → numberAt w 0 ≡ Found n c → c .at ≡ length w → number w ≡ some n
+  whole-is n c e l = let f = whole-found n c e in ap number (sym (word-all (sym (f .1) ∙ l))) ∙ f .0
+
+  pub whole-not : (n : ℕ) (c : Cursor) → numberAt w 0 ≡ Found n c → (c .at ≡ length w → ⊥) → number w ≡ none
+  whole-not n c e l = word-some (λ q. l (whole-found n c e .1 ∙ q))
+
+  pub whole-none : numberAt w 0 ≡ NoNumber → number w ≡ none
+  unfolding numberAt
+  whole-none e = go (number (wordAt w 0)) (eqb (endAt w 0) (length w)) refl refl e
+    where
+      go : (o : Option ℕ) (t : Bool) → number (wordAt w 0) ≡ o → eqb (endAt w 0) (length w) ≡ t → numberOf o (endAt w 0) ≡ NoNumber → number w ≡ none
+      go (some k) t p r q = let z : _≡_ {A = ℕ} 0 1 = cc in absurd (omega arith)
+      go none true p r q = ap number (sym (word-all (eqb-true (endAt w 0) (length w) r))) ∙ p
+      go none false p r q = word-some (eqb-false (endAt w 0) (length w) r)

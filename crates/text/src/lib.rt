@@ -118,46 +118,6 @@ pub fn same_bytes(a: &[u8], b: &[u8]) -> bool
 
 // ---- numbers
 
-// "decimal, 0 to 65,535, without leading zeros": the digits of a field that begins with no zero.
-fn digits_of(w: &[u8]) -> Value
-    requires { ⌜ (0 < length (now w)) × (getD (now w) 0 0 ≡ 48 → ⊥) ⌝ }
-    ensures { λ r. ⌜ r ≡ valueOf (number (now (w .entry))) ⌝ }
-{
-    let mut n: u32 = 0;
-    let mut i = 0;
-    while i < w.len() {
-        let b = w[i];
-        if b < 48 {
-            return Value::Broken;
-        }
-        if b > 57 {
-            return Value::Broken;
-        }
-        n = n * 10 + (b as u32 - 48);
-        if n > 65535 {
-            return Value::Broken;
-        }
-        i += 1;
-    }
-    Value::Is(n as u16)
-}
-
-// The same for any field: a zero stands alone.
-pub fn number_of(w: &[u8]) -> Value
-    ensures { λ r. ⌜ r ≡ valueOf (number (now (w .entry))) ⌝ }
-{
-    if w.len() == 0 {
-        return Value::Broken;
-    }
-    if w[0] == 48 {
-        if w.len() == 1 {
-            return Value::Is(0);
-        }
-        return Value::Broken;
-    }
-    digits_of(w)
-}
-
 // A number whose digits end at a place: it is one only if its field ends there.
 fn closed(s: &[u8], at: usize, n: u16) -> Number
     ensures { λ r. ⌜ r ≡ closedAt (now (s .entry)) at n ⌝ }
@@ -175,7 +135,7 @@ fn closed(s: &[u8], at: usize, n: u16) -> Number
     }
 }
 
-// The number's field at a place where no zero begins it: its digits and its end in one pass.
+// "decimal, 0 to 65,535, without leading zeros": the field at a place where no zero begins it, its digits and its end in one pass.
 fn digits_at(s: &[u8], from: usize) -> Number
     requires { ⌜ (from < length (now s)) × (48 < getD (now s) from 0) ⌝ }
     ensures { λ r. ⌜ r ≡ numberAt (now (s .entry)) from ⌝ }
@@ -197,6 +157,23 @@ fn digits_at(s: &[u8], from: usize) -> Number
         at += 1;
     }
     Number::Value(n as u16, Cursor { at })
+}
+
+// The same for a field of its own: "decimal, 0 to 65,535, without leading zeros".
+pub fn number_of(w: &[u8]) -> Value
+    ensures { λ r. ⌜ r ≡ valueOf (number (now (w .entry))) ⌝ }
+{
+    let c = Cursor { at: 0 };
+    match c.number(w) {
+        Number::Value(n, d) => {
+            if d.at == w.len() {
+                Value::Is(n)
+            } else {
+                Value::Broken
+            }
+        }
+        Number::Broken => Value::Broken,
+    }
 }
 
 // ---- "four lower-case hexadecimal digits"
