@@ -8,6 +8,10 @@
 //! assert!(netlist.text.starts_with(".model top\n"));
 //! let late = mapper::map(cells, graph, b"input arrival\n1 5\n")?;
 //! assert_eq!(late.figures.arrival, 35);
+//! let paired = mapper::map_pairs(cells, graph, b"")?;
+//! assert!(paired.text.contains(".gate nand2 A=p1 B=p2 O=sp3\n.gate inv A=sp3 O=p3\n"));
+//! let edited = netlist.text.replace("nand2 A=p1 B=p2", "nand2 A=p2 B=p2");
+//! assert_eq!(mapper::check(cells, graph, edited.as_bytes())?, mapper::Checked::Differs { setting: 2, output: 0 });
 //! # Ok::<(), mapper::Refusal>(())
 //! ```
 //!
@@ -20,7 +24,10 @@ mod refusal;
 #[doc(hidden)]
 pub mod shell;
 
-pub use raw::{call, call_cells, call_count, call_report, call_two, Answer, AnswerTwo, Channel};
+pub use raw::{
+    call, call_cells, call_check, call_count, call_pairs, call_report, call_two, call_two_pairs, Answer, AnswerChecked,
+    AnswerTwo, Channel,
+};
 pub use refusal::{Place, Refusal};
 
 /// The longest text that is read: a longer one is refusal 1.
@@ -71,26 +78,45 @@ pub fn words_needed(graph: &[u8]) -> usize {
 /// A length that the graph's netlist does not exceed, by its header: 55 bytes for each phase's gate, 6 for an input's name, 29 for an output's
 /// name and lines, 43 for its `# timing` line, and the frame.
 pub fn bytes_enough(graph: &[u8]) -> usize {
+    bytes_by(false, graph)
+}
+
+/// The same where pairs of cells are wanted: 88 bytes for each phase's gate, or its two.
+pub fn bytes_enough_pairs(graph: &[u8]) -> usize {
+    bytes_by(true, graph)
+}
+
+fn bytes_by(pairs: bool, graph: &[u8]) -> usize {
+    let phase = if pairs { 88 } else { 55 };
     match header(graph) {
-        Some([m, _, _, o, _]) if m <= 4_095 && o <= 4_096 => 116 * (m + 1) + 72 * o + 128,
+        Some([m, _, _, o, _]) if m <= 4_095 && o <= 4_096 => (2 * phase + 6) * (m + 1) + 72 * o + 128,
         _ => 0,
     }
 }
 
 /// Maps the graph with the cells, on memory of its own. Empty `arrivals` are none: every input arrives at 0.
 pub fn map(cells: &[u8], graph: &[u8], arrivals: &[u8]) -> Result<Netlist, Refusal> {
+    map_by(false, cells, graph, arrivals)
+}
+
+/// The same with pairs of cells: one refusal more, 30.
+pub fn map_pairs(cells: &[u8], graph: &[u8], arrivals: &[u8]) -> Result<Netlist, Refusal> {
+    map_by(true, cells, graph, arrivals)
+}
+
+fn map_by(pairs: bool, cells: &[u8], graph: &[u8], arrivals: &[u8]) -> Result<Netlist, Refusal> {
     let mut work = vec![0; words_needed(graph)];
-    let mut text = vec![0; bytes_enough(graph)];
-    let mut mapped = map_in(cells, graph, arrivals, &mut work, &mut text);
-    if let Err(Refusal { number: 18, place: length }) = mapped {
-        text = vec![0; length];
-        mapped = map_in(cells, graph, arrivals, &mut work, &mut text);
+    let mut text = vec![0; bytes_by(pairs, graph)];
+    let mut mapped = raw::call_by(pairs, cells, graph, arrivals, &mut work, &mut text);
+    if mapped.number == 18 {
+        text = vec![0; mapped.value as usize];
+        mapped = raw::call_by(pairs, cells, graph, arrivals, &mut work, &mut text);
     }
-    Ok(netlist(mapped?, text))
+    Ok(netlist(answered(mapped)?, text))
 }
 
 /// Maps the graph with the cells over lent memory, and answers the netlist's length and its figures: `text` begins with the netlist and keeps
-/// its other bytes. A refusal leaves `text` as it is. `work` is left unchanged by the refusals 1 to 10, 19 and 27, and is all 0 after any
+/// its other bytes. A refusal leaves `text` as it is. `work` is left unchanged by the refusals 1 to 10, 19, 27 and 30, and is all 0 after any
 /// other refusal and after success.
 pub fn map_in(
     cells: &[u8],
@@ -100,6 +126,17 @@ pub fn map_in(
     text: &mut [u8],
 ) -> Result<(usize, Figures), Refusal> {
     answered(call(cells, graph, arrivals, work, text))
+}
+
+/// The same with pairs of cells: as many words, and `bytes_enough_pairs` bytes.
+pub fn map_pairs_in(
+    cells: &[u8],
+    graph: &[u8],
+    arrivals: &[u8],
+    work: &mut [u16],
+    text: &mut [u8],
+) -> Result<(usize, Figures), Refusal> {
+    answered(call_pairs(cells, graph, arrivals, work, text))
 }
 
 /// The netlist's length and its figures, or the refusal.
@@ -112,15 +149,23 @@ fn answered(Answer { number, value, gates, area, arrival }: Answer) -> Result<(u
     }
 }
 
-/// Maps two graphs with the same cells in one call, on memory of its own. A refusal 1 to 9, 19 or 27 of either channel is returned for both,
+/// Maps two graphs with the same cells in one call, on memory of its own. A refusal 1 to 9, 19, 27 or 30 of either channel is returned for both,
 /// the first channel's if both have one; with any other the other channel is mapped as if alone.
 pub fn map_two(cells: &[u8], first: Channel, second: Channel) -> [Result<Netlist, Refusal>; 2] {
-    let channels = [first, second];
+    map_two_by(false, cells, [first, second])
+}
+
+/// The same with pairs of cells.
+pub fn map_two_pairs(cells: &[u8], first: Channel, second: Channel) -> [Result<Netlist, Refusal>; 2] {
+    map_two_by(true, cells, [first, second])
+}
+
+fn map_two_by(pairs: bool, cells: &[u8], channels: [Channel; 2]) -> [Result<Netlist, Refusal>; 2] {
     let mut work = vec![0; channels.iter().map(|channel| words_needed(channel.graph)).sum()];
-    let mut texts = channels.map(|channel| vec![0; bytes_enough(channel.graph)]);
+    let mut texts = channels.map(|channel| vec![0; bytes_by(pairs, channel.graph)]);
     loop {
         let [text1, text2] = &mut texts;
-        let AnswerTwo { first, second } = call_two(cells, first, second, &mut work, text1, text2);
+        let AnswerTwo { first, second } = raw::call_two_by(pairs, cells, channels, &mut work, [text1, text2]);
         let mut is_short = false;
         for (answer, text) in [first, second].iter().zip(&mut texts) {
             if answer.number == 18 {
@@ -139,6 +184,36 @@ pub fn map_two(cells: &[u8], first: Channel, second: Channel) -> [Result<Netlist
 fn netlist((length, figures): (usize, Figures), mut text: Vec<u8>) -> Netlist {
     text.truncate(length);
     Netlist { text: String::from_utf8(text).expect("a netlist is ASCII text"), figures }
+}
+
+/// What a check finds of a netlist that is not refused.
+#[derive(Clone, Copy, Debug, PartialEq, Eq)]
+pub enum Checked {
+    /// Every output has the graph's value in every setting of the inputs.
+    Accepted,
+    /// The lowest setting in which an output has another value than the graph, input k as bit k, and that setting's first such output.
+    Differs { setting: usize, output: usize },
+}
+
+/// The words of work memory that checking the netlist takes: those of mapping the graph, and 8 for each byte 10 of the netlist.
+pub fn words_to_check(graph: &[u8], netlist: &[u8]) -> usize {
+    words_needed(graph) + 8 * netlist.iter().filter(|&&byte| byte == b'\n').count()
+}
+
+/// Checks a netlist, as printed or edited since, against its graph, on memory of its own. The graph has up to 12 inputs.
+pub fn check(cells: &[u8], graph: &[u8], netlist: &[u8]) -> Result<Checked, Refusal> {
+    check_in(cells, graph, netlist, &mut vec![0; words_to_check(graph, netlist)])
+}
+
+/// The same over lent memory. `work` is left unchanged by the refusals 1 to 10, 19 and 27, and is all 0 otherwise.
+pub fn check_in(cells: &[u8], graph: &[u8], netlist: &[u8], work: &mut [u16]) -> Result<Checked, Refusal> {
+    let AnswerChecked { verdict, first, second } = call_check(cells, graph, netlist, work);
+    let (first, second) = (first as usize, second as usize);
+    match verdict {
+        0 => Ok(Checked::Accepted),
+        1 => Ok(Checked::Differs { setting: first, output: second }),
+        _ => Err(Refusal { number: first as u32, place: second }),
+    }
 }
 
 /// Writes the cell text of a genlib library.

@@ -36,10 +36,10 @@ impl Refusal {
     pub fn place(&self) -> Place {
         match self.number {
             2..=6 | 27 => Place::Cells(self.place),
-            7..=9 | 11..=14 | 19..=21 => Place::Graph(self.place),
+            7..=9 | 11..=14 | 19..=21 | 31 => Place::Graph(self.place),
             22..=24 => Place::Genlib(self.place),
             25 | 26 => Place::Arrivals(self.place),
-            29 => Place::Netlist(self.place),
+            29 | 32 | 33 => Place::Netlist(self.place),
             15 | 16 => Place::Variable(self.place),
             17 => Place::Output(self.place),
             18 => Place::Length(self.place),
@@ -79,6 +79,10 @@ impl Refusal {
             27 => "a pin's lowest delay exceeds its delay",
             28 => "64 netlists are counted already, or a figure of the tally exceeds 2^40",
             29 => "a line isn't one that mapping prints there, or its cell or figures aren't the netlist's",
+            30 => "there are more than 256 cells and pairs of cells",
+            31 => "a graph to check a netlist against has more than 12 inputs",
+            32 => "a line breaks its form, names no listed cell, or has other inputs or outputs than the graph",
+            33 => "a line drives a net already driven, uses a net that no line drives, or drives a net on a circle",
             _ => "a refusal that docs/GUIDE.md does not list",
         }
     }

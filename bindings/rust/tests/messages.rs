@@ -1,8 +1,13 @@
 //! Damaged texts: whatever is refused has a message, it names the file at fault, and where a line breaks its form it says how.
 
 use mapper::{
-    map,
-    shell::{files::Source, library::Library, message::message},
+    check, map,
+    shell::{
+        files::Source,
+        library::Library,
+        message::{difference, message, Texts},
+    },
+    Checked,
 };
 use std::collections::BTreeMap;
 
@@ -65,8 +70,8 @@ fn every_refusal_is_told() {
         *numbers.entry(refusal.number).or_default() += 1;
         let (cells, _) = Library::read(Source { name: "CELLS".into(), text: cells });
         let graph = Source { name: "GRAPH".into(), text: graph };
-        let none = Source { name: String::new(), text: Vec::new() };
-        let told = message(refusal, &cells, &graph, &none);
+        let none = Source::none();
+        let told = message(refusal, &Texts { cells: &cells, graph: &graph, arrivals: &none, netlist: &none });
         let first = told.lines().next().unwrap();
         let file = if matches!(refusal.number, 2..=6 | 27) { "CELLS" } else { "GRAPH" };
         let behind =
@@ -83,4 +88,68 @@ fn every_refusal_is_told() {
     for number in [2, 4, 5, 6, 7, 8, 9, 11, 12, 13, 14, 15, 17, 19, 20, 21, 27] {
         assert!(numbers.contains_key(&number), "no refusal {number} among {numbers:?}");
     }
+}
+
+/// A net, a cell or a line of the netlist in place of another.
+fn exchanged(text: &str, chance: &mut Chance) -> String {
+    let mut lines: Vec<String> = text.lines().map(String::from).collect();
+    let (one, other) = (chance.below(lines.len()), chance.below(lines.len()));
+    match chance.below(3) {
+        0 => lines.swap(one, other),
+        1 => lines.remove(one).clear(),
+        _ => {
+            let mut words: Vec<String> = lines[one].split([' ', '=']).map(String::from).collect();
+            let taken: Vec<&str> = lines[other].split([' ', '=']).collect();
+            let at = chance.below(words.len());
+            words[at] = taken[chance.below(taken.len())].into();
+            // The pins' signs where they were.
+            let signs =
+                lines[one].chars().filter(|letter| " =".contains(*letter)).map(String::from).chain([String::new()]);
+            lines[one] = words.iter().cloned().zip(signs).map(|(word, sign)| word + &sign).collect();
+        }
+    }
+    lines.iter().map(|line| format!("{line}\n")).collect()
+}
+
+#[test]
+fn every_verdict_on_a_netlist_is_told() {
+    let mut chance = Chance(14);
+    let mut numbers: BTreeMap<u32, usize> = BTreeMap::new();
+    let mut whats: BTreeMap<&str, usize> = BTreeMap::new();
+    let printed = map(CELLS, GRAPH, b"").unwrap().text;
+    let (cells, _) = Library::read(Source { name: "CELLS".into(), text: CELLS.to_vec() });
+    let graph = Source { name: "GRAPH".into(), text: GRAPH.to_vec() };
+    for k in 0..40_000 {
+        let text = exchanged(&printed, &mut chance).into_bytes();
+        let text = if k % 3 == 0 { damaged(&text, &mut chance) } else { text };
+        let judged = check(CELLS, GRAPH, &text);
+        let netlist = Source { name: "NETLIST".into(), text };
+        let shows = || netlist.text.escape_ascii().to_string();
+        let told = match judged {
+            Ok(Checked::Accepted) => continue,
+            Ok(Checked::Differs { setting, output }) => {
+                let told = difference(setting, output, &graph, &netlist);
+                assert!(told.contains(": differs: output o") && told.contains(": the netlist gives "), "{told}");
+                assert!(told.contains("\n    a=") && told.contains(&format!(" setting {setting}, ")), "{told}");
+                *numbers.entry(0).or_default() += 1;
+                told
+            }
+            Err(refusal) => {
+                let texts = Texts { cells: &cells, graph: &graph, arrivals: &Source::none(), netlist: &netlist };
+                let told = message(refusal, &texts);
+                *numbers.entry(refusal.number).or_default() += 1;
+                let (_, what) = told.split_once(&format!(": refused {}: ", refusal.number)).expect("the number");
+                let kinds =
+                    ["is already driven", "no line drives net", "is on a circle", "netlist: ", "the file ends where"];
+                let kind = kinds.into_iter().find(|kind| what.lines().next().unwrap().contains(kind));
+                *whats.entry(kind.unwrap_or_else(|| panic!("{refusal}: {told}\n{}", shows()))).or_default() += 1;
+                told
+            }
+        };
+        let line = told.strip_prefix("NETLIST:").and_then(|rest| rest.split_once(':')).map(|(line, _)| line);
+        assert!(line.is_some_and(|line| line.parse::<usize>().is_ok()), "{told}");
+        assert!(told.contains("\nhelp: ") && told.ends_with('\n') && told.is_ascii(), "{told}");
+    }
+    assert!(numbers.len() == 3 && numbers.values().all(|&n| n > 100), "{numbers:?}");
+    assert!(whats.len() == 5 && whats.values().all(|&n| n > 50), "{whats:?}");
 }

@@ -1,11 +1,14 @@
 // The calls for C and Rust. A slice is a pointer and a number of elements; the answer is the five values that document 01 names.
 use model::Answer;
+use model::Checked;
 use model::Verdict;
 use model::Written;
 ghost use mathlib.Core.Path.{_≡_};
+ghost use mathlib.Core.Bool.{true, false};
 ghost use lib.ListN.{length};
 ghost use Rattle.model.specs.Mapper.{callOf, mapTexts, returned, returnedBy, textAfter, workAfter};
 ghost use Rattle.model.specs.Demands.{Values, Earliest, Twins, Sequenced, EitherEnd, Untimed, Listed, Former};
+ghost use Rattle.model.specs.ShuffleDemands.{Shuffles};
 ghost use Rattle.model.specs.Genlib.{genlibText, writtenAnswer, writtenPair, writtenAfter};
 ghost use Rattle.model.specs.GenlibDemands.{GenlibDemand};
 ghost use Rattle.model.specs.Channels.{channelOf, twoCallOf, needsOf, mapTwo, twoWorkAfter};
@@ -13,7 +16,9 @@ ghost use Rattle.model.specs.TwoDemands.{TogetherRefused, Independent, Each, Tw
 ghost use Rattle.model.specs.Reading.{verdictOf};
 ghost use Rattle.model.specs.Tally.{countText, reportOf};
 ghost use Rattle.stock.specs.Numbers.{tallyOf, numbersAfter};
-ghost use Rattle.capi.specs.Answers.{answered, answeredText, verdictPair};
+ghost use Rattle.model.specs.Check.{checkTexts, checkedWork, toldOf};
+ghost use Rattle.model.specs.CheckDemands.{ComparedCheck};
+ghost use Rattle.capi.specs.Answers.{answered, answeredText, checkedAnswer, verdictPair};
 
 // "Success returns number 0, the netlist's length and the three figures of its `# gates` line; a refusal its number, its place and zero figures".
 #[repr(C)]
@@ -72,19 +77,45 @@ pub extern "C" fn mapper_map(
     work: &mut [u16],
     text: &mut [u8],
 ) -> MapperAnswer
-    ensures answers { λ r. ⌜ r ≡ answered (returnedBy (mapTexts (callOf (now (cells .entry)) (now (graph .entry)) (now (arrivals .entry)) (now (work .entry)) (now (text .entry))))) ⌝ }
-    ensures words { λ _. ⌜ now (work .exit) ≡ workAfter (mapTexts (callOf (now (cells .entry)) (now (graph .entry)) (now (arrivals .entry)) (now (work .entry)) (now (text .entry)))) (now (work .entry)) ⌝ }
-    ensures bytes { λ _. ⌜ now (text .exit) ≡ textAfter (mapTexts (callOf (now (cells .entry)) (now (graph .entry)) (now (arrivals .entry)) (now (work .entry)) (now (text .entry)))) (now (text .entry)) ⌝ }
-    ensures values { λ _. ⌜ Values (callOf (now (cells .entry)) (now (graph .entry)) (now (arrivals .entry)) (now (work .entry)) (now (text .entry))) ⌝ }
-    ensures earliest { λ _. ⌜ Earliest (callOf (now (cells .entry)) (now (graph .entry)) (now (arrivals .entry)) (now (work .entry)) (now (text .entry))) ⌝ }
-    ensures twins { λ _. ⌜ Twins (callOf (now (cells .entry)) (now (graph .entry)) (now (arrivals .entry)) (now (work .entry)) (now (text .entry))) ⌝ }
-    ensures sequenced { λ _. ⌜ Sequenced (callOf (now (cells .entry)) (now (graph .entry)) (now (arrivals .entry)) (now (work .entry)) (now (text .entry))) ⌝ }
-    ensures ends { λ _. ⌜ EitherEnd (callOf (now (cells .entry)) (now (graph .entry)) (now (arrivals .entry)) (now (work .entry)) (now (text .entry))) ⌝ }
-    ensures untimed { λ _. ⌜ Untimed (callOf (now (cells .entry)) (now (graph .entry)) (now (arrivals .entry)) (now (work .entry)) (now (text .entry))) ⌝ }
-    ensures listed { λ _. ⌜ Listed (callOf (now (cells .entry)) (now (graph .entry)) (now (arrivals .entry)) (now (work .entry)) (now (text .entry))) ⌝ }
-    ensures former { λ _. ⌜ Former (callOf (now (cells .entry)) (now (graph .entry)) (now (arrivals .entry)) (now (work .entry)) (now (text .entry))) ⌝ }
+    ensures answers { λ r. ⌜ r ≡ answered (returnedBy (mapTexts (callOf false (now (cells .entry)) (now (graph .entry)) (now (arrivals .entry)) (now (work .entry)) (now (text .entry))))) ⌝ }
+    ensures words { λ _. ⌜ now (work .exit) ≡ workAfter (mapTexts (callOf false (now (cells .entry)) (now (graph .entry)) (now (arrivals .entry)) (now (work .entry)) (now (text .entry)))) (now (work .entry)) ⌝ }
+    ensures bytes { λ _. ⌜ now (text .exit) ≡ textAfter (mapTexts (callOf false (now (cells .entry)) (now (graph .entry)) (now (arrivals .entry)) (now (work .entry)) (now (text .entry)))) (now (text .entry)) ⌝ }
+    ensures values { λ _. ⌜ Values (callOf false (now (cells .entry)) (now (graph .entry)) (now (arrivals .entry)) (now (work .entry)) (now (text .entry))) ⌝ }
+    ensures earliest { λ _. ⌜ Earliest (callOf false (now (cells .entry)) (now (graph .entry)) (now (arrivals .entry)) (now (work .entry)) (now (text .entry))) ⌝ }
+    ensures twins { λ _. ⌜ Twins (callOf false (now (cells .entry)) (now (graph .entry)) (now (arrivals .entry)) (now (work .entry)) (now (text .entry))) ⌝ }
+    ensures sequenced { λ _. ⌜ Sequenced (callOf false (now (cells .entry)) (now (graph .entry)) (now (arrivals .entry)) (now (work .entry)) (now (text .entry))) ⌝ }
+    ensures ends { λ _. ⌜ EitherEnd (callOf false (now (cells .entry)) (now (graph .entry)) (now (arrivals .entry)) (now (work .entry)) (now (text .entry))) ⌝ }
+    ensures untimed { λ _. ⌜ Untimed (callOf false (now (cells .entry)) (now (graph .entry)) (now (arrivals .entry)) (now (work .entry)) (now (text .entry))) ⌝ }
+    ensures listed { λ _. ⌜ Listed (callOf false (now (cells .entry)) (now (graph .entry)) (now (arrivals .entry)) (now (work .entry)) (now (text .entry))) ⌝ }
+    ensures former { λ _. ⌜ Former (callOf false (now (cells .entry)) (now (graph .entry)) (now (arrivals .entry)) (now (work .entry)) (now (text .entry))) ⌝ }
+    ensures shuffles { λ _. ⌜ Shuffles (callOf false (now (cells .entry)) (now (graph .entry)) (now (arrivals .entry)) (now (work .entry)) (now (text .entry))) ⌝ }
 {
-    answer(mapper::map_texts(cells, graph, arrivals, work, text))
+    answer(mapper::map_texts(cells, graph, arrivals, false, work, text))
+}
+
+// The same with pairs of cells: "Where a call wants them".
+#[no_mangle]
+pub extern "C" fn mapper_map_pairs(
+    cells: &[u8],
+    graph: &[u8],
+    arrivals: &[u8],
+    work: &mut [u16],
+    text: &mut [u8],
+) -> MapperAnswer
+    ensures answers { λ r. ⌜ r ≡ answered (returnedBy (mapTexts (callOf true (now (cells .entry)) (now (graph .entry)) (now (arrivals .entry)) (now (work .entry)) (now (text .entry))))) ⌝ }
+    ensures words { λ _. ⌜ now (work .exit) ≡ workAfter (mapTexts (callOf true (now (cells .entry)) (now (graph .entry)) (now (arrivals .entry)) (now (work .entry)) (now (text .entry)))) (now (work .entry)) ⌝ }
+    ensures bytes { λ _. ⌜ now (text .exit) ≡ textAfter (mapTexts (callOf true (now (cells .entry)) (now (graph .entry)) (now (arrivals .entry)) (now (work .entry)) (now (text .entry)))) (now (text .entry)) ⌝ }
+    ensures values { λ _. ⌜ Values (callOf true (now (cells .entry)) (now (graph .entry)) (now (arrivals .entry)) (now (work .entry)) (now (text .entry))) ⌝ }
+    ensures earliest { λ _. ⌜ Earliest (callOf true (now (cells .entry)) (now (graph .entry)) (now (arrivals .entry)) (now (work .entry)) (now (text .entry))) ⌝ }
+    ensures twins { λ _. ⌜ Twins (callOf true (now (cells .entry)) (now (graph .entry)) (now (arrivals .entry)) (now (work .entry)) (now (text .entry))) ⌝ }
+    ensures sequenced { λ _. ⌜ Sequenced (callOf true (now (cells .entry)) (now (graph .entry)) (now (arrivals .entry)) (now (work .entry)) (now (text .entry))) ⌝ }
+    ensures ends { λ _. ⌜ EitherEnd (callOf true (now (cells .entry)) (now (graph .entry)) (now (arrivals .entry)) (now (work .entry)) (now (text .entry))) ⌝ }
+    ensures untimed { λ _. ⌜ Untimed (callOf true (now (cells .entry)) (now (graph .entry)) (now (arrivals .entry)) (now (work .entry)) (now (text .entry))) ⌝ }
+    ensures listed { λ _. ⌜ Listed (callOf true (now (cells .entry)) (now (graph .entry)) (now (arrivals .entry)) (now (work .entry)) (now (text .entry))) ⌝ }
+    ensures former { λ _. ⌜ Former (callOf true (now (cells .entry)) (now (graph .entry)) (now (arrivals .entry)) (now (work .entry)) (now (text .entry))) ⌝ }
+    ensures shuffles { λ _. ⌜ Shuffles (callOf true (now (cells .entry)) (now (graph .entry)) (now (arrivals .entry)) (now (work .entry)) (now (text .entry))) ⌝ }
+{
+    answer(mapper::map_texts(cells, graph, arrivals, true, work, text))
 }
 
 // "Read GATE and PIN lines and write our cell text": the cell text of a genlib text, into lent bytes.
@@ -145,16 +176,16 @@ pub extern "C" fn mapper_map_two(
     text1: &mut [u8],
     text2: &mut [u8],
 ) -> MapperTwo
-    ensures first { λ r. ⌜ r .first ≡ answered (returnedBy (mapTwo (twoCallOf (now (cells .entry)) (channelOf (now (graph1 .entry)) (now (arrivals1 .entry)) (now (text1 .entry))) (channelOf (now (graph2 .entry)) (now (arrivals2 .entry)) (now (text2 .entry))) (now (work .entry))) .first)) ⌝ }
-    ensures second { λ r. ⌜ r .second ≡ answered (returnedBy (mapTwo (twoCallOf (now (cells .entry)) (channelOf (now (graph1 .entry)) (now (arrivals1 .entry)) (now (text1 .entry))) (channelOf (now (graph2 .entry)) (now (arrivals2 .entry)) (now (text2 .entry))) (now (work .entry))) .second)) ⌝ }
-    ensures words { λ _. ⌜ now (work .exit) ≡ twoWorkAfter (needsOf (twoCallOf (now (cells .entry)) (channelOf (now (graph1 .entry)) (now (arrivals1 .entry)) (now (text1 .entry))) (channelOf (now (graph2 .entry)) (now (arrivals2 .entry)) (now (text2 .entry))) (now (work .entry)))) (now (work .entry)) ⌝ }
-    ensures bytes1 { λ _. ⌜ now (text1 .exit) ≡ textAfter (mapTwo (twoCallOf (now (cells .entry)) (channelOf (now (graph1 .entry)) (now (arrivals1 .entry)) (now (text1 .entry))) (channelOf (now (graph2 .entry)) (now (arrivals2 .entry)) (now (text2 .entry))) (now (work .entry))) .first) (now (text1 .entry)) ⌝ }
-    ensures bytes2 { λ _. ⌜ now (text2 .exit) ≡ textAfter (mapTwo (twoCallOf (now (cells .entry)) (channelOf (now (graph1 .entry)) (now (arrivals1 .entry)) (now (text1 .entry))) (channelOf (now (graph2 .entry)) (now (arrivals2 .entry)) (now (text2 .entry))) (now (work .entry))) .second) (now (text2 .entry)) ⌝ }
-    ensures together { λ _. ⌜ TogetherRefused (twoCallOf (now (cells .entry)) (channelOf (now (graph1 .entry)) (now (arrivals1 .entry)) (now (text1 .entry))) (channelOf (now (graph2 .entry)) (now (arrivals2 .entry)) (now (text2 .entry))) (now (work .entry))) ⌝ }
-    ensures independent { λ _. ⌜ Independent (twoCallOf (now (cells .entry)) (channelOf (now (graph1 .entry)) (now (arrivals1 .entry)) (now (text1 .entry))) (channelOf (now (graph2 .entry)) (now (arrivals2 .entry)) (now (text2 .entry))) (now (work .entry))) ⌝ }
-    ensures each { λ _. ⌜ Each (twoCallOf (now (cells .entry)) (channelOf (now (graph1 .entry)) (now (arrivals1 .entry)) (now (text1 .entry))) (channelOf (now (graph2 .entry)) (now (arrivals2 .entry)) (now (text2 .entry))) (now (work .entry))) ⌝ }
-    ensures twins { λ _. ⌜ TwinChannels (twoCallOf (now (cells .entry)) (channelOf (now (graph1 .entry)) (now (arrivals1 .entry)) (now (text1 .entry))) (channelOf (now (graph2 .entry)) (now (arrivals2 .entry)) (now (text2 .entry))) (now (work .entry))) ⌝ }
-    ensures ends { λ _. ⌜ EitherEndTwo (twoCallOf (now (cells .entry)) (channelOf (now (graph1 .entry)) (now (arrivals1 .entry)) (now (text1 .entry))) (channelOf (now (graph2 .entry)) (now (arrivals2 .entry)) (now (text2 .entry))) (now (work .entry))) ⌝ }
+    ensures first { λ r. ⌜ r .first ≡ answered (returnedBy (mapTwo (twoCallOf false (now (cells .entry)) (channelOf (now (graph1 .entry)) (now (arrivals1 .entry)) (now (text1 .entry))) (channelOf (now (graph2 .entry)) (now (arrivals2 .entry)) (now (text2 .entry))) (now (work .entry))) .first)) ⌝ }
+    ensures second { λ r. ⌜ r .second ≡ answered (returnedBy (mapTwo (twoCallOf false (now (cells .entry)) (channelOf (now (graph1 .entry)) (now (arrivals1 .entry)) (now (text1 .entry))) (channelOf (now (graph2 .entry)) (now (arrivals2 .entry)) (now (text2 .entry))) (now (work .entry))) .second)) ⌝ }
+    ensures words { λ _. ⌜ now (work .exit) ≡ twoWorkAfter (needsOf (twoCallOf false (now (cells .entry)) (channelOf (now (graph1 .entry)) (now (arrivals1 .entry)) (now (text1 .entry))) (channelOf (now (graph2 .entry)) (now (arrivals2 .entry)) (now (text2 .entry))) (now (work .entry)))) (now (work .entry)) ⌝ }
+    ensures bytes1 { λ _. ⌜ now (text1 .exit) ≡ textAfter (mapTwo (twoCallOf false (now (cells .entry)) (channelOf (now (graph1 .entry)) (now (arrivals1 .entry)) (now (text1 .entry))) (channelOf (now (graph2 .entry)) (now (arrivals2 .entry)) (now (text2 .entry))) (now (work .entry))) .first) (now (text1 .entry)) ⌝ }
+    ensures bytes2 { λ _. ⌜ now (text2 .exit) ≡ textAfter (mapTwo (twoCallOf false (now (cells .entry)) (channelOf (now (graph1 .entry)) (now (arrivals1 .entry)) (now (text1 .entry))) (channelOf (now (graph2 .entry)) (now (arrivals2 .entry)) (now (text2 .entry))) (now (work .entry))) .second) (now (text2 .entry)) ⌝ }
+    ensures together { λ _. ⌜ TogetherRefused (twoCallOf false (now (cells .entry)) (channelOf (now (graph1 .entry)) (now (arrivals1 .entry)) (now (text1 .entry))) (channelOf (now (graph2 .entry)) (now (arrivals2 .entry)) (now (text2 .entry))) (now (work .entry))) ⌝ }
+    ensures independent { λ _. ⌜ Independent (twoCallOf false (now (cells .entry)) (channelOf (now (graph1 .entry)) (now (arrivals1 .entry)) (now (text1 .entry))) (channelOf (now (graph2 .entry)) (now (arrivals2 .entry)) (now (text2 .entry))) (now (work .entry))) ⌝ }
+    ensures each { λ _. ⌜ Each (twoCallOf false (now (cells .entry)) (channelOf (now (graph1 .entry)) (now (arrivals1 .entry)) (now (text1 .entry))) (channelOf (now (graph2 .entry)) (now (arrivals2 .entry)) (now (text2 .entry))) (now (work .entry))) ⌝ }
+    ensures twins { λ _. ⌜ TwinChannels (twoCallOf false (now (cells .entry)) (channelOf (now (graph1 .entry)) (now (arrivals1 .entry)) (now (text1 .entry))) (channelOf (now (graph2 .entry)) (now (arrivals2 .entry)) (now (text2 .entry))) (now (work .entry))) ⌝ }
+    ensures ends { λ _. ⌜ EitherEndTwo (twoCallOf false (now (cells .entry)) (channelOf (now (graph1 .entry)) (now (arrivals1 .entry)) (now (text1 .entry))) (channelOf (now (graph2 .entry)) (now (arrivals2 .entry)) (now (text2 .entry))) (now (work .entry))) ⌝ }
 {
     let r = channels::map_two(
         cells,
@@ -162,6 +193,7 @@ pub extern "C" fn mapper_map_two(
         arrivals1,
         graph2,
         arrivals2,
+        false,
         work,
         text1,
         text2,
@@ -172,4 +204,90 @@ pub extern "C" fn mapper_map_two(
         first: answer(first),
         second: answer(second),
     }
+}
+
+// The same with pairs of cells, for both channels.
+#[no_mangle]
+pub extern "C" fn mapper_map_two_pairs(
+    cells: &[u8],
+    graph1: &[u8],
+    arrivals1: &[u8],
+    graph2: &[u8],
+    arrivals2: &[u8],
+    work: &mut [u16],
+    text1: &mut [u8],
+    text2: &mut [u8],
+) -> MapperTwo
+    ensures first { λ r. ⌜ r .first ≡ answered (returnedBy (mapTwo (twoCallOf true (now (cells .entry)) (channelOf (now (graph1 .entry)) (now (arrivals1 .entry)) (now (text1 .entry))) (channelOf (now (graph2 .entry)) (now (arrivals2 .entry)) (now (text2 .entry))) (now (work .entry))) .first)) ⌝ }
+    ensures second { λ r. ⌜ r .second ≡ answered (returnedBy (mapTwo (twoCallOf true (now (cells .entry)) (channelOf (now (graph1 .entry)) (now (arrivals1 .entry)) (now (text1 .entry))) (channelOf (now (graph2 .entry)) (now (arrivals2 .entry)) (now (text2 .entry))) (now (work .entry))) .second)) ⌝ }
+    ensures words { λ _. ⌜ now (work .exit) ≡ twoWorkAfter (needsOf (twoCallOf true (now (cells .entry)) (channelOf (now (graph1 .entry)) (now (arrivals1 .entry)) (now (text1 .entry))) (channelOf (now (graph2 .entry)) (now (arrivals2 .entry)) (now (text2 .entry))) (now (work .entry)))) (now (work .entry)) ⌝ }
+    ensures bytes1 { λ _. ⌜ now (text1 .exit) ≡ textAfter (mapTwo (twoCallOf true (now (cells .entry)) (channelOf (now (graph1 .entry)) (now (arrivals1 .entry)) (now (text1 .entry))) (channelOf (now (graph2 .entry)) (now (arrivals2 .entry)) (now (text2 .entry))) (now (work .entry))) .first) (now (text1 .entry)) ⌝ }
+    ensures bytes2 { λ _. ⌜ now (text2 .exit) ≡ textAfter (mapTwo (twoCallOf true (now (cells .entry)) (channelOf (now (graph1 .entry)) (now (arrivals1 .entry)) (now (text1 .entry))) (channelOf (now (graph2 .entry)) (now (arrivals2 .entry)) (now (text2 .entry))) (now (work .entry))) .second) (now (text2 .entry)) ⌝ }
+    ensures together { λ _. ⌜ TogetherRefused (twoCallOf true (now (cells .entry)) (channelOf (now (graph1 .entry)) (now (arrivals1 .entry)) (now (text1 .entry))) (channelOf (now (graph2 .entry)) (now (arrivals2 .entry)) (now (text2 .entry))) (now (work .entry))) ⌝ }
+    ensures independent { λ _. ⌜ Independent (twoCallOf true (now (cells .entry)) (channelOf (now (graph1 .entry)) (now (arrivals1 .entry)) (now (text1 .entry))) (channelOf (now (graph2 .entry)) (now (arrivals2 .entry)) (now (text2 .entry))) (now (work .entry))) ⌝ }
+    ensures each { λ _. ⌜ Each (twoCallOf true (now (cells .entry)) (channelOf (now (graph1 .entry)) (now (arrivals1 .entry)) (now (text1 .entry))) (channelOf (now (graph2 .entry)) (now (arrivals2 .entry)) (now (text2 .entry))) (now (work .entry))) ⌝ }
+    ensures twins { λ _. ⌜ TwinChannels (twoCallOf true (now (cells .entry)) (channelOf (now (graph1 .entry)) (now (arrivals1 .entry)) (now (text1 .entry))) (channelOf (now (graph2 .entry)) (now (arrivals2 .entry)) (now (text2 .entry))) (now (work .entry))) ⌝ }
+    ensures ends { λ _. ⌜ EitherEndTwo (twoCallOf true (now (cells .entry)) (channelOf (now (graph1 .entry)) (now (arrivals1 .entry)) (now (text1 .entry))) (channelOf (now (graph2 .entry)) (now (arrivals2 .entry)) (now (text2 .entry))) (now (work .entry))) ⌝ }
+{
+    let r = channels::map_two(
+        cells,
+        graph1,
+        arrivals1,
+        graph2,
+        arrivals2,
+        true,
+        work,
+        text1,
+        text2,
+    );
+    let first = r.first;
+    let second = r.second;
+    MapperTwo {
+        first: answer(first),
+        second: answer(second),
+    }
+}
+
+// What a check answers: 0 where the netlist is accepted, 1 with "the lowest setting that differs" and "that setting's first wrong output", 2 with a refusal's
+// number and place.
+#[repr(C)]
+pub struct MapperChecked {
+    pub verdict: u64,
+    pub first: u64,
+    pub second: u64,
+}
+
+fn checked(verdict: u64, first: usize, second: usize) -> MapperChecked
+    ensures { λ r. ⌜ r ≡ checkedAnswer (record { verdict = verdict; first = first; second = second }) ⌝ }
+{
+    MapperChecked {
+        verdict,
+        first: first as u64,
+        second: second as u64,
+    }
+}
+
+fn checked_answer(c: Checked) -> MapperChecked
+    ensures { λ r. ⌜ r ≡ checkedAnswer (toldOf c) ⌝ }
+{
+    match c {
+        Checked::Accepted => checked(0, 0, 0),
+        Checked::Differs(setting, output) => checked(1, setting, output),
+        Checked::Refused(number, place) => checked(2, number, place),
+    }
+}
+
+// "Check such a netlist against the graph, without arrivals": an edited netlist, over lent words. The same words may not be lent twice.
+#[no_mangle]
+pub extern "C" fn mapper_check(
+    cells: &[u8],
+    graph: &[u8],
+    netlist: &[u8],
+    work: &mut [u16],
+) -> MapperChecked
+    ensures answers { λ r. ⌜ r ≡ checkedAnswer (toldOf (checkTexts (now (cells .entry)) (now (graph .entry)) (now (netlist .entry)) (length (now (work .entry))))) ⌝ }
+    ensures words { λ _. ⌜ now (work .exit) ≡ checkedWork (checkTexts (now (cells .entry)) (now (graph .entry)) (now (netlist .entry)) (length (now (work .entry)))) (now (work .entry)) ⌝ }
+    ensures compared { λ _. ⌜ ComparedCheck (now (cells .entry)) (now (graph .entry)) (now (netlist .entry)) (length (now (work .entry))) ⌝ }
+{
+    checked_answer(checking::check_texts(cells, graph, netlist, work))
 }

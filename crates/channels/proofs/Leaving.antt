@@ -8,6 +8,8 @@ use lib.Dec.{T, leb, leb→le, le→leb}
 use lib.ListN.{length, replicate}
 use Rattle.model.specs.Limits.{need}
 use Rattle.model.specs.Reading.{Read, holds, fault, next, unless}
+use Rattle.model.specs.Cells.{cellsOf}
+use Rattle.model.specs.Pairs.{cellsFor}
 use Rattle.model.specs.GraphText.{readHeader}
 use Rattle.model.specs.Mapper.{answerOf, textAfter}
 use Rattle.model.specs.Channels.{Channel, answersOf}
@@ -16,29 +18,54 @@ use Rattle.model.specs.declared.Header.{Header}
 use Rattle.model.specs.declared.Two.{Two}
 use Rattle.model.specs.declared.Answer.{Answer}
 use Rattle.model.specs.declared.Answer.the-variants.{Refused}
-use Rattle.mapper.specs.Stages.{Told, graphFor}
-use Rattle.channels.specs.Pairs.{Heads, sumFor, secondFor, firstFor, pairFor, workFor, PairLeft}
+use Rattle.mapper.specs.Stages.{Told, allOf, graphFor}
+use Rattle.channels.specs.Pairs.{Heads, sumFor, secondFor, firstFor, pairFor, workFor, PairLeft, TwoLeft}
 
 -- ---- what is left
 
-pub pair-as : {ranged : Bool} {lib : Library} {a b : Channel} {r s : Read Heads} {work first second : List ℕ} {answer : Two} {y u w : List ℕ}
-    → r ≡ s → PairLeft ranged lib a b s work first second answer y u w → PairLeft ranged lib a b r work first second answer y u w
-pair-as {ranged = ranged} {lib = lib} {a = a} {b = b} {work = work} {first = first} {second = second} {answer = answer} {y = y} {u = u} {w = w} e l =
-    subst (λ (x : Read Heads). PairLeft ranged lib a b x work first second answer y u w) (sym e) l
+pub pair-as : {ranged : Bool} {lib : Library} {codes : List ℕ} {a b : Channel} {r s : Read Heads} {work first second : List ℕ} {answer : Two} {y u w : List ℕ}
+    → r ≡ s → PairLeft ranged lib codes a b s work first second answer y u w → PairLeft ranged lib codes a b r work first second answer y u w
+pair-as {ranged = ranged} {lib = lib} {codes = codes} {a = a} {b = b} {work = work} {first = first} {second = second} {answer = answer} {y = y} {u = u} {w = w} e l =
+    subst (λ (x : Read Heads). PairLeft ranged lib codes a b x work first second answer y u w) (sym e) l
 
 -- "neither is mapped and work memory is unchanged"
-pub pair-early : (ranged : Bool) (lib : Library) (a b : Channel) (r : Read Heads) (n k : ℕ) → r ≡ fault n k → (work first second : List ℕ) (answer : Two)
-    → answer ≡ record { first = Refused n k; second = Refused n k } → PairLeft ranged lib a b r work first second answer work first second
+pub pair-early : (ranged : Bool) (lib : Library) (codes : List ℕ) (a b : Channel) (r : Read Heads) (n k : ℕ) → r ≡ fault n k → (work first second : List ℕ) (answer : Two)
+    → answer ≡ record { first = Refused n k; second = Refused n k } → PairLeft ranged lib codes a b r work first second answer work first second
 unfolding pairFor workFor answersOf answerOf textAfter
-pair-early ranged lib a b r n k e work first second answer q = pair-as e (record { answers = q; words = refl; firstBytes = refl; secondBytes = refl })
+pair-early ranged lib codes a b r n k e work first second answer q = pair-as e (record { answers = q; words = refl; firstBytes = refl; secondBytes = refl })
 
 -- each channel mapped, and the words zero
-pub pair-done : (ranged : Bool) (lib : Library) (a b : Channel) (r : Read Heads) (h k : Header) → r ≡ holds (record { first = h; second = k }) → (work first second : List ℕ) (p q : Answer) (y u w : List ℕ)
-    → Told (graphFor ranged lib (a .graph) (a .arrivals) h (a .bytes)) first p u → Told (graphFor ranged lib (b .graph) (b .arrivals) k (b .bytes)) second q w → y ≡ replicate (length work) 0
-    → PairLeft ranged lib a b r work first second (record { first = p; second = q }) y u w
+pub pair-done : (ranged : Bool) (lib : Library) (codes : List ℕ) (a b : Channel) (r : Read Heads) (h k : Header) → r ≡ holds (record { first = h; second = k }) → (work first second : List ℕ) (p q : Answer) (y u w : List ℕ)
+    → Told (graphFor ranged lib codes (a .graph) (a .arrivals) h (a .bytes)) first p u → Told (graphFor ranged lib codes (b .graph) (b .arrivals) k (b .bytes)) second q w → y ≡ replicate (length work) 0
+    → PairLeft ranged lib codes a b r work first second (record { first = p; second = q }) y u w
 unfolding pairFor workFor answersOf
-pair-done ranged lib a b r h k e work first second p q y u w t v z =
+pair-done ranged lib codes a b r h k e work first second p q y u w t v z =
     pair-as e (record { answers = ap₂ (λ (x x′ : Answer). record { first = x; second = x′ }) (t .answers) (v .answers); words = z; firstBytes = t .bytes; secondBytes = v .bytes })
+
+-- with 30 before them: it does not come, or both have it
+module _ (paired ranged : Bool) (lib : Library) (codes : List ℕ) (areCells : cellsFor paired (cellsOf lib) ≡ allOf lib codes) (a b : Channel) (work first second : List ℕ) (answer : Two) where
+  pub two-done : length (allOf lib codes) ≤ 256 → (y u w : List ℕ) → PairLeft ranged lib codes a b (firstFor (length work) a b) work first second answer y u w
+      → TwoLeft paired ranged lib a b work first second answer y u w
+  unfolding unless
+  two-done few y u w l =
+      record { codes = codes; areCells = areCells; left = pair-as (go (leb (length (allOf lib codes)) 256) (le→leb (length (allOf lib codes)) 256 few)) l }
+    where
+      go : (x : Bool) → T x → unless x 30 0 (firstFor (length work) a b) ≡ firstFor (length work) a b
+      go true t = refl
+      go false t = absurd t
+
+  pub two-early : 256 < length (allOf lib codes) → answer ≡ record { first = Refused 30 0; second = Refused 30 0 } → TwoLeft paired ranged lib a b work first second answer work first second
+  unfolding unless
+  two-early many q =
+      record {
+        codes = codes;
+        areCells = areCells;
+        left = pair-early ranged lib codes a b _ 30 0 (go (leb (length (allOf lib codes)) 256) (leb→le (length (allOf lib codes)) 256)) work first second answer q;
+      }
+    where
+      go : (x : Bool) → (T x → length (allOf lib codes) ≤ 256) → unless x 30 0 (firstFor (length work) a b) ≡ fault 30 0
+      go true t = absurd (let z : length (allOf lib codes) ≤ 256 = t tt in omega arith)
+      go false t = refl
 
 -- ---- the refusals tried up to 10
 

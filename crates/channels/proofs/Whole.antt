@@ -12,11 +12,12 @@ use Rattle.model.specs.Limits.{need}
 use Rattle.model.specs.Reading.{Read, holds, fault, next, unless}
 use Rattle.model.specs.Cells.{cellsOf, libraryOf, libraryAnswer}
 use Rattle.model.specs.LibraryText.{readLibrary, isRanged}
+use Rattle.model.specs.Pairs.{cellsFor}
 use Rattle.model.specs.GraphText.{readHeader, readGraph}
 use Rattle.model.specs.ArrivalsText.{readArrivals, timedBy}
 use Rattle.model.specs.Graph.{Graph}
 use Rattle.model.specs.Netlist.{Outcome, refused}
-use Rattle.model.specs.Mapper.{Design, short, readTexts, mapDesign, mapTexts, answerOf, returned, textAfter}
+use Rattle.model.specs.Mapper.{Design, short, readListed, readTexts, mapDesign, mapTexts, answerOf, returned, textAfter}
 use Rattle.model.specs.Channels.{Channel, TwoCall, twoCallOf, alone, needOf, Needs, needsOf, Outcomes, mapNeeds, mapTwo, answersOf, twoWorkAfter}
 use Rattle.model.specs.TwoDemands.{TwoMemory}
 use Rattle.model.specs.declared.Cell.{Cell}
@@ -28,10 +29,10 @@ use Rattle.model.specs.declared.Two.{Two}
 use Rattle.model.specs.declared.Answer.the-variants.{Refused}
 use Rattle.model.proofs.Answers.{answer-returns}
 use Rattle.theory_text.proofs.Steps.{holds-once, unless-out, next-out}
-use Rattle.mapper.specs.Stages.{Fits, LibraryOk, designOf, graphFor}
-use Rattle.mapper.proofs.Libraries.{cells-back, library-ok}
+use Rattle.mapper.specs.Stages.{Fits, LibraryRead, allOf, graphFor}
+use Rattle.mapper.proofs.Libraries.{cells-back, library-read}
 use Rattle.mapper.proofs.Whole.{texts-fit}
-use Rattle.channels.specs.Pairs.{Heads, sumFor, secondFor, firstFor, pairFor, workFor, PairLeft}
+use Rattle.channels.specs.Pairs.{Heads, sumFor, secondFor, firstFor, pairFor, workFor, PairLeft, TwoLeft}
 use Rattle.channels.proofs.Leaving.{pair-as}
 
 -- the answers are within the text memories
@@ -41,7 +42,7 @@ two-fit c = go (needsOf c)
   where
     go : (r : Read Needs) → Fits (answerOf (mapNeeds c r .first)) (c .first .bytes) × Fits (answerOf (mapNeeds c r .second)) (c .second .bytes)
     go (fault n k) = unfold answerOf in (tt, tt)
-    go (holds n) = (texts-fit (alone (c .library) (c .first) (n .first)), texts-fit (alone (c .library) (c .second) (n .second)))
+    go (holds n) = (texts-fit (alone (c .paired) (c .library) (c .first) (n .first)), texts-fit (alone (c .paired) (c .library) (c .second) (n .second)))
 
 pub memory-fits : (c : TwoCall) (work first second : List ℕ) (answer : Two) (y u w : List ℕ) → TwoMemory c work first second answer y u w
     → Fits (answer .first) (c .first .bytes) × Fits (answer .second) (c .second .bytes)
@@ -54,15 +55,15 @@ needsIn : Read Heads → Read Needs
 needsIn (fault n k) = fault n k
 needsIn (holds x) = holds (record { first = need (x .first .size) (x .first .outputs); second = need (x .second .size) (x .second .outputs) })
 
-module _ (library : List ℕ) (a b : Channel) (work first second : List ℕ) where
+module _ (paired : Bool) (library : List ℕ) (a b : Channel) (work first second : List ℕ) where
   abbrev call : TwoCall
-  call = twoCallOf library a b work
+  call = twoCallOf paired library a b work
 
   -- what is left by a reading that the call comes to is what demand 1 asks
-  of-pair : (ranged : Bool) (lib : Library) (r : Read Heads) → needsOf call ≡ needsIn r → mapTwo call ≡ pairFor ranged lib a b r → (answer : Two) (y u w : List ℕ)
-      → PairLeft ranged lib a b r work first second answer y u w → TwoMemory call work first second answer y u w
+  of-pair : (ranged : Bool) (lib : Library) (codes : List ℕ) (r : Read Heads) → needsOf call ≡ needsIn r → mapTwo call ≡ pairFor ranged lib codes a b r → (answer : Two) (y u w : List ℕ)
+      → PairLeft ranged lib codes a b r work first second answer y u w → TwoMemory call work first second answer y u w
   unfolding answersOf
-  of-pair ranged lib r n o answer y u w l =
+  of-pair ranged lib codes r n o answer y u w l =
       let is : answer ≡ answersOf (mapTwo call) = l .answers ∙ ap answersOf (sym o) in
       record {
         answers = is;
@@ -78,11 +79,11 @@ module _ (library : List ℕ) (a b : Channel) (work first second : List ℕ) whe
       works (holds x) = unfold workFor twoWorkAfter needsIn in refl
 
   -- a refusal of the first channel that is tried before its header's
-  early : (n k : ℕ) → needOf library a ≡ fault n k → (answer : Two) → answer ≡ record { first = Refused n k; second = Refused n k }
+  early : (n k : ℕ) → needOf paired library a ≡ fault n k → (answer : Two) → answer ≡ record { first = Refused n k; second = Refused n k }
       → TwoMemory call work first second answer work first second
   unfolding needsOf next mapTwo mapNeeds answersOf answerOf textAfter twoWorkAfter
   early n k e answer q =
-      let d : needsOf call ≡ fault n k = ap (λ (r : Read ℕ). next r (λ x. next (needOf library b) (λ y. unless (leb (x + y) (length work)) 10 0 (holds (record { first = x; second = y }))))) e in
+      let d : needsOf call ≡ fault n k = ap (λ (r : Read ℕ). next r (λ x. next (needOf paired library b) (λ y. unless (leb (x + y) (length work)) 10 0 (holds (record { first = x; second = y }))))) e in
       let o : mapTwo call ≡ record { first = refused n k; second = refused n k } = ap (mapNeeds call) d in
       let is : answer ≡ answersOf (mapTwo call) = q ∙ ap answersOf (sym o) in
       record {
@@ -101,7 +102,7 @@ module _ (library : List ℕ) (a b : Channel) (work first second : List ℕ) whe
   long-text l = early 1 0 (go (leb (length library) 65536) (leb (length (a .graph)) 65536) (leb (length (a .arrivals)) 65536) (leb→le (length library) 65536) (leb→le (length (a .graph)) 65536) (leb→le (length (a .arrivals)) 65536))
     where
       go : (x y z : Bool) → (T x → length library ≤ 65536) → (T y → length (a .graph) ≤ 65536) → (T z → length (a .arrivals) ≤ 65536)
-          → unless (x && (y && z)) 1 0 (next (readLibrary library) (λ _. next (readHeader (a .graph)) (λ h. holds (need (h .size) (h .outputs))))) ≡ fault 1 0
+          → unless (x && (y && z)) 1 0 (next (readListed paired library) (λ _. next (readHeader (a .graph)) (λ h. holds (need (h .size) (h .outputs))))) ≡ fault 1 0
       go true true true f g h = absurd (l (f tt) (g tt) (h tt))
       go true true false f g h = refl
       go true false z f g h = refl
@@ -111,30 +112,37 @@ module _ (library : List ℕ) (a b : Channel) (work first second : List ℕ) whe
     needed : Read (List Cell) → Channel → Read ℕ
     needed r ch = next r (λ _. next (readHeader (ch .graph)) (λ h. holds (need (h .size) (h .outputs))))
 
-    first-need : needOf library a ≡ needed (readLibrary library) a
+    first-need : needOf paired library a ≡ needed (readListed paired library) a
     unfolding needOf needed unless
-    first-need = go (leb (length library) 65536) (leb (length (a .graph)) 65536) (leb (length (a .arrivals)) 65536) (le→leb (length library) 65536 shortLibrary) (le→leb (length (a .graph)) 65536 shortGraph) (le→leb (length (a .arrivals)) 65536 shortArrivals)
+    first-need =
+        go (leb (length library) 65536) (leb (length (a .graph)) 65536) (leb (length (a .arrivals)) 65536) (le→leb (length library) 65536 shortLibrary) (le→leb (length (a .graph)) 65536 shortGraph) (le→leb (length (a .arrivals)) 65536 shortArrivals)
       where
-        go : (x y z : Bool) → T x → T y → T z → unless (x && (y && z)) 1 0 (needed (readLibrary library) a) ≡ needed (readLibrary library) a
+        go : (x y z : Bool) → T x → T y → T z → unless (x && (y && z)) 1 0 (needed (readListed paired library) a) ≡ needed (readListed paired library) a
         go true true true f g h = refl
         go true true false f g h = absurd h
         go true false z f g h = absurd g
         go false y z f g h = absurd f
 
-    second-need : needOf library b ≡ unless (leb (length (b .graph)) 65536 && leb (length (b .arrivals)) 65536) 1 0 (needed (readLibrary library) b)
+    second-need : needOf paired library b ≡ unless (leb (length (b .graph)) 65536 && leb (length (b .arrivals)) 65536) 1 0 (needed (readListed paired library) b)
     unfolding needOf needed
-    second-need = go (leb (length library) 65536) (le→leb (length library) 65536 shortLibrary)
+    second-need =
+        go (leb (length library) 65536) (le→leb (length library) 65536 shortLibrary)
       where
         rest : Bool
         rest = leb (length (b .graph)) 65536 && leb (length (b .arrivals)) 65536
 
-        go : (x : Bool) → T x → unless (x && rest) 1 0 (needed (readLibrary library) b) ≡ unless rest 1 0 (needed (readLibrary library) b)
+        go : (x : Bool) → T x → unless (x && rest) 1 0 (needed (readListed paired library) b) ≡ unless rest 1 0 (needed (readListed paired library) b)
         go true f = refl
         go false f = absurd f
 
-    -- 2 to 6
+    -- a refusal of the library, its pairs among them
+    listed-stops : (n k : ℕ) → readListed paired library ≡ fault n k → (answer : Two) → answer ≡ record { first = Refused n k; second = Refused n k } → TwoMemory call work first second answer work first second
+    unfolding next needed
+    listed-stops n k e = early n k (first-need ∙ ap (λ (r : Read (List Cell)). needed r a) e)
+
+    -- 2 to 6 and 27
     pub library-stops : (n k : ℕ) → l .verdict ≡ Told2 n k → (answer : Two) → answer ≡ record { first = Refused n k; second = Refused n k } → TwoMemory call work first second answer work first second
-    unfolding libraryAnswer next needed
+    unfolding libraryAnswer next readListed
     library-stops n k e = go (readLibrary library) refl (sym (ap (λ (x : LibraryAnswer). x .verdict) told) ∙ e)
       where
         go : (r : Read (List Cell)) → readLibrary library ≡ r → libraryAnswer r .verdict ≡ Told2 n k → (answer : Two) → answer ≡ record { first = Refused n k; second = Refused n k }
@@ -142,31 +150,33 @@ module _ (library : List ℕ) (a b : Channel) (work first second : List ℕ) whe
         go (holds cs) q z = absurd (let x : _≡_ {A = ℕ} 0 1 = cc in omega arith)
         go (fault m j) q z =
             let x : m ≡ n = cc in let y : j ≡ k = cc in
-            early n k (first-need ∙ ap (λ (r : Read (List Cell)). needed r a) (q ∙ (λ i. fault (x i) (y i))))
+            listed-stops n k (ap (λ (r : Read (List Cell)). next r (λ cells. unless (leb (length (cellsFor paired cells)) 256) 30 0 (holds cells))) (q ∙ (λ i. fault (x i) (y i))))
 
-    module _ (cs : List Cell) (isLibrary : readLibrary library ≡ holds cs) (lib : Library) (isCells : cellsOf lib ≡ cs) where
+    module _ (lib : Library) (codes : List ℕ) (isListed : readListed paired library ≡ holds (cellsOf lib)) (areCells : cellsFor paired (cellsOf lib) ≡ allOf lib codes) where
       -- a channel alone, once its texts are short and its header is read
-      alone-is : (ch : Channel) → short (alone library ch 0) ≡ true → (h : Header) → readHeader (ch .graph) ≡ holds h
-          → mapTexts (alone library ch (need (h .size) (h .outputs))) ≡ graphFor (isRanged library) lib (ch .graph) (ch .arrivals) h (ch .bytes)
+      alone-is : (ch : Channel) → short (alone paired library ch 0) ≡ true → (h : Header) → readHeader (ch .graph) ≡ holds h
+          → mapTexts (alone paired library ch (need (h .size) (h .outputs))) ≡ graphFor (isRanged library) lib codes (ch .graph) (ch .arrivals) h (ch .bytes)
       unfolding mapTexts readTexts unless next graphFor
       alone-is ch s h e =
           ap (mapDesign (ch .bytes))
-          (ap (λ (x : Bool). unless x 1 0 (next (readLibrary library) read)) s
-          ∙ ap (λ (r : Read (List Cell)). next r read) (isLibrary ∙ ap holds (sym isCells))
-          ∙ ap (λ (r : Read Header). next r (lent (cellsOf lib))) e
-          ∙ ap (λ (x : Bool). unless x 10 0 (behind (cellsOf lib) h)) (enough (leb words words) (le→leb words words (le-refl words))))
+          (ap (λ (x : Bool). unless x 1 0 (next (readListed paired library) read)) s
+          ∙ ap (λ (r : Read (List Cell)). next r read) isListed
+          ∙ ap (λ (r : Read Header). next r (lent (cellsFor paired (cellsOf lib)))) e
+          ∙ ap (λ (x : Bool). unless x 10 0 (behind (cellsOf lib) (cellsFor paired (cellsOf lib)) h)) (enough (leb words words) (le→leb words words (le-refl words)))
+          ∙ ap (λ (cs : List Cell). behind (cellsOf lib) cs h) areCells)
         where
           words : ℕ
           words = need (h .size) (h .outputs)
 
-          behind : List Cell → Header → Read Design
-          behind cells k = next (readGraph (ch .graph) k) (λ g. next (readArrivals (k .inputs) (ch .arrivals)) (λ es. holds (record { cells = cells; ranged = isRanged library; graph = timedBy g es })))
+          behind : List Cell → List Cell → Header → Read Design
+          behind listed cells k =
+              next (readGraph (ch .graph) k) (λ g. next (readArrivals (k .inputs) (ch .arrivals)) (λ es. holds (record { listed = listed; cells = cells; ranged = isRanged library; graph = timedBy g es })))
 
           lent : List Cell → Header → Read Design
-          lent cells k = unless (leb (need (k .size) (k .outputs)) words) 10 0 (behind cells k)
+          lent cells k = unless (leb (need (k .size) (k .outputs)) words) 10 0 (behind (cellsOf lib) cells k)
 
           read : List Cell → Read Design
-          read cells = next (readHeader (ch .graph)) (lent cells)
+          read listed = next (readHeader (ch .graph)) (λ k. unless (leb (need (k .size) (k .outputs)) words) 10 0 (behind listed (cellsFor paired listed) k))
 
           enough : (x : Bool) → T x → x ≡ true
           enough true t = refl
@@ -176,7 +186,7 @@ module _ (library : List ℕ) (a b : Channel) (work first second : List ℕ) whe
       needs-are : needsOf call ≡ needsIn (firstFor (length work) a b)
       unfolding needsOf needed firstFor secondFor sumFor needsIn next unless
       needs-are =
-          ap₂ (λ (x y : Read ℕ). next x (λ p. next y (lent p))) (first-need ∙ ap (λ (r : Read (List Cell)). needed r a) isLibrary) (second-need ∙ ap (λ (r : Read (List Cell)). unless rest 1 0 (needed r b)) isLibrary)
+          ap₂ (λ (x y : Read ℕ). next x (λ p. next y (lent p))) (first-need ∙ ap (λ (r : Read (List Cell)). needed r a) isListed) (second-need ∙ ap (λ (r : Read (List Cell)). unless rest 1 0 (needed r b)) isListed)
           ∙ go (readHeader (a .graph)) rest (readHeader (b .graph))
         where
           rest : Bool
@@ -201,7 +211,7 @@ module _ (library : List ℕ) (a b : Channel) (work first second : List ℕ) whe
           go (holds h) true (holds k) = sum h k (leb (need (h .size) (h .outputs) + need (k .size) (k .outputs)) (length work))
 
       -- the first channel's texts are short, and where both headers are read the second's are
-      first-short : short (alone library a 0) ≡ true
+      first-short : short (alone paired library a 0) ≡ true
       first-short = go (leb (length library) 65536) (leb (length (a .graph)) 65536) (leb (length (a .arrivals)) 65536) (le→leb (length library) 65536 shortLibrary) (le→leb (length (a .graph)) 65536 shortGraph) (le→leb (length (a .arrivals)) 65536 shortArrivals)
         where
           go : (x y z : Bool) → T x → T y → T z → (x && (y && z)) ≡ true
@@ -210,7 +220,7 @@ module _ (library : List ℕ) (a b : Channel) (work first second : List ℕ) whe
           go true false z f g h = absurd g
           go false y z f g h = absurd f
 
-      second-short : T (leb (length (b .graph)) 65536 && leb (length (b .arrivals)) 65536) → short (alone library b 0) ≡ true
+      second-short : T (leb (length (b .graph)) 65536 && leb (length (b .arrivals)) 65536) → short (alone paired library b 0) ≡ true
       second-short t = go (leb (length library) 65536) (leb (length (b .graph)) 65536 && leb (length (b .arrivals)) 65536) (le→leb (length library) 65536 shortLibrary) t
         where
           go : (x y : Bool) → T x → T y → (x && y) ≡ true
@@ -219,11 +229,11 @@ module _ (library : List ℕ) (a b : Channel) (work first second : List ℕ) whe
           go false y f g = absurd f
 
       -- and the outcomes are those of the passes
-      outcomes-are : mapTwo call ≡ pairFor (isRanged library) lib a b (firstFor (length work) a b)
+      outcomes-are : mapTwo call ≡ pairFor (isRanged library) lib codes a b (firstFor (length work) a b)
       unfolding mapTwo mapNeeds needsIn pairFor firstFor secondFor sumFor
       outcomes-are = ap (mapNeeds call) needs-are ∙ go (firstFor (length work) a b) refl
         where
-          go : (r : Read Heads) → firstFor (length work) a b ≡ r → mapNeeds call (needsIn r) ≡ pairFor (isRanged library) lib a b r
+          go : (r : Read Heads) → firstFor (length work) a b ≡ r → mapNeeds call (needsIn r) ≡ pairFor (isRanged library) lib codes a b r
           go (fault n k) e = refl
           go (holds x) e =
               let f = next-out (readHeader (a .graph)) (secondFor (length work) b) x e in
@@ -236,19 +246,49 @@ module _ (library : List ℕ) (a b : Channel) (work first second : List ℕ) whe
               (alone-is b (second-short (s .0)) (x .second) (k .1 ∙ ap (λ (y : Heads). holds (y .second)) is))
 
     pub record IsRead : Type 0 where
-      pub ok : LibraryOk (l .library)
-      pub goes : (answer : Two) (y u w : List ℕ) → PairLeft (isRanged library) (l .library) a b (firstFor (length work) a b) work first second answer y u w → TwoMemory call work first second answer y u w
+      pub ok : LibraryRead (l .library)
+      pub goes : (answer : Two) (y u w : List ℕ) → TwoLeft paired (isRanged library) (l .library) a b work first second answer y u w → TwoMemory call work first second answer y u w
 
-    pub library-read : l .verdict ≡ Accepted → IsRead
+    pub library-heard : l .verdict ≡ Accepted → IsRead
     unfolding libraryAnswer
-    library-read e = go (readLibrary library) refl (sym (ap (λ (x : LibraryAnswer). x .verdict) told) ∙ e)
+    library-heard e = go (readLibrary library) refl (sym (ap (λ (x : LibraryAnswer). x .verdict) told) ∙ e)
       where
+        from-left : readLibrary library ≡ holds (cellsOf (l .library)) → (answer : Two) (y u w : List ℕ) → TwoLeft paired (isRanged library) (l .library) a b work first second answer y u w
+            → TwoMemory call work first second answer y u w
+        from-left read answer y u w t = tested (leb (length (allOf (l .library) (t .codes))) 256) refl
+          where
+            listed-is : readListed paired library ≡ unless (leb (length (allOf (l .library) (t .codes))) 256) 30 0 (holds (cellsOf (l .library)))
+            listed-is = unfold readListed next in
+                ap (λ (r : Read (List Cell)). next r (λ cells. unless (leb (length (cellsFor paired cells)) 256) 30 0 (holds cells))) read
+                ∙ ap (λ (cs : List Cell). unless (leb (length cs) 256) 30 0 (holds (cellsOf (l .library)))) (t .areCells)
+
+            refused-left : readListed paired library ≡ fault 30 0 → (answer : Two) (y u w : List ℕ) → PairLeft (isRanged library) (l .library) (t .codes) a b (fault 30 0) work first second answer y u w
+                → TwoMemory call work first second answer y u w
+            refused-left stops answer y u w p = unfold pairFor workFor answersOf answerOf textAfter in
+                subst (λ (v : List ℕ). TwoMemory call work first second answer y u v) (sym (p .secondBytes))
+                (subst (λ (v : List ℕ). TwoMemory call work first second answer y v second) (sym (p .firstBytes))
+                (subst (λ (v : List ℕ). TwoMemory call work first second answer v first second) (sym (p .words)) (listed-stops 30 0 stops answer (p .answers))))
+
+            tested : (x : Bool) → leb (length (allOf (l .library) (t .codes))) 256 ≡ x → TwoMemory call work first second answer y u w
+            tested true e =
+                let within : unless (leb (length (allOf (l .library) (t .codes))) 256) 30 0 (firstFor (length work) a b) ≡ firstFor (length work) a b =
+                (unfold unless in ap (λ (x : Bool). unless x 30 0 (firstFor (length work) a b)) e) in
+                let isListed : readListed paired library ≡ holds (cellsOf (l .library)) = listed-is ∙ (unfold unless in ap (λ (x : Bool). unless x 30 0 (holds (cellsOf (l .library)))) e) in
+                of-pair (isRanged library) (l .library) (t .codes) (firstFor (length work) a b) (needs-are (l .library) (t .codes) isListed (t .areCells)) (outcomes-are (l .library) (t .codes) isListed (t .areCells)) answer y u w
+                (pair-as (sym within) (t .left))
+            tested false e =
+                let stops : readListed paired library ≡ fault 30 0 = listed-is ∙ (unfold unless in ap (λ (x : Bool). unless x 30 0 (holds (cellsOf (l .library)))) e) in
+                let over : unless (leb (length (allOf (l .library) (t .codes))) 256) 30 0 (firstFor (length work) a b) ≡ fault 30 0 =
+                (unfold unless in ap (λ (x : Bool). unless x 30 0 (firstFor (length work) a b)) e) in
+                let left : PairLeft (isRanged library) (l .library) (t .codes) a b (fault 30 0) work first second answer y u w = pair-as (sym over) (t .left) in
+                refused-left stops answer y u w left
+
         go : (r : Read (List Cell)) → readLibrary library ≡ r → libraryAnswer r .verdict ≡ Accepted → IsRead
         go (fault m j) q z = absurd (let x : _≡_ {A = ℕ} 0 1 = cc in omega arith)
         go (holds cs) q z =
             let is : l .library ≡ libraryOf cs = ap (λ (x : LibraryAnswer). x .library) (told ∙ ap libraryAnswer q) in
             let same : cellsOf (l .library) ≡ cs = ap cellsOf is ∙ cells-back cs in
             record {
-              ok = subst LibraryOk (sym is) (library-ok library cs q);
-              goes = of-pair (isRanged library) (l .library) (firstFor (length work) a b) (needs-are cs q (l .library) same) (outcomes-are cs q (l .library) same);
+              ok = subst LibraryRead (sym is) (library-read library cs q);
+              goes = λ answer y u w t. from-left (q ∙ ap holds (sym same)) answer y u w t;
             }

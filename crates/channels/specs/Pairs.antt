@@ -7,6 +7,8 @@ use lib.Dec.{leb}
 use lib.ListN.{length, replicate}
 use Rattle.model.specs.Limits.{need}
 use Rattle.model.specs.Reading.{Read, holds, fault, next, unless}
+use Rattle.model.specs.Cells.{cellsOf}
+use Rattle.model.specs.Pairs.{cellsFor}
 use Rattle.model.specs.GraphText.{readHeader}
 use Rattle.model.specs.Netlist.{refused}
 use Rattle.model.specs.Mapper.{textAfter}
@@ -14,7 +16,7 @@ use Rattle.model.specs.Channels.{Channel, Outcomes, answersOf}
 use Rattle.model.specs.declared.Library.{Library}
 use Rattle.model.specs.declared.Header.{Header}
 use Rattle.model.specs.declared.Two.{Two}
-use Rattle.mapper.specs.Stages.{graphFor}
+use Rattle.mapper.specs.Stages.{allOf, graphFor}
 
 -- the headers of both
 pub record Heads : Type 0 where
@@ -40,12 +42,12 @@ firstFor words a b = next (readHeader (a .graph)) (secondFor words b)
 
 -- ---- the outcomes
 
-unfoldable pub pairFor : Bool → Library → Channel → Channel → Read Heads → Outcomes
+unfoldable pub pairFor : Bool → Library → List ℕ → Channel → Channel → Read Heads → Outcomes
 unfolding graphFor
-pairFor ranged lib a b (fault n k) = record { first = refused n k; second = refused n k }
-pairFor ranged lib a b (holds x) = record {
-  first = graphFor ranged lib (a .graph) (a .arrivals) (x .first) (a .bytes);
-  second = graphFor ranged lib (b .graph) (b .arrivals) (x .second) (b .bytes);
+pairFor ranged lib codes a b (fault n k) = record { first = refused n k; second = refused n k }
+pairFor ranged lib codes a b (holds x) = record {
+  first = graphFor ranged lib codes (a .graph) (a .arrivals) (x .first) (a .bytes);
+  second = graphFor ranged lib codes (b .graph) (b .arrivals) (x .second) (b .bytes);
 }
 
 unfoldable pub workFor : Read Heads → List ℕ → List ℕ
@@ -53,8 +55,14 @@ workFor (fault n k) work = work
 workFor (holds x) work = replicate (length work) 0
 
 -- both answers, and what is left of the memory lent
-pub record PairLeft (ranged : Bool) (lib : Library) (a b : Channel) (r : Read Heads) (work first second : List ℕ) (answer : Two) (workLeft firstLeft secondLeft : List ℕ) : Type 0 where
-  pub answers : answer ≡ answersOf (pairFor ranged lib a b r)
+pub record PairLeft (ranged : Bool) (lib : Library) (codes : List ℕ) (a b : Channel) (r : Read Heads) (work first second : List ℕ) (answer : Two) (workLeft firstLeft secondLeft : List ℕ) : Type 0 where
+  pub answers : answer ≡ answersOf (pairFor ranged lib codes a b r)
   pub words : workLeft ≡ workFor r work
-  pub firstBytes : firstLeft ≡ textAfter (pairFor ranged lib a b r .first) first
-  pub secondBytes : secondLeft ≡ textAfter (pairFor ranged lib a b r .second) second
+  pub firstBytes : firstLeft ≡ textAfter (pairFor ranged lib codes a b r .first) first
+  pub secondBytes : secondLeft ≡ textAfter (pairFor ranged lib codes a b r .second) second
+
+-- the same from 30 on, "when cells and pairs exceed 256, after 6, place 0": the cells to map with are the listed ones and those of some numbers of pairs
+pub record TwoLeft (paired ranged : Bool) (lib : Library) (a b : Channel) (work first second : List ℕ) (answer : Two) (workLeft firstLeft secondLeft : List ℕ) : Type 0 where
+  pub codes : List ℕ
+  pub areCells : cellsFor paired (cellsOf lib) ≡ allOf lib codes
+  pub left : PairLeft ranged lib codes a b (unless (leb (length (allOf lib codes)) 256) 30 0 (firstFor (length work) a b)) work first second answer workLeft firstLeft secondLeft

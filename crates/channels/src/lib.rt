@@ -6,6 +6,7 @@ use model::Library;
 use model::Two;
 use model::Verdict;
 ghost use mathlib.Core.Path.{_≡_};
+ghost use mathlib.Core.Bool.{true};
 ghost use Prim.Native.Nat.{_≤_};
 ghost use lib.ListN.{length};
 ghost use Rattle.model.specs.Limits.{need};
@@ -14,8 +15,9 @@ ghost use Rattle.model.specs.GraphText.{readHeader};
 ghost use Rattle.model.specs.Channels.{channelOf, twoCallOf};
 ghost use Rattle.model.specs.TwoDemands.{TwoMemory, Independent, TogetherRefused, Each, TwinChannels, EitherEndTwo};
 ghost use Rattle.model.specs.declared.Answer.the-variants.{Refused};
-ghost use Rattle.mapper.specs.Stages.{Fits, LibraryOk};
-ghost use Rattle.channels.specs.Pairs.{PairLeft, sumFor, secondFor, firstFor};
+ghost use Rattle.matching.specs.Sheet.{Blank};
+ghost use Rattle.mapper.specs.Stages.{Fits, LibraryRead, LibraryOk, allOf};
+ghost use Rattle.channels.specs.Pairs.{PairLeft, TwoLeft, sumFor, secondFor, firstFor};
 
 // "both return that number and place"
 fn both(number: usize, place: usize) -> Two
@@ -29,6 +31,127 @@ fn both(number: usize, place: usize) -> Two
 
 // Each channel as if alone: a pass asks nothing of what the words hold, so the second may find there what the first left. The sheet is made once for both,
 // and the words are cleared once.
+fn map_both_on(
+    graph1: &[u8],
+    arrivals1: &[u8],
+    h1: Header,
+    graph2: &[u8],
+    arrivals2: &[u8],
+    h2: Header,
+    lib: Library,
+    codes: &[u16],
+    ranged: bool,
+    sheet: &mut [u32],
+    work: &mut [u16],
+    text1: &mut [u8],
+    text2: &mut [u8],
+) -> Two
+    requires { ⌜ LibraryOk lib (now codes) × (readHeader (now graph1) ≡ holds h1) × (readHeader (now graph2) ≡ holds h2) × (need (h1 .size) (h1 .outputs) ≤ length (now work)) × (need (h2 .size) (h2 .outputs) ≤ length (now work)) × Blank (length (allOf lib (now codes))) (now sheet) ⌝ }
+    ensures { λ r. ⌜ PairLeft ranged lib (now (codes .entry)) (channelOf (now (graph1 .entry)) (now (arrivals1 .entry)) (now (text1 .entry))) (channelOf (now (graph2 .entry)) (now (arrivals2 .entry)) (now (text2 .entry))) (holds (record { first = h1; second = h2 })) (now (work .entry)) (now (text1 .entry)) (now (text2 .entry)) r (now (work .exit)) (now (text1 .exit)) (now (text2 .exit)) ⌝ }
+{
+    cover::match_library(lib, codes, sheet);
+    let first = mapper::load_graph(
+        graph1,
+        arrivals1,
+        h1,
+        lib,
+        codes,
+        ranged,
+        sheet,
+        work,
+        text1,
+    );
+    let second = mapper::load_graph(
+        graph2,
+        arrivals2,
+        h2,
+        lib,
+        codes,
+        ranged,
+        sheet,
+        work,
+        text2,
+    );
+    words::clear_all(work);
+    Two {
+        first: first,
+        second: second,
+    }
+}
+
+// With no pairs, on a sheet for the listed cells.
+fn map_both_listed(
+    graph1: &[u8],
+    arrivals1: &[u8],
+    h1: Header,
+    graph2: &[u8],
+    arrivals2: &[u8],
+    h2: Header,
+    lib: Library,
+    codes: &[u16],
+    ranged: bool,
+    work: &mut [u16],
+    text1: &mut [u8],
+    text2: &mut [u8],
+) -> Two
+    requires { ⌜ LibraryOk lib (now codes) × (readHeader (now graph1) ≡ holds h1) × (readHeader (now graph2) ≡ holds h2) × (need (h1 .size) (h1 .outputs) ≤ length (now work)) × (need (h2 .size) (h2 .outputs) ≤ length (now work)) × (length (now codes) ≡ 0) ⌝ }
+    ensures { λ r. ⌜ PairLeft ranged lib (now (codes .entry)) (channelOf (now (graph1 .entry)) (now (arrivals1 .entry)) (now (text1 .entry))) (channelOf (now (graph2 .entry)) (now (arrivals2 .entry)) (now (text2 .entry))) (holds (record { first = h1; second = h2 })) (now (work .entry)) (now (text1 .entry)) (now (text2 .entry)) r (now (work .exit)) (now (text1 .exit)) (now (text2 .exit)) ⌝ }
+{
+    let mut sheet = matching::no_sheet();
+    map_both_on(
+        graph1,
+        arrivals1,
+        h1,
+        graph2,
+        arrivals2,
+        h2,
+        lib,
+        codes,
+        ranged,
+        &mut sheet,
+        work,
+        text1,
+        text2,
+    )
+}
+
+// With pairs, on a sheet for all.
+fn map_both_joined(
+    graph1: &[u8],
+    arrivals1: &[u8],
+    h1: Header,
+    graph2: &[u8],
+    arrivals2: &[u8],
+    h2: Header,
+    lib: Library,
+    codes: &[u16],
+    ranged: bool,
+    work: &mut [u16],
+    text1: &mut [u8],
+    text2: &mut [u8],
+) -> Two
+    requires { ⌜ LibraryOk lib (now codes) × (readHeader (now graph1) ≡ holds h1) × (readHeader (now graph2) ≡ holds h2) × (need (h1 .size) (h1 .outputs) ≤ length (now work)) × (need (h2 .size) (h2 .outputs) ≤ length (now work)) ⌝ }
+    ensures { λ r. ⌜ PairLeft ranged lib (now (codes .entry)) (channelOf (now (graph1 .entry)) (now (arrivals1 .entry)) (now (text1 .entry))) (channelOf (now (graph2 .entry)) (now (arrivals2 .entry)) (now (text2 .entry))) (holds (record { first = h1; second = h2 })) (now (work .entry)) (now (text1 .entry)) (now (text2 .entry)) r (now (work .exit)) (now (text1 .exit)) (now (text2 .exit)) ⌝ }
+{
+    let mut sheet = matching::no_paired_sheet();
+    map_both_on(
+        graph1,
+        arrivals1,
+        h1,
+        graph2,
+        arrivals2,
+        h2,
+        lib,
+        codes,
+        ranged,
+        &mut sheet,
+        work,
+        text1,
+        text2,
+    )
+}
+
+// A call without pairs does not pay for their part of the sheet.
 fn map_both(
     graph1: &[u8],
     arrivals1: &[u8],
@@ -37,23 +160,45 @@ fn map_both(
     arrivals2: &[u8],
     h2: Header,
     lib: Library,
+    codes: &[u16],
     ranged: bool,
     work: &mut [u16],
     text1: &mut [u8],
     text2: &mut [u8],
 ) -> Two
-    requires { ⌜ LibraryOk lib × (readHeader (now graph1) ≡ holds h1) × (readHeader (now graph2) ≡ holds h2) × (need (h1 .size) (h1 .outputs) ≤ length (now work)) × (need (h2 .size) (h2 .outputs) ≤ length (now work)) ⌝ }
-    ensures { λ r. ⌜ PairLeft ranged lib (channelOf (now (graph1 .entry)) (now (arrivals1 .entry)) (now (text1 .entry))) (channelOf (now (graph2 .entry)) (now (arrivals2 .entry)) (now (text2 .entry))) (holds (record { first = h1; second = h2 })) (now (work .entry)) (now (text1 .entry)) (now (text2 .entry)) r (now (work .exit)) (now (text1 .exit)) (now (text2 .exit)) ⌝ }
+    requires { ⌜ LibraryOk lib (now codes) × (readHeader (now graph1) ≡ holds h1) × (readHeader (now graph2) ≡ holds h2) × (need (h1 .size) (h1 .outputs) ≤ length (now work)) × (need (h2 .size) (h2 .outputs) ≤ length (now work)) ⌝ }
+    ensures { λ r. ⌜ PairLeft ranged lib (now (codes .entry)) (channelOf (now (graph1 .entry)) (now (arrivals1 .entry)) (now (text1 .entry))) (channelOf (now (graph2 .entry)) (now (arrivals2 .entry)) (now (text2 .entry))) (holds (record { first = h1; second = h2 })) (now (work .entry)) (now (text1 .entry)) (now (text2 .entry)) r (now (work .exit)) (now (text1 .exit)) (now (text2 .exit)) ⌝ }
 {
-    let mut sheet = matching::no_sheet();
-    cover::match_library(lib, &mut sheet);
-    let first = mapper::load_graph(graph1, arrivals1, h1, lib, ranged, &sheet, work, text1);
-    let second = mapper::load_graph(graph2, arrivals2, h2, lib, ranged, &sheet, work, text2);
-    words::clear_all(work);
-    Two {
-        first: first,
-        second: second,
+    if codes.len() == 0 {
+        return map_both_listed(
+            graph1,
+            arrivals1,
+            h1,
+            graph2,
+            arrivals2,
+            h2,
+            lib,
+            codes,
+            ranged,
+            work,
+            text1,
+            text2,
+        );
     }
+    map_both_joined(
+        graph1,
+        arrivals1,
+        h1,
+        graph2,
+        arrivals2,
+        h2,
+        lib,
+        codes,
+        ranged,
+        work,
+        text1,
+        text2,
+    )
 }
 
 // 10: "compares the lent words with the sum of both needs".
@@ -65,13 +210,14 @@ fn map_pair(
     arrivals2: &[u8],
     h2: Header,
     lib: Library,
+    codes: &[u16],
     ranged: bool,
     work: &mut [u16],
     text1: &mut [u8],
     text2: &mut [u8],
 ) -> Two
-    requires { ⌜ LibraryOk lib × (readHeader (now graph1) ≡ holds h1) × (readHeader (now graph2) ≡ holds h2) ⌝ }
-    ensures { λ r. ⌜ PairLeft ranged lib (channelOf (now (graph1 .entry)) (now (arrivals1 .entry)) (now (text1 .entry))) (channelOf (now (graph2 .entry)) (now (arrivals2 .entry)) (now (text2 .entry))) (sumFor (length (now (work .entry))) h1 h2) (now (work .entry)) (now (text1 .entry)) (now (text2 .entry)) r (now (work .exit)) (now (text1 .exit)) (now (text2 .exit)) ⌝ }
+    requires { ⌜ LibraryOk lib (now codes) × (readHeader (now graph1) ≡ holds h1) × (readHeader (now graph2) ≡ holds h2) ⌝ }
+    ensures { λ r. ⌜ PairLeft ranged lib (now (codes .entry)) (channelOf (now (graph1 .entry)) (now (arrivals1 .entry)) (now (text1 .entry))) (channelOf (now (graph2 .entry)) (now (arrivals2 .entry)) (now (text2 .entry))) (sumFor (length (now (work .entry))) h1 h2) (now (work .entry)) (now (text1 .entry)) (now (text2 .entry)) r (now (work .exit)) (now (text1 .exit)) (now (text2 .exit)) ⌝ }
 {
     let first = words::need_words(h1.size, h1.outputs);
     let second = words::need_words(h2.size, h2.outputs);
@@ -86,6 +232,7 @@ fn map_pair(
         arrivals2,
         h2,
         lib,
+        codes,
         ranged,
         work,
         text1,
@@ -101,13 +248,14 @@ fn map_second(
     graph2: &[u8],
     arrivals2: &[u8],
     lib: Library,
+    codes: &[u16],
     ranged: bool,
     work: &mut [u16],
     text1: &mut [u8],
     text2: &mut [u8],
 ) -> Two
-    requires { ⌜ LibraryOk lib × (readHeader (now graph1) ≡ holds h1) ⌝ }
-    ensures { λ r. ⌜ PairLeft ranged lib (channelOf (now (graph1 .entry)) (now (arrivals1 .entry)) (now (text1 .entry))) (channelOf (now (graph2 .entry)) (now (arrivals2 .entry)) (now (text2 .entry))) (secondFor (length (now (work .entry))) (channelOf (now (graph2 .entry)) (now (arrivals2 .entry)) (now (text2 .entry))) h1) (now (work .entry)) (now (text1 .entry)) (now (text2 .entry)) r (now (work .exit)) (now (text1 .exit)) (now (text2 .exit)) ⌝ }
+    requires { ⌜ LibraryOk lib (now codes) × (readHeader (now graph1) ≡ holds h1) ⌝ }
+    ensures { λ r. ⌜ PairLeft ranged lib (now (codes .entry)) (channelOf (now (graph1 .entry)) (now (arrivals1 .entry)) (now (text1 .entry))) (channelOf (now (graph2 .entry)) (now (arrivals2 .entry)) (now (text2 .entry))) (secondFor (length (now (work .entry))) (channelOf (now (graph2 .entry)) (now (arrivals2 .entry)) (now (text2 .entry))) h1) (now (work .entry)) (now (text1 .entry)) (now (text2 .entry)) r (now (work .exit)) (now (text1 .exit)) (now (text2 .exit)) ⌝ }
 {
     if graph2.len() > 65536 {
         return both(1, 0);
@@ -125,6 +273,7 @@ fn map_second(
                 arrivals2,
                 h2,
                 lib,
+                codes,
                 ranged,
                 work,
                 text1,
@@ -142,13 +291,14 @@ fn map_first(
     graph2: &[u8],
     arrivals2: &[u8],
     lib: Library,
+    codes: &[u16],
     ranged: bool,
     work: &mut [u16],
     text1: &mut [u8],
     text2: &mut [u8],
 ) -> Two
-    requires { ⌜ LibraryOk lib ⌝ }
-    ensures { λ r. ⌜ PairLeft ranged lib (channelOf (now (graph1 .entry)) (now (arrivals1 .entry)) (now (text1 .entry))) (channelOf (now (graph2 .entry)) (now (arrivals2 .entry)) (now (text2 .entry))) (firstFor (length (now (work .entry))) (channelOf (now (graph1 .entry)) (now (arrivals1 .entry)) (now (text1 .entry))) (channelOf (now (graph2 .entry)) (now (arrivals2 .entry)) (now (text2 .entry)))) (now (work .entry)) (now (text1 .entry)) (now (text2 .entry)) r (now (work .exit)) (now (text1 .exit)) (now (text2 .exit)) ⌝ }
+    requires { ⌜ LibraryOk lib (now codes) ⌝ }
+    ensures { λ r. ⌜ PairLeft ranged lib (now (codes .entry)) (channelOf (now (graph1 .entry)) (now (arrivals1 .entry)) (now (text1 .entry))) (channelOf (now (graph2 .entry)) (now (arrivals2 .entry)) (now (text2 .entry))) (firstFor (length (now (work .entry))) (channelOf (now (graph1 .entry)) (now (arrivals1 .entry)) (now (text1 .entry))) (channelOf (now (graph2 .entry)) (now (arrivals2 .entry)) (now (text2 .entry)))) (now (work .entry)) (now (text1 .entry)) (now (text2 .entry)) r (now (work .exit)) (now (text1 .exit)) (now (text2 .exit)) ⌝ }
 {
     match aiger::header(graph1) {
         HeaderAnswer::Read(h1) => {
@@ -159,6 +309,7 @@ fn map_first(
                 graph2,
                 arrivals2,
                 lib,
+                codes,
                 ranged,
                 work,
                 text1,
@@ -167,6 +318,84 @@ fn map_first(
         }
         HeaderAnswer::Refused(number, place) => both(number, place),
     }
+}
+
+// The listed cells and their pairs, or 30: "when cells and pairs exceed 256, after 6, place 0".
+fn map_pairs(
+    graph1: &[u8],
+    arrivals1: &[u8],
+    graph2: &[u8],
+    arrivals2: &[u8],
+    lib: Library,
+    ranged: bool,
+    work: &mut [u16],
+    text1: &mut [u8],
+    text2: &mut [u8],
+) -> Two
+    requires { ⌜ LibraryRead lib ⌝ }
+    ensures { λ r. ⌜ TwoLeft true ranged lib (channelOf (now (graph1 .entry)) (now (arrivals1 .entry)) (now (text1 .entry))) (channelOf (now (graph2 .entry)) (now (arrivals2 .entry)) (now (text2 .entry))) (now (work .entry)) (now (text1 .entry)) (now (text2 .entry)) r (now (work .exit)) (now (text1 .exit)) (now (text2 .exit)) ⌝ }
+{
+    let mut codes = [0u16; 4096];
+    let n = pairs::form(&mut codes, lib);
+    if lib.n + n > 256 {
+        return both(30, 0);
+    }
+    map_first(
+        graph1,
+        arrivals1,
+        graph2,
+        arrivals2,
+        lib,
+        &codes[..n],
+        ranged,
+        work,
+        text1,
+        text2,
+    )
+}
+
+// The cells that both channels are mapped with: "Where a call wants them", pairs too.
+fn map_cells(
+    graph1: &[u8],
+    arrivals1: &[u8],
+    graph2: &[u8],
+    arrivals2: &[u8],
+    lib: Library,
+    ranged: bool,
+    paired: bool,
+    work: &mut [u16],
+    text1: &mut [u8],
+    text2: &mut [u8],
+) -> Two
+    requires { ⌜ LibraryRead lib ⌝ }
+    ensures { λ r. ⌜ TwoLeft paired ranged lib (channelOf (now (graph1 .entry)) (now (arrivals1 .entry)) (now (text1 .entry))) (channelOf (now (graph2 .entry)) (now (arrivals2 .entry)) (now (text2 .entry))) (now (work .entry)) (now (text1 .entry)) (now (text2 .entry)) r (now (work .exit)) (now (text1 .exit)) (now (text2 .exit)) ⌝ }
+{
+    if paired {
+        return map_pairs(
+            graph1,
+            arrivals1,
+            graph2,
+            arrivals2,
+            lib,
+            ranged,
+            work,
+            text1,
+            text2,
+        );
+    }
+    let none = [0u16; 1];
+    map_first(
+        graph1,
+        arrivals1,
+        graph2,
+        arrivals2,
+        lib,
+        &none[..0],
+        ranged,
+        work,
+        text1,
+        text2,
+    )
 }
 
 // Two channels mapped: each netlist at the start of its text memory, or its refusal. The clauses carry the names of the demands: `memory` both answers and
@@ -179,16 +408,17 @@ pub fn map_two(
     arrivals1: &[u8],
     graph2: &[u8],
     arrivals2: &[u8],
+    paired: bool,
     work: &mut [u16],
     text1: &mut [u8],
     text2: &mut [u8],
 ) -> Two
-    ensures memory { λ r. ⌜ TwoMemory (twoCallOf (now (cells .entry)) (channelOf (now (graph1 .entry)) (now (arrivals1 .entry)) (now (text1 .entry))) (channelOf (now (graph2 .entry)) (now (arrivals2 .entry)) (now (text2 .entry))) (now (work .entry))) (now (work .entry)) (now (text1 .entry)) (now (text2 .entry)) r (now (work .exit)) (now (text1 .exit)) (now (text2 .exit)) ⌝ }
-    ensures together { λ _. ⌜ TogetherRefused (twoCallOf (now (cells .entry)) (channelOf (now (graph1 .entry)) (now (arrivals1 .entry)) (now (text1 .entry))) (channelOf (now (graph2 .entry)) (now (arrivals2 .entry)) (now (text2 .entry))) (now (work .entry))) ⌝ }
-    ensures independent { λ _. ⌜ Independent (twoCallOf (now (cells .entry)) (channelOf (now (graph1 .entry)) (now (arrivals1 .entry)) (now (text1 .entry))) (channelOf (now (graph2 .entry)) (now (arrivals2 .entry)) (now (text2 .entry))) (now (work .entry))) ⌝ }
-    ensures each { λ _. ⌜ Each (twoCallOf (now (cells .entry)) (channelOf (now (graph1 .entry)) (now (arrivals1 .entry)) (now (text1 .entry))) (channelOf (now (graph2 .entry)) (now (arrivals2 .entry)) (now (text2 .entry))) (now (work .entry))) ⌝ }
-    ensures twins { λ _. ⌜ TwinChannels (twoCallOf (now (cells .entry)) (channelOf (now (graph1 .entry)) (now (arrivals1 .entry)) (now (text1 .entry))) (channelOf (now (graph2 .entry)) (now (arrivals2 .entry)) (now (text2 .entry))) (now (work .entry))) ⌝ }
-    ensures ends { λ _. ⌜ EitherEndTwo (twoCallOf (now (cells .entry)) (channelOf (now (graph1 .entry)) (now (arrivals1 .entry)) (now (text1 .entry))) (channelOf (now (graph2 .entry)) (now (arrivals2 .entry)) (now (text2 .entry))) (now (work .entry))) ⌝ }
+    ensures memory { λ r. ⌜ TwoMemory (twoCallOf paired (now (cells .entry)) (channelOf (now (graph1 .entry)) (now (arrivals1 .entry)) (now (text1 .entry))) (channelOf (now (graph2 .entry)) (now (arrivals2 .entry)) (now (text2 .entry))) (now (work .entry))) (now (work .entry)) (now (text1 .entry)) (now (text2 .entry)) r (now (work .exit)) (now (text1 .exit)) (now (text2 .exit)) ⌝ }
+    ensures together { λ _. ⌜ TogetherRefused (twoCallOf paired (now (cells .entry)) (channelOf (now (graph1 .entry)) (now (arrivals1 .entry)) (now (text1 .entry))) (channelOf (now (graph2 .entry)) (now (arrivals2 .entry)) (now (text2 .entry))) (now (work .entry))) ⌝ }
+    ensures independent { λ _. ⌜ Independent (twoCallOf paired (now (cells .entry)) (channelOf (now (graph1 .entry)) (now (arrivals1 .entry)) (now (text1 .entry))) (channelOf (now (graph2 .entry)) (now (arrivals2 .entry)) (now (text2 .entry))) (now (work .entry))) ⌝ }
+    ensures each { λ _. ⌜ Each (twoCallOf paired (now (cells .entry)) (channelOf (now (graph1 .entry)) (now (arrivals1 .entry)) (now (text1 .entry))) (channelOf (now (graph2 .entry)) (now (arrivals2 .entry)) (now (text2 .entry))) (now (work .entry))) ⌝ }
+    ensures twins { λ _. ⌜ TwinChannels (twoCallOf paired (now (cells .entry)) (channelOf (now (graph1 .entry)) (now (arrivals1 .entry)) (now (text1 .entry))) (channelOf (now (graph2 .entry)) (now (arrivals2 .entry)) (now (text2 .entry))) (now (work .entry))) ⌝ }
+    ensures ends { λ _. ⌜ EitherEndTwo (twoCallOf paired (now (cells .entry)) (channelOf (now (graph1 .entry)) (now (arrivals1 .entry)) (now (text1 .entry))) (channelOf (now (graph2 .entry)) (now (arrivals2 .entry)) (now (text2 .entry))) (now (work .entry))) ⌝ }
     ensures fits { λ r. ⌜ Fits (r .first) (length (now (text1 .entry))) × Fits (r .second) (length (now (text2 .entry))) ⌝ }
 {
     if cells.len() > 65536 {
@@ -206,13 +436,14 @@ pub fn map_two(
         Verdict::Accepted => {
             let lib = l.library;
             let ranged = library::is_ranged(cells);
-            map_first(
+            map_cells(
                 graph1,
                 arrivals1,
                 graph2,
                 arrivals2,
                 lib,
                 ranged,
+                paired,
                 work,
                 text1,
                 text2,

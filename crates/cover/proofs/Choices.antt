@@ -3,7 +3,7 @@
 --     direct-held         a phase without inverters
 --     up-held             after each turn the words have what is known
 --     choose-law          the chosen phases
---     library-sheet       the library's sheet
+--     library-sheet       the sheet of the cells to map with
 -- Assumes nothing.
 use Prim.Native.Nat.{ℕ, zero, suc, _+_, _*_, _/_, _≤_, _<_}
 use native.Mathlib.Omega.{arith}
@@ -38,10 +38,11 @@ use Rattle.words.specs.Phases.{phaseIn, phasesAt}
 use Rattle.words.specs.Holding.{HoldsPhases}
 use Rattle.words.proofs.Chosen.{phase-none}
 use Rattle.words.proofs.Stored.{held-count, held-cut}
-use Rattle.matching.specs.Variants.{Usable}
-use Rattle.matching.specs.Sheet.{Blank, listMatched}
-use Rattle.matching.proofs.Linking.{build-sheet}
-use Rattle.cover.specs.Choosing.{foundOn, foundAt, foundFrom, bestAt, ownPhase, directOf, directAt, chosenTurn, chosenUp, Early, SheetIn, Unchosen}
+use Rattle.matching.specs.Sheet.{listMatched, SheetOf, Blank}
+use Rattle.matching.proofs.Pairing.{sheet-by}
+use Rattle.matching.specs.Variants.{Usable, Matchable}
+use Rattle.pairs.specs.Codes.{cellsBy, Coded}
+use Rattle.cover.specs.Choosing.{foundOn, foundAt, foundFrom, bestAt, ownPhase, directOf, directAt, chosenTurn, chosenUp, Early, Unchosen}
 use Rattle.cover.proofs.Keeping.{PhasesKept, graph-kept, order-kept, cuts-kept}
 use Rattle.cover.proofs.Marks.{nets-in}
 use Rattle.cover.specs.Held.{HeaderOf, Held}
@@ -65,7 +66,7 @@ matched-same cells p q cut m h inside x =
 
 -- ---- words that agree with what is known
 
-module _ (lib : Library) (g : Graph) (w : List ℕ) (h : Held w g) (known : ℕ → Phases) (agree : (u : ℕ) → u ≤ g .size → phasesAt w (g .size) u ≡ known u)
+module _ (cells : List Cell) (g : Graph) (w : List ℕ) (h : Held w g) (known : ℕ → Phases) (agree : (u : ℕ) → u ≤ g .size → phasesAt w (g .size) u ≡ known u)
     (v : ℕ) (i : List·Memᴰ v (placingOrder g)) (neg : Bool) where
   small : v ≤ g .size
   small = order-small g (h .accepted) v i
@@ -80,46 +81,46 @@ module _ (lib : Library) (g : Graph) (w : List ℕ) (h : Held w g) (known : ℕ 
             (getD-in (getD (cutsOf g v) k []) j 0 (ltb-true j (length (getD (cutsOf g v) k [])) q))
         go false q = omega (arith, List·getD-eq-default (getD (cutsOf g v) k []) 0 (ltb-false j (length (getD (cutsOf g v) k [])) q))
 
-    at-held : foundAt (cellsOf lib) w (g .size) v neg k ≡ cutPhases (cellsOf lib) g known v neg k (getD (cutsOf g v) k [])
+    at-held : foundAt cells w (g .size) v neg k ≡ cutPhases cells g known v neg k (getD (cutsOf g v) k [])
     unfolding foundAt foundOn cutPhases
     at-held =
         let c : leavesAt w (g .size) v k ≡ getD (cutsOf g v) k [] = held-cut w g (h .cuts) v small k b in
         let f : functionOf w (g .size) v k ≡ cutTable g (getD (cutsOf g v) k []) v = h .cuts .functions v i k b in
         let ls : List ℕ = getD (cutsOf g v) k [] in
-        let xs : List Match = cutMatches (cellsOf lib) 0 k (length ls) (phaseTable neg (cutTable g ls v)) in
-        let e : map (matchPhase (cellsOf lib) (phasesAt w (g .size)) ls) xs ≡ map (matchPhase (cellsOf lib) known ls) xs =
-        map-same (matchPhase (cellsOf lib) (phasesAt w (g .size)) ls) (matchPhase (cellsOf lib) known ls) xs
-        (λ x j. matched-same (cellsOf lib) (phasesAt w (g .size)) known ls (g .size) agree inside x) in
+        let xs : List Match = cutMatches cells 0 k (length ls) (phaseTable neg (cutTable g ls v)) in
+        let e : map (matchPhase cells (phasesAt w (g .size)) ls) xs ≡ map (matchPhase cells known ls) xs =
+        map-same (matchPhase cells (phasesAt w (g .size)) ls) (matchPhase cells known ls) xs
+        (λ x j. matched-same cells (phasesAt w (g .size)) known ls (g .size) agree inside x) in
         (λ j. cond (same (c j) (v ∷ [])) []
-        (map (matchPhase (cellsOf lib) (phasesAt w (g .size)) (c j)) (cutMatches (cellsOf lib) 0 k (length (c j)) (phaseTable neg (f j)))))
+        (map (matchPhase cells (phasesAt w (g .size)) (c j)) (cutMatches cells 0 k (length (c j)) (phaseTable neg (f j)))))
         ∙ (λ j. cond (same ls (v ∷ [])) [] (e j))
 
-  from-held : (n k : ℕ) → k + n ≡ length (cutsOf g v) → foundFrom (cellsOf lib) w (g .size) v neg k n ≡ matchPhases (cellsOf lib) g known v neg k (drop k (cutsOf g v))
+  from-held : (n k : ℕ) → k + n ≡ length (cutsOf g v) → foundFrom cells w (g .size) v neg k n ≡ matchPhases cells g known v neg k (drop k (cutsOf g v))
   unfolding foundFrom matchPhases
   from-held zero k e =
       let s : k ≡ length (cutsOf g v) = omega arith in
-      sym (ap (matchPhases (cellsOf lib) g known v neg k) (ap (λ (j : ℕ). drop j (cutsOf g v)) s ∙ drop-length (cutsOf g v)))
+      sym (ap (matchPhases cells g known v neg k) (ap (λ (j : ℕ). drop j (cutsOf g v)) s ∙ drop-length (cutsOf g v)))
   from-held (suc n) k e =
       let b : k < length (cutsOf g v) = omega arith in
       let one = at-held k b in
       let rest = from-held n (suc k) (omega arith) in
-      (λ j. one j ++ rest j) ∙ sym (ap (matchPhases (cellsOf lib) g known v neg k) (drop-cons (cutsOf g v) k [] b))
+      (λ j. one j ++ rest j) ∙ sym (ap (matchPhases cells g known v neg k) (drop-cons (cutsOf g v) k [] b))
 
-  best-held : bestAt (cellsOf lib) w (g .size) v neg ≡ choose (matchPhases (cellsOf lib) g known v neg 0 (cutsOf g v))
+  best-held : bestAt cells w (g .size) v neg ≡ choose (matchPhases cells g known v neg 0 (cutsOf g v))
   unfolding bestAt
   best-held =
-      ap (λ (n : ℕ). choose (foundFrom (cellsOf lib) w (g .size) v neg 0 n)) (held-count w g (h .cuts) v small) ∙ ap choose (from-held (length (cutsOf g v)) 0 (omega arith))
+      ap (λ (n : ℕ). choose (foundFrom cells w (g .size) v neg 0 n)) (held-count w g (h .cuts) v small) ∙ ap choose (from-held (length (cutsOf g v)) 0 (omega arith))
 
-  of-held : (n : Node) → directOf (cellsOf lib) w (g .size) v neg n ≡ direct (cellsOf lib) g known v (cutsOf g v) neg n
+  of-held : (n : Node) → directOf cells w (g .size) v neg n ≡ direct cells g known v (cutsOf g v) neg n
   unfolding directOf direct ownPhase
   of-held constant = best-held
   of-held input = ap (λ (t : ℕ). cond neg noPhase (record { source = Input; arrival = t })) (h .graph .late v small)
   of-held undefined = refl
   of-held (both l r) = best-held
 
-  pub direct-held : directAt (cellsOf lib) w (g .size) v neg ≡ direct (cellsOf lib) g known v (cutsOf g v) neg (node g v)
+  pub direct-held : directAt cells w (g .size) v neg ≡ direct cells g known v (cutsOf g v) neg (node g v)
   unfolding directAt
-  direct-held = ap (directOf (cellsOf lib) w (g .size) v neg) (h .graph .nodes v small) ∙ of-held (node g v)
+  direct-held = ap (directOf cells w (g .size) v neg) (h .graph .nodes v small) ∙ of-held (node g v)
 
 -- ---- after each turn
 
@@ -147,7 +148,7 @@ held-kept g v w k h =
       cuts = cuts-kept g a b v w k (omega arith) (omega arith) (h .accepted) (h .free) (h .cuts);
     }
 
-module _ (lib : Library) (us : Usable lib) (g : Graph) (w : List ℕ) (h : Held w g) (z : NonePicked w (g .size)) where
+module _ (cells : List Cell) (us : Matchable cells) (g : Graph) (w : List ℕ) (h : Held w g) (z : NonePicked w (g .size)) where
   pub unchosen : Unchosen w (g .size) (length (placingOrder g))
   unfolding phaseOf noPhases noPhase varOf
   unchosen =
@@ -169,25 +170,25 @@ module _ (lib : Library) (us : Usable lib) (g : Graph) (w : List ℕ) (h : Held 
 
   -- what is known after i turns
   unfoldable pub sofar : ℕ → List (ℕ × Phases)
-  sofar i = run (phaseStep (cellsOf lib) g) (take i (placingOrder g)) []
+  sofar i = run (phaseStep cells g) (take i (placingOrder g)) []
 
   sofar-next : (i : ℕ) → i < length (placingOrder g)
-      → sofar (suc i) ≡ (getD (placingOrder g) i 0, phaseStep (cellsOf lib) g (sofar i) (getD (placingOrder g) i 0)) ∷ sofar i
+      → sofar (suc i) ≡ (getD (placingOrder g) i 0, phaseStep cells g (sofar i) (getD (placingOrder g) i 0)) ∷ sofar i
   unfolding sofar run
   sofar-next i b =
-      ap (λ (vs : List ℕ). run (phaseStep (cellsOf lib) g) vs []) (take-suc (placingOrder g) i 0 b)
-      ∙ run-split noPhases (phaseStep (cellsOf lib) g) (take i (placingOrder g)) (getD (placingOrder g) i 0 ∷ []) []
+      ap (λ (vs : List ℕ). run (phaseStep cells g) vs []) (take-suc (placingOrder g) i 0 b)
+      ∙ run-split noPhases (phaseStep cells g) (take i (placingOrder g)) (getD (placingOrder g) i 0 ∷ []) []
 
   module _ (i : ℕ) (b : i < length (placingOrder g))
-      (agree : (u : ℕ) → u ≤ g .size → phasesAt (chosenUp (cellsOf lib) w (g .size) i) (g .size) u ≡ find noPhases u (sofar i)) where
-    after : PhasesKept (g .size) w (chosenUp (cellsOf lib) w (g .size) i) × Early (chosenUp (cellsOf lib) w (g .size) i) (g .size) (131070 * i)
-    after = let a = up-after lib us w (g .size) (length (placingOrder g)) unchosen i (omega arith) in (a .kept, a .early)
+      (agree : (u : ℕ) → u ≤ g .size → phasesAt (chosenUp cells w (g .size) i) (g .size) u ≡ find noPhases u (sofar i)) where
+    after : PhasesKept (g .size) w (chosenUp cells w (g .size) i) × Early (chosenUp cells w (g .size) i) (g .size) (262142 * i)
+    after = let a = up-after cells us w (g .size) (length (placingOrder g)) unchosen i (omega arith) in (a .kept, a .early)
 
-    still : Held (chosenUp (cellsOf lib) w (g .size) i) g
-    still = held-kept g w (chosenUp (cellsOf lib) w (g .size) i) (after .0) h
+    still : Held (chosenUp cells w (g .size) i) g
+    still = held-kept g w (chosenUp cells w (g .size) i) (after .0) h
 
-    turn-held : (u : ℕ) → u ≤ g .size → phasesAt (chosenTurn (cellsOf lib) (chosenUp (cellsOf lib) w (g .size) i) (g .size) (getD (placingOrder g) i 0)) (g .size) u
-        ≡ find noPhases u ((getD (placingOrder g) i 0, phaseStep (cellsOf lib) g (sofar i) (getD (placingOrder g) i 0)) ∷ sofar i)
+    turn-held : (u : ℕ) → u ≤ g .size → phasesAt (chosenTurn cells (chosenUp cells w (g .size) i) (g .size) (getD (placingOrder g) i 0)) (g .size) u
+        ≡ find noPhases u ((getD (placingOrder g) i 0, phaseStep cells g (sofar i) (getD (placingOrder g) i 0)) ∷ sofar i)
     unfolding find
     turn-held u s = go (eqb u v) refl
       where
@@ -195,7 +196,7 @@ module _ (lib : Library) (us : Usable lib) (g : Graph) (w : List ℕ) (h : Held 
         v = getD (placingOrder g) i 0
 
         w′ : List ℕ
-        w′ = chosenUp (cellsOf lib) w (g .size) i
+        w′ = chosenUp cells w (g .size) i
 
         placed : List·Memᴰ v (placingOrder g)
         placed = getD-in (placingOrder g) i 0 b
@@ -203,31 +204,31 @@ module _ (lib : Library) (us : Usable lib) (g : Graph) (w : List ℕ) (h : Held 
         small-v : v ≤ g .size
         small-v = order-small g (h .accepted) v placed
 
-        here : phasesAt (chosenTurn (cellsOf lib) w′ (g .size) v) (g .size) v ≡ phaseStep (cellsOf lib) g (sofar i) v
+        here : phasesAt (chosenTurn cells w′ (g .size) v) (g .size) v ≡ phaseStep cells g (sofar i) v
         here =
-            let p = direct-held lib g w′ still (λ x. find noPhases x (sofar i)) agree v placed false in
-            let n = direct-held lib g w′ still (λ x. find noPhases x (sofar i)) agree v placed true in
-            turn-here lib us w′ (g .size) (131070 * i) (cuts-in w′ g still) (late-in w′ g still) (after .1) v small-v ∙ (λ j. joined (cellsOf lib) (p j) (n j))
+            let p = direct-held cells g w′ still (λ x. find noPhases x (sofar i)) agree v placed false in
+            let n = direct-held cells g w′ still (λ x. find noPhases x (sofar i)) agree v placed true in
+            turn-here cells us w′ (g .size) (262142 * i) (cuts-in w′ g still) (late-in w′ g still) (after .1) v small-v ∙ (λ j. joined cells (p j) (n j))
 
-        go : (t : Bool) → eqb u v ≡ t → phasesAt (chosenTurn (cellsOf lib) w′ (g .size) v) (g .size) u ≡ cond (eqb u v) (phaseStep (cellsOf lib) g (sofar i) v) (find noPhases u (sofar i))
+        go : (t : Bool) → eqb u v ≡ t → phasesAt (chosenTurn cells w′ (g .size) v) (g .size) u ≡ cond (eqb u v) (phaseStep cells g (sofar i) v) (find noPhases u (sofar i))
         go true e =
-            ap (phasesAt (chosenTurn (cellsOf lib) w′ (g .size) v) (g .size)) (eqb-true u v e) ∙ here
-            ∙ sym (ap (λ (t : Bool). cond t (phaseStep (cellsOf lib) g (sofar i) v) (find noPhases u (sofar i))) e)
+            ap (phasesAt (chosenTurn cells w′ (g .size) v) (g .size)) (eqb-true u v e) ∙ here
+            ∙ sym (ap (λ (t : Bool). cond t (phaseStep cells g (sofar i) v) (find noPhases u (sofar i))) e)
         go false e =
-            turn-other lib us w′ (g .size) (131070 * i) (cuts-in w′ g still) (late-in w′ g still) (after .1) v small-v u s (eqb-false u v e) ∙ agree u s
-            ∙ sym (ap (λ (t : Bool). cond t (phaseStep (cellsOf lib) g (sofar i) v) (find noPhases u (sofar i))) e)
+            turn-other cells us w′ (g .size) (262142 * i) (cuts-in w′ g still) (late-in w′ g still) (after .1) v small-v u s (eqb-false u v e) ∙ agree u s
+            ∙ sym (ap (λ (t : Bool). cond t (phaseStep cells g (sofar i) v) (find noPhases u (sofar i))) e)
 
-  pub up-held : (i : ℕ) → i ≤ length (placingOrder g) → (u : ℕ) → u ≤ g .size → phasesAt (chosenUp (cellsOf lib) w (g .size) i) (g .size) u ≡ find noPhases u (sofar i)
+  pub up-held : (i : ℕ) → i ≤ length (placingOrder g) → (u : ℕ) → u ≤ g .size → phasesAt (chosenUp cells w (g .size) i) (g .size) u ≡ find noPhases u (sofar i)
   unfolding chosenUp find sofar run
   up-held zero b u s = none-yet w (g .size) z u s
   up-held (suc i) b u s =
       let agree = up-held i (omega arith) in
-      let w′ : List ℕ = chosenUp (cellsOf lib) w (g .size) i in
-      ap (λ (x : ℕ). phasesAt (chosenTurn (cellsOf lib) w′ (g .size) x) (g .size) u) (still i b agree .order .slots i b)
+      let w′ : List ℕ = chosenUp cells w (g .size) i in
+      ap (λ (x : ℕ). phasesAt (chosenTurn cells w′ (g .size) x) (g .size) u) (still i b agree .order .slots i b)
       ∙ turn-held i b agree u s
       ∙ sym (ap (find noPhases u) (sofar-next i b))
 
-  phases-held : HoldsPhases (chosenUp (cellsOf lib) w (g .size) (length (placingOrder g))) (cellsOf lib) g
+  phases-held : HoldsPhases (chosenUp cells w (g .size) (length (placingOrder g))) cells g
   unfolding chosen choices cutsOf phaseOf sofar varOf
   phases-held =
       record {
@@ -235,34 +236,36 @@ module _ (lib : Library) (us : Usable lib) (g : Graph) (w : List ℕ) (h : Held 
             λ l b.
             ap (λ (p : Phases). cond (negated l) (p .negative) (p .positive))
             (up-held (length (placingOrder g)) (omega arith) (l / 2) (omega arith)
-            ∙ ap (λ (vs : List ℕ). find noPhases (l / 2) (run (phaseStep (cellsOf lib) g) vs [])) (take-length (placingOrder g)));
+            ∙ ap (λ (vs : List ℕ). find noPhases (l / 2) (run (phaseStep cells g) vs [])) (take-length (placingOrder g)));
       }
 
-  up-all : PhasesKept (g .size) w (chosenUp (cellsOf lib) w (g .size) (length (placingOrder g)))
-  up-all = up-after lib us w (g .size) (length (placingOrder g)) unchosen (length (placingOrder g)) (omega arith) .kept
+  up-all : PhasesKept (g .size) w (chosenUp cells w (g .size) (length (placingOrder g)))
+  up-all = up-after cells us w (g .size) (length (placingOrder g)) unchosen (length (placingOrder g)) (omega arith) .kept
 
 -- ---- the law
 
 -- what the choice leaves of words v: the chosen phases, and all other words as they were
-pub record ChosenFrom (v w : List ℕ) (lib : Library) (g : Graph) : Type 0 where
-  pub covered : Covered w lib g
+pub record ChosenFrom (v w : List ℕ) (cells : List Cell) (g : Graph) : Type 0 where
+  pub covered : Covered w cells g
   pub kept : PhasesKept (g .size) v w
 
-pub choose-law : (w : List ℕ) (lib : Library) (h : Header) (g : Graph) → HeaderOf h g → Held w g → Usable lib → NonePicked w (g .size)
-    → ChosenFrom w (chosenUp (cellsOf lib) w (h .size) (placedOf h)) lib g
-choose-law w lib h g e k u z =
-    subst (λ (x : List ℕ). ChosenFrom w x lib g)
-    (sym (λ i. chosenUp (cellsOf lib) w (e .size i) (placed-is h g e (k .accepted) i)))
+pub choose-law : (w : List ℕ) (cells : List Cell) (h : Header) (g : Graph) → HeaderOf h g → Held w g → Matchable cells → NonePicked w (g .size)
+    → ChosenFrom w (chosenUp cells w (h .size) (placedOf h)) cells g
+choose-law w cells h g e k u z =
+    subst (λ (x : List ℕ). ChosenFrom w x cells g)
+    (sym (λ i. chosenUp cells w (e .size i) (placed-is h g e (k .accepted) i)))
     (record {
-      covered = record { held = held-kept g w (chosenUp (cellsOf lib) w (g .size) (length (placingOrder g))) (up-all lib u g w k z) k; usable = u; phases = phases-held lib u g w k z };
-      kept = up-all lib u g w k z;
+      covered = record { held = held-kept g w (chosenUp cells w (g .size) (length (placingOrder g))) (up-all cells u g w k z) k; usable = u; phases = phases-held cells u g w k z };
+      kept = up-all cells u g w k z;
     })
 
 -- what is asked of the words before the choice
-pub choose-asked : (w : List ℕ) (lib : Library) (h : Header) (g : Graph) → HeaderOf h g → Held w g → (sheet : List ℕ) → SheetIn lib sheet → NonePicked w (g .size)
-    → SheetIn lib sheet × Unchosen w (h .size) (placedOf h)
-choose-asked w lib h g e k sheet b z = (b, rw (e .size, placed-is h g e (k .accepted)) (unchosen lib (b .usable) g w k z))
+pub choose-asked : (w : List ℕ) (cells : List Cell) (h : Header) (g : Graph) → HeaderOf h g → Held w g → (sheet : List ℕ) → SheetOf cells sheet → NonePicked w (g .size)
+    → SheetOf cells sheet × Unchosen w (h .size) (placedOf h)
+choose-asked w cells h g e k sheet b z = (b, rw (e .size, placed-is h g e (k .accepted)) (unchosen cells (b .matchable) g w k z))
 
--- and of the sheet: it is the library's once its cells are matched, from a sheet with nothing on it
-pub library-sheet : (lib : Library) (blank sheet : List ℕ) → Usable lib → Blank 90240 blank → sheet ≡ listMatched (cellsOf lib) 0 blank → SheetIn lib sheet
-library-sheet lib blank sheet u z e = record { usable = u; sheeted = build-sheet lib blank sheet u z e }
+-- and of the sheet: it is that of the cells to map with once they are matched, from one with nothing on it that has room
+pub library-sheet : (lib : Library) (codes blank sheet : List ℕ) (room : ℕ) → Usable lib → Coded lib codes → lib .n + length codes ≤ room → Blank room blank
+    → sheet ≡ listMatched (cellsBy (cellsOf lib) codes) 0 blank → SheetOf (cellsBy (cellsOf lib) codes) sheet
+library-sheet lib codes blank sheet room u ok fits z e =
+    subst (SheetOf (cellsBy (cellsOf lib) codes)) (sym e) (sheet-by lib codes blank u ok (record { long = omega (arith, fits, z .long); empty = z .empty }))

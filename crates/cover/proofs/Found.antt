@@ -11,22 +11,20 @@ use mathlib.Core.Bool.{Bool, true, false, cond}
 use mathlib.Core.List.{List, [], _∷_}
 use lib.ListN.{length, getD, length-take}
 use Rattle.model.specs.Base.{same}
-use Rattle.model.specs.Cells.{cellsOf}
 use Rattle.model.specs.Matching.{phaseTable}
 use Rattle.model.specs.Choice.{noPhase, choose, earlier}
 use Rattle.model.specs.declared.Cell.{Cell}
-use Rattle.model.specs.declared.Library.{Library}
 use Rattle.words.specs.Layout.{countAt}
 use Rattle.words.specs.Record.{cutOf, leavesAt, functionOf}
 use Rattle.words.proofs.Stored.{four-leaves}
 use Rattle.words.specs.Phases.{phasesAt}
-use Rattle.matching.specs.Sheet.{isListed}
+use Rattle.matching.specs.Sheet.{SheetOf, isListed}
 use Rattle.matching.specs.Best.{lastTime, unmatched, bestOf, phaseAs}
 use Rattle.matching.proofs.Choosing.{choose-append}
 use Rattle.matching.proofs.Arriving.{phase-late}
 use Rattle.matching.proofs.Walking.{walking-none}
 use Rattle.matching.proofs.Matching.{best-match-chosen}
-use Rattle.cover.specs.Choosing.{timesAt, foundOn, foundAt, foundFrom, bestAt, Early, SheetIn}
+use Rattle.cover.specs.Choosing.{timesAt, foundOn, foundAt, foundFrom, bestAt, Early}
 use Rattle.cover.proofs.Leaves.{times-of, times-quick}
 
 pub few-leaves : (w : List ℕ) (m v k : ℕ) → length (leavesAt w m v k) ≤ 4
@@ -40,16 +38,16 @@ pub table-straight : (f : ℕ) → phaseTable false f ≡ f
 unfolding phaseTable
 table-straight f = refl
 
-module _ (lib : Library) (sheet : List ℕ) (h : SheetIn lib sheet) (w : List ℕ) (m t : ℕ) (e : Early w m t) (small : t ≤ lastTime)
+module _ (cells : List Cell) (sheet : List ℕ) (h : SheetOf cells sheet) (w : List ℕ) (m t : ℕ) (e : Early w m t) (small : t ≤ lastTime)
     (cut : List ℕ) (few : length cut ≤ 4) (inside : (j : ℕ) → j < length cut → getD cut j 0 ≤ m) (k f : ℕ) (table : f < 65536) where
-  pub on-best : phaseAs k (bestOf (cellsOf lib) f (timesAt w m cut)) ≡ choose (foundOn (cellsOf lib) w m k cut f)
+  pub on-best : phaseAs k (bestOf cells f (timesAt w m cut)) ≡ choose (foundOn cells w m k cut f)
   unfolding foundOn
-  on-best = best-match-chosen lib (phasesAt w m) cut (timesAt w m cut) k f (h .usable) table (times-of w m cut few) (times-quick w m cut t e small inside)
+  on-best = best-match-chosen cells (phasesAt w m) cut (timesAt w m cut) k f (h .matchable) table (times-of w m cut few) (times-quick w m cut t e small inside)
 
-  pub on-none : isListed sheet f ≡ false → noPhase ≡ choose (foundOn (cellsOf lib) w m k cut f)
+  pub on-none : isListed sheet f ≡ false → noPhase ≡ choose (foundOn cells w m k cut f)
   on-none z =
       sym (phase-late k unmatched (omega arith))
-      ∙ ap (phaseAs k) (walking-none (cellsOf lib) sheet f (timesAt w m cut) (h .sheeted) table z)
+      ∙ ap (phaseAs k) (walking-none cells sheet f (timesAt w m cut) h table z)
       ∙ on-best
 
 module _ (cells : List Cell) (w : List ℕ) (m v : ℕ) (neg : Bool) where

@@ -9,7 +9,7 @@ use mathlib.Core.List.{List, [], _∷_, List·Memᴰ, List·Memᴰ·tail, Memᴰ
 use lib.Dec.{T}
 use lib.ListN.{length, getD}
 use Rattle.model.specs.Base.{each}
-use Rattle.model.specs.Cells.{cellAt, cellsOf}
+use Rattle.model.specs.Cells.{cellAt}
 use Rattle.model.specs.Graph.{And, Graph, varOf, negated, placingOrder}
 use Rattle.model.specs.Cuts.{cutsOf, cutTable, cutAt as listedAt}
 use Rattle.model.specs.Matching.{phaseTable}
@@ -17,7 +17,6 @@ use Rattle.model.specs.Table.{orders}
 use Rattle.model.specs.Cover.{IsMatch}
 use Rattle.model.specs.declared.Cell.{Cell}
 use Rattle.model.specs.declared.Header.{Header}
-use Rattle.model.specs.declared.Library.{Library}
 use Rattle.model.specs.declared.Match.{Match}
 use Rattle.model.specs.declared.Phase.{Phase}
 use Rattle.words.specs.Layout.{placedOf, Room, countAt}
@@ -33,8 +32,8 @@ use Rattle.theory_graph.proofs.Placing.{order-once, order-small, defined-placed
 use Rattle.theory_order.proofs.Recursion.{cuts-exactly, cut-leaf}
 use Rattle.theory_cover.proofs.Matches.{fits-places}
 use Rattle.theory_cover.proofs.Sound.{is-match}
-use Rattle.matching.specs.Variants.{Usable}
 use Rattle.cover.specs.Held.{HeaderOf, Held}
+use Rattle.matching.specs.Variants.{Matchable}
 use Rattle.cover.specs.Asked.{OutputsIn, SlotsIn, CutsIn, LateIn, MatchIn, MatchesIn}
 use Rattle.cover.proofs.Counting.{few-placed, all-placed, few-cuts}
 
@@ -111,13 +110,13 @@ module _ (w : List ℕ) (g : Graph) (h : Held w g) where
             (phaseTable (negated l) (cutTable g (getD (cutsOf g (l / 2)) (x .cut) []) (l / 2))) (i .agrees)));
       }
 
-  pub matches-in : (lib : Library) → Usable lib → HoldsPhases w (cellsOf lib) g → MatchesIn lib w (g .size)
-  matches-in lib u p =
+  pub matches-in : (cells : List Cell) → Matchable cells → HoldsPhases w cells g → MatchesIn cells w (g .size)
+  matches-in cells u p =
       record {
         usable = u;
         cuts = cuts-in;
         matches =
             λ l b x e.
-            match-in (cellsOf lib) l x b
-            (is-match (cellsOf lib) g (order-once g (h .accepted)) l x (ap (λ (q : Phase). q .source) (sym (p .phases l (omega arith))) ∙ e));
+            match-in cells l x b
+            (is-match cells g (order-once g (h .accepted)) l x (ap (λ (q : Phase). q .source) (sym (p .phases l (omega arith))) ∙ e));
       }

@@ -15,7 +15,6 @@ use Rattle.model.specs.Graph.{Graph, varOf, negated, placingOrder}
 use Rattle.model.specs.Cuts.{crowded}
 use Rattle.model.specs.Choice.{Phases, phaseOf}
 use Rattle.model.specs.declared.Cell.{Cell}
-use Rattle.model.specs.declared.Library.{Library}
 use Rattle.model.specs.declared.Phase.{Phase}
 use Rattle.words.specs.Put.{putAt}
 use Rattle.words.specs.Layout.{Room, RoomFor, kindAt, leftAt, rightAt, slotAt, placeAt, countAt, lateAt, outputAt, neededAddr, lateAddr, positiveAddr, negativeAddr, countsTo, listsFrom}
@@ -142,8 +141,8 @@ module _ (m a b : ℕ) (v w : List ℕ) (k : Kept a b v w) (from : countsTo m �
     unfolding phaseOf
     phase-kept l = ap (λ (p : Phases). cond (negated l) (p .negative) (p .positive)) (phases-same (varOf l))
 
-    pub matches-in-kept : (lib : Library) → MatchesIn lib v m → MatchesIn lib w m
-    matches-in-kept lib r =
+    pub matches-in-kept : (cells : List Cell) → MatchesIn cells v m → MatchesIn cells w m
+    matches-in-kept cells r =
         record {
           usable = r .usable;
           cuts = cuts-in-kept (r .cuts);

@@ -11,7 +11,7 @@ use mathlib.Core.List.{List, [], _∷_, List·Memᴰ, List·Memᴰ·head, List·
 use lib.ListN.{length, getD, length-take}
 use lib.Seq.{getD-take}
 use Rattle.model.specs.Base.{bit}
-use Rattle.model.specs.Cells.{noCell, cellAt, cellsOf}
+use Rattle.model.specs.Cells.{cellAt}
 use Rattle.model.specs.Graph.{literal, varOf, opposite}
 use Rattle.model.specs.Cuts.{cutAt as listedAt}
 use Rattle.model.specs.Matching.{fedNets, matchNets}
@@ -19,7 +19,6 @@ use Rattle.model.specs.Choice.{Phases, phaseOf, feeds}
 use Rattle.model.specs.Netlist.{isInverted, backwards}
 use Rattle.model.specs.declared.Cell.{Cell}
 use Rattle.model.specs.declared.Cut.{Cut}
-use Rattle.model.specs.declared.Library.{Library}
 use Rattle.model.specs.declared.Match.{Match}
 use Rattle.model.specs.declared.Phase.{Phase}
 use Rattle.model.specs.declared.Source.{Source}
@@ -32,7 +31,7 @@ use Rattle.words.specs.Record.{cutOf, leavesOf, leavesAt, cutsAt}
 use Rattle.words.specs.Phases.{putNeeded, phasesAt, phaseAt, positiveAt, isNeeded}
 use Rattle.words.proofs.Columns.{room-need}
 use Rattle.words.proofs.Stored.{cut-listed}
-use Rattle.matching.specs.Variants.{Usable}
+use Rattle.matching.specs.Variants.{Matchable}
 use Rattle.cover.specs.Asked.{PinsIn, OutputsIn, SlotsIn, CutsIn, MatchIn, MatchesIn}
 use Rattle.cover.specs.Marking.{putAll, putOutputs, feedsAt, fedOnce, fedAll, fedTurn, fedDown}
 use Rattle.truth.proofs.Nets.{place-below, nets-taken}
@@ -52,20 +51,15 @@ module _ (w : List ℕ) (m l : ℕ) (r : Room w m) (h : l / 2 ≤ m) where
 
 -- ---- a match
 
--- a cell of the library by value
-pub cell-is : (lib : Library) (c : ℕ) → c < length (cellsOf lib) → cellAt (cellsOf lib) c ≡ getD (lib .cells) c noCell
-unfolding cellAt cellsOf
-cell-is lib c h = getD-take (lib .n) (lib .cells) c noCell (omega (arith, length-take (lib .n) (lib .cells)))
-
 -- a cut's leaf below their number
 leaf-is : (c : Cut) (j : ℕ) → j < length (leavesOf c) → getD (leavesOf c) j 0 ≡ getD (c .leaves) j 0
 leaf-is c j h = getD-take (c .count) (c .leaves) j 0 (omega (arith, length-take (c .count) (c .leaves)))
 
-module _ (lib : Library) (w : List ℕ) (m v : ℕ) (x : Match) (u : Usable lib) (cuts : CutsIn w m) (inside : v ≤ m) (i : MatchIn (cellsOf lib) w m v x) where
-  four : cellAt (cellsOf lib) (x .cell) .pins ≤ length (placesOf (x .order))
+module _ (cells : List Cell) (w : List ℕ) (m v : ℕ) (x : Match) (u : Matchable cells) (cuts : CutsIn w m) (inside : v ≤ m) (i : MatchIn cells w m v x) where
+  four : cellAt cells (x .cell) .pins ≤ length (placesOf (x .order))
   four = omega (arith, u .pins (x .cell), places-four (x .order) (i .order))
 
-  pub match-pins : PinsIn (cutOf w m v (x .cut) .leaves) m (x .order) (cellAt (cellsOf lib) (x .cell) .pins)
+  pub match-pins : PinsIn (cutOf w m v (x .cut) .leaves) m (x .order) (cellAt cells (x .cell) .pins)
   match-pins =
       record {
         known = i .order;
@@ -73,15 +67,15 @@ module _ (lib : Library) (w : List ℕ) (m v : ℕ) (x : Match) (u : Usable lib)
         within =
             λ j h.
             let p : ℕ = getD (placesOf (x .order)) j 0 in
-            let b : p < length (leavesAt w m v (x .cut)) = place-below (cellAt (cellsOf lib) (x .cell) .pins) (placesOf (x .order)) (length (leavesAt w m v (x .cut))) j four h (i .places) in
+            let b : p < length (leavesAt w m v (x .cut)) = place-below (cellAt cells (x .cell) .pins) (placesOf (x .order)) (length (leavesAt w m v (x .cut))) j four h (i .places) in
             subst (λ (y : ℕ). y ≤ m) (leaf-is (cutOf w m v (x .cut)) p b) (cuts .within v (x .cut) p inside (i .cut) b);
       }
 
-  pub match-nets : matchNets (cellsOf lib) (leavesAt w m v (x .cut)) x
-      ≡ fedNets (cellAt (cellsOf lib) (x .cell) .pins) (placesOf (x .order)) (x .mask) (cutOf w m v (x .cut) .leaves)
+  pub match-nets : matchNets cells (leavesAt w m v (x .cut)) x
+      ≡ fedNets (cellAt cells (x .cell) .pins) (placesOf (x .order)) (x .mask) (cutOf w m v (x .cut) .leaves)
   unfolding matchNets
   match-nets =
-      nets-taken (cellAt (cellsOf lib) (x .cell) .pins) (placesOf (x .order)) (x .mask) (cutOf w m v (x .cut) .count) (cutOf w m v (x .cut) .leaves) (i .places)
+      nets-taken (cellAt cells (x .cell) .pins) (placesOf (x .order)) (x .mask) (cutOf w m v (x .cut) .count) (cutOf w m v (x .cut) .leaves) (i .places)
 
 -- ---- what feeds a phase
 
@@ -112,21 +106,21 @@ nets-in (suc n) (p ∷ places) mask leaves m h y (List·Memᴰ·head e) =
     omega (arith, ap (λ (z : ℕ). z / 2) e, lit-var (bit mask 0) (getD leaves p 0), h 0 (omega arith))
 nets-in (suc n) (p ∷ places) mask leaves m h y (List·Memᴰ·tail i) = nets-in n places (mask / 2) leaves m (λ j b. h (suc j) (omega arith)) y i
 
-pub feeds-in : (lib : Library) (w : List ℕ) (m l : ℕ) → MatchesIn lib w m → l / 2 ≤ m → (y : ℕ) → List·Memᴰ y (feedsAt (cellsOf lib) w m l) → y / 2 ≤ m
+pub feeds-in : (cells : List Cell) (w : List ℕ) (m l : ℕ) → MatchesIn cells w m → l / 2 ≤ m → (y : ℕ) → List·Memᴰ y (feedsAt cells w m l) → y / 2 ≤ m
 unfolding varOf
-feeds-in lib w m l r h y i = go (phaseAt w m l .source) refl
+feeds-in cells w m l r h y i = go (phaseAt w m l .source) refl
   where
     go : (s : Source) → phaseAt w m l .source ≡ s → y / 2 ≤ m
-    go Input e = absurd (List·Memᴰ·not-nil (subst (λ (ls : List ℕ). List·Memᴰ y ls) (feeds-input (cellsOf lib) w m l e) i))
-    go Nothing e = absurd (List·Memᴰ·not-nil (subst (λ (ls : List ℕ). List·Memᴰ y ls) (feeds-nothing (cellsOf lib) w m l e) i))
+    go Input e = absurd (List·Memᴰ·not-nil (subst (λ (ls : List ℕ). List·Memᴰ y ls) (feeds-input cells w m l e) i))
+    go Nothing e = absurd (List·Memᴰ·not-nil (subst (λ (ls : List ℕ). List·Memᴰ y ls) (feeds-nothing cells w m l e) i))
     go (Inverted c) e =
-        let o : y ≡ opposite l = List·Memᴰ·eq-of-singleton (subst (λ (ls : List ℕ). List·Memᴰ y ls) (feeds-inverted (cellsOf lib) w m l c e) i) in
+        let o : y ≡ opposite l = List·Memᴰ·eq-of-singleton (subst (λ (ls : List ℕ). List·Memᴰ y ls) (feeds-inverted cells w m l c e) i) in
         omega (arith, ap (λ (z : ℕ). z / 2) o, opposite-var l)
     go (Matched x) e =
         let j = r .matches l h x e in
-        let p = match-pins lib w m (l / 2) x (r .usable) (r .cuts) h j in
-        nets-in (cellAt (cellsOf lib) (x .cell) .pins) (placesOf (x .order)) (x .mask) (cutOf w m (l / 2) (x .cut) .leaves) m (p .within) y
-        (subst (λ (ls : List ℕ). List·Memᴰ y ls) (feeds-matched (cellsOf lib) w m l x j e ∙ match-nets lib w m (l / 2) x (r .usable) (r .cuts) h j) i)
+        let p = match-pins cells w m (l / 2) x (r .usable) (r .cuts) h j in
+        nets-in (cellAt cells (x .cell) .pins) (placesOf (x .order)) (x .mask) (cutOf w m (l / 2) (x .cut) .leaves) m (p .within) y
+        (subst (λ (ls : List ℕ). List·Memᴰ y ls) (feeds-matched cells w m l x j e ∙ match-nets cells w m (l / 2) x (r .usable) (r .cuts) h j) i)
 
 -- ---- only words of the needed phases are written
 
@@ -155,28 +149,28 @@ module _ (m : ℕ) where
       on w w′ (putOutputs w′ m (suc k) n) (need-kept w m (outputAt w m k) r v)
       (outputs-kept n (suc k) o w′ (mark-outputs-in w m (outputAt w m k) r v o i) (omega arith))
 
-  pub needs-matches : (lib : Library) (v w : List ℕ) → NeedsKept m v w → MatchesIn lib v m → MatchesIn lib w m
-  needs-matches lib v w k r = matches-in-kept m (neededAddr m 0) (neededAddr m (m + 1)) v w k (omega arith) (omega arith) (omega arith) lib r
+  pub needs-matches : (cells : List Cell) (v w : List ℕ) → NeedsKept m v w → MatchesIn cells v m → MatchesIn cells w m
+  needs-matches cells v w k r = matches-in-kept m (neededAddr m 0) (neededAddr m (m + 1)) v w k (omega arith) (omega arith) (omega arith) cells r
 
   pub needs-slots : (n : ℕ) (v w : List ℕ) → NeedsKept m v w → SlotsIn v m n → SlotsIn w m n
   needs-slots n v w k r = slots-in-kept m (neededAddr m 0) (neededAddr m (m + 1)) v w k (omega arith) (omega arith) n r
 
-  module _ (lib : Library) where
-    pub once-kept : (w : List ℕ) (l : ℕ) → MatchesIn lib w m → l / 2 ≤ m → NeedsKept m w (fedOnce (cellsOf lib) w m l)
+  module _ (cells : List Cell) where
+    pub once-kept : (w : List ℕ) (l : ℕ) → MatchesIn cells w m → l / 2 ≤ m → NeedsKept m w (fedOnce cells w m l)
     unfolding fedOnce
     once-kept w l r h = go (isNeeded w m l)
       where
-        go : (b : Bool) → NeedsKept m w (cond b (putAll w m (feedsAt (cellsOf lib) w m l)) w)
-        go true = all-kept (feedsAt (cellsOf lib) w m l) w (r .cuts .room) (feeds-in lib w m l r h)
+        go : (b : Bool) → NeedsKept m w (cond b (putAll w m (feedsAt cells w m l)) w)
+        go true = all-kept (feedsAt cells w m l) w (r .cuts .room) (feeds-in cells w m l r h)
         go false = same w
 
-    pub fed-kept : (ls : List ℕ) (w : List ℕ) → MatchesIn lib w m → ((l : ℕ) → List·Memᴰ l ls → l / 2 ≤ m) → NeedsKept m w (fedAll (cellsOf lib) w m ls)
+    pub fed-kept : (ls : List ℕ) (w : List ℕ) → MatchesIn cells w m → ((l : ℕ) → List·Memᴰ l ls → l / 2 ≤ m) → NeedsKept m w (fedAll cells w m ls)
     unfolding fedAll
     fed-kept [] w r h = same w
     fed-kept (l ∷ ls) w r h =
-        let w′ : List ℕ = fedOnce (cellsOf lib) w m l in
+        let w′ : List ℕ = fedOnce cells w m l in
         let k : NeedsKept m w w′ = once-kept w l r (h l (List·Memᴰ·head refl)) in
-        on w w′ (fedAll (cellsOf lib) w′ m ls) k (fed-kept ls w′ (needs-matches lib w w′ k r) (λ x i. h x (List·Memᴰ·tail i)))
+        on w w′ (fedAll cells w′ m ls) k (fed-kept ls w′ (needs-matches cells w w′ k r) (λ x i. h x (List·Memᴰ·tail i)))
 
     -- the phases of a variable are its own
     pub backwards-in : (w : List ℕ) (v : ℕ) → v ≤ m → (l : ℕ) → List·Memᴰ l (backwards (phaseAt w m) v) → l / 2 ≤ m
@@ -194,19 +188,19 @@ module _ (m : ℕ) where
         go true j = two false true j
         go false j = two true false j
 
-    pub turn-kept : (w : List ℕ) (v : ℕ) → MatchesIn lib w m → v ≤ m → NeedsKept m w (fedTurn (cellsOf lib) w m v)
+    pub turn-kept : (w : List ℕ) (v : ℕ) → MatchesIn cells w m → v ≤ m → NeedsKept m w (fedTurn cells w m v)
     unfolding fedTurn
     turn-kept w v r h = fed-kept (backwards (phaseAt w m) v) w r (backwards-in w v h)
 
-    pub down-kept : (n : ℕ) (w : List ℕ) → MatchesIn lib w m → SlotsIn w m n → NeedsKept m w (fedDown (cellsOf lib) w m n)
+    pub down-kept : (n : ℕ) (w : List ℕ) → MatchesIn cells w m → SlotsIn w m n → NeedsKept m w (fedDown cells w m n)
     unfolding fedDown
     down-kept zero w r s = same w
     down-kept (suc n) w r s =
         let v : slotAt w m n ≤ m = s .within n (omega arith) in
-        let w′ : List ℕ = fedTurn (cellsOf lib) w m (slotAt w m n) in
+        let w′ : List ℕ = fedTurn cells w m (slotAt w m n) in
         let k : NeedsKept m w w′ = turn-kept w (slotAt w m n) r v in
         let s′ : SlotsIn w m n = record { room = s .room; few = omega (arith, s .few); within = λ i h. s .within i (omega arith) } in
-        on w w′ (fedDown (cellsOf lib) w′ m n) k (down-kept n w′ (needs-matches lib w w′ k r) (needs-slots n w w′ k s′))
+        on w w′ (fedDown cells w′ m n) k (down-kept n w′ (needs-matches cells w w′ k r) (needs-slots n w w′ k s′))
 
 -- ---- the turn of a variable, by whether an inverter drives its positive phase
 

@@ -12,11 +12,9 @@ use mathlib.Core.List.{List, _∷_}
 use lib.Dec.{eqb}
 use lib.ListN.{length}
 use borrow.Author.Tests.{eqb-true, eqb-false}
-use Rattle.model.specs.Cells.{cellsOf}
 use Rattle.model.specs.Graph.{varOf, negated}
 use Rattle.model.specs.Choice.{Phases, phaseOf, earlier, choose, inverterPhases, joined}
 use Rattle.model.specs.declared.Cell.{Cell}
-use Rattle.model.specs.declared.Library.{Library}
 use Rattle.model.specs.declared.Phase.{Phase}
 use Rattle.words.specs.Put.{putAt}
 use Rattle.words.specs.Layout.{Room, positiveAddr, negativeAddr, listsFrom, slotAt}
@@ -25,8 +23,8 @@ use Rattle.words.proofs.Putting.{length-put}
 use Rattle.words.proofs.Chosen.{length-phase, phase-put, phase-apart}
 use Rattle.matching.specs.declared.Inverter.{Inverter}
 use Rattle.matching.specs.Inverters.{inverterOf, inverted}
-use Rattle.matching.specs.Variants.{Usable}
 use Rattle.matching.proofs.Inverting.{inverter-chosen}
+use Rattle.matching.specs.Variants.{Matchable}
 use Rattle.cover.specs.Asked.{CutsIn, LateIn}
 use Rattle.cover.specs.Choosing.{directAt, putPhases, chosenTurn, chosenUp, Early, Choosable, Unchosen}
 use Rattle.cover.proofs.Keeping.{PhasesKept, kept-same, kept-on, kept-put, cuts-in-kept, late-in-kept, slots-in-kept}
@@ -99,80 +97,80 @@ module _ (w : List ℕ) (m v : ℕ) (p : Phases) (r : Room w m) (h : v ≤ m) wh
 
 -- ---- a turn
 
-module _ (lib : Library) (us : Usable lib) (w : List ℕ) (m t : ℕ) (cuts : CutsIn w m) (late : LateIn w m) (e : Early w m t) (v : ℕ) (h : v ≤ m) where
-  pub turn-fit : (b : Bool) → Fitting (t + 131070) (choose (directAt (cellsOf lib) w m v b ∷ inverterPhases (cellsOf lib) 0 (directAt (cellsOf lib) w m v (not b))))
+module _ (cells : List Cell) (us : Matchable cells) (w : List ℕ) (m t : ℕ) (cuts : CutsIn w m) (late : LateIn w m) (e : Early w m t) (v : ℕ) (h : v ≤ m) where
+  pub turn-fit : (b : Bool) → Fitting (t + 262142) (choose (directAt cells w m v b ∷ inverterPhases cells 0 (directAt cells w m v (not b))))
   turn-fit b =
-      let f = with-fit lib us (t + 65535) (directAt (cellsOf lib) w m v b) (directAt (cellsOf lib) w m v (not b)) (direct-fit lib us w m t e cuts late v h b) (direct-fit lib us w m t e cuts late v h (not b)) in
+      let f = with-fit cells us (t + 131071) (directAt cells w m v b) (directAt cells w m v (not b)) (direct-fit cells us w m t e cuts late v h b) (direct-fit cells us w m t e cuts late v h (not b)) in
       record { fit = f .fit; soon = omega (arith, f .soon) }
 
-  pub turn-kept : PhasesKept m w (chosenTurn (cellsOf lib) w m v)
+  pub turn-kept : PhasesKept m w (chosenTurn cells w m v)
   unfolding chosenTurn
-  turn-kept = stored-kept w m v (joined (cellsOf lib) (directAt (cellsOf lib) w m v false) (directAt (cellsOf lib) w m v true)) (cuts .room) h
+  turn-kept = stored-kept w m v (joined cells (directAt cells w m v false) (directAt cells w m v true)) (cuts .room) h
 
-  pub turn-here : phasesAt (chosenTurn (cellsOf lib) w m v) m v ≡ joined (cellsOf lib) (directAt (cellsOf lib) w m v false) (directAt (cellsOf lib) w m v true)
+  pub turn-here : phasesAt (chosenTurn cells w m v) m v ≡ joined cells (directAt cells w m v false) (directAt cells w m v true)
   unfolding chosenTurn joined
   turn-here =
-      stored-here w m v (joined (cellsOf lib) (directAt (cellsOf lib) w m v false) (directAt (cellsOf lib) w m v true)) (cuts .room) h (turn-fit false .fit) (turn-fit true .fit)
+      stored-here w m v (joined cells (directAt cells w m v false) (directAt cells w m v true)) (cuts .room) h (turn-fit false .fit) (turn-fit true .fit)
 
-  pub turn-other : (u : ℕ) → u ≤ m → (u ≡ v → ⊥) → phasesAt (chosenTurn (cellsOf lib) w m v) m u ≡ phasesAt w m u
+  pub turn-other : (u : ℕ) → u ≤ m → (u ≡ v → ⊥) → phasesAt (chosenTurn cells w m v) m u ≡ phasesAt w m u
   unfolding chosenTurn
-  turn-other u b d = stored-other w m v (joined (cellsOf lib) (directAt (cellsOf lib) w m v false) (directAt (cellsOf lib) w m v true)) (cuts .room) h u b d
+  turn-other u b d = stored-other w m v (joined cells (directAt cells w m v false) (directAt cells w m v true)) (cuts .room) h u b d
 
-  pub turn-early : Early (chosenTurn (cellsOf lib) w m v) m (t + 131070)
+  pub turn-early : Early (chosenTurn cells w m v) m (t + 262142)
   unfolding phaseOf joined varOf
   turn-early = record { early = λ l b. go l b (eqb (l / 2) v) refl }
     where
       pick : Bool → Phases → Phase
       pick b p = cond b (p .negative) (p .positive)
 
-      mine : (b : Bool) → pick b (joined (cellsOf lib) (directAt (cellsOf lib) w m v false) (directAt (cellsOf lib) w m v true)) .arrival ≤ t + 131070
+      mine : (b : Bool) → pick b (joined cells (directAt cells w m v false) (directAt cells w m v true)) .arrival ≤ t + 262142
       mine true = turn-fit true .soon
       mine false = turn-fit false .soon
 
-      go : (l : ℕ) → l ≤ 2 * m + 1 → (s : Bool) → eqb (l / 2) v ≡ s → phaseAt (chosenTurn (cellsOf lib) w m v) m l .arrival ≤ t + 131070
+      go : (l : ℕ) → l ≤ 2 * m + 1 → (s : Bool) → eqb (l / 2) v ≡ s → phaseAt (chosenTurn cells w m v) m l .arrival ≤ t + 262142
       go l b true q =
-          subst (λ (p : Phases). pick (negated l) p .arrival ≤ t + 131070)
-          (sym (ap (phasesAt (chosenTurn (cellsOf lib) w m v) m) (eqb-true (l / 2) v q) ∙ turn-here)) (mine (negated l))
+          subst (λ (p : Phases). pick (negated l) p .arrival ≤ t + 262142)
+          (sym (ap (phasesAt (chosenTurn cells w m v) m) (eqb-true (l / 2) v q) ∙ turn-here)) (mine (negated l))
       go l b false q =
-          subst (λ (p : Phases). pick (negated l) p .arrival ≤ t + 131070)
+          subst (λ (p : Phases). pick (negated l) p .arrival ≤ t + 262142)
           (sym (turn-other (l / 2) (omega arith) (eqb-false (l / 2) v q))) (omega (arith, e .early l b))
 
 -- ---- the first variables of the placing order
 
-module _ (lib : Library) (us : Usable lib) (w : List ℕ) (m n : ℕ) (un : Unchosen w m n) where
+module _ (cells : List Cell) (us : Matchable cells) (w : List ℕ) (m n : ℕ) (un : Unchosen w m n) where
   -- after i turns
   pub record After (i : ℕ) : Type 0 where
-    pub kept : PhasesKept m w (chosenUp (cellsOf lib) w m i)
-    pub early : Early (chosenUp (cellsOf lib) w m i) m (131070 * i)
+    pub kept : PhasesKept m w (chosenUp cells w m i)
+    pub early : Early (chosenUp cells w m i) m (262142 * i)
 
-  pub after-cuts : (i : ℕ) → PhasesKept m w (chosenUp (cellsOf lib) w m i) → CutsIn (chosenUp (cellsOf lib) w m i) m
-  after-cuts i k = cuts-in-kept m (positiveAddr m 0) (listsFrom m) w (chosenUp (cellsOf lib) w m i) k (omega arith) (omega arith) (un .cuts)
+  pub after-cuts : (i : ℕ) → PhasesKept m w (chosenUp cells w m i) → CutsIn (chosenUp cells w m i) m
+  after-cuts i k = cuts-in-kept m (positiveAddr m 0) (listsFrom m) w (chosenUp cells w m i) k (omega arith) (omega arith) (un .cuts)
 
-  after-late : (i : ℕ) → PhasesKept m w (chosenUp (cellsOf lib) w m i) → LateIn (chosenUp (cellsOf lib) w m i) m
-  after-late i k = late-in-kept m (positiveAddr m 0) (listsFrom m) w (chosenUp (cellsOf lib) w m i) k (omega arith) (un .late)
+  after-late : (i : ℕ) → PhasesKept m w (chosenUp cells w m i) → LateIn (chosenUp cells w m i) m
+  after-late i k = late-in-kept m (positiveAddr m 0) (listsFrom m) w (chosenUp cells w m i) k (omega arith) (un .late)
 
-  pub after-slot : (i : ℕ) → i < n → PhasesKept m w (chosenUp (cellsOf lib) w m i) → slotAt (chosenUp (cellsOf lib) w m i) m i ≤ m
+  pub after-slot : (i : ℕ) → i < n → PhasesKept m w (chosenUp cells w m i) → slotAt (chosenUp cells w m i) m i ≤ m
   after-slot i h k =
-      slots-in-kept m (positiveAddr m 0) (listsFrom m) w (chosenUp (cellsOf lib) w m i) k (omega arith) (omega arith) n (un .slots) .within i h
+      slots-in-kept m (positiveAddr m 0) (listsFrom m) w (chosenUp cells w m i) k (omega arith) (omega arith) n (un .slots) .within i h
 
   pub up-after : (i : ℕ) → i ≤ n → After i
   unfolding chosenUp
   up-after zero h = record { kept = kept-same (positiveAddr m 0) (listsFrom m) w; early = un .early }
   up-after (suc i) h =
       let a = up-after i (omega arith) in
-      let w′ : List ℕ = chosenUp (cellsOf lib) w m i in
+      let w′ : List ℕ = chosenUp cells w m i in
       let v : ℕ = slotAt w′ m i in
       let b : v ≤ m = after-slot i h (a .kept) in
       let c : CutsIn w′ m = after-cuts i (a .kept) in
       let d : LateIn w′ m = after-late i (a .kept) in
-      let e : 131070 * i + 131070 ≡ 131070 * suc i = omega arith in
+      let e : 262142 * i + 262142 ≡ 262142 * suc i = omega arith in
       record {
-        kept = kept-on (positiveAddr m 0) (listsFrom m) w w′ (chosenTurn (cellsOf lib) w′ m v) (a .kept) (turn-kept lib us w′ m (131070 * i) c d (a .early) v b);
-        early = subst (Early (chosenTurn (cellsOf lib) w′ m v) m) e (turn-early lib us w′ m (131070 * i) c d (a .early) v b);
+        kept = kept-on (positiveAddr m 0) (listsFrom m) w w′ (chosenTurn cells w′ m v) (a .kept) (turn-kept cells us w′ m (262142 * i) c d (a .early) v b);
+        early = subst (Early (chosenTurn cells w′ m v) m) e (turn-early cells us w′ m (262142 * i) c d (a .early) v b);
       }
 
   -- arrivals stay far below what the words have room for
-  pub up-choosable : (i : ℕ) → i ≤ n → Choosable (chosenUp (cellsOf lib) w m i) m
+  pub up-choosable : (i : ℕ) → i ≤ n → Choosable (chosenUp cells w m i) m
   up-choosable i h =
       let a = up-after i h in
       record {

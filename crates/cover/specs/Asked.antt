@@ -5,17 +5,16 @@ use mathlib.Core.List.{List}
 use lib.Dec.{T}
 use lib.ListN.{length, getD}
 use Rattle.model.specs.Limits.{cutLimit}
-use Rattle.model.specs.Cells.{cellAt, cellsOf}
+use Rattle.model.specs.Cells.{cellAt}
 use Rattle.model.specs.declared.Cell.{Cell}
 use Rattle.model.specs.declared.Cut.{Cut}
-use Rattle.model.specs.declared.Library.{Library}
 use Rattle.model.specs.declared.Match.{Match}
 use Rattle.model.specs.declared.Source.the-variants.{Cell as Matched}
 use Rattle.words.specs.Layout.{Room, RoomFor, slotAt, countAt, lateAt, outputAt}
 use Rattle.words.specs.Record.{leavesOf, leavesAt}
 use Rattle.words.specs.Phases.{phaseAt}
 use Rattle.truth.specs.Variant.{placesOf, placesBelow}
-use Rattle.matching.specs.Variants.{Usable}
+use Rattle.matching.specs.Variants.{Matchable}
 
 -- each output is a literal of the graph
 pub record OutputsIn (w : List ℕ) (m o : ℕ) : Type 0 where
@@ -44,17 +43,16 @@ pub record CutsIn (w : List ℕ) (m : ℕ) : Type 0 where
 pub record LateIn (w : List ℕ) (m : ℕ) : Type 0 where
   pub within : (v : ℕ) → v ≤ m → lateAt w m v ≤ 65535
 
--- a match of v: one of its cuts, a cell of the library, an order, and a leaf for each pin
+-- a match of v: one of its cuts, a cell to map with, an order, and a leaf for each pin
 pub record MatchIn (cells : List Cell) (w : List ℕ) (m v : ℕ) (x : Match) : Type 0 where
   pub cut : x .cut < countAt w m v
   pub cell : x .cell < length cells
   pub order : x .order < 24
   pub places : T (placesBelow (cellAt cells (x .cell) .pins) (placesOf (x .order)) (length (leavesAt w m v (x .cut))))
 
--- how many pins each listed cell has, by line
-pub record PinsOf (lib : Library) (pins : List ℕ) : Type 0 where
-  pub long : length pins ≡ 32
-  pub listed : (c : ℕ) → c < length (cellsOf lib) → getD pins c 0 ≡ cellAt (cellsOf lib) c .pins
+-- how many pins each cell has, by number
+pub record PinsOf (cells : List Cell) (pins : List ℕ) : Type 0 where
+  pub listed : (c : ℕ) → c < length cells → getD pins c 0 ≡ cellAt cells c .pins
 
 -- each pin of a cell under an order has a leaf that is a variable of the graph
 pub record PinsIn (leaves : List ℕ) (m order pins : ℕ) : Type 0 where
@@ -63,7 +61,7 @@ pub record PinsIn (leaves : List ℕ) (m order pins : ℕ) : Type 0 where
   pub within : (j : ℕ) → j < pins → getD leaves (getD (placesOf order) j 0) 0 ≤ m
 
 -- every matched cell of the words is such a match
-pub record MatchesIn (lib : Library) (w : List ℕ) (m : ℕ) : Type 0 where
-  pub usable : Usable lib
+pub record MatchesIn (cells : List Cell) (w : List ℕ) (m : ℕ) : Type 0 where
+  pub usable : Matchable cells
   pub cuts : CutsIn w m
-  pub matches : (l : ℕ) → l / 2 ≤ m → (x : Match) → phaseAt w m l .source ≡ Matched x → MatchIn (cellsOf lib) w m (l / 2) x
+  pub matches : (l : ℕ) → l / 2 ≤ m → (x : Match) → phaseAt w m l .source ≡ Matched x → MatchIn cells w m (l / 2) x

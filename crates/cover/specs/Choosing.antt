@@ -10,16 +10,13 @@ use Rattle.model.specs.Base.{same}
 use Rattle.model.specs.Graph.{Node, constant, input, undefined, both, literal}
 use Rattle.model.specs.Matching.{phaseTable}
 use Rattle.model.specs.Choice.{Phases, noPhase, choose, matchPhase, cutMatches, joined}
-use Rattle.model.specs.Cells.{cellsOf}
 use Rattle.model.specs.declared.Cell.{Cell}
-use Rattle.model.specs.declared.Library.{Library}
 use Rattle.model.specs.declared.Phase.{Phase}
 use Rattle.model.specs.declared.Source.the-variants.{Input}
 use Rattle.words.specs.Put.{putAt}
 use Rattle.words.specs.Layout.{slotAt, countAt, lateAt, positiveAddr, negativeAddr}
 use Rattle.words.specs.Record.{nodeAt, leavesAt, functionOf}
 use Rattle.words.specs.Phases.{phaseWords, phasesAt, phaseAt}
-use Rattle.matching.specs.Variants.{Usable}
 use Rattle.matching.specs.Sheet.{SheetOf}
 use Rattle.matching.specs.Inverters.{inverterOf}
 use Rattle.matching.specs.declared.Inverter.{Inverter}
@@ -103,15 +100,10 @@ chosenUp cells w m (suc n) = chosenTurn cells (chosenUp cells w m n) m (slotAt (
 pub record Early (w : List ℕ) (m t : ℕ) : Type 0 where
   pub early : (l : ℕ) → l ≤ 2 * m + 1 → phaseAt w m l .arrival ≤ t
 
--- the sheet is of this library
-pub record SheetIn (lib : Library) (sheet : List ℕ) : Type 0 where
-  pub usable : Usable lib
-  pub sheeted : SheetOf (cellsOf lib) sheet
-
--- and so is the inverter
-pub record ToolsIn (lib : Library) (sheet : List ℕ) (inv : Inverter) : Type 0 where
-  pub built : SheetIn lib sheet
-  pub inverter : inv ≡ inverterOf (cellsOf lib)
+-- the sheet is of these cells, and so is the inverter
+pub record ToolsIn (cells : List Cell) (sheet : List ℕ) (inv : Inverter) : Type 0 where
+  pub built : SheetOf cells sheet
+  pub inverter : inv ≡ inverterOf cells
 
 -- the words before v is chosen: its cuts, and arrivals that leave room for two delays
 pub record Choosable (w : List ℕ) (m : ℕ) : Type 0 where

@@ -12,7 +12,7 @@ ghost use mathlib.Core.Bool.{true, false};
 ghost use Prim.Native.Nat.{_+_, _*_, _/_, _<_, _≤_};
 ghost use lib.Dec.{eqb};
 ghost use lib.ListN.{length};
-ghost use mathlib.Core.List.{_∷_, []};
+ghost use mathlib.Core.List.{List, _∷_, []};
 ghost use Rattle.model.specs.Base.{same};
 ghost use Rattle.model.specs.Cells.{cellsOf};
 ghost use Rattle.model.specs.Choice.{absent, noPhase, earlier, choose};
@@ -22,14 +22,15 @@ ghost use Rattle.words.specs.Layout.{placedOf, Room, outputAt, countAt};
 ghost use Rattle.words.specs.Record.{leavesOf, leavesAt, functionOf};
 ghost use Rattle.words.specs.Phases.{phaseAt};
 ghost use Rattle.truth.specs.Variant.{placesOf};
+ghost use Rattle.pairs.specs.Codes.{Joinable, cellsBy, Coded};
 ghost use Rattle.cover.specs.Asked.{PinsOf, PinsIn, LeavesIn, OutputsIn, SlotsIn, CutsIn, MatchIn, MatchesIn};
-ghost use Rattle.matching.specs.Variants.{Usable};
-ghost use Rattle.matching.specs.Sheet.{isListed, listMatched};
+ghost use Rattle.matching.specs.Variants.{Usable, Matchable};
+ghost use Rattle.matching.specs.Sheet.{sheetLong, listMatched, SheetOf, isListed};
 ghost use Rattle.matching.specs.Best.{Timely, timeOf, bestOf, phaseAs};
 ghost use Rattle.matching.specs.Inverters.{inverted};
-ghost use Rattle.model.specs.declared.Library.{Library};
+ghost use Rattle.model.specs.declared.Cell.{Cell};
 ghost use Rattle.matching.specs.declared.Inverter.the-variants.{Is};
-ghost use Rattle.cover.specs.Choosing.{leafTime, timesAt, foundOn, foundAt, bestAt, ownPhase, directAt, chosenTurn, chosenUp, SheetIn, ToolsIn, Choosable, Unchosen};
+ghost use Rattle.cover.specs.Choosing.{leafTime, timesAt, foundOn, foundAt, bestAt, ownPhase, directAt, chosenTurn, chosenUp, ToolsIn, Choosable, Unchosen};
 ghost use Rattle.cover.specs.Missing.{missing};
 ghost use Rattle.cover.specs.Marking.{putAll, putOutputs, feedsAt, fedOnce, fedTurn, fedDown, marked};
 
@@ -152,7 +153,8 @@ fn neither() -> Both
 }
 
 // Whether a function is a cell's in either phase: most are in none, and then the leaves are not looked at.
-fn is_matched(sheet: &[u16; matching::SHEET], f: u16) -> bool
+fn is_matched(sheet: &[u32], f: u16) -> bool
+    requires { ⌜ 65536 ≤ length (now sheet) ⌝ }
     ensures { λ r. ⌜ (r ≡ false → (isListed (now (sheet .entry)) f ≡ false) × (isListed (now (sheet .entry)) (phaseTable true f) ≡ false)) ⌝ }
 {
     if matching::is_listed(sheet, f) {
@@ -163,24 +165,17 @@ fn is_matched(sheet: &[u16; matching::SHEET], f: u16) -> bool
 }
 
 // The best match on cut number k, f its function in the phase and t the arrivals of its leaves.
-fn match_phase(sheet: &[u16; matching::SHEET], k: usize, f: u16, t: &[u32; 16]) -> Phase
-    requires { ⌜ ((lib : Library) × SheetIn lib (now sheet)) × Timely (now t) ⌝ }
-    ensures { λ r. ⌜ ((lib : Library) → SheetIn lib (now (sheet .entry)) → r ≡ phaseAs k (bestOf (cellsOf lib) f (now (t .entry)))) ⌝ }
+fn match_phase(sheet: &[u32], k: usize, f: u16, t: &[u32; 16]) -> Phase
+    requires { ⌜ ((cells : List Cell) × SheetOf cells (now sheet)) × Timely (now t) ⌝ }
+    ensures { λ r. ⌜ ((cells : List Cell) → SheetOf cells (now (sheet .entry)) → r ≡ phaseAs k (bestOf cells f (now (t .entry)))) ⌝ }
 {
     matching::phase_as(k, matching::best_match(sheet, f, t))
 }
 
 // The best matches on cut number k of v, f its function.
-fn match_cut(
-    work: &[u16],
-    m: usize,
-    v: usize,
-    k: usize,
-    f: u16,
-    sheet: &[u16; matching::SHEET],
-) -> Both
-    requires { ⌜ ((lib : Library) × SheetIn lib (now sheet)) × Choosable (now work) m × (v ≤ m) × (k < countAt (now work) m v) ⌝ }
-    ensures { λ r. ⌜ ((lib : Library) → SheetIn lib (now (sheet .entry)) → (r .positive ≡ choose (foundOn (cellsOf lib) (now (work .entry)) m k (leavesAt (now (work .entry)) m v k) f)) × (r .negative ≡ choose (foundOn (cellsOf lib) (now (work .entry)) m k (leavesAt (now (work .entry)) m v k) (phaseTable true f)))) ⌝ }
+fn match_cut(work: &[u16], m: usize, v: usize, k: usize, f: u16, sheet: &[u32]) -> Both
+    requires { ⌜ ((cells : List Cell) × SheetOf cells (now sheet)) × Choosable (now work) m × (v ≤ m) × (k < countAt (now work) m v) ⌝ }
+    ensures { λ r. ⌜ ((cells : List Cell) → SheetOf cells (now (sheet .entry)) → (r .positive ≡ choose (foundOn cells (now (work .entry)) m k (leavesAt (now (work .entry)) m v k) f)) × (r .negative ≡ choose (foundOn cells (now (work .entry)) m k (leavesAt (now (work .entry)) m v k) (phaseTable true f)))) ⌝ }
 {
     let t = times(work, m, words::load_cut(work, m, v, k));
     let positive = match_phase(sheet, k, f, &t);
@@ -197,9 +192,9 @@ fn table(work: &[u16], m: usize, v: usize, k: usize) -> u16
 }
 
 // The best matches on cut number k of v, "a cut other than the variable alone".
-fn cut_phases(work: &[u16], m: usize, v: usize, k: usize, sheet: &[u16; matching::SHEET]) -> Both
-    requires { ⌜ ((lib : Library) × SheetIn lib (now sheet)) × Choosable (now work) m × (v ≤ m) × (k < countAt (now work) m v) ⌝ }
-    ensures { λ r. ⌜ ((lib : Library) → SheetIn lib (now (sheet .entry)) → (r .positive ≡ choose (foundAt (cellsOf lib) (now (work .entry)) m v false k)) × (r .negative ≡ choose (foundAt (cellsOf lib) (now (work .entry)) m v true k))) ⌝ }
+fn cut_phases(work: &[u16], m: usize, v: usize, k: usize, sheet: &[u32]) -> Both
+    requires { ⌜ ((cells : List Cell) × SheetOf cells (now sheet)) × Choosable (now work) m × (v ≤ m) × (k < countAt (now work) m v) ⌝ }
+    ensures { λ r. ⌜ ((cells : List Cell) → SheetOf cells (now (sheet .entry)) → (r .positive ≡ choose (foundAt cells (now (work .entry)) m v false k)) × (r .negative ≡ choose (foundAt cells (now (work .entry)) m v true k))) ⌝ }
 {
     if alone(work, m, v, k) {
         return neither();
@@ -212,9 +207,9 @@ fn cut_phases(work: &[u16], m: usize, v: usize, k: usize, sheet: &[u16; matching
 }
 
 // The best matches of v, from its last cut to its first: of equal arrivals the lowest cut's.
-fn best_phases(work: &[u16], m: usize, v: usize, sheet: &[u16; matching::SHEET]) -> Both
-    requires { ⌜ ((lib : Library) × SheetIn lib (now sheet)) × Choosable (now work) m × (v ≤ m) ⌝ }
-    ensures { λ r. ⌜ ((lib : Library) → SheetIn lib (now (sheet .entry)) → (r .positive ≡ bestAt (cellsOf lib) (now (work .entry)) m v false) × (r .negative ≡ bestAt (cellsOf lib) (now (work .entry)) m v true)) ⌝ }
+fn best_phases(work: &[u16], m: usize, v: usize, sheet: &[u32]) -> Both
+    requires { ⌜ ((cells : List Cell) × SheetOf cells (now sheet)) × Choosable (now work) m × (v ≤ m) ⌝ }
+    ensures { λ r. ⌜ ((cells : List Cell) → SheetOf cells (now (sheet .entry)) → (r .positive ≡ bestAt cells (now (work .entry)) m v false) × (r .negative ≡ bestAt cells (now (work .entry)) m v true)) ⌝ }
 {
     let mut positive = nothing();
     let mut negative = nothing();
@@ -244,9 +239,9 @@ fn own(work: &[u16], m: usize, v: usize) -> Both
 }
 
 // The phases of v without inverters: "for an input's positive phase its own net, otherwise earliest arrival".
-fn direct(work: &[u16], m: usize, v: usize, sheet: &[u16; matching::SHEET]) -> Both
-    requires { ⌜ ((lib : Library) × SheetIn lib (now sheet)) × Choosable (now work) m × (v ≤ m) ⌝ }
-    ensures { λ r. ⌜ ((lib : Library) → SheetIn lib (now (sheet .entry)) → (r .positive ≡ directAt (cellsOf lib) (now (work .entry)) m v false) × (r .negative ≡ directAt (cellsOf lib) (now (work .entry)) m v true)) ⌝ }
+fn direct(work: &[u16], m: usize, v: usize, sheet: &[u32]) -> Both
+    requires { ⌜ ((cells : List Cell) × SheetOf cells (now sheet)) × Choosable (now work) m × (v ≤ m) ⌝ }
+    ensures { λ r. ⌜ ((cells : List Cell) → SheetOf cells (now (sheet .entry)) → (r .positive ≡ directAt cells (now (work .entry)) m v false) × (r .negative ≡ directAt cells (now (work .entry)) m v true)) ⌝ }
 {
     match words::kind(work, m, v) {
         words::CONSTANT | words::AND => best_phases(work, m, v, sheet),
@@ -281,15 +276,9 @@ fn invert(inv: Inverter, from: Phase) -> Phase
 }
 
 // Both phases of v: "then a matched cell before the inverter". Both are known before an inverter is tried, so none feeds an inverter.
-fn choose_variable(
-    work: &mut [u16],
-    m: usize,
-    v: usize,
-    inv: Inverter,
-    sheet: &[u16; matching::SHEET],
-)
-    requires { ⌜ ((lib : Library) × ToolsIn lib (now sheet) inv) × Choosable (now work) m × (v ≤ m) ⌝ }
-    ensures { λ _. ⌜ ((lib : Library) → ToolsIn lib (now (sheet .entry)) inv → now (work .exit) ≡ chosenTurn (cellsOf lib) (now (work .entry)) m v) ⌝ }
+fn choose_variable(work: &mut [u16], m: usize, v: usize, inv: Inverter, sheet: &[u32])
+    requires { ⌜ ((cells : List Cell) × ToolsIn cells (now sheet) inv) × Choosable (now work) m × (v ≤ m) ⌝ }
+    ensures { λ _. ⌜ ((cells : List Cell) → ToolsIn cells (now (sheet .entry)) inv → now (work .exit) ≡ chosenTurn cells (now (work .entry)) m v) ⌝ }
 {
     let b = direct(work, m, v, sheet);
     let p = b.positive;
@@ -301,15 +290,9 @@ fn choose_variable(
 }
 
 // In placing order.
-fn choose_variables(
-    work: &mut [u16],
-    m: usize,
-    n: usize,
-    inv: Inverter,
-    sheet: &[u16; matching::SHEET],
-)
-    requires { ⌜ ((lib : Library) × ToolsIn lib (now sheet) inv) × Unchosen (now work) m n ⌝ }
-    ensures { λ _. ⌜ ((lib : Library) → ToolsIn lib (now (sheet .entry)) inv → now (work .exit) ≡ chosenUp (cellsOf lib) (now (work .entry)) m n) ⌝ }
+fn choose_variables(work: &mut [u16], m: usize, n: usize, inv: Inverter, sheet: &[u32])
+    requires { ⌜ ((cells : List Cell) × ToolsIn cells (now sheet) inv) × Unchosen (now work) m n ⌝ }
+    ensures { λ _. ⌜ ((cells : List Cell) → ToolsIn cells (now (sheet .entry)) inv → now (work .exit) ≡ chosenUp cells (now (work .entry)) m n) ⌝ }
 {
     let mut i: usize = 0;
     while i < n {
@@ -319,19 +302,29 @@ fn choose_variables(
     }
 }
 
-// The library's cells, lent to the matcher as a list: what a sheet then holds serves every graph of a call.
-pub fn match_library(lib: Library, sheet: &mut [u16; matching::SHEET])
-    requires { ⌜ Usable lib ⌝ }
+// The listed cells, lent to the matcher as a list.
+fn match_listed(lib: Library, sheet: &mut [u32])
+    requires { ⌜ Joinable lib × (sheetLong (lib .n) ≤ length (now sheet)) ⌝ }
     ensures { λ _. ⌜ now (sheet .exit) ≡ listMatched (cellsOf lib) 0 (now (sheet .entry)) ⌝ }
 {
     let cells = lib.cells;
     matching::build(&cells[..lib.n], sheet);
 }
 
-// The choice for both phases of every variable, by the library's sheet.
-pub fn choose(work: &mut [u16], lib: Library, h: Header, sheet: &[u16; matching::SHEET])
-    requires { ⌜ SheetIn lib (now sheet) × Unchosen (now work) (h .size) (placedOf h) ⌝ }
-    ensures { λ _. ⌜ now (work .exit) ≡ chosenUp (cellsOf lib) (now (work .entry)) (h .size) (placedOf h) ⌝ }
+// The cells to map with, matched: "Pairs follow the listed cells", and a chain is filled from its end. What a sheet then holds serves every graph of
+// a call.
+pub fn match_library(lib: Library, codes: &[u16], sheet: &mut [u32])
+    requires { ⌜ Coded lib (now codes) × (sheetLong (lib .n + length (now codes)) ≤ length (now sheet)) ⌝ }
+    ensures { λ _. ⌜ now (sheet .exit) ≡ listMatched (cellsBy (cellsOf lib) (now (codes .entry))) 0 (now (sheet .entry)) ⌝ }
+{
+    matching::build_pairs(lib, codes, sheet);
+    match_listed(lib, sheet);
+}
+
+// The choice for both phases of every variable, by the sheet of the cells to map with. "The inverter role stays with listed cells."
+pub fn choose(work: &mut [u16], lib: Library, codes: &[u16], h: Header, sheet: &[u32])
+    requires { ⌜ Usable lib × SheetOf (cellsBy (cellsOf lib) (now codes)) (now sheet) × Unchosen (now work) (h .size) (placedOf h) ⌝ }
+    ensures { λ _. ⌜ now (work .exit) ≡ chosenUp (cellsBy (cellsOf lib) (now (codes .entry))) (now (work .entry)) (h .size) (placedOf h) ⌝ }
 {
     let inv = matching::inverter_of(lib);
     choose_variables(work, h.size, words::placed(h), inv, sheet);
@@ -379,44 +372,42 @@ fn mark_pins(work: &mut [u16], m: usize, leaves: [u16; 4], order: usize, mask: u
     }
 }
 
-// The pins of each line's cell. They are handed on by value beside the library, which is then named by contracts alone: nothing copies it.
-fn pin_counts(lib: Library) -> [u16; 32]
-    requires { ⌜ Usable lib ⌝ }
-    ensures { λ r. ⌜ PinsOf lib r ⌝ }
+// The pins of each cell, by number: made once for each call, and lent to what runs for each phase.
+pub fn pin_counts(lib: Library, codes: &[u16]) -> [u16; 256]
+    requires { ⌜ Coded lib (now codes) ⌝ }
+    ensures { λ r. ⌜ PinsOf (cellsBy (cellsOf lib) (now (codes .entry))) r ⌝ }
 {
-    let cells = lib.cells;
-    let n = lib.n;
-    let mut pins = [0u16; 32];
-    let mut i: usize = 0;
-    while i < n {
-        let c = cells[i];
-        pins[i] = c.pins;
-        i += 1;
+    let n = lib.n + codes.len();
+    let mut pins = [0u16; 256];
+    let mut k: usize = 0;
+    while k < n {
+        pins[k] = pairs::pins_of(lib, codes, k);
+        k += 1;
     }
     pins
 }
 
 // The nets that feed a match are needed.
-fn mark_match(work: &mut [u16], lib: Library, pins: [u16; 32], m: usize, v: usize, x: Match)
-    requires { ⌜ Usable lib × CutsIn (now work) m × (v ≤ m) × MatchIn (cellsOf lib) (now work) m v x × PinsOf lib pins ⌝ }
-    ensures { λ _. ⌜ now (work .exit) ≡ putAll (now (work .entry)) m (matchNets (cellsOf lib) (leavesAt (now (work .entry)) m v (x .cut)) x) ⌝ }
+fn mark_match(work: &mut [u16], pins: &[u16; 256], m: usize, v: usize, x: Match)
+    requires { ⌜ ((cells : List Cell) × Matchable cells × MatchIn cells (now work) m v x × PinsOf cells (now pins)) × CutsIn (now work) m × (v ≤ m) ⌝ }
+    ensures { λ _. ⌜ ((cells : List Cell) → Matchable cells → MatchIn cells (now (work .entry)) m v x → PinsOf cells (now (pins .entry)) → now (work .exit) ≡ putAll (now (work .entry)) m (matchNets cells (leavesAt (now (work .entry)) m v (x .cut)) x)) ⌝ }
 {
     let cut = words::load_cut(work, m, v, x.cut);
     let leaves = cut.leaves;
-    let line = x.cell;
-    let count = pins[line];
+    let k = x.cell;
+    let count = pins[k];
     mark_pins(work, m, leaves, x.order, x.mask, wide(count));
 }
 
 // What feeds a phase is needed.
-fn mark_feeds(work: &mut [u16], lib: Library, pins: [u16; 32], m: usize, l: usize)
-    requires { ⌜ MatchesIn lib (now work) m × (l / 2 ≤ m) × PinsOf lib pins ⌝ }
-    ensures { λ _. ⌜ now (work .exit) ≡ putAll (now (work .entry)) m (feedsAt (cellsOf lib) (now (work .entry)) m l) ⌝ }
+fn mark_feeds(work: &mut [u16], pins: &[u16; 256], m: usize, l: usize)
+    requires { ⌜ ((cells : List Cell) × MatchesIn cells (now work) m × PinsOf cells (now pins)) × (l / 2 ≤ m) ⌝ }
+    ensures { λ _. ⌜ ((cells : List Cell) → MatchesIn cells (now (work .entry)) m → PinsOf cells (now (pins .entry)) → now (work .exit) ≡ putAll (now (work .entry)) m (feedsAt cells (now (work .entry)) m l)) ⌝ }
 {
     let p = words::phase(work, m, l);
     let s = p.source;
     match s {
-        Source::Cell(x) => mark_match(work, lib, pins, m, l / 2, x),
+        Source::Cell(x) => mark_match(work, pins, m, l / 2, x),
         Source::Inverter(_) => words::mark_needed(work, m, truth::opposite(l)),
         Source::Input => {}
         Source::Nothing => {}
@@ -424,26 +415,26 @@ fn mark_feeds(work: &mut [u16], lib: Library, pins: [u16; 32], m: usize, l: usiz
 }
 
 // "the source of a needed phase is fed by it"
-fn mark_phase(work: &mut [u16], lib: Library, pins: [u16; 32], m: usize, l: usize)
-    requires { ⌜ MatchesIn lib (now work) m × (l / 2 ≤ m) × PinsOf lib pins ⌝ }
-    ensures { λ _. ⌜ now (work .exit) ≡ fedOnce (cellsOf lib) (now (work .entry)) m l ⌝ }
+fn mark_phase(work: &mut [u16], pins: &[u16; 256], m: usize, l: usize)
+    requires { ⌜ ((cells : List Cell) × MatchesIn cells (now work) m × PinsOf cells (now pins)) × (l / 2 ≤ m) ⌝ }
+    ensures { λ _. ⌜ ((cells : List Cell) → MatchesIn cells (now (work .entry)) m → PinsOf cells (now (pins .entry)) → now (work .exit) ≡ fedOnce cells (now (work .entry)) m l) ⌝ }
 {
     if words::is_needed(work, m, l) {
-        mark_feeds(work, lib, pins, m, l);
+        mark_feeds(work, pins, m, l);
     }
 }
 
 // Both phases of a variable: one that an inverter drives before the one that feeds it.
-fn mark_variable(work: &mut [u16], lib: Library, pins: [u16; 32], m: usize, v: usize)
-    requires { ⌜ MatchesIn lib (now work) m × (v ≤ m) × PinsOf lib pins ⌝ }
-    ensures { λ _. ⌜ now (work .exit) ≡ fedTurn (cellsOf lib) (now (work .entry)) m v ⌝ }
+fn mark_variable(work: &mut [u16], pins: &[u16; 256], m: usize, v: usize)
+    requires { ⌜ ((cells : List Cell) × MatchesIn cells (now work) m × PinsOf cells (now pins)) × (v ≤ m) ⌝ }
+    ensures { λ _. ⌜ ((cells : List Cell) → MatchesIn cells (now (work .entry)) m → PinsOf cells (now (pins .entry)) → now (work .exit) ≡ fedTurn cells (now (work .entry)) m v) ⌝ }
 {
     if words::is_inverted(words::positive(work, m, v)) {
-        mark_phase(work, lib, pins, m, 2 * v);
-        mark_phase(work, lib, pins, m, 2 * v + 1);
+        mark_phase(work, pins, m, 2 * v);
+        mark_phase(work, pins, m, 2 * v + 1);
     } else {
-        mark_phase(work, lib, pins, m, 2 * v + 1);
-        mark_phase(work, lib, pins, m, 2 * v);
+        mark_phase(work, pins, m, 2 * v + 1);
+        mark_phase(work, pins, m, 2 * v);
     }
 }
 
@@ -461,25 +452,25 @@ fn mark_outputs(work: &mut [u16], m: usize, outputs: usize)
 }
 
 // "or the source of a needed phase is fed by it": each variable after all that it can feed.
-fn mark_variables(work: &mut [u16], lib: Library, pins: [u16; 32], m: usize, n: usize)
-    requires { ⌜ MatchesIn lib (now work) m × SlotsIn (now work) m n × PinsOf lib pins ⌝ }
-    ensures { λ _. ⌜ now (work .exit) ≡ fedDown (cellsOf lib) (now (work .entry)) m n ⌝ }
+fn mark_variables(work: &mut [u16], pins: &[u16; 256], m: usize, n: usize)
+    requires { ⌜ ((cells : List Cell) × MatchesIn cells (now work) m × PinsOf cells (now pins)) × SlotsIn (now work) m n ⌝ }
+    ensures { λ _. ⌜ ((cells : List Cell) → MatchesIn cells (now (work .entry)) m → PinsOf cells (now (pins .entry)) → now (work .exit) ≡ fedDown cells (now (work .entry)) m n) ⌝ }
 {
     let mut i = n;
     while i > 0 {
         i -= 1;
         let v = words::slot(work, m, i);
-        mark_variable(work, lib, pins, m, v);
+        mark_variable(work, pins, m, v);
     }
 }
 
 // The needed phases.
-pub fn mark(work: &mut [u16], lib: Library, h: Header)
-    requires { ⌜ MatchesIn lib (now work) (h .size) × OutputsIn (now work) (h .size) (h .outputs) × SlotsIn (now work) (h .size) (placedOf h) ⌝ }
-    ensures { λ _. ⌜ now (work .exit) ≡ marked (cellsOf lib) (now (work .entry)) (h .size) (h .outputs) (placedOf h) ⌝ }
+pub fn mark(work: &mut [u16], lib: Library, codes: &[u16], h: Header)
+    requires { ⌜ Coded lib (now codes) × MatchesIn (cellsBy (cellsOf lib) (now codes)) (now work) (h .size) × OutputsIn (now work) (h .size) (h .outputs) × SlotsIn (now work) (h .size) (placedOf h) ⌝ }
+    ensures { λ _. ⌜ now (work .exit) ≡ marked (cellsBy (cellsOf lib) (now (codes .entry))) (now (work .entry)) (h .size) (h .outputs) (placedOf h) ⌝ }
 {
-    let pins = pin_counts(lib);
+    let pins = pin_counts(lib, codes);
     let m = h.size;
     mark_outputs(work, m, h.outputs);
-    mark_variables(work, lib, pins, m, words::placed(h));
+    mark_variables(work, &pins, m, words::placed(h));
 }

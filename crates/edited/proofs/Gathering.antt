@@ -13,20 +13,19 @@ use Rattle.model.specs.Text.{Line, ended, endedByTen, text, linesFrom, fields}
 use Rattle.model.specs.Reading.{Read, holds, fault, next, from?}
 use Rattle.model.specs.Cells.{cellsOf}
 use Rattle.model.specs.Netlist.{outName}
-use Rattle.model.specs.Check.{Driver, isNet, isGate, isLine, gateDriver, gateOfFields, nameDriver, readNames, readDrivers}
+use Rattle.model.specs.Check.{Driver, isNet, isGate, gateDriver, gateOfFields, nameDriver, readNames, readDrivers}
 use Rattle.model.specs.declared.Cell.{Cell}
 use Rattle.model.specs.declared.Library.{Library}
 use Rattle.words.specs.Put.{putAt}
 use Rattle.words.proofs.Putting.{length-put, put-none, put-append}
-use Rattle.text.specs.declared.Span.{Span}
-use Rattle.text.specs.Lines.{lineOf, lineAt, pastLine, spanAt}
+use Rattle.text.specs.Lines.{lineAt, pastLine}
 use Rattle.text.proofs.Bridge.{lines-at, lines-none}
-use Rattle.text.proofs.Spans.{span-from, span-fits, span-contents, span-next, span-long}
 use Rattle.netnames.specs.Codes.{code}
 use Rattle.netnames.specs.Bound.{gateOf, nameCode}
 use Rattle.netnames.specs.declared.Gate.{Gate}
 use Rattle.netnames.proofs.Gates.{driver-net, driver-anywhere}
-use Rattle.edited.specs.Store.{gateWords, driverWords, linesAt, Gathered}
+use Rattle.framing.specs.Frame.{linesAt}
+use Rattle.edited.specs.Store.{gateWords, driverWords, Gathered}
 use Rattle.edited.specs.declared.Progress.{Progress}
 
 -- ---- a line
@@ -42,15 +41,7 @@ ten-is cells l h =
     ap (λ (b : Bool). gateOf (andThen (only b (fields (l .bytes))) (gateOfFields cells (l .offset)))) (eq-eqb (l .ending) 1 h)
     ∙ driver-anywhere cells (l .offset) (fields (l .bytes))
 
--- the same of a line that must be certain bytes, and of a `.names` line
-pub line-not : (w : List ℕ) (l : Line) → (l .ending ≡ 1 → ⊥) → isLine w l ≡ false
-unfolding isLine
-line-not w l h = ap (λ (b : Bool). b && same (l .bytes) w) (ne-eqb (l .ending) 1 h)
-
-pub line-is : (w : List ℕ) (l : Line) → l .ending ≡ 1 → isLine w l ≡ same (l .bytes) w
-unfolding isLine
-line-is w l h = ap (λ (b : Bool). b && same (l .bytes) w) (eq-eqb (l .ending) 1 h)
-
+-- the same of a `.names` line
 pub name-not : (k : ℕ) (l : Line) → (l .ending ≡ 1 → ⊥) → nameCode (nameDriver k l) ≡ 0
 unfolding nameDriver only
 name-not k l h =
@@ -127,6 +118,7 @@ each-last (x ∷ ds) d = ap (λ (ws : List ℕ). driverWords x ++ ws) (each-last
 pub record Sofar (s : List ℕ) (lib : Library) (first at count : ℕ) (before now : List ℕ) : Type 0 where
   pub drivers : List Driver
   pub counted : count ≡ length drivers
+  pub room : 8 * count ≤ length before
   pub stored : now ≡ putAt before 0 (each driverWords drivers)
   pub due : (end outs : ℕ) → readDrivers (cellsOf lib) end outs (linesAt s first) ≡ next (readDrivers (cellsOf lib) end outs (linesAt s at)) (λ ds. holds (drivers ++ ds))
 
@@ -142,9 +134,9 @@ next-twice (fault n k) d xs = refl
 
 pub so-start : (s : List ℕ) (lib : Library) (first : ℕ) (w : List ℕ) → Sofar s lib first first 0 w w
 unfolding each
-so-start s lib first w = record { drivers = []; counted = refl; stored = sym (put-none w 0); due = λ end outs. next-same (readDrivers (cellsOf lib) end outs (linesAt s first)) }
+so-start s lib first w = record { drivers = []; counted = refl; room = omega arith; stored = sym (put-none w 0); due = λ end outs. next-same (readDrivers (cellsOf lib) end outs (linesAt s first)) }
 
-module _ (s : List ℕ) (lib : Library) (first at count : ℕ) (before now : List ℕ) (so : Sofar s lib first at count before now) where
+module _ (s : List ℕ) (lib : Library) (first at count : ℕ) (before now : List ℕ) (so : Sofar s lib first at count before now) (few : 6 * count ≤ at) where
   abbrev here : Line
   here = lineAt s at
 
@@ -160,6 +152,8 @@ module _ (s : List ℕ) (lib : Library) (first at count : ℕ) (before now : Lis
   so-end h = record {
     drivers = so .drivers;
     counted = so .counted;
+    few = few;
+    room = so .room;
     stored = so .stored;
     due = λ _ end outs. so .due end outs ∙ ap (λ (r : Read (List Driver)). next r (λ ds. holds (so .drivers ++ ds))) (at-end end outs);
     refused = λ e. absurd (true≢false (sym e));
@@ -173,6 +167,8 @@ module _ (s : List ℕ) (lib : Library) (first at count : ℕ) (before now : Lis
     so-names g = record {
       drivers = so .drivers;
       counted = so .counted;
+      few = few;
+      room = so .room;
       stored = so .stored;
       due = λ _ end outs. so .due end outs ∙ ap (λ (r : Read (List Driver)). next r (λ ds. holds (so .drivers ++ ds))) (no-gate end outs);
       refused = λ e. absurd (true≢false (sym e));
@@ -196,6 +192,8 @@ module _ (s : List ℕ) (lib : Library) (first at count : ℕ) (before now : Lis
       so-broken e = record {
         drivers = so .drivers;
         counted = so .counted;
+        few = few;
+        room = so .room;
         stored = so .stored;
         due = λ q. absurd (true≢false q);
         refused = λ _ end outs.
@@ -209,6 +207,7 @@ module _ (s : List ℕ) (lib : Library) (first at count : ℕ) (before now : Lis
       so-step d e ten after puts room = record {
         drivers = so .drivers ++ (d ∷ []);
         counted = (let z : count + 1 ≡ length (so .drivers) + 1 = ap (λ (n : ℕ). n + 1) (so .counted) in z) ∙ sym (length-append (so .drivers) (d ∷ []));
+        room = omega arith;
         stored = puts ∙ ap₂ (λ (w : List ℕ) (n : ℕ). putAt w n (driverWords d)) (so .stored) place
             ∙ put-append before 0 (each driverWords (so .drivers)) (driverWords d) (room-for) ∙ sym (ap (putAt before 0) (each-last (so .drivers) d));
         due = λ end outs.
@@ -232,25 +231,3 @@ module _ (s : List ℕ) (lib : Library) (first at count : ℕ) (before now : Lis
 
           room-for : 0 + length (each driverWords (so .drivers)) + length (driverWords d) ≤ length before
           room-for = omega (arith, long, eight)
-
--- ---- the line at a place as the code sees it
-
-module _ (s : List ℕ) (at : ℕ) (line : Span) (is : line ≡ spanAt s at) where
-  pub stop-from : at ≤ line .stop
-  stop-from = subst (λ (x : Span). at ≤ x .stop) (sym is) (span-from s at)
-
-  pub stop-fits : at ≤ length s → line .stop ≤ length s
-  stop-fits h = subst (λ (x : Span). x .stop ≤ length s) (sym is) (span-fits s at h)
-
-  pub stop-next : line .next ≡ line .stop + lineAt s at .ending
-  stop-next = subst (λ (x : Span). x .next ≡ x .stop + lineAt s at .ending) (sym is) (span-long s at)
-
-  pub line-bytes : take (line .stop - at) (drop at s) ≡ lineAt s at .bytes
-  line-bytes = subst (λ (x : Span). take (x .stop - at) (drop at s) ≡ lineAt s at .bytes) (sym is) (span-contents s at)
-
-  pub line-next : line .next ≡ pastLine s at
-  line-next = subst (λ (x : Span). x .next ≡ pastLine s at) (sym is) (span-next s at)
-
-  pub line-long : length (lineAt s at .bytes) ≡ line .stop - at
-  unfolding lineAt spanAt
-  line-long = subst (λ (x : Span). length (lineAt s at .bytes) ≡ x .stop - at) (sym is) (let z : length (lineOf (drop at s)) ≡ at + length (lineOf (drop at s)) - at = omega arith in z)

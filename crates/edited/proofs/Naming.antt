@@ -24,28 +24,29 @@ use Rattle.netnames.specs.Codes.{code}
 use Rattle.netnames.specs.Bound.{gateOf, nameCode}
 use Rattle.netnames.proofs.Pins.{code-some}
 use native.Mathlib.Numerals.{add-one}
-use Rattle.edited.specs.Store.{gateWords, driverWords, wireGate, linesAt, Stepped, Paired}
+use Rattle.framing.specs.Frame.{linesAt}
+use Rattle.edited.specs.Store.{gateWords, driverWords, wireGate, Stepped, Paired}
 use Rattle.edited.specs.declared.Progress.{Progress}
 use Rattle.edited.proofs.Gathering.{words-long, driver-eight, each-last, next-same, next-twice}
 
--- ---- an output's own name
+-- ---- a letter's net
 
 pub out-long : (k : ℕ) → k ≤ 65535 → length (decimal k) ≤ 5
 out-long k h = dec-below 4 k (let z : k < 100000 = omega arith in z)
 
--- eight bytes, the first an `o`
-abbrev pub outBytes : List ℕ
-outBytes = 111 ∷ 0 ∷ 0 ∷ 0 ∷ 0 ∷ 0 ∷ 0 ∷ 0 ∷ []
+-- eight bytes, the first the letter
+abbrev pub labelBytes : ℕ → List ℕ
+labelBytes b = b ∷ 0 ∷ 0 ∷ 0 ∷ 0 ∷ 0 ∷ 0 ∷ 0 ∷ []
 
-pub out-size : (k : ℕ) → k ≤ 65535 → length (putAt outBytes 1 (decimal k)) ≡ 8
-out-size k h = length-put outBytes 1 (decimal k) (omega (arith, out-long k h))
+pub out-size : (b k : ℕ) → k ≤ 65535 → length (putAt (labelBytes b) 1 (decimal k)) ≡ 8
+out-size b k h = length-put (labelBytes b) 1 (decimal k) (omega (arith, out-long k h))
 
-pub out-put : (w : List ℕ) (k : ℕ) → length w ≡ 8 → getD w 0 0 ≡ 111 → take (1 + length (decimal k)) (putAt w 1 (decimal k)) ≡ outName k
-unfolding putAt outName
-out-put [] k n e = absurd (let z : 0 ≡ 8 = n in omega arith)
-out-put (b ∷ w) k n e =
+pub out-put : (w : List ℕ) (x k : ℕ) → length w ≡ 8 → getD w 0 0 ≡ x → take (1 + length (decimal k)) (putAt w 1 (decimal k)) ≡ x ∷ decimal k
+unfolding putAt
+out-put [] x k n e = absurd (let z : 0 ≡ 8 = n in omega arith)
+out-put (b ∷ w) x k n e =
     ap (λ (m : ℕ). take m (b ∷ (decimal k ++ drop (1 + length (decimal k)) (b ∷ w)))) (let z : 1 + length (decimal k) ≡ suc (length (decimal k)) = omega arith in z)
-    ∙ ap₂ (λ (x : ℕ) (v : List ℕ). x ∷ v) e (take-append-seam (decimal k) (drop (1 + length (decimal k)) (b ∷ w)))
+    ∙ ap₂ (λ (y : ℕ) (v : List ℕ). y ∷ v) e (take-append-seam (decimal k) (drop (1 + length (decimal k)) (b ∷ w)))
 
 -- ---- the driver of a `.names` line
 
@@ -83,6 +84,18 @@ name-some k l n e z = go (nameDriver k l) refl
           eqb-true (l .ending) 1 (and-left (endedByTen l) _ (r .0)),
           ap (λ (m : ℕ). gateWords (l .offset) (wireGate m k)) (e ∙ ap nameCode (q ∙ ap some (sym (r .1)))) ∙ ap (λ (x : Driver). gateWords (x .offset) (gateOf (some x))) (r .1),
         )
+
+-- its line is not empty
+pub name-long : (k : ℕ) (l : Line) (d : Driver) → nameDriver k l ≡ some d → 1 ≤ length (l .bytes)
+unfolding nameDriver fields
+name-long k l d e =
+    let ws = fields (l .bytes) in
+    let r = only-some _ (record { offset = l .offset; table = 2; uses = getD ws 1 [] ∷ []; net = outName k }) d e in
+    go (l .bytes) (eqb-true (length ws) 3 (and-left (eqb (length ws) 3) _ (and-right (endedByTen l) _ (r .0))))
+  where
+    go : (bs : List ℕ) → length (fields bs) ≡ 3 → 1 ≤ length bs
+    go [] q = absurd (let z : 1 ≡ 3 = q in omega arith)
+    go (b ∷ bs) q = omega arith
 
 -- ---- the lines
 
@@ -152,15 +165,17 @@ module _ (s : List ℕ) (k at : ℕ) where
 pub record Pairs (s : List ℕ) (outs first i at k : ℕ) (before now : List ℕ) : Type 0 where
   pub drivers : List Driver
   pub counted : length drivers ≡ k
+  pub room : 8 * (i + k) ≤ length before
   pub size : length now ≡ length before
   pub stored : now ≡ putAt before (8 * i) (each driverWords drivers)
   pub due : readNames (length s) 0 outs (linesAt s first) ≡ next (readNames (length s) k (outs - k) (linesAt s at)) (λ ds. holds (drivers ++ ds))
 
-pub pairs-start : (s : List ℕ) (outs first i : ℕ) (w : List ℕ) → Pairs s outs first i first 0 w w
+pub pairs-start : (s : List ℕ) (outs first i : ℕ) (w : List ℕ) → 8 * i ≤ length w → Pairs s outs first i first 0 w w
 unfolding each
-pairs-start s outs first i w = record {
+pairs-start s outs first i w room = record {
   drivers = [];
   counted = refl;
+  room = omega arith;
   size = refl;
   stored = sym (put-none w (8 * i));
   due = next-same (readNames (length s) 0 outs (linesAt s first)) ∙ ap (λ (n : ℕ). next (readNames (length s) 0 n (linesAt s first)) (λ ds. holds ds)) (let z : outs ≡ outs - 0 = omega arith in z);
@@ -174,17 +189,22 @@ module _ (s : List ℕ) (outs first i at k : ℕ) (before now : List ℕ) (so : 
   pub pairs-broken : p .broken ≡ true → Paired s outs first i (record { at = p .at; count = i + k; broken = true }) before after
   unfolding next
   pairs-broken e = record {
+    drivers = so .drivers;
+    counted = ap (λ (n : ℕ). i + n) (sym (so .counted));
+    room = so .room;
     size = step .size ∙ so .size;
+    stored = step .refused e .0 ∙ so .stored;
     refused = λ _. so .due ∙ ap (λ (n : ℕ). next (readNames (length s) k n (linesAt s at)) (λ ds. holds (so .drivers ++ ds))) left
-        ∙ ap (λ (r : Read (List Driver)). next r (λ ds. holds (so .drivers ++ ds))) (step .refused e (outs - (k + 1)));
+        ∙ ap (λ (r : Read (List Driver)). next r (λ ds. holds (so .drivers ++ ds))) (step .refused e .1 (outs - (k + 1)));
     due = λ q. absurd (true≢false q);
   }
 
-  pub pairs-step : 8 * (i + outs) ≤ length before → p .broken ≡ false → Pairs s outs first i (p .at) (k + 1) before after
+  pub pairs-step : 8 * (i + k) + 8 ≤ length before → p .broken ≡ false → Pairs s outs first i (p .at) (k + 1) before after
   pairs-step room e =
       let d = step .due e in record {
         drivers = so .drivers ++ (d .0 ∷ []);
         counted = length-append (so .drivers) (d .0 ∷ []) ∙ ap (λ (n : ℕ). n + 1) (so .counted);
+        room = omega arith;
         size = step .size ∙ so .size;
         stored = d .1 ∙ ap₂ (λ (w : List ℕ) (n : ℕ). putAt w n (driverWords (d .0))) (so .stored) place
             ∙ put-append before (8 * i) (each driverWords (so .drivers)) (driverWords (d .0)) (omega (arith, long, driver-eight (d .0))) ∙ sym (ap (putAt before (8 * i)) (each-last (so .drivers) (d .0)));
@@ -200,15 +220,17 @@ module _ (s : List ℕ) (outs first i at k : ℕ) (before now : List ℕ) (so : 
       place : 8 * (i + k) ≡ 8 * i + length (each driverWords (so .drivers))
       place = omega (arith, long)
 
-pub pairs-end : (s : List ℕ) (outs first i at k : ℕ) (before now : List ℕ) → Pairs s outs first i at k before now → k ≡ outs
+pub pairs-end : (s : List ℕ) (outs first i at k : ℕ) (before now : List ℕ) → Pairs s outs first i at k before now → k ≡ outs → 6 * (i + k) ≤ at
     → Paired s outs first i (record { at = at; count = i + outs; broken = false }) before now
-pairs-end s outs first i at k before now so e = record {
+pairs-end s outs first i at k before now so e few = record {
+  drivers = so .drivers;
+  counted = ap (λ (n : ℕ). i + n) (sym (so .counted ∙ e));
+  room = omega (arith, so .room);
   size = so .size;
+  stored = so .stored;
   refused = λ q. absurd (true≢false (sym q));
   due = λ _. (
-    so .drivers,
-    so .counted ∙ e,
-    so .stored,
+    omega arith,
     so .due ∙ ap₂ (λ (j n : ℕ). next (readNames (length s) j n (linesAt s at)) (λ ds. holds (so .drivers ++ ds))) e (let z : outs - k ≡ 0 = omega arith in z),
   );
 }

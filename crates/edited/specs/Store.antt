@@ -4,15 +4,16 @@ use mathlib.Core.Path.{_≡_}
 use mathlib.Core.Bool.{Bool, true, false}
 use mathlib.Core.Option.{Option, some}
 use mathlib.Core.List.{List, [], _∷_, _++_}
-use lib.ListN.{length, drop, getD}
+use lib.ListN.{length, getD}
 use Rattle.model.specs.Base.{each}
-use Rattle.model.specs.Text.{Line, linesFrom}
 use Rattle.model.specs.Reading.{Read, holds, fault, next}
 use Rattle.model.specs.Cells.{noCell, cellsOf}
+use Rattle.model.specs.Graph.{Graph}
 use Rattle.model.specs.Netlist.{outName}
-use Rattle.model.specs.Check.{Driver, readNames, readDrivers}
+use Rattle.model.specs.Check.{Driver, readNames, readDrivers, readNetlist}
 use Rattle.model.specs.declared.Library.{Library}
 use Rattle.words.specs.Put.{putAt}
+use Rattle.framing.specs.Frame.{linesAt}
 use Rattle.netnames.specs.declared.Gate.{Gate}
 use Rattle.netnames.specs.Codes.{code}
 use Rattle.netnames.specs.Bound.{gateOf}
@@ -33,14 +34,12 @@ unfoldable pub driverWords : Driver → List ℕ
 unfolding gateWords
 driverWords d = gateWords (d .offset) (gateOf (some d))
 
--- the lines of a text from a place on
-abbrev pub linesAt : List ℕ → ℕ → List Line
-linesAt s at = linesFrom at [] (drop at s)
-
 -- drivers were read from a place on: they stand first in the array; then the outputs' lines are due, or the line at the place reached breaks its form
 pub record Gathered (s : List ℕ) (lib : Library) (first : ℕ) (r : Progress) (before after : List ℕ) : Type 0 where
   pub drivers : List Driver
   pub counted : r .count ≡ length drivers
+  pub few : 6 * r .count ≤ r .at
+  pub room : 8 * r .count ≤ length before
   pub stored : after ≡ putAt before 0 (each driverWords drivers)
   pub due : r .broken ≡ false → (end outs : ℕ)
       → readDrivers (cellsOf lib) end outs (linesAt s first) ≡ next (readNames end 0 outs (linesAt s (r .at))) (λ ds. holds (drivers ++ ds))
@@ -53,14 +52,28 @@ wireGate net k = record { table = 2; count = 1; codes = net ∷ 0 ∷ 0 ∷ 0 �
 -- output k's two lines were read: its driver stands at place i of the array and the lines behind are due, or a line breaks its form or is missing
 pub record Stepped (s : List ℕ) (k at i : ℕ) (r : Progress) (before after : List ℕ) : Type 0 where
   pub size : length after ≡ length before
-  pub refused : r .broken ≡ true → (left : ℕ) → readNames (length s) k (suc left) (linesAt s at) ≡ fault 32 (r .at)
-  pub due : r .broken ≡ false → (d : Driver) × (after ≡ putAt before (8 * i) (driverWords d)) × (r .count ≡ i + 1) × (at + 5 ≤ r .at)
+  pub refused : r .broken ≡ true → (after ≡ before) × ((left : ℕ) → readNames (length s) k (suc left) (linesAt s at) ≡ fault 32 (r .at))
+  pub within : r .broken ≡ false → at < length s
+  pub due : r .broken ≡ false → (d : Driver) × (after ≡ putAt before (8 * i) (driverWords d)) × (r .count ≡ i + 1) × (at + 6 ≤ r .at)
       × ((left : ℕ) → readNames (length s) k (suc left) (linesAt s at) ≡ next (readNames (length s) (suc k) left (linesAt s (r .at))) (λ ds. holds (d ∷ ds)))
 
 -- the lines of so many outputs were read: their drivers stand from place i of the array on and what is behind them is due, or a line breaks its form or is
 -- missing
 pub record Paired (s : List ℕ) (outs at i : ℕ) (r : Progress) (before after : List ℕ) : Type 0 where
+  pub drivers : List Driver
+  pub counted : r .count ≡ i + length drivers
+  pub room : 8 * r .count ≤ length before
   pub size : length after ≡ length before
+  pub stored : after ≡ putAt before (8 * i) (each driverWords drivers)
   pub refused : r .broken ≡ true → readNames (length s) 0 outs (linesAt s at) ≡ fault 32 (r .at)
-  pub due : r .broken ≡ false → (ds : List Driver) × (length ds ≡ outs) × (after ≡ putAt before (8 * i) (each driverWords ds))
-      × (readNames (length s) 0 outs (linesAt s at) ≡ next (readNames (length s) outs 0 (linesAt s (r .at))) (λ es. holds (ds ++ es)))
+  pub due : r .broken ≡ false → (6 * r .count ≤ r .at)
+      × (readNames (length s) 0 outs (linesAt s at) ≡ next (readNames (length s) outs 0 (linesAt s (r .at))) (λ es. holds (drivers ++ es)))
+
+-- a netlist was read: its drivers stand first in the array; or a line breaks its form or is missing, and those of lines before it do
+pub record Taken (s : List ℕ) (lib : Library) (g : Graph) (r : Progress) (before after : List ℕ) : Type 0 where
+  pub drivers : List Driver
+  pub counted : r .count ≡ length drivers
+  pub stored : after ≡ putAt before 0 (each driverWords drivers)
+  pub refused : r .broken ≡ true → readNetlist (cellsOf lib) g s ≡ fault 32 (r .at)
+  pub held : r .broken ≡ false → readNetlist (cellsOf lib) g s ≡ holds drivers
+  pub few : r .broken ≡ false → r .count < 10923

@@ -1,19 +1,23 @@
 // An edited netlist read into an array of numbers, eight for each line that drives a net: where the line begins, its table, how many nets it uses, the
 // numbers of these nets, zeros behind them, and that of its own net.
+use model::Header;
 use model::Library;
 use netnames::Gate;
 use text::Span;
 ghost use mathlib.Core.Path.{_≡_};
+ghost use mathlib.Core.List.{_∷_};
 ghost use Prim.Native.Nat.{ℕ, _+_, _*_, _≤_, _<_};
 ghost use lib.ListN.{length, getD};
+ghost use Rattle.model.specs.Text.{decimal};
 ghost use Rattle.model.specs.Cells.{noCell, cellsOf};
-ghost use Rattle.model.specs.Check.{gateDriver, nameDriver, isLine};
-ghost use Rattle.model.specs.Netlist.{outName};
+ghost use Rattle.model.specs.Graph.{Graph};
+ghost use Rattle.model.specs.Check.{gateDriver, nameDriver};
 ghost use Rattle.words.specs.Put.{putAt};
 ghost use Rattle.netnames.specs.Codes.{code};
 ghost use Rattle.text.specs.Lines.{lineAt, spanAt};
 ghost use Rattle.netnames.specs.Bound.{gateOf, nameCode};
-ghost use Rattle.edited.specs.Store.{gateWords, Fitting, Gathered, wireGate, Stepped, Paired};
+ghost use Rattle.framing.specs.Frame.{Framing};
+ghost use Rattle.edited.specs.Store.{gateWords, Fitting, Gathered, wireGate, Stepped, Paired, Taken};
 
 // A text within the length in 1 has at most so many lines that drive a net: a line begins at least six bytes behind the one before.
 pub const DRIVERS: usize = 10923;
@@ -68,19 +72,6 @@ fn gate_at(s: &[u8], at: usize, line: Span, lib: Library) -> Gate
     netnames::gate_line(lib, &s[at..stop])
 }
 
-// The line at a place is these bytes.
-fn is_line(s: &[u8], at: usize, w: &[u8]) -> bool
-    requires { ⌜ at ≤ length (now s) ⌝ }
-    ensures { λ r. ⌜ r ≡ isLine (now (w .entry)) (lineAt (now (s .entry)) at) ⌝ }
-{
-    let line = text::line(s, at);
-    let stop = line.stop;
-    if line.next - stop != 1 {
-        return false;
-    }
-    text::same_bytes(&s[at..stop], w)
-}
-
 // The net of output k's `.names` line at a place, 0 where it breaks its form.
 fn name_at(s: &[u8], at: usize, line: Span, k: usize) -> u64
     requires { ⌜ (k ≤ 65535) × (at ≤ length (now s)) × (line ≡ spanAt (now s) at) ⌝ }
@@ -93,13 +84,13 @@ fn name_at(s: &[u8], at: usize, line: Span, k: usize) -> u64
     netnames::name_line(&s[at..stop], k)
 }
 
-// The number of output k's own name.
-fn out_code(k: usize) -> u64
+// The number of a letter's net: "Nets are `p` or `m` (negative) and the variable", and an output's own name likewise.
+pub fn label_code(letter: u8, k: usize) -> u64
     requires { ⌜ k ≤ 65535 ⌝ }
-    ensures { λ r. ⌜ r ≡ code (outName k) ⌝ }
+    ensures { λ r. ⌜ r ≡ code (letter ∷ decimal k) ⌝ }
 {
     let mut name = [0u8; 8];
-    name[0] = 111;
+    name[0] = letter;
     let end = text::put_number(&mut name, 1, k as u32);
     netnames::code_of(&name[..end])
 }
@@ -113,13 +104,13 @@ fn wire(net: u64, k: usize) -> Gate
         table: 2,
         count: 1,
         codes: [net, 0, 0, 0],
-        net: out_code(k),
+        net: label_code(b'o', k),
     }
 }
 
 // Output k's two lines: "each gets `.names` with its net and its own name, then `1 1`". A missing line's place is the text's length.
 fn name_step(s: &[u8], at: usize, k: usize, nets: &mut [u64], i: usize) -> Progress
-    requires { ⌜ (k ≤ 65535) × (8 * i + 8 ≤ length (now nets)) × (length (now s) ≤ 65536) ⌝ }
+    requires { ⌜ (k ≤ 65535) × (6 * i ≤ at) × (87384 ≤ length (now nets)) × (length (now s) ≤ 65536) ⌝ }
     ensures { λ r. ⌜ Stepped (now (s .entry)) k at i r (now (nets .entry)) (now (nets .exit)) ⌝ }
 {
     if at >= s.len() {
@@ -146,7 +137,7 @@ fn name_step(s: &[u8], at: usize, k: usize, nets: &mut [u64], i: usize) -> Progr
             broken: true,
         };
     }
-    if !is_line(s, row, b"1 1") {
+    if !framing::is_line(s, row, b"1 1") {
         return Progress {
             at: row,
             count: i,
@@ -163,7 +154,7 @@ fn name_step(s: &[u8], at: usize, k: usize, nets: &mut [u64], i: usize) -> Progr
 
 // The pairs of lines of so many outputs, their drivers from place `first` of the array on.
 fn read_pairs(s: &[u8], from: usize, outs: usize, nets: &mut [u64], first: usize) -> Progress
-    requires { ⌜ (outs ≤ 4096) × (length (now s) ≤ 65536) × (8 * (first + outs) ≤ length (now nets)) ⌝ }
+    requires { ⌜ (outs ≤ 4096) × (length (now s) ≤ 65536) × (6 * first ≤ from) × (87384 ≤ length (now nets)) × (8 * first ≤ length (now nets)) ⌝ }
     ensures { λ r. ⌜ Paired (now (s .entry)) outs from first r (now (nets .entry)) (now (nets .exit)) ⌝ }
 {
     let mut at = from;
@@ -221,5 +212,35 @@ fn read_gates(s: &[u8], from: usize, lib: Library, nets: &mut [u64]) -> Progress
         at,
         count,
         broken: false,
+    }
+}
+
+// "BLIF as we print it up to `.end`": the first three lines, the gates' lines, the outputs' lines and `.end`; "what follows `.end` isn't read". "32 when a line
+// breaks its form, names no listed cell or has other inputs or outputs than the graph".
+pub fn read(s: &[u8], lib: Library, work: &[u16], h: Header, nets: &mut [u64]) -> Progress
+    requires { ⌜ Fitting lib × (length (now s) ≤ 65536) × (87384 ≤ length (now nets)) × ((g : Graph) × Framing (now work) h g) ⌝ }
+    ensures { λ r. ⌜ ((g : Graph) → Framing (now (work .entry)) h g → Taken (now (s .entry)) lib g r (now (nets .entry)) (now (nets .exit))) ⌝ }
+{
+    let f = framing::frame(s, work, h);
+    if f.broken {
+        return Progress {
+            at: f.at,
+            count: 0,
+            broken: true,
+        };
+    }
+    let g = read_gates(s, f.at, lib, nets);
+    if g.broken {
+        return g;
+    }
+    let p = read_pairs(s, g.at, h.outputs, nets, g.count);
+    if p.broken {
+        return p;
+    }
+    let e = framing::due(s, p.at, b".end");
+    Progress {
+        at: e.at,
+        count: p.count,
+        broken: e.broken,
     }
 }

@@ -10,7 +10,7 @@ use lib.Seq.{take-append-seam, take-all}
 use borrow.Author.Tests.{eq-eqb, ne-eqb, le-leb, lt-leb, lt-ltb, le-ltb}
 use Rattle.model.specs.Base.{all}
 use Rattle.model.specs.Text.{decimal, between}
-use Rattle.model.specs.NetlistLines.{areDigits, isLabel, isPhaseNet, isGateNet, isBound}
+use Rattle.model.specs.NetlistLines.{areDigits, isLabel, isPhaseNet, isInnerNet, isGateNet, isBound}
 use Rattle.words.specs.Put.{putAt}
 use Rattle.text.proofs.Bytes.{and-false}
 use Rattle.text.proofs.Decimal.{dec-below}
@@ -72,12 +72,28 @@ phase-none : (w : List ℕ) → length w ≡ 0 → isPhaseNet w ≡ false
 unfolding isPhaseNet
 phase-none w e = rw (sym (label-none 112 w e), sym (label-none 109 w e))
 
-pub gate-net : (w : List ℕ) → isPhaseNet w ≡ isGateNet w
+pub inner-none : (w : List ℕ) → length w ≡ 0 → false ≡ isInnerNet w
+inner-none [] e = sym (unfold isInnerNet in refl)
+inner-none (b ∷ w) e = absurd (omega arith)
+
+pub inner-other : (w : List ℕ) → (getD w 0 0 ≡ 115 → ⊥) → false ≡ isInnerNet w
+unfolding isInnerNet
+inner-other w n = sym (rw (ne-eqb (getD w 0 0) 115 n))
+
+pub inner-is : (w : List ℕ) → getD w 0 0 ≡ 115 → isPhaseNet (drop 1 w) ≡ isInnerNet w
+unfolding isInnerNet
+inner-is w e = sym (rw (eq-eqb (getD w 0 0) 115 e))
+
+pub gate-first : (w : List ℕ) → isPhaseNet w ≡ true → true ≡ isGateNet w
 unfolding isGateNet
-gate-net w = refl
+gate-first w e = sym (rw e)
+
+pub gate-second : (w : List ℕ) → isPhaseNet w ≡ false → isInnerNet w ≡ isGateNet w
+unfolding isGateNet
+gate-second w e = sym (rw e)
 
 net-none : isGateNet [] ≡ false
-net-none = sym (gate-net []) ∙ phase-none [] refl
+net-none = sym (gate-second [] (phase-none [] refl)) ∙ sym (inner-none [] refl)
 
 drop-short : (w : List ℕ) → length w < 2 → drop 2 w ≡ []
 drop-short [] h = refl

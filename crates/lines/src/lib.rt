@@ -8,7 +8,7 @@ ghost use lib.ListN.{length, take, drop};
 ghost use Rattle.model.specs.Base.{all, same, below};
 ghost use Rattle.model.specs.Text.{decimal, fields, between};
 ghost use Rattle.model.specs.Cells.{cellsOf};
-ghost use Rattle.model.specs.NetlistLines.{areDigits, isLabel, isPhaseNet, isGateNet, isBound, ofForm, isNameList, gateForm, gateOf, isWire, isFigures, isTiming};
+ghost use Rattle.model.specs.NetlistLines.{areDigits, isLabel, isPhaseNet, isInnerNet, isGateNet, isBound, ofForm, isNameList, gateForm, gateOf, isWire, isFigures, isTiming};
 ghost use Rattle.lines.specs.Steps.{fieldsAt, fieldEnd, stepAt, stepsAt};
 ghost use Rattle.lines.specs.Kinds.{kindTest, whichOf, Listed};
 use model::Cell;
@@ -80,11 +80,27 @@ pub fn is_phase_net(w: &[u8]) -> bool
     is_label(w, b'm')
 }
 
+// "a net `s` followed by the root's net name"
+fn is_inner_net(w: &[u8]) -> bool
+    ensures { λ r. ⌜ r ≡ isInnerNet (now (w .entry)) ⌝ }
+{
+    if w.len() == 0 {
+        return false;
+    }
+    if w[0] != b's' {
+        return false;
+    }
+    is_phase_net(&w[1..])
+}
+
 // A net of a gate line, at a pin or at the output.
 pub fn is_gate_net(w: &[u8]) -> bool
     ensures { λ r. ⌜ r ≡ isGateNet (now (w .entry)) ⌝ }
 {
-    is_phase_net(w)
+    if is_phase_net(w) {
+        return true;
+    }
+    is_inner_net(w)
 }
 
 pub fn is_bound(w: &[u8], b: u8) -> bool

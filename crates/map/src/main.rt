@@ -40,7 +40,7 @@ fn said(written: bool) {
 fn map_files(cells: &[u8], graph: &[u8], arrivals: &[u8], work: &mut [u16], text: &mut [u8])
     requires { ⌜ (length (now work) ≡ 32768) × (length (now text) ≡ 65536) ⌝ }
 {
-    match mapper::map_texts(cells, graph, arrivals, work, text) {
+    match mapper::map_texts(cells, graph, arrivals, false, work, text) {
         Answer::Mapped(n, _) => {
             said(io::write_all(STDOUT_FILENO, &text[..n]));
         }

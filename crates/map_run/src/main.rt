@@ -51,7 +51,7 @@ fn show_netlist(a: Answer, text: &[u8]) {
 }
 
 fn map_lent(cells: &[u8], graph: &[u8], arrivals: &[u8], work: &mut [u16], text: &mut [u8]) {
-    let a = mapper::map_texts(cells, graph, arrivals, work, text);
+    let a = mapper::map_texts(cells, graph, arrivals, false, work, text);
     show_answer(a);
     io::write_all(STDOUT_FILENO, b"\n");
     show_netlist(a, text);

@@ -61,6 +61,7 @@ fn map_files(
         arrivals1,
         graph2,
         arrivals2,
+        false,
         work,
         text1,
         text2,

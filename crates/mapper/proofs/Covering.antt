@@ -42,60 +42,61 @@ use Rattle.cover.proofs.Choices.{ChosenFrom, choose-law, unchosen}
 use Rattle.timing.specs.Retiming.{InverterIn}
 use Rattle.cover.proofs.Missed.{uncovered-law}
 use Rattle.theory.proofs.Outcomes.{outputs-present}
-use Rattle.mapper.specs.Stages.{Given, Cut, Timeable, printedFor, cutFor}
+use Rattle.mapper.specs.Stages.{Given, Cut, Timeable, allOf, printedFor, cutFor}
+use Rattle.mapper.proofs.Libraries.{all-matchable, all-few}
 use Rattle.mapper.proofs.Handing.{none-first}
 
 -- what 17 says
-pub all-covered : (lib : Library) (g : Graph) → coverVerdict (cellsOf lib) g ≡ Accepted → uncovered (chosen (cellsOf lib) g) 0 (g .outputs) ≡ []
+pub all-covered : (lib : Library) (codes : List ℕ) (g : Graph) → coverVerdict (allOf lib codes) g ≡ Accepted → uncovered (chosen (allOf lib codes) g) 0 (g .outputs) ≡ []
 unfolding coverVerdict
-all-covered lib g e = none-first 17 (uncovered (chosen (cellsOf lib) g) 0 (g .outputs)) e
+all-covered lib codes g e = none-first 17 (uncovered (chosen (allOf lib codes) g) 0 (g .outputs)) e
 
 -- from 17 on, the outcome is the choice's netlist
-pub cut-printed : (ranged : Bool) (lib : Library) (g : Graph) (bytes : ℕ) → coverVerdict (cellsOf lib) g ≡ Accepted → cutFor ranged lib g bytes ≡ printedFor ranged lib g bytes
+pub cut-printed : (ranged : Bool) (lib : Library) (codes : List ℕ) (g : Graph) (bytes : ℕ) → coverVerdict (allOf lib codes) g ≡ Accepted → cutFor ranged lib codes g bytes ≡ printedFor ranged lib codes g bytes
 unfolding mapChosen printed chosen followed
-cut-printed ranged lib g bytes e =
-    ap (λ (us : List ℕ). within bytes (followed ranged (cellsOf lib) g (printed (cellsOf lib) g (chosen (cellsOf lib) g) us))) (all-covered lib g e) ∙ ap (within bytes) (go ranged)
+cut-printed ranged lib codes g bytes e =
+    ap (λ (us : List ℕ). within bytes (followed ranged (allOf lib codes) g (printed (cellsOf lib) (allOf lib codes) g (chosen (allOf lib codes) g) us))) (all-covered lib codes g e) ∙ ap (within bytes) (go ranged)
   where
-    go : (r : Bool) → followed r (cellsOf lib) g (mapped (choiceText (cellsOf lib) g) (choiceFigures (cellsOf lib) g)) ≡ mapped (printedText r (cellsOf lib) g) (choiceFigures (cellsOf lib) g)
+    go : (r : Bool) → followed r (allOf lib codes) g (mapped (choiceText (cellsOf lib) (allOf lib codes) g) (choiceFigures (cellsOf lib) (allOf lib codes) g)) ≡ mapped (printedText r (cellsOf lib) (allOf lib codes) g) (choiceFigures (cellsOf lib) (allOf lib codes) g)
     go true = refl
     go false = refl
 
-pub cut-refused : (ranged : Bool) (lib : Library) (g : Graph) (bytes n k : ℕ) → coverVerdict (cellsOf lib) g ≡ Refused n k → cutFor ranged lib g bytes ≡ refused n k
+pub cut-refused : (ranged : Bool) (lib : Library) (codes : List ℕ) (g : Graph) (bytes n k : ℕ) → coverVerdict (allOf lib codes) g ≡ Refused n k → cutFor ranged lib codes g bytes ≡ refused n k
 unfolding mapChosen printed chosen coverVerdict refusedAt firstOf within followed
-cut-refused ranged lib g bytes n k e = go (uncovered (chosen (cellsOf lib) g) 0 (g .outputs)) e
+cut-refused ranged lib codes g bytes n k e = go (uncovered (chosen (allOf lib codes) g) 0 (g .outputs)) e
   where
-    go : (us : List ℕ) → refusedAt 17 (firstOf us) ≡ Refused n k → within bytes (followed ranged (cellsOf lib) g (printed (cellsOf lib) g (chosen (cellsOf lib) g) us)) ≡ refused n k
+    go : (us : List ℕ) → refusedAt 17 (firstOf us) ≡ Refused n k → within bytes (followed ranged (allOf lib codes) g (printed (cellsOf lib) (allOf lib codes) g (chosen (allOf lib codes) g) us)) ≡ refused n k
     go [] q = absurd (let z : _≡_ {A = ℕ} 0 1 = cc in omega arith)
     go (u ∷ us) q = let a : _≡_ {A = ℕ} 17 n = cc in let b : u ≡ k = cc in (λ i. refused (a i) (b i))
 
-module _ (w : List ℕ) (lib : Library) (h : Header) (g : Graph) (c : Cut w lib h g) where
+module _ (w : List ℕ) (lib : Library) (codes : List ℕ) (h : Header) (g : Graph) (c : Cut w lib codes h g) where
   mid : List ℕ
-  mid = chosenUp (cellsOf lib) w (h .size) (placedOf h)
+  mid = chosenUp (allOf lib codes) w (h .size) (placedOf h)
 
-  from : ChosenFrom w mid lib g
+  from : ChosenFrom w mid (allOf lib codes) g
   unfolding mid
-  from = choose-law w lib h g (c .given .header) (c .held) (c .given .library .usable) (c .unchosen)
+  from = choose-law w (allOf lib codes) h g (c .given .header) (c .held) (all-matchable lib codes (c .given .library)) (c .unchosen)
 
-  pub chosen-covered : Covered (chosenUp (cellsOf lib) w (h .size) (placedOf h)) lib g
+  pub chosen-covered : Covered (chosenUp (allOf lib codes) w (h .size) (placedOf h)) (allOf lib codes) g
   unfolding mid
   chosen-covered = from .covered
 
-  pub chosen-verdict : missing (chosenUp (cellsOf lib) w (h .size) (placedOf h)) (h .size) (h .outputs) ≡ coverVerdict (cellsOf lib) g
+  pub chosen-verdict : missing (chosenUp (allOf lib codes) w (h .size) (placedOf h)) (h .size) (h .outputs) ≡ coverVerdict (allOf lib codes) g
   unfolding mid
-  chosen-verdict = uncovered-law mid (cellsOf lib) h g (c .given .header) (c .held .accepted) (from .covered .held .graph) (from .covered .phases)
+  chosen-verdict = uncovered-law mid (allOf lib codes) h g (c .given .header) (c .held .accepted) (from .covered .held .graph) (from .covered .phases)
 
   none-needed : (v : ℕ) → v ≤ g .size → neededAt mid (g .size) v ≡ 0
   none-needed v l = from .kept .before (neededAddr (g .size) v) (omega arith) ∙ c .unneeded v l
 
   end : List ℕ
-  end = marked (cellsOf lib) mid (h .size) (h .outputs) (placedOf h)
+  end = marked (allOf lib codes) mid (h .size) (h .outputs) (placedOf h)
 
-  left : MarkedFrom mid end lib g
+  left : MarkedFrom mid end (allOf lib codes) g
   unfolding end
-  left = mark-law mid lib h g (c .given .header) (from .covered) none-needed
+  left = mark-law mid (allOf lib codes) h g (c .given .header) (from .covered) none-needed
 
-  pub marked-mapped : coverVerdict (cellsOf lib) g ≡ Accepted
-      → Mapped (marked (cellsOf lib) (chosenUp (cellsOf lib) w (h .size) (placedOf h)) (h .size) (h .outputs) (placedOf h)) lib h g
+  pub marked-mapped : coverVerdict (allOf lib codes) g ≡ Accepted
+      → Mapped (marked (allOf lib codes) (chosenUp (allOf lib codes) w (h .size) (placedOf h)) (h .size) (h .outputs) (placedOf h)) lib codes h g
   unfolding mid end
   marked-mapped e = record {
     size = c .given .header .size;
@@ -103,57 +104,58 @@ module _ (w : List ℕ) (lib : Library) (h : Header) (g : Graph) (c : Cut w lib 
     outputs = c .given .header .outputs;
     fewInputs = omega (arith, c .given .fits .variables);
     fewOutputs = c .given .fits .outputs;
-    fewCells = c .given .library .usable .few;
-    library = c .given .library .fits;
+    coded = c .given .library .coded;
+    numbered = c .given .library .numbered;
+    library = c .given .library .read .fits;
     accepted = c .held .accepted;
     fewCuts = c .held .free;
-    covered = outputs-present (chosen (cellsOf lib) g) 0 (g .outputs) (all-covered lib g e);
+    covered = outputs-present (chosen (allOf lib codes) g) 0 (g .outputs) (all-covered lib codes g e);
     graph = graph-kept g _ _ mid end (left .kept) (omega arith) (omega arith) (inr (omega arith)) (from .covered .held .graph);
     order = order-kept g _ _ mid end (left .kept) (omega arith) (omega arith) (c .held .accepted) (from .covered .held .order);
     cuts = held-cut end g (cuts-kept g _ _ mid end (left .kept) (omega arith) (omega arith) (c .held .accepted) (c .held .free) (from .covered .held .cuts));
-    phases = phases-kept g _ _ mid end (left .kept) (omega arith) (omega arith) (cellsOf lib) (omega arith) (from .covered .phases);
+    phases = phases-kept g _ _ mid end (left .kept) (omega arith) (omega arith) (allOf lib codes) (omega arith) (from .covered .phases);
     needs = left .needs;
   }
 
   -- ---- what the low arrivals ask
 
-  -- an inverter is one of the library
-  inverter-in : (l : ℕ) → InverterIn lib (chosen (cellsOf lib) g l .source)
+  -- an inverter is one of the cells to map with
+  inverter-in : (l : ℕ) → InverterIn (allOf lib codes) (chosen (allOf lib codes) g l .source)
   unfolding absent
-  inverter-in l = go (chosen (cellsOf lib) g l .source) refl
+  inverter-in l = go (chosen (allOf lib codes) g l .source) refl
     where
-      go : (s : Source) → chosen (cellsOf lib) g l .source ≡ s → InverterIn lib s
+      go : (s : Source) → chosen (allOf lib codes) g l .source ≡ s → InverterIn (allOf lib codes) s
       go Input q = tt
       go Nothing q = tt
       go (Matched x) q = tt
       go (Inverted i) q =
-          let b = subst (Allowed (cellsOf lib) g l) q (chosen-fine (cellsOf lib) g (order-once g (c .held .accepted)) l (ap absent q) .0 .allowed) .hasCell in
-          (b, omega (arith, b, c .given .library .usable .whole, c .given .library .usable .few))
+          let b = subst (Allowed (allOf lib codes) g l) q (chosen-fine (allOf lib codes) g (order-once g (c .held .accepted)) l (ap absent q) .0 .allowed) .hasCell in
+          (b, omega (arith, b, all-few lib codes (c .given .library)))
 
-  pub marked-timeable : Timeable (marked (cellsOf lib) (chosenUp (cellsOf lib) w (h .size) (placedOf h)) (h .size) (h .outputs) (placedOf h)) lib h g
+  pub marked-timeable : Timeable (marked (allOf lib codes) (chosenUp (allOf lib codes) w (h .size) (placedOf h)) (h .size) (h .outputs) (placedOf h)) lib codes h g
   unfolding mid end
   marked-timeable =
       let ok = c .held .accepted in
       let n = placed-is h g (c .given .header) ok in
-      let asked = mark-asked mid lib h g (c .given .header) (from .covered) in
+      let asked = mark-asked mid (allOf lib codes) h g (c .given .header) (from .covered) in
       let kept : NeedsKept (h .size) mid end = subst (λ (m : ℕ). NeedsKept m mid end) (sym (c .given .header .size)) (left .kept) in
       record {
         library = c .given .library;
         header = c .given .header;
         retimable = record {
-          matches = needs-matches (h .size) lib mid end kept (asked .0);
-          inverters = subst (λ (m : ℕ). (l : ℕ) → l / 2 ≤ m → InverterIn lib (phaseAt end m l .source)) (sym (c .given .header .size))
-              (λ l b. subst (λ (p : Phase). InverterIn lib (p .source))
-              (sym (phases-kept g _ _ mid end (left .kept) (omega arith) (omega arith) (cellsOf lib) (omega arith) (from .covered .phases) .phases l (omega arith))) (inverter-in l));
+          matches = needs-matches (h .size) (allOf lib codes) mid end kept (asked .0);
+          inverters = subst (λ (m : ℕ). (l : ℕ) → l / 2 ≤ m → InverterIn (allOf lib codes) (phaseAt end m l .source)) (sym (c .given .header .size))
+              (λ l b. subst (λ (p : Phase). InverterIn (allOf lib codes) (p .source))
+              (sym (phases-kept g _ _ mid end (left .kept) (omega arith) (omega arith) (allOf lib codes) (omega arith) (from .covered .phases) .phases l (omega arith))) (inverter-in l));
         };
         slots = needs-slots (h .size) (placedOf h) mid end kept (asked .2);
         soon = λ l b.
-            let u = unchosen lib (c .given .library .usable) g w (c .held) (c .unchosen) in
-            let e = up-after lib (c .given .library .usable) w (g .size) (length (placingOrder g)) u (length (placingOrder g)) (omega arith) .early .early l b in
+            let u = unchosen (allOf lib codes) (all-matchable lib codes (c .given .library)) g w (c .held) (c .unchosen) in
+            let e = up-after (allOf lib codes) (all-matchable lib codes (c .given .library)) w (g .size) (length (placingOrder g)) u (length (placingOrder g)) (omega arith) .early .early l b in
             let few = few-placed g ok in
-            let mid-is : mid ≡ chosenUp (cellsOf lib) w (g .size) (length (placingOrder g)) = (λ i. chosenUp (cellsOf lib) w (c .given .header .size i) (n i)) in
-            let p : phaseAt mid (g .size) l ≡ chosen (cellsOf lib) g l = from .covered .phases .phases l b in
-            let a : chosen (cellsOf lib) g l .arrival ≡ phaseAt (chosenUp (cellsOf lib) w (g .size) (length (placingOrder g))) (g .size) l .arrival =
+            let mid-is : mid ≡ chosenUp (allOf lib codes) w (g .size) (length (placingOrder g)) = (λ i. chosenUp (allOf lib codes) w (c .given .header .size i) (n i)) in
+            let p : phaseAt mid (g .size) l ≡ chosen (allOf lib codes) g l = from .covered .phases .phases l b in
+            let a : chosen (allOf lib codes) g l .arrival ≡ phaseAt (chosenUp (allOf lib codes) w (g .size) (length (placingOrder g))) (g .size) l .arrival =
             ap (λ (q : Phase). q .arrival) (sym p ∙ ap (λ (x : List ℕ). phaseAt x (g .size) l) mid-is) in
             omega (arith, a, e, few, c .given .fits .size);
       }

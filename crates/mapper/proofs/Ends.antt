@@ -8,16 +8,19 @@ use lib.Dec.{T, leb, leb→le, le→leb}
 use lib.ListN.{length, replicate}
 use Rattle.model.specs.Limits.{need}
 use Rattle.model.specs.Reading.{Read, holds, fault, next, unless}
+use Rattle.model.specs.Cells.{cellsOf}
+use Rattle.model.specs.Pairs.{cellsFor}
 use Rattle.model.specs.GraphText.{readHeader, headerAnswer}
 use Rattle.model.specs.Netlist.{Outcome, refused}
 use Rattle.model.specs.Mapper.{mapDesign}
+use Rattle.model.specs.declared.Cell.{Cell}
 use Rattle.model.specs.declared.Library.{Library}
 use Rattle.model.specs.declared.Header.{Header}
 use Rattle.model.specs.declared.HeaderAnswer.{HeaderAnswer}
 use Rattle.model.specs.declared.HeaderAnswer.the-variants.{Refused}
 use Rattle.model.specs.declared.Answer.{Answer}
 use Rattle.model.specs.declared.Answer.the-variants.{Refused as Turned}
-use Rattle.mapper.specs.Stages.{Told, Left, designOf, graphFor, headerFor}
+use Rattle.mapper.specs.Stages.{Told, Left, allOf, headedOf, designOf, graphFor, headerFor, libraryFor}
 use Rattle.mapper.proofs.Printing.{told-refused}
 use Rattle.mapper.proofs.Numbers.{Early, work-early, work-late, header-early, graph-for-late}
 
@@ -33,36 +36,60 @@ left-early n k work text e = record { told = told-refused n k text; words = work
 pub left-as : {o p : Outcome} {work text : List ℕ} {a : Answer} {y u : List ℕ} → p ≡ o → Left o work text a y u → Left p work text a y u
 left-as {work = work} {text = text} {a = a} {y = y} {u = u} e l = subst (λ (x : Outcome). Left x work text a y u) (sym e) l
 
-module _ (ranged : Bool) (lib : Library) (s t : List ℕ) (work text : List ℕ) where
-  pub header-stops : (r : HeaderAnswer) → r ≡ headerAnswer (readHeader s) → (n k : ℕ) → r ≡ Refused n k → Left (headerFor ranged lib s t (length work) (length text)) work text (Turned n k) work text
+module _ (ranged : Bool) (lib : Library) (codes : List ℕ) (s t : List ℕ) (work text : List ℕ) where
+  pub header-stops : (r : HeaderAnswer) → r ≡ headerAnswer (readHeader s) → (n k : ℕ) → r ≡ Refused n k → Left (headerFor ranged lib codes s t (length work) (length text)) work text (Turned n k) work text
   unfolding headerFor next mapDesign
   header-stops r told n k e =
       let f = header-fault (readHeader s) n k (sym told ∙ e) in
-      left-as (ap (λ (x : Read Header). mapDesign (length text) (next x (λ h. unless (leb (need (h .size) (h .outputs)) (length work)) 10 0 (designOf ranged lib s t h)))) f)
+      left-as (ap (λ (x : Read Header). mapDesign (length text) (next x (λ h. unless (leb (need (h .size) (h .outputs)) (length work)) 10 0 (designOf ranged lib codes s t h)))) f)
       (left-early n k work text (header-early s .has n k f))
 
   module _ (h : Header) (d : readHeader s ≡ holds h) where
-    through : headerFor ranged lib s t (length work) (length text) ≡ mapDesign (length text) (unless (leb (need (h .size) (h .outputs)) (length work)) 10 0 (designOf ranged lib s t h))
+    through : headerFor ranged lib codes s t (length work) (length text) ≡ mapDesign (length text) (unless (leb (need (h .size) (h .outputs)) (length work)) 10 0 (designOf ranged lib codes s t h))
     unfolding headerFor next
-    through = ap (λ (x : Read Header). mapDesign (length text) (next x (λ k. unless (leb (need (k .size) (k .outputs)) (length work)) 10 0 (designOf ranged lib s t k)))) d
+    through = ap (λ (x : Read Header). mapDesign (length text) (next x (λ k. unless (leb (need (k .size) (k .outputs)) (length work)) 10 0 (designOf ranged lib codes s t k)))) d
 
     -- "Work memory has fewer than 124(M+1) + O 16-bit words."
-    pub header-short : length work < need (h .size) (h .outputs) → Left (headerFor ranged lib s t (length work) (length text)) work text (Turned 10 0) work text
+    pub header-short : length work < need (h .size) (h .outputs) → Left (headerFor ranged lib codes s t (length work) (length text)) work text (Turned 10 0) work text
     unfolding unless mapDesign
     header-short l = left-as (through ∙ go (leb (need (h .size) (h .outputs)) (length work)) (leb→le (need (h .size) (h .outputs)) (length work))) (left-early 10 0 work text refl)
       where
-        go : (b : Bool) → (T b → need (h .size) (h .outputs) ≤ length work) → mapDesign (length text) (unless b 10 0 (designOf ranged lib s t h)) ≡ refused 10 0
+        go : (b : Bool) → (T b → need (h .size) (h .outputs) ≤ length work) → mapDesign (length text) (unless b 10 0 (designOf ranged lib codes s t h)) ≡ refused 10 0
         go true y = absurd (let z : need (h .size) (h .outputs) ≤ length work = y tt in omega arith)
         go false y = refl
 
     -- "all zero after a later one and after success"
-    pub header-done : need (h .size) (h .outputs) ≤ length work → (a : Answer) (u z : List ℕ) → Told (graphFor ranged lib s t h (length text)) text a u → z ≡ replicate (length work) 0
-        → Left (headerFor ranged lib s t (length work) (length text)) work text a z u
+    pub header-done : need (h .size) (h .outputs) ≤ length work → (a : Answer) (u z : List ℕ) → Told (graphFor ranged lib codes s t h (length text)) text a u → z ≡ replicate (length work) 0
+        → Left (headerFor ranged lib codes s t (length work) (length text)) work text a z u
     unfolding unless graphFor
     header-done l a u z told c =
         left-as (through ∙ go (leb (need (h .size) (h .outputs)) (length work)) (le→leb (need (h .size) (h .outputs)) (length work) l))
-        (record { told = told; words = c ∙ work-late (graphFor ranged lib s t h (length text)) work (graph-for-late ranged lib s t h (length text)) })
+        (record { told = told; words = c ∙ work-late (graphFor ranged lib codes s t h (length text)) work (graph-for-late ranged lib codes s t h (length text)) })
       where
-        go : (b : Bool) → T b → mapDesign (length text) (unless b 10 0 (designOf ranged lib s t h)) ≡ graphFor ranged lib s t h (length text)
+        go : (b : Bool) → T b → mapDesign (length text) (unless b 10 0 (designOf ranged lib codes s t h)) ≡ graphFor ranged lib codes s t h (length text)
         go true y = refl
         go false y = absurd y
+
+-- ---- 30
+
+module _ (ranged : Bool) (lib : Library) (s t : List ℕ) (work text : List ℕ) where
+  pub pairs-stop : 256 < length (cellsFor true (cellsOf lib)) → Left (libraryFor true ranged lib s t (length work) (length text)) work text (Turned 30 0) work text
+  unfolding libraryFor unless mapDesign
+  pairs-stop l = left-as (go (leb (length (cellsFor true (cellsOf lib))) 256) (leb→le (length (cellsFor true (cellsOf lib))) 256)) (left-early 30 0 work text refl)
+    where
+      go : (b : Bool) → (T b → length (cellsFor true (cellsOf lib)) ≤ 256)
+          → mapDesign (length text) (unless b 30 0 (headedOf ranged (cellsOf lib) (cellsFor true (cellsOf lib)) s t (length work))) ≡ refused 30 0
+      go true y = absurd (let z : length (cellsFor true (cellsOf lib)) ≤ 256 = y tt in omega arith)
+      go false y = refl
+
+  pub cells-go : (paired : Bool) (codes : List ℕ) → cellsFor paired (cellsOf lib) ≡ allOf lib codes → length (allOf lib codes) ≤ 256
+      → libraryFor paired ranged lib s t (length work) (length text) ≡ headerFor ranged lib codes s t (length work) (length text)
+  unfolding libraryFor headerFor unless
+  cells-go paired codes e few =
+      ap (λ (cs : List Cell). mapDesign (length text) (unless (leb (length cs) 256) 30 0 (headedOf ranged (cellsOf lib) cs s t (length work)))) e
+      ∙ go (leb (length (allOf lib codes)) 256) (le→leb (length (allOf lib codes)) 256 few)
+    where
+      go : (b : Bool) → T b → mapDesign (length text) (unless b 30 0 (headedOf ranged (cellsOf lib) (allOf lib codes) s t (length work)))
+          ≡ mapDesign (length text) (headedOf ranged (cellsOf lib) (allOf lib codes) s t (length work))
+      go true y = refl
+      go false y = absurd y

@@ -74,9 +74,9 @@ none-crowded g e = none-first 16 (crowded g) e
 
 -- ---- `load`
 
-pub loaded-after : (lib : Library) → LibraryOk lib → (s : List ℕ) (h : Header) (w : List ℕ) → Fit h w → readHeader s ≡ holds h → (g : Graph) → readGraph s h ≡ holds g
-    → Loaded (loadedWords w s h) lib h g
-loaded-after lib ok s h w fit d g e =
+pub loaded-after : (lib : Library) (codes : List ℕ) → LibraryOk lib codes → (s : List ℕ) (h : Header) (w : List ℕ) → Fit h w → readHeader s ≡ holds h → (g : Graph) → readGraph s h ≡ holds g
+    → Loaded (loadedWords w s h) lib codes h g
+loaded-after lib codes ok s h w fit d g e =
     let c = graph-counted s h g d e in
     record {
       given = record {
@@ -93,8 +93,8 @@ loaded-after lib ok s h w fit d g e =
 
 -- ---- `place`
 
-pub placed-after : (w : List ℕ) (lib : Library) (h : Header) (g : Graph) → Loaded w lib h g → Placed (placedWords w h) lib h g
-placed-after w lib h g l = record {
+pub placed-after : (w : List ℕ) (lib : Library) (codes : List ℕ) (h : Header) (g : Graph) → Loaded w lib codes h g → Placed (placedWords w h) lib codes h g
+placed-after w lib codes h g l = record {
   given = l .given;
   distinct = l .distinct;
   before = l .before;
@@ -102,15 +102,15 @@ placed-after w lib h g l = record {
   holding = place-law (l .before) h (l .fit) w g (l .holding);
 }
 
-pub loaded-asks : (w : List ℕ) (lib : Library) (h : Header) (g : Graph) → Loaded w lib h g → Fit h w × Operands w (h .size)
-loaded-asks w lib h g l = (fit-length h (l .before) w (l .fit) (l .holding .held .long), holding-operands (l .before) h w g (0 ∷ g .inputs) (l .holding))
+pub loaded-asks : (w : List ℕ) (lib : Library) (codes : List ℕ) (h : Header) (g : Graph) → Loaded w lib codes h g → Fit h w × Operands w (h .size)
+loaded-asks w lib codes h g l = (fit-length h (l .before) w (l .fit) (l .holding .held .long), holding-operands (l .before) h w g (0 ∷ g .inputs) (l .holding))
 
 -- ---- `arrivals::read`
 
 -- a graph that is timed is one that was read
-timed-given : (lib : Library) (h : Header) (g : Graph) (es : List Late) → Given lib h g → Given lib h (timedBy g es)
+timed-given : (lib : Library) (codes : List ℕ) (h : Header) (g : Graph) (es : List Late) → Given lib codes h g → Given lib codes h (timedBy g es)
 unfolding timedBy
-timed-given lib h g es k = record {
+timed-given lib codes h g es k = record {
   library = k .library;
   header = record { size = k .header .size; inputs = k .header .inputs; outputs = k .header .outputs; ands = k .header .ands };
   fits = timed-fits g es (k .fits);
@@ -141,7 +141,7 @@ late-soon inputs (e ∷ es) h v = go (eqb v (getD inputs (e .index) 0)) (late-so
     go true later = h e (List·Memᴰ·head refl)
     go false later = later
 
-module _ (w : List ℕ) (lib : Library) (h : Header) (g : Graph) (p : Placed w lib h g) where
+module _ (w : List ℕ) (lib : Library) (codes : List ℕ) (h : Header) (g : Graph) (p : Placed w lib codes h g) where
   hold : Holding (p .before) h w g (placingOrder g)
   hold = p .holding
 
@@ -225,10 +225,10 @@ module _ (w : List ℕ) (lib : Library) (h : Header) (g : Graph) (p : Placed w l
           stored-all (h .size) (g .inputs) (p .distinct) w slotted (λ u l. hold .held .zero (lateAddr (h .size) u) (omega arith) (omega arith)) es
           inside (known .once)
 
-      timed : Timed (putAll w (h .size) es) lib h (timedBy g es)
+      timed : Timed (putAll w (h .size) es) lib codes h (timedBy g es)
       unfolding timedBy placingOrder
       timed = record {
-        given = timed-given lib h g es (p .given);
+        given = timed-given lib codes h g es (p .given);
         placed = timed-unplaced g es ∙ all;
         soon = late-soon (g .inputs) es (known .small);
         fit = fit-length h w (putAll w (h .size) es) fits (stored .long);
@@ -244,12 +244,12 @@ module _ (w : List ℕ) (lib : Library) (h : Header) (g : Graph) (p : Placed w l
         unchosen = λ a x y. stored .behind a (omega arith) ∙ hold .held .zero a (omega arith) (omega arith);
       }
 
-      pub timed-after : Timed (putAll w (h .size) (listed (h .inputs) t)) lib h (timedBy g es)
-      timed-after = subst (λ (x : List Late). Timed (putAll w (h .size) x) lib h (timedBy g es)) (sym (listed-all (h .inputs) t es read)) timed
+      pub timed-after : Timed (putAll w (h .size) (listed (h .inputs) t)) lib codes h (timedBy g es)
+      timed-after = subst (λ (x : List Late). Timed (putAll w (h .size) x) lib codes h (timedBy g es)) (sym (listed-all (h .inputs) t es read)) timed
 
 -- ---- `enumerate`
 
-module _ (w : List ℕ) (lib : Library) (h : Header) (g : Graph) (p : Timed w lib h g) where
+module _ (w : List ℕ) (lib : Library) (codes : List ℕ) (h : Header) (g : Graph) (p : Timed w lib codes h g) where
   pub timed-ok : accepted.Accepted g
   timed-ok = p .given .accepted (p .placed)
 
@@ -296,7 +296,7 @@ module _ (w : List ℕ) (lib : Library) (h : Header) (g : Graph) (p : Timed w li
           (λ v m k l. filed .functions v k (subst (λ (s : ℕ). v ≤ s) is-size (order-small g timed-ok v m)) l);
     }
 
-    pub cut-after : Cut (enumerated w (h .size) (placedOf h)) lib h g
+    pub cut-after : Cut (enumerated w (h .size) (placedOf h)) lib codes h g
     unfolding out
     cut-after = record {
       given = p .given;

@@ -1,24 +1,33 @@
--- A library that was read, by value: its cells are the text's, and it may be asked for matches. Assumes nothing.
-use Prim.Native.Nat.{ℕ, zero, suc, _≤_, _<_}
+-- A library that was read, by value: its cells are the text's, and with its pairs it may be asked for matches and low arrivals. Assumes nothing.
+use Prim.Native.Nat.{ℕ, zero, suc, _+_, _≤_, _<_}
 use native.Mathlib.Omega.{arith}
-use mathlib.Core.Path.{_≡_, refl, sym, subst}
-use mathlib.Core.List.{List, [], _∷_, List·Memᴰ, List·Memᴰ·head, List·Memᴰ·tail}
+use mathlib.Core.Path.{_≡_, refl, sym, _∙_, ap, subst}
+use mathlib.Core.List.{List, [], _∷_, _++_, map, List·Memᴰ, List·Memᴰ·head, List·Memᴰ·tail}
 use lib.Dec.{T}
-use lib.ListN.{getD}
+use lib.ListN.{length, getD, take}
 use lib.Seq.{take-append-seam}
 use Rattle.model.specs.Reading.{holds}
 use Rattle.model.specs.Cells.{noCell, cellAt, cellsOf, libraryOf}
+use Rattle.model.specs.Pairs.{Pair, joinDelays, pairDelays, pairOf, cellOfPair}
 use Rattle.model.specs.LibraryText.{readLibrary}
 use Rattle.model.specs.declared.Cell.{Cell}
+use Rattle.model.specs.declared.Library.{Library}
 use Rattle.theory_graph.specs.Accepted.{libraryFits}
 use Rattle.theory_text.proofs.ReadLibrary.{library-fits, library-few, library-written, library-ranged}
 use Rattle.theory.proofs.Ranges.{no-lower}
+use Rattle.words.specs.Put.{putAt}
+use Rattle.pairs.specs.Codes.{pairOfCode, pairCodes, cellsBy, Joinable}
+use Rattle.pairs.proofs.Forming.{coded-none, coded-all, numbered-none, numbered-all}
+use Rattle.matching.specs.Variants.{Matchable}
 use Rattle.matching.proofs.Linking.{usable-library}
-use Rattle.mapper.specs.Stages.{LibraryOk}
+use Rattle.matching.proofs.Pairing.{matchable-by}
+use Rattle.mapper.specs.Stages.{Under, done, more, LibraryRead, LibraryOk, allOf}
 
 pub cells-back : (cs : List Cell) → cellsOf (libraryOf cs) ≡ cs
 unfolding cellsOf libraryOf
 cells-back cs = take-append-seam cs _
+
+-- ---- what holds at every place
 
 -- what holds of each element and of what stands past them holds at every place
 each-place : {A : Type 0} (P : A → Type 0) (d : A) → P d → (xs : List A) → ((x : A) → List·Memᴰ x xs → P x) → (i : ℕ) → P (getD xs i d)
@@ -26,14 +35,98 @@ each-place P d p [] h i = p
 each-place P d p (x ∷ xs) h zero = h x (List·Memᴰ·head refl)
 each-place P d p (x ∷ xs) h (suc i) = each-place P d p xs (λ y m. h y (List·Memᴰ·tail m)) i
 
-pub library-ok : (s : List ℕ) (cs : List Cell) → readLibrary s ≡ holds cs → LibraryOk (libraryOf cs)
+append-place : {A : Type 0} (P : A → Type 0) (d : A) (xs ys : List A) → ((i : ℕ) → P (getD xs i d)) → ((i : ℕ) → P (getD ys i d)) → (i : ℕ) → P (getD (xs ++ ys) i d)
+append-place P d [] ys h k i = k i
+append-place P d (x ∷ xs) ys h k zero = h zero
+append-place P d (x ∷ xs) ys h k (suc i) = append-place P d xs ys (λ j. h (suc j)) k i
+
+map-place : {A B : Type 0} (P : B → Type 0) (d : B) (f : A → B) → P d → ((x : A) → P (f x)) → (xs : List A) (i : ℕ) → P (getD (map f xs) i d)
+map-place P d f p h [] i = p
+map-place P d f p h (x ∷ xs) zero = h x
+map-place P d f p h (x ∷ xs) (suc i) = map-place P d f p h xs i
+
+-- ---- one list of numbers under another
+
+under-of : (xs ys : List ℕ) → length xs ≡ length ys → ((j : ℕ) → getD xs j 0 ≤ getD ys j 0) → Under xs ys
+under-of [] [] e h = done
+under-of [] (y ∷ ys) e h = absurd (omega arith)
+under-of (x ∷ xs) [] e h = absurd (omega arith)
+under-of (x ∷ xs) (y ∷ ys) e h = more (h zero) (under-of xs ys (omega arith) (λ j. h (suc j)))
+
+under-at : {xs ys : List ℕ} → Under xs ys → (j : ℕ) → getD xs j 0 ≤ getD ys j 0
+under-at done j = omega arith
+under-at (more h u) zero = h
+under-at (more h u) (suc j) = under-at u j
+
+under-take : {xs ys : List ℕ} (n : ℕ) → Under xs ys → Under (take n xs) (take n ys)
+under-take zero u = done
+under-take (suc n) done = done
+under-take (suc n) (more h u) = more h (under-take n u)
+
+under-append : {xs ys us vs : List ℕ} → Under xs ys → Under us vs → Under (xs ++ us) (ys ++ vs)
+under-append done v = v
+under-append (more h u) v = more h (under-append u v)
+
+under-add : {xs ys : List ℕ} (a b : ℕ) → a ≤ b → Under xs ys → Under (map (λ (e : ℕ). a + e) xs) (map (λ (e : ℕ). b + e) ys)
+under-add a b h done = done
+under-add a b h (more {a = x} {b = y} k u) = more {a = a + x} {b = b + y} (omega arith) (under-add a b h u)
+
+under-join : {ls ds ms es : List ℕ} (p : ℕ) → Under ls ds → Under ms es → Under (joinDelays p ls ms) (joinDelays p ds es)
+unfolding joinDelays
+under-join p done v = done
+under-join zero (more {a = a} {b = b} h u) v = under-append (under-add a b h v) u
+under-join (suc p) (more h u) v = more h (under-join p u v)
+
+-- ---- the library
+
+pub library-read : (s : List ℕ) (cs : List Cell) → readLibrary s ≡ holds cs → LibraryRead (libraryOf cs)
 unfolding cellAt
-library-ok s cs e = record {
+library-read s cs e = record {
   fits = subst (λ (x : List Cell). T (libraryFits x)) (sym (cells-back cs)) (library-fits s cs e);
   usable = usable-library cs (library-few s cs e)
       (each-place (λ (c : Cell). c .pins ≤ 4) noCell (omega arith) cs (λ c m. library-written s cs e c m .0 .pins))
       (λ i j. each-place (λ (c : Cell). (k : ℕ) → getD (c .delays) k 0 < 65536) noCell (λ k. omega arith) cs
       (λ c m. each-place (λ (d : ℕ). d < 65536) 0 (omega arith) (c .delays) (λ d n. let h : d ≤ 65535 = library-written s cs e c m .0 .delays d n in omega arith)) i j);
-  ranges = subst (λ (xs : List Cell). (c j : ℕ) → getD (getD xs c noCell .lows) j 0 ≤ getD (getD xs c noCell .delays) j 0) (sym (cells-back cs))
-      (each-place (λ (c : Cell). (j : ℕ) → getD (c .lows) j 0 ≤ getD (c .delays) j 0) noCell (λ j. omega arith) cs (λ c m. no-lower (c .lows) (c .delays) (library-ranged s cs e c m)));
+  ranges = subst (λ (xs : List Cell). (c : ℕ) → Under (getD xs c noCell .lows) (getD xs c noCell .delays)) (sym (cells-back cs))
+      (each-place (λ (c : Cell). Under (c .lows) (c .delays)) noCell done cs
+      (λ c m. let w = library-written s cs e c m .0 in under-of (c .lows) (c .delays) (w .fourLows ∙ sym (w .four)) (no-lower (c .lows) (c .delays) (library-ranged s cs e c m))));
 }
+
+module _ (lib : Library) (codes : List ℕ) (ok : LibraryOk lib codes) where
+  -- no lowest delay exceeds its delay, of a pair neither
+  pub all-ranges : (c j : ℕ) → getD (cellAt (allOf lib codes) c .lows) j 0 ≤ getD (cellAt (allOf lib codes) c .delays) j 0
+  unfolding cellAt cellsBy
+  all-ranges c j = under-at (append-place (λ (x : Cell). Under (x .lows) (x .delays)) noCell (cellsOf lib) (map (λ (k : ℕ). cellOfPair (cellsOf lib) (pairOfCode k)) codes) (ok .read .ranges)
+      (map-place (λ (x : Cell). Under (x .lows) (x .delays)) noCell (λ (k : ℕ). cellOfPair (cellsOf lib) (pairOfCode k)) done (λ k. pair-under (pairOfCode k)) codes) c) j
+    where
+      pair-under : (p : Pair) → Under (cellOfPair (cellsOf lib) p .lows) (cellOfPair (cellsOf lib) p .delays)
+      pair-under p = unfold cellOfPair pairOf pairDelays in
+          under-take 4 (under-join (p .pin) (ok .read .ranges (p .root)) (under-take (cellAt (cellsOf lib) (p .inner) .pins) (ok .read .ranges (p .inner))))
+
+module _ (lib : Library) (codes : List ℕ) (ok : LibraryOk lib codes) where
+  pub all-matchable : Matchable (allOf lib codes)
+  all-matchable = matchable-by lib codes (ok .coded) (ok .read .usable)
+
+  pub all-few : length (allOf lib codes) ≤ 256
+  all-few = all-matchable .few
+
+  -- so that no lowest delay is longer than a pair's
+  pub all-brief : (c j : ℕ) → getD (cellAt (allOf lib codes) c .lows) j 0 < 131072
+  all-brief c j = let a = all-ranges lib codes ok c j in let b = all-matchable .delays c j in omega (arith, a, b)
+
+-- a library that is read may be joined
+pub joinable-of : (lib : Library) → LibraryRead lib → Joinable lib
+joinable-of lib r = record { whole = r .usable .whole; few = r .usable .few; pins = r .usable .pins }
+
+-- with no pairs, and with all of them
+
+pub plain-ok : (lib : Library) → LibraryRead lib → LibraryOk lib []
+plain-ok lib r = record { read = r; coded = coded-none lib (joinable-of lib r); numbered = numbered-none lib (joinable-of lib r) }
+
+pub joined-ok : (lib : Library) → LibraryRead lib → lib .n + length (pairCodes (cellsOf lib)) ≤ 256 → LibraryOk lib (pairCodes (cellsOf lib))
+joined-ok lib r h = record { read = r; coded = coded-all lib (joinable-of lib r) h; numbered = numbered-all lib (joinable-of lib r) }
+
+-- what stands first in an array once a list is written there
+pub formed-are : (xs ys : List ℕ) (n : ℕ) → n ≡ 0 + length ys → take n (putAt xs 0 ys) ≡ ys
+unfolding putAt
+formed-are xs ys n e = (let z : n ≡ length ys = omega (arith, e) in ap (λ (k : ℕ). take k (putAt xs 0 ys)) z) ∙ take-append-seam ys _

@@ -30,11 +30,12 @@ use Rattle.timing.specs.Lines.{linesFrom}
 use Rattle.timing.proofs.Lowest.{LowsKept, lows-phase, lows-leaves}
 use Rattle.timing.proofs.Retimed.{Ready, retime-kept, retime-lows}
 use Rattle.timing.proofs.Counting.{lines-are}
-use Rattle.mapper.specs.Stages.{LibraryOk, Timeable, Lowered}
+use Rattle.mapper.specs.Stages.{LibraryOk, Timeable, Lowered, allOf}
+use Rattle.mapper.proofs.Libraries.{all-ranges, all-brief}
 
-module _ (w : List ℕ) (lib : Library) (h : Header) (g : Graph) (p : Mapped w lib h g) where
+module _ (w : List ℕ) (lib : Library) (codes : List ℕ) (h : Header) (g : Graph) (p : Mapped w lib codes h g) where
   -- nothing that the writer looks at is among the words of the low arrivals
-  pub mapped-kept : (v : List ℕ) → LowsKept (g .size) w v → Mapped v lib h g
+  pub mapped-kept : (v : List ℕ) → LowsKept (g .size) w v → Mapped v lib codes h g
   unfolding nodeAt isNeeded varOf
   mapped-kept v k = record {
     size = p .size;
@@ -42,7 +43,8 @@ module _ (w : List ℕ) (lib : Library) (h : Header) (g : Graph) (p : Mapped w l
     outputs = p .outputs;
     fewInputs = p .fewInputs;
     fewOutputs = p .fewOutputs;
-    fewCells = p .fewCells;
+    coded = p .coded;
+    numbered = p .numbered;
     library = p .library;
     accepted = p .accepted;
     fewCuts = p .fewCuts;
@@ -83,21 +85,21 @@ module _ (w : List ℕ) (lib : Library) (h : Header) (g : Graph) (p : Mapped w l
       } in
       (subst (λ (m : ℕ). OutputsIn w m (h .outputs)) (sym (p .size)) (subst (λ (n : ℕ). OutputsIn w (g .size) n) (sym (p .outputs)) o), omega (arith, p .outputs, p .fewOutputs))
 
-  pub lines-said : Lowered w lib g
-      → linesFrom w (h .size) 0 (h .outputs) ≡ timingLines (lowOf (cellsOf lib) g) (λ (l : ℕ). chosen (cellsOf lib) g l .arrival) 0 (g .outputs)
+  pub lines-said : Lowered w lib codes g
+      → linesFrom w (h .size) 0 (h .outputs) ≡ timingLines (lowOf (allOf lib codes) g) (λ (l : ℕ). chosen (allOf lib codes) g l .arrival) 0 (g .outputs)
   lines-said low =
       (λ i. linesFrom w (p .size i) 0 (p .outputs i))
-      ∙ lines-are w (g .size) (lowOf (cellsOf lib) g) (λ (l : ℕ). chosen (cellsOf lib) g l .arrival) 0 (g .outputs)
+      ∙ lines-are w (g .size) (lowOf (allOf lib codes) g) (λ (l : ℕ). chosen (allOf lib codes) g l .arrival) 0 (g .outputs)
       (λ j b. let z : 0 + j ≡ j = omega arith in ap (outputAt w (g .size)) z ∙ p .graph .outputs j b)
       (λ l m. (low l m, ap (λ (x : Phase). x .arrival) (p .phases .phases l (omega (arith, output-small g (p .accepted) l m)))))
 
   -- ---- after the pass
 
-  module _ (t : Timeable w lib h g) (v : List ℕ) (e : v ≡ retimedUp (cellsOf lib) w (h .size) (placedOf h)) where
+  module _ (t : Timeable w lib codes h g) (v : List ℕ) (e : v ≡ retimedUp (allOf lib codes) w (h .size) (placedOf h)) where
     few : length (placingOrder g) ≤ g .size + 1
     few = few-placed g (p .accepted)
 
-    ready : Ready w (cellsOf lib) g
+    ready : Ready w (allOf lib codes) g
     ready = record {
       room = record { small = p .graph .room .small; room = omega (arith, p .graph .room .room) };
       slots = p .order .slots;
@@ -109,22 +111,22 @@ module _ (w : List ℕ) (lib : Library) (h : Header) (g : Graph) (p : Mapped w l
     same : (xs : List ℕ) (j : ℕ) → getD xs j 0 ≤ getD xs j 0
     same xs j = omega arith
 
-    ranges : (s : Source) (j : ℕ) → getD (cellOf (cellsOf lib) s .lows) j 0 ≤ getD (cellOf (cellsOf lib) s .delays) j 0
+    ranges : (s : Source) (j : ℕ) → getD (cellOf (allOf lib codes) s .lows) j 0 ≤ getD (cellOf (allOf lib codes) s .delays) j 0
     unfolding cellOf
     ranges Input j = same (noCell .lows) j
     ranges Nothing j = same (noCell .lows) j
-    ranges (Matched x) j = t .library .ranges (x .cell) j
-    ranges (Inverted c) j = t .library .ranges c j
+    ranges (Matched x) j = all-ranges lib codes (t .library) (x .cell) j
+    ranges (Inverted c) j = all-ranges lib codes (t .library) c j
 
-    is : v ≡ retimedUp (cellsOf lib) w (g .size) (length (placingOrder g))
-    is = e ∙ (λ i. retimedUp (cellsOf lib) w (p .size i) (placed-is h g (t .header) (p .accepted) i))
+    is : v ≡ retimedUp (allOf lib codes) w (g .size) (length (placingOrder g))
+    is = e ∙ (λ i. retimedUp (allOf lib codes) w (p .size i) (placed-is h g (t .header) (p .accepted) i))
 
-    pub lowered-mapped : Mapped v lib h g
+    pub lowered-mapped : Mapped v lib codes h g
     lowered-mapped = mapped-kept v
         (subst (λ (x : List ℕ). LowsKept (g .size) w x) (sym is)
-        (retime-kept g (p .accepted) (p .fewCuts) (cellsOf lib) few (t .soon) (λ l q j. ranges (chosen (cellsOf lib) g l .source) j) w ready))
+        (retime-kept g (p .accepted) (p .fewCuts) (allOf lib codes) few (t .soon) (all-brief lib codes (t .library)) (λ l q j. ranges (chosen (allOf lib codes) g l .source) j) w ready))
 
-    pub lowered-lows : Lowered v lib g
+    pub lowered-lows : Lowered v lib codes g
     lowered-lows l m =
-        subst (λ (x : List ℕ). lowAt x (g .size) l ≡ lowOf (cellsOf lib) g l) (sym is)
-        (retime-lows g (p .accepted) (p .fewCuts) (cellsOf lib) few (t .soon) (λ l q j. ranges (chosen (cellsOf lib) g l .source) j) w ready l (p .covered l m))
+        subst (λ (x : List ℕ). lowAt x (g .size) l ≡ lowOf (allOf lib codes) g l) (sym is)
+        (retime-lows g (p .accepted) (p .fewCuts) (allOf lib codes) few (t .soon) (all-brief lib codes (t .library)) (λ l q j. ranges (chosen (allOf lib codes) g l .source) j) w ready l (p .covered l m))

@@ -17,7 +17,7 @@ use Rattle.model.specs.declared.Library.{Library}
 use Rattle.model.specs.declared.Header.{Header}
 use Rattle.theory_text.proofs.Faults.{Faults, library-faults, header-faults, graph-faults, arrivals-faults}
 use Rattle.theory.proofs.Refusals.{Refusal, within-refusal, followed-refusal, map-refusal}
-use Rattle.mapper.specs.Stages.{timesOf, graphFor}
+use Rattle.mapper.specs.Stages.{allOf, timesOf, graphFor}
 
 -- "every refusal tried up to 10", and "a later one", wherever its place is
 abbrev pub Early : ℕ → ℕ → Type 0
@@ -36,17 +36,17 @@ header-early = header-faults Early refl refl refl refl
 
 -- ---- 11 to 18, 20 and 21, 25 and 26
 
-pub graph-for-late : (ranged : Bool) (lib : Library) (s t : List ℕ) (h : Header) (bytes : ℕ) → Refusal Late (graphFor ranged lib s t h bytes)
+pub graph-for-late : (ranged : Bool) (lib : Library) (codes : List ℕ) (s t : List ℕ) (h : Header) (bytes : ℕ) → Refusal Late (graphFor ranged lib codes s t h bytes)
 unfolding graphFor mapDesign next
-graph-for-late ranged lib s t h bytes = go (readGraph s h) (graph-faults Late (λ _. refl) (λ _. refl) (λ _. refl) (λ _. refl) (λ _. refl) (λ _. refl) s h)
+graph-for-late ranged lib codes s t h bytes = go (readGraph s h) (graph-faults Late (λ _. refl) (λ _. refl) (λ _. refl) (λ _. refl) (λ _. refl) (λ _. refl) s h)
   where
-    timed : (g : Graph) (r : Read (List Arrival)) → Faults Late r → Refusal Late (mapDesign bytes (next r (λ es. holds (record { cells = cellsOf lib; ranged = ranged; graph = timedBy g es }))))
+    timed : (g : Graph) (r : Read (List Arrival)) → Faults Late r → Refusal Late (mapDesign bytes (next r (λ es. holds (record { listed = cellsOf lib; cells = allOf lib codes; ranged = ranged; graph = timedBy g es }))))
     timed g (holds es) f =
-        within-refusal Late (λ _. refl) bytes (followed ranged (cellsOf lib) (timedBy g es) (mapGraph (cellsOf lib) (timedBy g es)))
-        (followed-refusal Late ranged (cellsOf lib) (timedBy g es) (mapGraph (cellsOf lib) (timedBy g es)) (map-refusal Late (cellsOf lib) (timedBy g es) (λ _ _. refl) (λ _. refl) (λ _. refl)))
+        within-refusal Late (λ _. refl) bytes (followed ranged (allOf lib codes) (timedBy g es) (mapGraph (cellsOf lib) (allOf lib codes) (timedBy g es)))
+        (followed-refusal Late ranged (allOf lib codes) (timedBy g es) (mapGraph (cellsOf lib) (allOf lib codes) (timedBy g es)) (map-refusal Late (cellsOf lib) (allOf lib codes) (timedBy g es) (λ _ _. refl) (λ _. refl) (λ _. refl)))
     timed g (fault n k) f = f .has n k refl
 
-    go : (r : Read Graph) → Faults Late r → Refusal Late (mapDesign bytes (next r (timesOf ranged lib t h)))
+    go : (r : Read Graph) → Faults Late r → Refusal Late (mapDesign bytes (next r (timesOf ranged lib codes t h)))
     go (holds g) f = timed g (readArrivals (h .inputs) t) (arrivals-faults Late (λ _. refl) (λ _. refl) (h .inputs) t)
     go (fault n k) f = f .has n k refl
 

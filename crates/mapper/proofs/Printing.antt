@@ -20,7 +20,7 @@ use Rattle.model.specs.declared.Answer.the-variants.{Mapped, Refused}
 use Rattle.words.specs.Put.{putAt}
 use Rattle.netlist.specs.Mapped.{textFor, measuredFor}
 use Rattle.netlist.specs.declared.Measured.{Measured}
-use Rattle.mapper.specs.Stages.{Told, printedFor}
+use Rattle.mapper.specs.Stages.{allOf, Told, printedFor}
 
 pub told-refused : (n k : ℕ) (text : List ℕ) → Told (refused n k) text (Refused n k) text
 unfolding answerOf textAfter
@@ -42,33 +42,33 @@ within-is bytes t f h = go (leb (length t) bytes) (le→leb (length t) bytes h)
     go true y = refl
     go false y = absurd y
 
-module _ (lib : Library) (g : Graph) (text : List ℕ) (m : Measured) (is : m ≡ measuredFor lib g) where
+module _ (lib : Library) (codes : List ℕ) (g : Graph) (text : List ℕ) (m : Measured) (is : m ≡ measuredFor lib codes g) where
   t : List ℕ
-  t = choiceText (cellsOf lib) g
+  t = choiceText (cellsOf lib) (allOf lib codes) g
 
   long : m .length ≡ length t
   unfolding t
   long = ap (λ (x : Measured). x .length) is
 
-  pub print-short : length text < m .length → Told (printedFor false lib g (length text)) text (Refused 18 (m .length)) text
+  pub print-short : length text < m .length → Told (printedFor false lib codes g (length text)) text (Refused 18 (m .length)) text
   unfolding t
   print-short h =
       subst (λ (o : Outcome). Told o text (Refused 18 (m .length)) text)
-      (ap (refused 18) long ∙ sym (within-not (length text) t (choiceFigures (cellsOf lib) g) (omega (arith, long))))
+      (ap (refused 18) long ∙ sym (within-not (length text) t (choiceFigures (cellsOf lib) (allOf lib codes) g) (omega (arith, long))))
       (told-refused 18 (m .length) text)
 
-  pub print-room : m .length ≤ length text → length (textFor lib g (m .figures)) ≤ length text
+  pub print-room : m .length ≤ length text → length (textFor lib codes g (m .figures)) ≤ length text
   unfolding t
-  print-room h = omega (arith, long, ap (λ (x : Measured). length (textFor lib g (x .figures))) is)
+  print-room h = omega (arith, long, ap (λ (x : Measured). length (textFor lib codes g (x .figures))) is)
 
-  pub print-done : m .length ≤ length text → (out : List ℕ) → out ≡ textFor lib g (m .figures) ++ drop (length (textFor lib g (m .figures))) text
-      → Told (printedFor false lib g (length text)) text (Mapped (m .length) (m .figures)) out
+  pub print-done : m .length ≤ length text → (out : List ℕ) → out ≡ textFor lib codes g (m .figures) ++ drop (length (textFor lib codes g (m .figures))) text
+      → Told (printedFor false lib codes g (length text)) text (Mapped (m .length) (m .figures)) out
   unfolding t answerOf textAfter
   print-done h out e =
-      subst (λ (o : Outcome). Told o text (Mapped (m .length) (m .figures)) out) (sym (within-is (length text) t (choiceFigures (cellsOf lib) g) (omega (arith, long))))
+      subst (λ (o : Outcome). Told o text (Mapped (m .length) (m .figures)) out) (sym (within-is (length text) t (choiceFigures (cellsOf lib) (allOf lib codes) g) (omega (arith, long))))
       (record {
         answers = ap (λ (x : Measured). Mapped (x .length) (x .figures)) is;
-        bytes = e ∙ ap (λ (x : Measured). textFor lib g (x .figures) ++ drop (length (textFor lib g (x .figures))) text) is;
+        bytes = e ∙ ap (λ (x : Measured). textFor lib codes g (x .figures) ++ drop (length (textFor lib codes g (x .figures))) text) is;
       })
 
 -- ---- with the timing lines
@@ -82,35 +82,35 @@ put-behind t ls s =
     drop-append-add t (drop (length t) s) (length ls) ∙ drop-drop (length ls) (length t) s in
     ap₂ (λ (x : List ℕ) (y : List ℕ). x ++ (ls ++ y)) a b ∙ sym (append-assoc t ls (drop (length t + length ls) s)) ∙ ap (λ (n : ℕ). (t ++ ls) ++ drop n s) (sym (length-append t ls))
 
-module _ (lib : Library) (g : Graph) (text : List ℕ) (m : Measured) (is : m ≡ measuredFor lib g) (ls : List ℕ)
-    (lines : ls ≡ timingLines (lowOf (cellsOf lib) g) (λ (l : ℕ). chosen (cellsOf lib) g l .arrival) 0 (g .outputs)) where
+module _ (lib : Library) (codes : List ℕ) (g : Graph) (text : List ℕ) (m : Measured) (is : m ≡ measuredFor lib codes g) (ls : List ℕ)
+    (lines : ls ≡ timingLines (lowOf (allOf lib codes) g) (λ (l : ℕ). chosen (allOf lib codes) g l .arrival) 0 (g .outputs)) where
   whole : List ℕ
-  whole = choiceText (cellsOf lib) g ++ timingLines (lowOf (cellsOf lib) g) (λ (l : ℕ). chosen (cellsOf lib) g l .arrival) 0 (g .outputs)
+  whole = choiceText (cellsOf lib) (allOf lib codes) g ++ timingLines (lowOf (allOf lib codes) g) (λ (l : ℕ). chosen (allOf lib codes) g l .arrival) 0 (g .outputs)
 
   whole-long : m .length + length ls ≡ length whole
   unfolding whole
   whole-long =
-      let a : m .length ≡ length (choiceText (cellsOf lib) g) = ap (λ (x : Measured). x .length) is in
-      let b = length-append (choiceText (cellsOf lib) g) (timingLines (lowOf (cellsOf lib) g) (λ (l : ℕ). chosen (cellsOf lib) g l .arrival) 0 (g .outputs)) in
+      let a : m .length ≡ length (choiceText (cellsOf lib) (allOf lib codes) g) = ap (λ (x : Measured). x .length) is in
+      let b = length-append (choiceText (cellsOf lib) (allOf lib codes) g) (timingLines (lowOf (allOf lib codes) g) (λ (l : ℕ). chosen (allOf lib codes) g l .arrival) 0 (g .outputs)) in
       omega (arith, a, b, ap length lines)
 
-  pub timed-short : length text < m .length + length ls → Told (printedFor true lib g (length text)) text (Refused 18 (m .length + length ls)) text
+  pub timed-short : length text < m .length + length ls → Told (printedFor true lib codes g (length text)) text (Refused 18 (m .length + length ls)) text
   unfolding whole
   timed-short h =
       subst (λ (o : Outcome). Told o text (Refused 18 (m .length + length ls)) text)
-      (ap (refused 18) whole-long ∙ sym (within-not (length text) whole (choiceFigures (cellsOf lib) g) (omega (arith, whole-long))))
+      (ap (refused 18) whole-long ∙ sym (within-not (length text) whole (choiceFigures (cellsOf lib) (allOf lib codes) g) (omega (arith, whole-long))))
       (told-refused 18 (m .length + length ls) text)
 
-  pub timed-done : m .length + length ls ≤ length text → (mid out : List ℕ) → mid ≡ textFor lib g (m .figures) ++ drop (length (textFor lib g (m .figures))) text
-      → out ≡ putAt mid (m .length) ls → Told (printedFor true lib g (length text)) text (Mapped (m .length + length ls) (m .figures)) out
+  pub timed-done : m .length + length ls ≤ length text → (mid out : List ℕ) → mid ≡ textFor lib codes g (m .figures) ++ drop (length (textFor lib codes g (m .figures))) text
+      → out ≡ putAt mid (m .length) ls → Told (printedFor true lib codes g (length text)) text (Mapped (m .length + length ls) (m .figures)) out
   unfolding whole answerOf textAfter
   timed-done h mid out e f =
-      let figs : m .figures ≡ choiceFigures (cellsOf lib) g = ap (λ (x : Measured). x .figures) is in
-      let a : m .length ≡ length (choiceText (cellsOf lib) g) = ap (λ (x : Measured). x .length) is in
-      let written : out ≡ putAt (choiceText (cellsOf lib) g ++ drop (length (choiceText (cellsOf lib) g)) text) (length (choiceText (cellsOf lib) g)) ls =
-      f ∙ (λ i. putAt (e i) (m .length) ls) ∙ (λ i. putAt (textFor lib g (figs i) ++ drop (length (textFor lib g (figs i))) text) (a i) ls) in
-      subst (λ (o : Outcome). Told o text (Mapped (m .length + length ls) (m .figures)) out) (sym (within-is (length text) whole (choiceFigures (cellsOf lib) g) (omega (arith, whole-long))))
+      let figs : m .figures ≡ choiceFigures (cellsOf lib) (allOf lib codes) g = ap (λ (x : Measured). x .figures) is in
+      let a : m .length ≡ length (choiceText (cellsOf lib) (allOf lib codes) g) = ap (λ (x : Measured). x .length) is in
+      let written : out ≡ putAt (choiceText (cellsOf lib) (allOf lib codes) g ++ drop (length (choiceText (cellsOf lib) (allOf lib codes) g)) text) (length (choiceText (cellsOf lib) (allOf lib codes) g)) ls =
+      f ∙ (λ i. putAt (e i) (m .length) ls) ∙ (λ i. putAt (textFor lib codes g (figs i) ++ drop (length (textFor lib codes g (figs i))) text) (a i) ls) in
+      subst (λ (o : Outcome). Told o text (Mapped (m .length + length ls) (m .figures)) out) (sym (within-is (length text) whole (choiceFigures (cellsOf lib) (allOf lib codes) g) (omega (arith, whole-long))))
       (record {
         answers = (λ i. Mapped (whole-long i) (figs i));
-        bytes = written ∙ put-behind (choiceText (cellsOf lib) g) ls text ∙ ap (λ (xs : List ℕ). (choiceText (cellsOf lib) g ++ xs) ++ drop (length (choiceText (cellsOf lib) g ++ xs)) text) lines;
+        bytes = written ∙ put-behind (choiceText (cellsOf lib) (allOf lib codes) g) ls text ∙ ap (λ (xs : List ℕ). (choiceText (cellsOf lib) (allOf lib codes) g ++ xs) ++ drop (length (choiceText (cellsOf lib) (allOf lib codes) g ++ xs)) text) lines;
       })

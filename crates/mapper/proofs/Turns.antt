@@ -25,6 +25,7 @@ use Rattle.model.specs.declared.Verdict.{Verdict}
 use Rattle.model.specs.declared.Verdict.the-variants.{Accepted, Refused}
 use Rattle.words.specs.Layout.{placedOf}
 use Rattle.theory_graph.proofs.Timed.{timed-unplaced}
+use Rattle.pairs.specs.Codes.{Coded}
 use Rattle.netlist.specs.Mapped.{Mapped}
 use Rattle.placing.specs.Loaded.{Fit}
 use Rattle.placing.specs.Placing.{placedVerdict, placedWords}
@@ -40,7 +41,7 @@ use Rattle.cover.specs.Marking.{marked}
 use Rattle.cover.specs.Choosing.{chosenUp}
 use Rattle.cover.proofs.Needing.{mark-asked}
 use Rattle.cover.proofs.Missed.{uncovered-asked}
-use Rattle.mapper.specs.Stages.{Told, LibraryOk, Loaded, Placed, Timed, Cut, Timeable, printedFor, cutFor, placedFor, loadedFor, timesOf, timesFor, designOf, graphFor}
+use Rattle.mapper.specs.Stages.{Told, LibraryOk, allOf, Loaded, Placed, Timed, Cut, Timeable, printedFor, cutFor, placedFor, loadedFor, timesOf, timesFor, designOf, graphFor}
 use Rattle.mapper.proofs.Printing.{told-refused}
 use Rattle.mapper.proofs.Handing.{loaded-after, placed-after, placed-lists, timed-after, all-placed, none-crowded, timed-ok, cut-after}
 use Rattle.mapper.proofs.Covering.{cut-printed, cut-refused, chosen-covered, chosen-verdict, marked-mapped, marked-timeable}
@@ -51,92 +52,93 @@ told-as {t = t} {u = u} {a = a} e d = subst (λ (x : Outcome). Told x t a u) (sy
 
 -- ---- after the choice, whose words are y
 
-module _ (ranged : Bool) (w : List ℕ) (lib : Library) (h : Header) (g : Graph) (c : Cut w lib h g) (y : List ℕ) (e : y ≡ chosenUp (cellsOf lib) w (h .size) (placedOf h)) where
+module _ (ranged : Bool) (w : List ℕ) (lib : Library) (codes : List ℕ) (h : Header) (g : Graph) (c : Cut w lib codes h g) (y : List ℕ) (e : y ≡ chosenUp (allOf lib codes) w (h .size) (placedOf h)) where
   pub chosen-outputs : OutputsIn y (h .size) (h .outputs)
   chosen-outputs =
       subst (λ (x : List ℕ). OutputsIn x (h .size) (h .outputs)) (sym e)
-      (uncovered-asked (chosenUp (cellsOf lib) w (h .size) (placedOf h)) h g (c .given .header) (chosen-covered w lib h g c .held))
+      (uncovered-asked (chosenUp (allOf lib codes) w (h .size) (placedOf h)) h g (c .given .header) (chosen-covered w lib codes h g c .held))
 
-  pub chosen-asks : MatchesIn lib y (h .size) × OutputsIn y (h .size) (h .outputs) × SlotsIn y (h .size) (placedOf h)
+  pub chosen-asks : Coded lib codes × MatchesIn (allOf lib codes) y (h .size) × OutputsIn y (h .size) (h .outputs) × SlotsIn y (h .size) (placedOf h)
   chosen-asks =
-      subst (λ (x : List ℕ). MatchesIn lib x (h .size) × OutputsIn x (h .size) (h .outputs) × SlotsIn x (h .size) (placedOf h)) (sym e)
-      (mark-asked (chosenUp (cellsOf lib) w (h .size) (placedOf h)) lib h g (c .given .header) (chosen-covered w lib h g c))
+      let k = subst (λ (x : List ℕ). MatchesIn (allOf lib codes) x (h .size) × OutputsIn x (h .size) (h .outputs) × SlotsIn x (h .size) (placedOf h)) (sym e)
+      (mark-asked (chosenUp (allOf lib codes) w (h .size) (placedOf h)) (allOf lib codes) h g (c .given .header) (chosen-covered w lib codes h g c)) in
+      (c .given .library .coded, k .0, k .1, k .2)
 
   module _ (r : Verdict) (told : r ≡ missing y (h .size) (h .outputs)) where
-    cover-is : r ≡ coverVerdict (cellsOf lib) g
-    cover-is = told ∙ ap (λ (x : List ℕ). missing x (h .size) (h .outputs)) e ∙ chosen-verdict w lib h g c
+    cover-is : r ≡ coverVerdict (allOf lib codes) g
+    cover-is = told ∙ ap (λ (x : List ℕ). missing x (h .size) (h .outputs)) e ∙ chosen-verdict w lib codes h g c
 
-    pub cover-mapped : r ≡ Accepted → (z : List ℕ) → z ≡ marked (cellsOf lib) y (h .size) (h .outputs) (placedOf h) → Mapped z lib h g
+    pub cover-mapped : r ≡ Accepted → (z : List ℕ) → z ≡ marked (allOf lib codes) y (h .size) (h .outputs) (placedOf h) → Mapped z lib codes h g
     cover-mapped a z f =
-        subst (λ (x : List ℕ). Mapped x lib h g) (sym (f ∙ ap (λ (x : List ℕ). marked (cellsOf lib) x (h .size) (h .outputs) (placedOf h)) e))
-        (marked-mapped w lib h g c (sym cover-is ∙ a))
+        subst (λ (x : List ℕ). Mapped x lib codes h g) (sym (f ∙ ap (λ (x : List ℕ). marked (allOf lib codes) x (h .size) (h .outputs) (placedOf h)) e))
+        (marked-mapped w lib codes h g c (sym cover-is ∙ a))
 
-    pub cover-timeable : (z : List ℕ) → z ≡ marked (cellsOf lib) y (h .size) (h .outputs) (placedOf h) → Timeable z lib h g
+    pub cover-timeable : (z : List ℕ) → z ≡ marked (allOf lib codes) y (h .size) (h .outputs) (placedOf h) → Timeable z lib codes h g
     cover-timeable z f =
-        subst (λ (x : List ℕ). Timeable x lib h g) (sym (f ∙ ap (λ (x : List ℕ). marked (cellsOf lib) x (h .size) (h .outputs) (placedOf h)) e)) (marked-timeable w lib h g c)
+        subst (λ (x : List ℕ). Timeable x lib codes h g) (sym (f ∙ ap (λ (x : List ℕ). marked (allOf lib codes) x (h .size) (h .outputs) (placedOf h)) e)) (marked-timeable w lib codes h g c)
 
-    pub cover-goes : r ≡ Accepted → (bytes : ℕ) → cutFor ranged lib g bytes ≡ printedFor ranged lib g bytes
-    cover-goes a bytes = cut-printed ranged lib g bytes (sym cover-is ∙ a)
+    pub cover-goes : r ≡ Accepted → (bytes : ℕ) → cutFor ranged lib codes g bytes ≡ printedFor ranged lib codes g bytes
+    cover-goes a bytes = cut-printed ranged lib codes g bytes (sym cover-is ∙ a)
 
-    pub cover-stops : (n k : ℕ) → r ≡ Refused n k → (t : List ℕ) → Told (cutFor ranged lib g (length t)) t (Turned n k) t
-    cover-stops n k a t = told-as (cut-refused ranged lib g (length t) n k (sym cover-is ∙ a)) (told-refused n k t)
+    pub cover-stops : (n k : ℕ) → r ≡ Refused n k → (t : List ℕ) → Told (cutFor ranged lib codes g (length t)) t (Turned n k) t
+    cover-stops n k a t = told-as (cut-refused ranged lib codes g (length t) n k (sym cover-is ∙ a)) (told-refused n k t)
 
 -- ---- after the cuts
 
-module _ (ranged : Bool) (w : List ℕ) (lib : Library) (h : Header) (g : Graph) (p : Timed w lib h g) where
+module _ (ranged : Bool) (w : List ℕ) (lib : Library) (codes : List ℕ) (h : Header) (g : Graph) (p : Timed w lib codes h g) where
   pub timed-asks : Ready w (h .size) (placedOf h)
-  timed-asks = enumerate-ready w (h .size) (placedOf h) g (p .represents) (timed-ok w lib h g p) (p .uncut)
+  timed-asks = enumerate-ready w (h .size) (placedOf h) g (p .represents) (timed-ok w lib codes h g p) (p .uncut)
 
   module _ (r : Verdict) (told : r ≡ lists.listing w (h .size) (placedOf h) .answer) where
     cuts-is : r ≡ cutsVerdict g
-    cuts-is = told ∙ enumerate-verdict w (h .size) (placedOf h) g (p .represents) (timed-ok w lib h g p) (p .uncut)
+    cuts-is = told ∙ enumerate-verdict w (h .size) (placedOf h) g (p .represents) (timed-ok w lib codes h g p) (p .uncut)
 
-    pub cuts-cut : r ≡ Accepted → (y : List ℕ) → y ≡ enumerated w (h .size) (placedOf h) → Cut y lib h g
-    cuts-cut a y e = subst (λ (x : List ℕ). Cut x lib h g) (sym e) (cut-after w lib h g p (sym cuts-is ∙ a))
+    pub cuts-cut : r ≡ Accepted → (y : List ℕ) → y ≡ enumerated w (h .size) (placedOf h) → Cut y lib codes h g
+    cuts-cut a y e = subst (λ (x : List ℕ). Cut x lib codes h g) (sym e) (cut-after w lib codes h g p (sym cuts-is ∙ a))
 
-    pub cuts-go : r ≡ Accepted → (bytes : ℕ) → placedFor ranged lib g bytes ≡ cutFor ranged lib g bytes
+    pub cuts-go : r ≡ Accepted → (bytes : ℕ) → placedFor ranged lib codes g bytes ≡ cutFor ranged lib codes g bytes
     unfolding mapCut
-    cuts-go a bytes = ap (λ (vs : List ℕ). within bytes (followed ranged (cellsOf lib) g (mapCut (cellsOf lib) g vs))) (none-crowded g (sym cuts-is ∙ a))
+    cuts-go a bytes = ap (λ (vs : List ℕ). within bytes (followed ranged (allOf lib codes) g (mapCut (cellsOf lib) (allOf lib codes) g vs))) (none-crowded g (sym cuts-is ∙ a))
 
-    pub cuts-stop : (n k : ℕ) → r ≡ Refused n k → (t : List ℕ) → Told (placedFor ranged lib g (length t)) t (Turned n k) t
+    pub cuts-stop : (n k : ℕ) → r ≡ Refused n k → (t : List ℕ) → Told (placedFor ranged lib codes g (length t)) t (Turned n k) t
     unfolding mapCut cutsVerdict refusedAt firstOf within followed
     cuts-stop n k a t = told-as (go (crowded g) (sym cuts-is ∙ a)) (told-refused n k t)
       where
-        go : (vs : List ℕ) → refusedAt 16 (firstOf vs) ≡ Refused n k → within (length t) (followed ranged (cellsOf lib) g (mapCut (cellsOf lib) g vs)) ≡ refused n k
+        go : (vs : List ℕ) → refusedAt 16 (firstOf vs) ≡ Refused n k → within (length t) (followed ranged (allOf lib codes) g (mapCut (cellsOf lib) (allOf lib codes) g vs)) ≡ refused n k
         go [] q = absurd (let z : _≡_ {A = ℕ} 0 1 = cc in omega arith)
         go (v ∷ vs) q = let x : _≡_ {A = ℕ} 16 n = cc in let y : v ≡ k = cc in (λ i. refused (x i) (y i))
 
 -- ---- after the placing
 
-module _ (ranged : Bool) (w : List ℕ) (lib : Library) (h : Header) (g : Graph) (l : Loaded w lib h g) (r : Verdict) (told : r ≡ placedVerdict w h) (y : List ℕ) (e : y ≡ placedWords w h) where
+module _ (ranged : Bool) (w : List ℕ) (lib : Library) (codes : List ℕ) (h : Header) (g : Graph) (l : Loaded w lib codes h g) (r : Verdict) (told : r ≡ placedVerdict w h) (y : List ℕ) (e : y ≡ placedWords w h) where
   placing-is : r ≡ placingVerdict g
   placing-is = told ∙ place-verdict (l .before) h (l .fit) w g (l .holding)
 
-  placing-placed : Placed y lib h g
-  placing-placed = subst (λ (x : List ℕ). Placed x lib h g) (sym e) (placed-after w lib h g l)
+  placing-placed : Placed y lib codes h g
+  placing-placed = subst (λ (x : List ℕ). Placed x lib codes h g) (sym e) (placed-after w lib codes h g l)
 
   pub placing-lists : Listable y (h .size) (h .inputs)
-  placing-lists = placed-lists y lib h g placing-placed
+  placing-lists = placed-lists y lib codes h g placing-placed
 
   -- ---- and after the reading of the arrivals' text t
 
   -- the graph is timed, and the outcome from there on is the call's
   pub record Times (t z : List ℕ) : Type 0 where
     pub graph : Graph
-    pub timed : Timed z lib h graph
-    pub outcome : (bytes : ℕ) → timesFor ranged lib t h g bytes ≡ placedFor ranged lib graph bytes
+    pub timed : Timed z lib codes h graph
+    pub outcome : (bytes : ℕ) → timesFor ranged lib codes t h g bytes ≡ placedFor ranged lib codes graph bytes
 
   module _ (t : List ℕ) (u : Verdict) (said : u ≡ verdictOf (readArrivals (h .inputs) t)) where
     -- 25 and 26
-    pub times-stop : (n k : ℕ) → u ≡ Refused n k → (text : List ℕ) → Told (timesFor ranged lib t h g (length text)) text (Turned n k) text
+    pub times-stop : (n k : ℕ) → u ≡ Refused n k → (text : List ℕ) → Told (timesFor ranged lib codes t h g (length text)) text (Turned n k) text
     unfolding verdictOf timesFor mapDesign next
     times-stop n k a text = go (readArrivals (h .inputs) t) refl (sym said ∙ a)
       where
-        go : (x : Read (List Late)) → readArrivals (h .inputs) t ≡ x → verdictOf x ≡ Refused n k → Told (mapDesign (length text) (timesOf ranged lib t h g)) text (Turned n k) text
+        go : (x : Read (List Late)) → readArrivals (h .inputs) t ≡ x → verdictOf x ≡ Refused n k → Told (mapDesign (length text) (timesOf ranged lib codes t h g)) text (Turned n k) text
         go (holds es) q z = absurd (let x : _≡_ {A = ℕ} 0 1 = cc in omega arith)
         go (fault m j) q z =
             let x : m ≡ n = cc in let y : j ≡ k = cc in
-            told-as (ap (λ (v : Read (List Late)). mapDesign (length text) (next v (λ es. holds (record { cells = cellsOf lib; ranged = ranged; graph = timedBy g es })))) q ∙ (λ i. refused (x i) (y i))) (told-refused n k text)
+            told-as (ap (λ (v : Read (List Late)). mapDesign (length text) (next v (λ es. holds (record { listed = cellsOf lib; cells = allOf lib codes; ranged = ranged; graph = timedBy g es })))) q ∙ (λ i. refused (x i) (y i))) (told-refused n k text)
 
     module _ (a : u ≡ Accepted) where
       times-read : (es : List Late) × (readArrivals (h .inputs) t ≡ holds es)
@@ -147,18 +149,18 @@ module _ (ranged : Bool) (w : List ℕ) (lib : Library) (h : Header) (g : Graph)
           go (holds es) q z = (es, q)
           go (fault m j) q z = absurd (let x : _≡_ {A = ℕ} 0 1 = cc in omega arith)
 
-      times-are : (bytes : ℕ) → timesFor ranged lib t h g bytes ≡ loadedFor ranged lib (timedBy g (times-read .0)) bytes
+      times-are : (bytes : ℕ) → timesFor ranged lib codes t h g bytes ≡ loadedFor ranged lib codes (timedBy g (times-read .0)) bytes
       unfolding timesFor mapDesign next
-      times-are bytes = ap (λ (v : Read (List Late)). mapDesign bytes (next v (λ es. holds (record { cells = cellsOf lib; ranged = ranged; graph = timedBy g es })))) (times-read .1)
+      times-are bytes = ap (λ (v : Read (List Late)). mapDesign bytes (next v (λ es. holds (record { listed = cellsOf lib; cells = allOf lib codes; ranged = ranged; graph = timedBy g es })))) (times-read .1)
 
       -- 15
-      pub placing-stops : (n k : ℕ) → r ≡ Refused n k → (text : List ℕ) → Told (timesFor ranged lib t h g (length text)) text (Turned n k) text
+      pub placing-stops : (n k : ℕ) → r ≡ Refused n k → (text : List ℕ) → Told (timesFor ranged lib codes t h g (length text)) text (Turned n k) text
       unfolding mapGraph mapPlaced placingVerdict refusedAt within followed
       placing-stops n k b text =
           told-as (times-are (length text) ∙ go (lowest (unplaced (timedBy g (times-read .0)))) (ap (λ (us : List ℕ). refusedAt 15 (lowest us)) (timed-unplaced g (times-read .0)) ∙ sym placing-is ∙ b))
           (told-refused n k text)
         where
-          go : (o : Option ℕ) → refusedAt 15 o ≡ Refused n k → within (length text) (followed ranged (cellsOf lib) (timedBy g (times-read .0)) (mapPlaced (cellsOf lib) (timedBy g (times-read .0)) o)) ≡ refused n k
+          go : (o : Option ℕ) → refusedAt 15 o ≡ Refused n k → within (length text) (followed ranged (allOf lib codes) (timedBy g (times-read .0)) (mapPlaced (cellsOf lib) (allOf lib codes) (timedBy g (times-read .0)) o)) ≡ refused n k
           go none q = absurd (let z : _≡_ {A = ℕ} 0 1 = cc in omega arith)
           go (some v) q = let x : _≡_ {A = ℕ} 15 n = cc in let z : v ≡ k = cc in (λ i. refused (x i) (z i))
 
@@ -168,37 +170,37 @@ module _ (ranged : Bool) (w : List ℕ) (lib : Library) (h : Header) (g : Graph)
           let all : unplaced g ≡ [] = all-placed g (sym placing-is ∙ b) in
           record {
             graph = timedBy g (times-read .0);
-            timed = subst (λ (x : List ℕ). Timed x lib h (timedBy g (times-read .0))) (sym f) (timed-after y lib h g placing-placed all t (times-read .0) (times-read .1));
+            timed = subst (λ (x : List ℕ). Timed x lib codes h (timedBy g (times-read .0))) (sym f) (timed-after y lib codes h g placing-placed all t (times-read .0) (times-read .1));
             outcome = λ bytes. times-are bytes
-                ∙ ap (λ (us : List ℕ). within bytes (followed ranged (cellsOf lib) (timedBy g (times-read .0)) (mapPlaced (cellsOf lib) (timedBy g (times-read .0)) (lowest us)))) (timed-unplaced g (times-read .0) ∙ all);
+                ∙ ap (λ (us : List ℕ). within bytes (followed ranged (allOf lib codes) (timedBy g (times-read .0)) (mapPlaced (cellsOf lib) (allOf lib codes) (timedBy g (times-read .0)) (lowest us)))) (timed-unplaced g (times-read .0) ∙ all);
           }
 
 -- ---- after the reading of the graph
 
-pub record Reads (ranged : Bool) (lib : Library) (s t : List ℕ) (h : Header) (y : List ℕ) : Type 0 where
+pub record Reads (ranged : Bool) (lib : Library) (codes : List ℕ) (s t : List ℕ) (h : Header) (y : List ℕ) : Type 0 where
   pub graph : Graph
-  pub loaded : Loaded y lib h graph
-  pub outcome : (bytes : ℕ) → graphFor ranged lib s t h bytes ≡ timesFor ranged lib t h graph bytes
+  pub loaded : Loaded y lib codes h graph
+  pub outcome : (bytes : ℕ) → graphFor ranged lib codes s t h bytes ≡ timesFor ranged lib codes t h graph bytes
 
-module _ (ranged : Bool) (lib : Library) (ok : LibraryOk lib) (s t : List ℕ) (h : Header) (w : List ℕ) (fit : Fit h w) (d : readHeader s ≡ holds h) (r : Verdict) (told : r ≡ verdictOf (readGraph s h)) where
-  pub reading-loaded : r ≡ Accepted → (y : List ℕ) → y ≡ loadedWords w s h → Reads ranged lib s t h y
+module _ (ranged : Bool) (lib : Library) (codes : List ℕ) (ok : LibraryOk lib codes) (s t : List ℕ) (h : Header) (w : List ℕ) (fit : Fit h w) (d : readHeader s ≡ holds h) (r : Verdict) (told : r ≡ verdictOf (readGraph s h)) where
+  pub reading-loaded : r ≡ Accepted → (y : List ℕ) → y ≡ loadedWords w s h → Reads ranged lib codes s t h y
   unfolding verdictOf graphFor timesFor mapDesign next
   reading-loaded a y e = go (readGraph s h) refl (sym told ∙ a)
     where
-      go : (x : Read Graph) → readGraph s h ≡ x → verdictOf x ≡ Accepted → Reads ranged lib s t h y
+      go : (x : Read Graph) → readGraph s h ≡ x → verdictOf x ≡ Accepted → Reads ranged lib codes s t h y
       go (holds g) q z = record {
         graph = g;
-        loaded = subst (λ (u : List ℕ). Loaded u lib h g) (sym e) (loaded-after lib ok s h w fit d g q);
-        outcome = λ bytes. ap (λ (u : Read Graph). mapDesign bytes (next u (timesOf ranged lib t h))) q;
+        loaded = subst (λ (u : List ℕ). Loaded u lib codes h g) (sym e) (loaded-after lib codes ok s h w fit d g q);
+        outcome = λ bytes. ap (λ (u : Read Graph). mapDesign bytes (next u (timesOf ranged lib codes t h))) q;
       }
       go (fault n k) q z = absurd (let x : _≡_ {A = ℕ} 0 1 = cc in omega arith)
 
-  pub reading-stops : (n k : ℕ) → r ≡ Refused n k → (text : List ℕ) → Told (graphFor ranged lib s t h (length text)) text (Turned n k) text
+  pub reading-stops : (n k : ℕ) → r ≡ Refused n k → (text : List ℕ) → Told (graphFor ranged lib codes s t h (length text)) text (Turned n k) text
   unfolding verdictOf graphFor mapDesign next
   reading-stops n k a text = go (readGraph s h) refl (sym told ∙ a)
     where
-      go : (x : Read Graph) → readGraph s h ≡ x → verdictOf x ≡ Refused n k → Told (mapDesign (length text) (designOf ranged lib s t h)) text (Turned n k) text
+      go : (x : Read Graph) → readGraph s h ≡ x → verdictOf x ≡ Refused n k → Told (mapDesign (length text) (designOf ranged lib codes s t h)) text (Turned n k) text
       go (holds g) q z = absurd (let x : _≡_ {A = ℕ} 0 1 = cc in omega arith)
       go (fault m j) q z =
           let x : m ≡ n = cc in let y : j ≡ k = cc in
-          told-as (ap (λ (u : Read Graph). mapDesign (length text) (next u (timesOf ranged lib t h))) q ∙ (λ i. refused (x i) (y i))) (told-refused n k text)
+          told-as (ap (λ (u : Read Graph). mapDesign (length text) (next u (timesOf ranged lib codes t h))) q ∙ (λ i. refused (x i) (y i))) (told-refused n k text)

@@ -33,11 +33,11 @@ after-former m (refused n k) work = by (triedEarly n)
 after-former m (mapped t f) work = ap (λ (n : ℕ). zeros n) (former-length m work) ∙ sym (former-zeros m (length work))
 
 -- two calls with the same texts, on words and on their former store
-module _ (cells graph arrivals work text : List ℕ) (m : ℕ) (a b : Answer) (w v t u : List ℕ) where
-  pub store-unseen : Memory (callOf cells graph arrivals work text) work text a w t → Memory (callOf cells graph arrivals (former m work) text) (former m work) text b v u
+module _ (paired : Bool) (cells graph arrivals work text : List ℕ) (m : ℕ) (a b : Answer) (w v t u : List ℕ) where
+  pub store-unseen : Memory (callOf paired cells graph arrivals work text) work text a w t → Memory (callOf paired cells graph arrivals (former m work) text) (former m work) text b v u
       → (a ≡ b) × (v ≡ former m w) × (t ≡ u)
   store-unseen p q =
-      let c : Call = callOf cells graph arrivals work text in
-      let same : callOf cells graph arrivals (former m work) text ≡ c = ap (λ (n : ℕ). record { library = cells; graph = graph; arrivals = arrivals; words = n; bytes = length text }) (former-length m work) in
+      let c : Call = callOf paired cells graph arrivals work text in
+      let same : callOf paired cells graph arrivals (former m work) text ≡ c = ap (λ (n : ℕ). record { paired = paired; library = cells; graph = graph; arrivals = arrivals; words = n; bytes = length text }) (former-length m work) in
       let r : Memory c (former m work) text b v u = subst (λ (d : Call). Memory d (former m work) text b v u) same q in
       (p .answers ∙ sym (r .answers), r .words ∙ after-former m (mapTexts c) work ∙ ap (former m) (sym (p .words)), p .bytes ∙ sym (r .bytes))

@@ -6,15 +6,13 @@ use mathlib.Core.Bool.{Bool, true, false, cond, _&&_}
 use mathlib.Core.List.{List}
 use lib.Dec.{T, leb, leb→le, le→leb}
 use lib.ListN.{length}
-use Rattle.model.specs.Limits.{need}
 use Rattle.model.specs.Reading.{Read, holds, fault, next, unless}
 use Rattle.model.specs.Cells.{cellsOf, libraryOf, libraryAnswer}
 use Rattle.model.specs.LibraryText.{readLibrary, isRanged}
-use Rattle.model.specs.GraphText.{readHeader, readGraph}
-use Rattle.model.specs.ArrivalsText.{readArrivals, timedBy}
+use Rattle.model.specs.Pairs.{cellsFor}
 use Rattle.model.specs.Netlist.{Outcome, refused, mapped, mapGraph}
 use Rattle.model.specs.Timing.{followed}
-use Rattle.model.specs.Mapper.{Call, callOf, Design, short, within, mapDesign, readTexts, mapTexts, answerOf, returned}
+use Rattle.model.specs.Mapper.{Call, callOf, Design, short, within, mapDesign, readListed, readTexts, mapTexts, answerOf, returned}
 use Rattle.model.specs.Demands.{Memory}
 use Rattle.model.specs.declared.Cell.{Cell}
 use Rattle.model.specs.declared.LibraryAnswer.{LibraryAnswer}
@@ -22,8 +20,8 @@ use Rattle.model.specs.declared.Verdict.the-variants.{Accepted, Refused}
 use Rattle.model.specs.declared.Answer.{Answer}
 use Rattle.model.specs.declared.Answer.the-variants.{Refused as Turned}
 use Rattle.model.proofs.Answers.{answer-returns}
-use Rattle.mapper.specs.Stages.{Fits, Left, LibraryOk, headerFor}
-use Rattle.mapper.proofs.Libraries.{cells-back, library-ok}
+use Rattle.mapper.specs.Stages.{Fits, Left, LibraryRead, headedOf, libraryFor}
+use Rattle.mapper.proofs.Libraries.{cells-back, library-read}
 use Rattle.mapper.proofs.Numbers.{library-early}
 use Rattle.mapper.proofs.Ends.{left-early, left-as}
 
@@ -51,29 +49,37 @@ unfolding mapTexts mapDesign
 texts-fit c = go (readTexts c)
   where
     go : (r : Read Design) → Fits (answerOf (mapDesign (c .bytes) r)) (c .bytes)
-    go (holds d) = within-fits (c .bytes) (followed (d .ranged) (d .cells) (d .graph) (mapGraph (d .cells) (d .graph)))
+    go (holds d) = within-fits (c .bytes) (followed (d .ranged) (d .cells) (d .graph) (mapGraph (d .listed) (d .cells) (d .graph)))
     go (fault n k) = unfold answerOf in tt
 
 pub memory-fits : (c : Call) (work text : List ℕ) (a : Answer) (y u : List ℕ) → Memory c work text a y u → Fits a (c .bytes)
 memory-fits c work text a y u m = subst (λ (x : Answer). Fits x (c .bytes)) (sym (m .answers)) (texts-fit c)
 
+-- what comes behind a test comes behind what follows it
+unless-next : {A B : Type 0} (b : Bool) (n k : ℕ) (x : A) (f : A → Read B) → next (unless b n k (holds x)) f ≡ unless b n k (f x)
+unfolding next unless
+unless-next true n k x f = refl
+unless-next false n k x f = refl
+
 -- ---- 1
 
-module _ (library graph arrivals work text : List ℕ) where
+module _ (paired : Bool) (library graph arrivals work text : List ℕ) where
   abbrev call : Call
-  call = callOf library graph arrivals work text
+  call = callOf paired library graph arrivals work text
 
   -- 7 to 14, 19 to 21, 25 and 26
-  behindCells : List Cell → Read Design
-  behindCells cells = next (readHeader graph) (λ h. unless (leb (need (h .size) (h .outputs)) (length work)) 10 0
-      (next (readGraph graph h) (λ g. next (readArrivals (h .inputs) arrivals) (λ es. holds (record { cells = cells; ranged = isRanged library; graph = timedBy g es })))))
+  headed : List Cell → Read Design
+  headed listed = headedOf (isRanged library) listed (cellsFor paired listed) graph arrivals (length work)
 
-  -- and 2 to 6 and 27 before them
+  -- 2 to 6, 27 and 30 before them
+  listing : Read (List Cell) → Read Design
+  listing r = next (next r (λ cells. unless (leb (length (cellsFor paired cells)) 256) 30 0 (holds cells))) headed
+
   behind : Read Design
-  behind = next (readLibrary library) behindCells
+  behind = listing (readLibrary library)
 
   texts-are : readTexts call ≡ unless (short call) 1 0 behind
-  unfolding readTexts behind behindCells
+  unfolding readTexts readListed behind listing headed
   texts-are = refl
 
   one : short call ≡ false → Memory call work text (Turned 1 0) work text
@@ -111,7 +117,7 @@ module _ (library graph arrivals work text : List ℕ) where
     module _ (l : LibraryAnswer) (told : l ≡ libraryAnswer (readLibrary library)) where
       -- 2 to 6 and 27
       pub library-stops : (n k : ℕ) → l .verdict ≡ Refused n k → Memory call work text (Turned n k) work text
-      unfolding libraryAnswer behind next mapDesign
+      unfolding libraryAnswer behind listing next mapDesign
       library-stops n k e = go (readLibrary library) refl (sym (ap (λ (x : LibraryAnswer). x .verdict) told) ∙ e)
         where
           go : (r : Read (List Cell)) → readLibrary library ≡ r → libraryAnswer r .verdict ≡ Refused n k → Memory call work text (Turned n k) work text
@@ -120,16 +126,16 @@ module _ (library graph arrivals work text : List ℕ) where
               let x : m ≡ n = cc in let y : j ≡ k = cc in
               let f : readLibrary library ≡ fault n k = q ∙ (λ i. fault (x i) (y i)) in
               memory-of call work text (Turned n k) work text
-              (left-as (entered ∙ ap (λ (r : Read (List Cell)). mapDesign (length text) (next r behindCells)) f)
+              (left-as (entered ∙ ap (λ (r : Read (List Cell)). mapDesign (length text) (listing r)) f)
               (left-early n k work text (library-early library .has n k f)))
 
       pub record IsRead : Type 0 where
-        pub ok : LibraryOk (l .library)
-        pub goes : mapTexts call ≡ headerFor (isRanged library) (l .library) graph arrivals (length work) (length text)
+        pub ok : LibraryRead (l .library)
+        pub goes : mapTexts call ≡ libraryFor paired (isRanged library) (l .library) graph arrivals (length work) (length text)
 
-      pub library-read : l .verdict ≡ Accepted → IsRead
-      unfolding libraryAnswer behind behindCells next mapDesign headerFor
-      library-read e = go (readLibrary library) refl (sym (ap (λ (x : LibraryAnswer). x .verdict) told) ∙ e)
+      pub library-heard : l .verdict ≡ Accepted → IsRead
+      unfolding libraryAnswer behind listing headed libraryFor next
+      library-heard e = go (readLibrary library) refl (sym (ap (λ (x : LibraryAnswer). x .verdict) told) ∙ e)
         where
           go : (r : Read (List Cell)) → readLibrary library ≡ r → libraryAnswer r .verdict ≡ Accepted → IsRead
           go (fault m j) q z = absurd (let x : _≡_ {A = ℕ} 0 1 = cc in omega arith)
@@ -137,6 +143,7 @@ module _ (library graph arrivals work text : List ℕ) where
               let is : l .library ≡ libraryOf cs = ap (λ (x : LibraryAnswer). x .library) (told ∙ ap libraryAnswer q) in
               let same : cellsOf (libraryOf cs) ≡ cs = cells-back cs in
               record {
-                ok = subst LibraryOk (sym is) (library-ok library cs q);
-                goes = entered ∙ ap (λ (r : Read (List Cell)). mapDesign (length text) (next r behindCells)) (q ∙ ap holds (sym (ap cellsOf is ∙ same)));
+                ok = subst LibraryRead (sym is) (library-read library cs q);
+                goes = entered ∙ ap (λ (r : Read (List Cell)). mapDesign (length text) (listing r)) (q ∙ ap holds (sym (ap cellsOf is ∙ same)))
+                    ∙ ap (mapDesign (length text)) (unless-next (leb (length (cellsFor paired (cellsOf (l .library)))) 256) 30 0 (cellsOf (l .library)) headed);
               }

@@ -8,6 +8,7 @@ use lib.ListN.{length, getD}
 use Rattle.model.specs.Limits.{need}
 use Rattle.model.specs.Reading.{Read, holds, next, unless}
 use Rattle.model.specs.Cells.{cellAt, cellsOf}
+use Rattle.model.specs.Pairs.{noPair, pairsOf, cellsFor}
 use Rattle.model.specs.Graph.{Graph, placingOrder, unplaced}
 use Rattle.model.specs.Cuts.{crowded}
 use Rattle.model.specs.Choice.{chosen, choices}
@@ -17,6 +18,7 @@ use Rattle.model.specs.Netlist.{Outcome, mapped, mapGraph, mapCut, mapChosen}
 use Rattle.model.specs.Timing.{lowOf, followed}
 use Rattle.model.specs.Mapper.{Design, within, mapDesign, answerOf, textAfter, workAfter}
 use Rattle.model.specs.Demands.{Distinct, choiceFigures, printedText}
+use Rattle.model.specs.declared.Cell.{Cell}
 use Rattle.model.specs.declared.Library.{Library}
 use Rattle.model.specs.declared.Header.{Header}
 use Rattle.model.specs.declared.Answer.{Answer}
@@ -25,6 +27,7 @@ use Rattle.words.specs.Layout.{placedOf, placeAt, neededAt, lateAt, outputAt, l
 use Rattle.theory_graph.specs.Accepted.{Accepted, libraryFits}
 use Rattle.theory_text.specs.Fits.{GraphFits}
 use Rattle.matching.specs.Variants.{Usable}
+use Rattle.pairs.specs.Codes.{pairOfCode, cellsBy, Coded}
 use Rattle.placing.specs.Loaded.{Fit, Holding}
 use Rattle.cuts.specs.Represents.{Represents, Uncut}
 use Rattle.cover.specs.Asked.{SlotsIn}
@@ -48,40 +51,57 @@ abbrev pub Fits : Answer → ℕ → Type 0
 Fits (IsMapped n f) bytes = n ≤ bytes
 Fits (Turned n k) bytes = Unit {0}
 
+-- ---- the cells
+
+-- the cells to map with
+abbrev pub allOf : Library → List ℕ → List Cell
+allOf lib codes = cellsBy (cellsOf lib) codes
+
+-- place by place one list of numbers is not above another of the same length
+pub data Under : List ℕ → List ℕ → Type 0 where
+  done : Under [] []
+  more : {a b : ℕ} {xs ys : List ℕ} → a ≤ b → Under xs ys → Under (a ∷ xs) (b ∷ ys)
+
 -- ---- what the words hold
 
 -- a library that was read
-pub record LibraryOk (lib : Library) : Type 0 where
+pub record LibraryRead (lib : Library) : Type 0 where
   pub fits : T (libraryFits (cellsOf lib))
   pub usable : Usable lib
-  pub ranges : (c j : ℕ) → getD (cellAt (cellsOf lib) c .lows) j 0 ≤ getD (cellAt (cellsOf lib) c .delays) j 0
+  pub ranges : (c : ℕ) → Under (cellAt (cellsOf lib) c .lows) (cellAt (cellsOf lib) c .delays)
+
+-- with the numbers of its pairs in their order, or with none
+pub record LibraryOk (lib : Library) (codes : List ℕ) : Type 0 where
+  pub read : LibraryRead lib
+  pub coded : Coded lib codes
+  pub numbered : (i : ℕ) → i < length codes → pairOfCode (getD codes i 0) ≡ getD (pairsOf (cellsOf lib)) i noPair
 
 -- library, header and graph that were read: none of the refusals 1 to 14 and 19 to 21 applies, nor 25 and 26 where the graph is timed
-pub record Given (lib : Library) (h : Header) (g : Graph) : Type 0 where
-  pub library : LibraryOk lib
+pub record Given (lib : Library) (codes : List ℕ) (h : Header) (g : Graph) : Type 0 where
+  pub library : LibraryOk lib codes
   pub header : HeaderOf h g
   pub fits : GraphFits g
   pub accepted : unplaced g ≡ [] → Accepted g
 
 -- after `load`
-pub record Loaded (w : List ℕ) (lib : Library) (h : Header) (g : Graph) : Type 0 where
-  pub given : Given lib h g
+pub record Loaded (w : List ℕ) (lib : Library) (codes : List ℕ) (h : Header) (g : Graph) : Type 0 where
+  pub given : Given lib codes h g
   pub distinct : Distinct (g .inputs)
   pub before : List ℕ
   pub fit : Fit h before
   pub holding : Holding before h w g (0 ∷ g .inputs)
 
 -- after `place`, whatever it answers
-pub record Placed (w : List ℕ) (lib : Library) (h : Header) (g : Graph) : Type 0 where
-  pub given : Given lib h g
+pub record Placed (w : List ℕ) (lib : Library) (codes : List ℕ) (h : Header) (g : Graph) : Type 0 where
+  pub given : Given lib codes h g
   pub distinct : Distinct (g .inputs)
   pub before : List ℕ
   pub fit : Fit h before
   pub holding : Holding before h w g (placingOrder g)
 
 -- after `arrivals::read`, where neither it nor `place` refuses: the graph is timed
-pub record Timed (w : List ℕ) (lib : Library) (h : Header) (g : Graph) : Type 0 where
-  pub given : Given lib h g
+pub record Timed (w : List ℕ) (lib : Library) (codes : List ℕ) (h : Header) (g : Graph) : Type 0 where
+  pub given : Given lib codes h g
   pub placed : unplaced g ≡ []
   pub soon : (v : ℕ) → g .late v ≤ 65535
   pub fit : Fit h w
@@ -94,59 +114,71 @@ pub record Timed (w : List ℕ) (lib : Library) (h : Header) (g : Graph) : Type 
   pub unchosen : (a : ℕ) → positiveAddr (h .size) 0 ≤ a → a < listsFrom (h .size) → getD w a 0 ≡ 0
 
 -- after `enumerate`: no phase is chosen yet, and none is needed
-pub record Cut (w : List ℕ) (lib : Library) (h : Header) (g : Graph) : Type 0 where
-  pub given : Given lib h g
+pub record Cut (w : List ℕ) (lib : Library) (codes : List ℕ) (h : Header) (g : Graph) : Type 0 where
+  pub given : Given lib codes h g
   pub held : Held w g
   pub unneeded : (v : ℕ) → v ≤ g .size → neededAt w (g .size) v ≡ 0
   pub unchosen : (a : ℕ) → positiveAddr (g .size) 0 ≤ a → a < listsFrom (g .size) → getD w a 0 ≡ 0
 
 -- after `mark`, for `retime`: sources of the library and the graph, and arrivals that leave room
-pub record Timeable (w : List ℕ) (lib : Library) (h : Header) (g : Graph) : Type 0 where
-  pub library : LibraryOk lib
+pub record Timeable (w : List ℕ) (lib : Library) (codes : List ℕ) (h : Header) (g : Graph) : Type 0 where
+  pub library : LibraryOk lib codes
   pub header : HeaderOf h g
-  pub retimable : Retimable lib w (h .size)
+  pub retimable : Retimable (allOf lib codes) w (h .size)
   pub slots : SlotsIn w (h .size) (placedOf h)
-  pub soon : (l : ℕ) → l ≤ 2 * g .size + 1 → chosen (cellsOf lib) g l .arrival ≤ 1073741823
+  pub soon : (l : ℕ) → l ≤ 2 * g .size + 1 → chosen (allOf lib codes) g l .arrival ≤ 1073741823
 
 -- after `retime`: the low arrivals of the outputs
-abbrev pub Lowered : List ℕ → Library → Graph → Type 0
-Lowered w lib g = (l : ℕ) → List·Memᴰ l (g .outputs) → lowAt w (g .size) l ≡ lowOf (cellsOf lib) g l
+abbrev pub Lowered : List ℕ → Library → List ℕ → Graph → Type 0
+Lowered w lib codes g = (l : ℕ) → List·Memᴰ l (g .outputs) → lowAt w (g .size) l ≡ lowOf (allOf lib codes) g l
 
 -- ---- the outcome, with timing lines where the library's delays are ranges
 
 -- the choice's netlist, or 18
-abbrev pub printedFor : Bool → Library → Graph → ℕ → Outcome
-printedFor ranged lib g bytes = within bytes (mapped (printedText ranged (cellsOf lib) g) (choiceFigures (cellsOf lib) g))
+abbrev pub printedFor : Bool → Library → List ℕ → Graph → ℕ → Outcome
+printedFor ranged lib codes g bytes = within bytes (mapped (printedText ranged (cellsOf lib) (allOf lib codes) g) (choiceFigures (cellsOf lib) (allOf lib codes) g))
 
 -- 17 before it
-abbrev pub cutFor : Bool → Library → Graph → ℕ → Outcome
-cutFor ranged lib g bytes = within bytes (followed ranged (cellsOf lib) g (mapChosen (cellsOf lib) g (choices (cellsOf lib) g)))
+abbrev pub cutFor : Bool → Library → List ℕ → Graph → ℕ → Outcome
+cutFor ranged lib codes g bytes = within bytes (followed ranged (allOf lib codes) g (mapChosen (cellsOf lib) (allOf lib codes) g (choices (allOf lib codes) g)))
 
 -- 16 before it
-abbrev pub placedFor : Bool → Library → Graph → ℕ → Outcome
-placedFor ranged lib g bytes = within bytes (followed ranged (cellsOf lib) g (mapCut (cellsOf lib) g (crowded g)))
+abbrev pub placedFor : Bool → Library → List ℕ → Graph → ℕ → Outcome
+placedFor ranged lib codes g bytes = within bytes (followed ranged (allOf lib codes) g (mapCut (cellsOf lib) (allOf lib codes) g (crowded g)))
 
 -- 15 before it
-abbrev pub loadedFor : Bool → Library → Graph → ℕ → Outcome
-loadedFor ranged lib g bytes = within bytes (followed ranged (cellsOf lib) g (mapGraph (cellsOf lib) g))
+abbrev pub loadedFor : Bool → Library → List ℕ → Graph → ℕ → Outcome
+loadedFor ranged lib codes g bytes = within bytes (followed ranged (allOf lib codes) g (mapGraph (cellsOf lib) (allOf lib codes) g))
 
 -- what is read with the arrivals' text t of a graph
-abbrev pub timesOf : Bool → Library → List ℕ → Header → Graph → Read Design
-timesOf ranged lib t h g = next (readArrivals (h .inputs) t) (λ es. holds (record { cells = cellsOf lib; ranged = ranged; graph = timedBy g es }))
+abbrev pub timesOf : Bool → Library → List ℕ → List ℕ → Header → Graph → Read Design
+timesOf ranged lib codes t h g = next (readArrivals (h .inputs) t) (λ es. holds (record { listed = cellsOf lib; cells = allOf lib codes; ranged = ranged; graph = timedBy g es }))
 
 -- 25 and 26 before it
-unfoldable pub timesFor : Bool → Library → List ℕ → Header → Graph → ℕ → Outcome
-timesFor ranged lib t h g bytes = mapDesign bytes (timesOf ranged lib t h g)
+unfoldable pub timesFor : Bool → Library → List ℕ → List ℕ → Header → Graph → ℕ → Outcome
+timesFor ranged lib codes t h g bytes = mapDesign bytes (timesOf ranged lib codes t h g)
 
 -- what is read of a graph's text s and t behind a header
-abbrev pub designOf : Bool → Library → List ℕ → List ℕ → Header → Read Design
-designOf ranged lib s t h = next (readGraph s h) (timesOf ranged lib t h)
+abbrev pub designOf : Bool → Library → List ℕ → List ℕ → List ℕ → Header → Read Design
+designOf ranged lib codes s t h = next (readGraph s h) (timesOf ranged lib codes t h)
 
 -- 11 to 14, 20 and 21 before it
-unfoldable pub graphFor : Bool → Library → List ℕ → List ℕ → Header → ℕ → Outcome
-graphFor ranged lib s t h bytes = mapDesign bytes (designOf ranged lib s t h)
+unfoldable pub graphFor : Bool → Library → List ℕ → List ℕ → List ℕ → Header → ℕ → Outcome
+graphFor ranged lib codes s t h bytes = mapDesign bytes (designOf ranged lib codes s t h)
 
 -- 7 to 10 and 19 before it
-unfoldable pub headerFor : Bool → Library → List ℕ → List ℕ → ℕ → ℕ → Outcome
-headerFor ranged lib s t words bytes =
-    mapDesign bytes (next (readHeader s) (λ h. unless (leb (need (h .size) (h .outputs)) words) 10 0 (designOf ranged lib s t h)))
+unfoldable pub headerFor : Bool → Library → List ℕ → List ℕ → List ℕ → ℕ → ℕ → Outcome
+headerFor ranged lib codes s t words bytes =
+    mapDesign bytes (next (readHeader s) (λ h. unless (leb (need (h .size) (h .outputs)) words) 10 0 (designOf ranged lib codes s t h)))
+
+-- what is read of a graph's text s and t with the cells to map with, 7 to 10 and 19 first
+abbrev pub headedOf : Bool → List Cell → List Cell → List ℕ → List ℕ → ℕ → Read Design
+headedOf ranged listed cells s t words =
+    next (readHeader s) (λ h. unless (leb (need (h .size) (h .outputs)) words) 10 0
+    (next (readGraph s h) (λ g. next (readArrivals (h .inputs) t) (λ es. holds (record { listed = listed; cells = cells; ranged = ranged; graph = timedBy g es })))))
+
+-- 30 before them
+unfoldable pub libraryFor : Bool → Bool → Library → List ℕ → List ℕ → ℕ → ℕ → Outcome
+unfolding cellsFor
+libraryFor paired ranged lib s t words bytes =
+    mapDesign bytes (unless (leb (length (cellsFor paired (cellsOf lib))) 256) 30 0 (headedOf ranged (cellsOf lib) (cellsFor paired (cellsOf lib)) s t words))

@@ -2,7 +2,7 @@
 --     variant-phase       a variant whose places the cut has gives what its match does
 --     variant-past        another gives nothing
 -- Assumes nothing.
-use Prim.Native.Nat.{ℕ, zero, suc, _+_, _-_, _/_, _<_, _≤_, max}
+use Prim.Native.Nat.{ℕ, zero, suc, _+_, _/_, _<_, _≤_, max}
 use mathlib.Core.Path.{_≡_, refl, sym, ap, ap₂, _∙_}
 use mathlib.Core.Bool.{Bool, true, false, cond, _&&_, _||_, false≢true}
 use mathlib.Core.List.{List, [], _∷_, map}
@@ -45,7 +45,7 @@ record Right (ps : List Phase) (ds : List ℕ) (a : ℕ) : Type 0 where
   given : lacks ps ≡ false → a ≡ latest (arrivals ps) ds
   sooner : lacks ps ≡ false → a < never
 
-module _ (p : Phase) (ps : List Phase) (t d a : ℕ) (feeds : t ≡ timeOf p + d) (quick : p .arrival ≤ lastTime) (delay : d < 65536) where
+module _ (p : Phase) (ps : List Phase) (t d a : ℕ) (feeds : t ≡ timeOf p + d) (quick : p .arrival ≤ lastTime) (delay : d < 131072) where
   time-absent : absent (p .source) ≡ true → never ≤ t
   unfolding timeOf
   time-absent e = let n : t ≡ never + d = feeds ∙ ap (λ (b : Bool). cond b never (p .arrival) + d) e in omega arith
@@ -133,7 +133,7 @@ module _ (known : ℕ → Phases) (cut times : List ℕ) (timed : TimesOf known 
   fit-rest m place places e = and-second (ltb place (length cut)) (placesBelow m places (length cut)) e
 
   -- one pin more
-  fed-more : (m place : ℕ) (places : List ℕ) (mask d : ℕ) (ds es : List ℕ) (a : ℕ) → placesBelow (suc m) (place ∷ places) (length cut) ≡ true → d < 65536
+  fed-more : (m place : ℕ) (places : List ℕ) (mask d : ℕ) (ds es : List ℕ) (a : ℕ) → placesBelow (suc m) (place ∷ places) (length cut) ≡ true → d < 131072
       → ((p : Phase) (ps : List Phase) → latest (arrivals (p ∷ ps)) es ≡ max (p .arrival + d) (latest (arrivals ps) ds))
       → Right (fed known cut m places (mask / 2)) ds a → Right (fed known cut (suc m) (place ∷ places) mask) es (max (pinTime times place (bit mask 0) d) a)
   fed-more m place places mask d ds es a fit small cons r =
@@ -146,7 +146,7 @@ module _ (known : ℕ → Phases) (cut times : List ℕ) (timed : TimesOf known 
   unfolding fed fedNets arrivalOf largest latest arrivals lacks any
   fed-none places mask ds = record { lacking = λ e. absurd (false≢true e); given = λ e. refl; sooner = λ e. omega arith }
 
-  fed-right : (m : ℕ) (places : List ℕ) (mask : ℕ) (ds : List ℕ) → m ≤ length places → ((j : ℕ) → getD ds j 0 < 65536) → placesBelow m places (length cut) ≡ true
+  fed-right : (m : ℕ) (places : List ℕ) (mask : ℕ) (ds : List ℕ) → m ≤ length places → ((j : ℕ) → getD ds j 0 < 131072) → placesBelow m places (length cut) ≡ true
       → Right (fed known cut m places mask) ds (arrivalOf m ds places mask times)
   fed-right zero places mask ds l small fit = fed-none places mask ds
   fed-right (suc m) [] mask ds l small fit = absurd (omega arith)
@@ -220,7 +220,7 @@ module _ (cells : List Cell) (k x : ℕ) (four : cellAt cells (lineOf x) .pins �
 
   -- another gives what its match does
   pub variant-phase : (known : ℕ → Phases) (cut times : List ℕ) → TimesOf known cut times → Quick known cut
-      → ((j : ℕ) → getD (cellAt cells (lineOf x) .delays) j 0 < 65536) → placesAt cells (length cut) x ≡ true
+      → ((j : ℕ) → getD (cellAt cells (lineOf x) .delays) j 0 < 131072) → placesAt cells (length cut) x ≡ true
       → phaseAs k (ofVariant cells times x) ≡ matchPhase cells known cut (matchOf k x)
   unfolding arrivalAt placesAt
   variant-phase known cut times timed quick small e = by-bool (lacks ps)

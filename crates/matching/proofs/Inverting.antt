@@ -40,9 +40,9 @@ pub inverter-done : (cells : List Cell) (best answer : Inverter) (i : ℕ) → l
 unfolding inverterFrom
 inverter-done cells best answer i h e = sym (ap (λ (cs : List Cell). inverterFrom best cs i) (drop-of-length-le cells h)) ∙ e
 
-pub tried-inverter : (best : Inverter) (c : Cell) (line : ℕ) → c .pins ≡ 1 → c .table ≡ 1 → tried best c line ≡ quicker best line (getD (c .delays) 0 0)
+pub tried-inverter : (best : Inverter) (c : Cell) (line : ℕ) → c .pins ≡ 1 → c .table ≡ 1 → 0 < c .len → tried best c line ≡ quicker best line (getD (c .delays) 0 0)
 unfolding tried
-tried-inverter best c line p t = rw (eq-eqb (c .pins) 1 p, eq-eqb (c .table) 1 t)
+tried-inverter best c line p t n = rw (eq-eqb (c .pins) 1 p, eq-eqb (c .table) 1 t, lt-ltb 0 (c .len) n)
 
 pub tried-pins : (best : Inverter) (c : Cell) (line : ℕ) → ¬ (c .pins ≡ 1) → tried best c line ≡ best
 unfolding tried
@@ -51,6 +51,10 @@ tried-pins best c line p = rw (ne-eqb (c .pins) 1 p)
 pub tried-table : (best : Inverter) (c : Cell) (line : ℕ) → c .pins ≡ 1 → ¬ (c .table ≡ 1) → tried best c line ≡ best
 unfolding tried
 tried-table best c line p t = rw (eq-eqb (c .pins) 1 p, ne-eqb (c .table) 1 t)
+
+pub tried-nameless : (best : Inverter) (c : Cell) (line : ℕ) → c .pins ≡ 1 → c .table ≡ 1 → c .len ≤ 0 → tried best c line ≡ best
+unfolding tried
+tried-nameless best c line p t n = rw (eq-eqb (c .pins) 1 p, eq-eqb (c .table) 1 t, le-ltb 0 (c .len) n)
 
 -- ---- the best of all
 

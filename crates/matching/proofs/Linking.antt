@@ -2,28 +2,28 @@
 --     linked-lower        the lower bound of a chain may be lowered
 --     linked-same         what else is on the sheet is no part of a chain
 --     passed-down, listed-down        the code goes from the highest down
---     list-sheet          after all cells the sheet is theirs; `build-sheet`: so after `build`
+--     pushed-long, .. list-long       the sheet stays as long as it is
+--     list-sheet          after all cells the sheet is theirs
 --     usable-library      a library of cells with few pins and small delays may be asked
 -- Assumes nothing.
-use Prim.Native.Nat.{ℕ, zero, suc, _+_, _-_, _*_, _/_, _%_, _^_, _<_, _≤_}
+use Prim.Native.Nat.{ℕ, zero, suc, _+_, _-_, _*_, _/_, _^_, _<_, _≤_}
 use mathlib.Core.Path.{_≡_, refl, sym, ap, ap₂, subst, _∙_}
 use mathlib.Core.Bool.{Bool, true, false, cond, _&&_}
 use mathlib.Core.List.{List, [], _∷_}
 use native.Mathlib.Nat.{add-zero, zero-add, add-suc, suc-add, sub-self}
 use native.Mathlib.Omega.{arith}
-use lib.Dec.{eqb}
+use lib.Dec.{eqb, ltb}
 use lib.ListN.{replicate, length, getD, set, drop, length-set, drop-of-length-le}
 use lib.Seq.{take-append-seam, getD-set-same, getD-set-other, drop-cons}
 use borrow.Author.Tests.{eqb-true, eqb-false, ltb-true, ltb-false, lt-ltb, le-ltb}
 use Rattle.model.specs.Base.{keep, from, below}
 use Rattle.model.specs.Cells.{noCell, blank, cellAt, cellsOf, libraryOf}
-use Rattle.model.specs.declared.Library.{Library}
 use Rattle.model.specs.declared.Cell.{Cell}
 use Rattle.model.specs.Table.{value, pinRow}
 use Rattle.truth.specs.Variant.{placesOf, variantTable}
 use Rattle.truth.proofs.Tables.{table-small}
-use Rattle.matching.specs.Variants.{Usable, lineOf, orderOf, maskOf, isVariant, tableAt, hasTable, variants}
-use Rattle.matching.specs.Sheet.{linkAddr, pickAddr, delayAddr, pickOf, pickAt, delayOf, pushed, placed, passed, timed, cellMatched, listMatched, Linked, SheetOf, Blank}
+use Rattle.matching.specs.Variants.{Usable, Matchable, lineOf, orderOf, maskOf, isVariant, tableAt, hasTable, variants}
+use Rattle.matching.specs.Sheet.{linkAddr, pickAddr, delayAddr, sheetLong, pickOf, pickAt, delayOf, pushed, placed, passed, timed, cellMatched, listMatched, Linked, SheetOf, Blank}
 use Rattle.matching.proofs.Choosing.{by-bool}
 
 pub linked-lower : (cells : List Cell) (s : List ℕ) (low lower h : ℕ) (xs : List ℕ) → lower ≤ low → Linked cells s low h xs → Linked cells s lower h xs
@@ -97,20 +97,56 @@ listed-all cells i s h = let z : i ≡ 0 = omega arith in rw z
 
 -- ---- a variant put on the sheet
 
-module _ (t x p : ℕ) (s : List ℕ) (table : t < 65536) (within : x < 12288) (long : length s ≡ 90240) where
+-- the length stays
+pub pushed-long : (t x p : ℕ) (s : List ℕ) → length (pushed t x p s) ≡ length s
+unfolding pushed
+pushed-long t x p s =
+    length-set (set (set s (linkAddr x) (getD s t 0)) t (x + 1)) (pickAddr x) p
+    ∙ length-set (set s (linkAddr x) (getD s t 0)) t (x + 1) ∙ length-set s (linkAddr x) (getD s t 0)
+
+pub placed-long : (pins table x : ℕ) (s : List ℕ) → length (placed pins table x s) ≡ length s
+unfolding placed
+placed-long pins table x s = go (ltb (maskOf x) (2 ^ pins))
+  where
+    there : List ℕ
+    there = pushed (variantTable pins table (placesOf (orderOf x)) (maskOf x)) x (pickOf pins (placesOf (orderOf x)) (maskOf x)) s
+
+    go : (b : Bool) → length (cond b there s) ≡ length s
+    go true = pushed-long (variantTable pins table (placesOf (orderOf x)) (maskOf x)) x (pickOf pins (placesOf (orderOf x)) (maskOf x)) s
+    go false = refl
+
+pub passed-long : (pins table x k : ℕ) (s : List ℕ) → length (passed pins table x k s) ≡ length s
+unfolding passed
+passed-long pins table x zero s = refl
+passed-long pins table x (suc k) s = placed-long pins table x (passed pins table (suc x) k s) ∙ passed-long pins table (suc x) k s
+
+pub timed-long : (pins : ℕ) (delays : List ℕ) (line : ℕ) (s : List ℕ) → length (timed pins delays line s) ≡ length s
+unfolding timed
+timed-long pins delays line s =
+    length-set (set (set (set s (delayAddr line 0) (delayOf pins delays 0)) (delayAddr line 1) (delayOf pins delays 1)) (delayAddr line 2) (delayOf pins delays 2)) (delayAddr line 3) (delayOf pins delays 3)
+    ∙ length-set (set (set s (delayAddr line 0) (delayOf pins delays 0)) (delayAddr line 1) (delayOf pins delays 1)) (delayAddr line 2) (delayOf pins delays 2)
+    ∙ length-set (set s (delayAddr line 0) (delayOf pins delays 0)) (delayAddr line 1) (delayOf pins delays 1)
+    ∙ length-set s (delayAddr line 0) (delayOf pins delays 0)
+
+pub cell-long : (c : Cell) (line : ℕ) (s : List ℕ) → length (cellMatched c line s) ≡ length s
+unfolding cellMatched
+cell-long c line s = passed-long (c .pins) (c .table) (384 * line) 384 (timed (c .pins) (c .delays) line s) ∙ timed-long (c .pins) (c .delays) line s
+
+pub list-long : (cs : List Cell) (line : ℕ) (s : List ℕ) → length (listMatched cs line s) ≡ length s
+unfolding listMatched
+list-long [] line s = refl
+list-long (c ∷ cs) line s = cell-long c line (listMatched cs (suc line) s) ∙ list-long cs (suc line) s
+
+module _ (t x p : ℕ) (s : List ℕ) (table : t < 65536) (there : pickAddr x < length s) where
   linked : List ℕ
   linked = set s (linkAddr x) (getD s t 0)
 
   once : List ℕ
   once = set linked t (x + 1)
 
-  once-long : length once ≡ 90240
+  once-long : length once ≡ length s
   unfolding once linked
-  once-long = length-set linked t (x + 1) ∙ length-set s (linkAddr x) (getD s t 0) ∙ long
-
-  pushed-long : length (pushed t x p s) ≡ 90240
-  unfolding pushed once linked
-  pushed-long = length-set once (pickAddr x) p ∙ once-long
+  once-long = length-set linked t (x + 1) ∙ length-set s (linkAddr x) (getD s t 0)
 
   pushed-pick : getD (pushed t x p s) (pickAddr x) 0 ≡ p
   unfolding pushed once linked
@@ -134,11 +170,11 @@ module _ (t x p : ℕ) (s : List ℕ) (table : t < 65536) (within : x < 12288) (
 
 -- what holds after the variants from x on, k of them, and the delays of the lines from `done` on
 record After (cells : List Cell) (done x k : ℕ) (s : List ℕ) : Type 0 where
-  long : length s ≡ 90240
+  long : sheetLong (length cells) ≤ length s
   listed : (t : ℕ) → t < 65536 → Linked cells s x (getD s t 0) (keep (hasTable cells t) (from x k))
   delayed : (line j : ℕ) → done ≤ line → line < length cells → j < 4 → getD s (delayAddr line j) 0 ≡ delayOf (cellAt cells line .pins) (cellAt cells line .delays) j
 
-module _ (cells : List Cell) (done x k : ℕ) (few : x < 384 * length cells) (fits : 384 * length cells ≤ 12288) (s : List ℕ) (after : After cells done (suc x) k s) where
+module _ (cells : List Cell) (done x k : ℕ) (few : x < 384 * length cells) (fits : length cells ≤ 256) (s : List ℕ) (after : After cells done (suc x) k s) where
   kept-none : isVariant cells x ≡ false → (t : ℕ) → keep (hasTable cells t) (from x (suc k)) ≡ keep (hasTable cells t) (from (suc x) k)
   unfolding keep from hasTable
   kept-none e t =
@@ -166,21 +202,24 @@ module _ (cells : List Cell) (done x k : ℕ) (few : x < 384 * length cells) (fi
   unfolding tableAt variantTable
   small = table-small (λ r. value (cellAt cells (lineOf x) .table) (pinRow (cellAt cells (lineOf x) .pins) (placesOf (orderOf x)) (maskOf x) r))
 
+  there : pickAddr x < length s
+  there = omega (arith, after .long)
+
   next : List ℕ
   next = pushed (tableAt cells x) x (pickAt cells x) s
 
   alike : Alike cells s next (suc x)
   unfolding next
   alike y l h = (
-    pushed-other (tableAt cells x) x (pickAt cells x) s small (omega arith) (after .long) (linkAddr y) (λ e. omega (arith, e)) (λ e. omega (arith, e, small)) (λ e. omega (arith, e)),
-    pushed-other (tableAt cells x) x (pickAt cells x) s small (omega arith) (after .long) (pickAddr y) (λ e. omega (arith, e)) (λ e. omega (arith, e, small)) (λ e. omega (arith, e)),
+    pushed-other (tableAt cells x) x (pickAt cells x) s small there (linkAddr y) (λ e. omega (arith, e)) (λ e. omega (arith, e, small)) (λ e. omega (arith, e)),
+    pushed-other (tableAt cells x) x (pickAt cells x) s small there (pickAddr y) (λ e. omega (arith, e)) (λ e. omega (arith, e, small)) (λ e. omega (arith, e)),
   )
 
   -- another table
   other : (t : ℕ) → t < 65536 → ¬ (t ≡ tableAt cells x) → Linked cells next x (getD next t 0) (keep (hasTable cells t) (from (suc x) k))
   unfolding next
   other t h apart =
-      rw (pushed-other (tableAt cells x) x (pickAt cells x) s small (omega arith) (after .long) t (λ e. omega (arith, e)) apart (λ e. omega (arith, e)))
+      rw (pushed-other (tableAt cells x) x (pickAt cells x) s small there t (λ e. omega (arith, e)) apart (λ e. omega (arith, e)))
       (linked-lower cells (pushed (tableAt cells x) x (pickAt cells x) s) (suc x) x (getD s t 0) (keep (hasTable cells t) (from (suc x) k)) (omega arith)
       (linked-same cells s (pushed (tableAt cells x) x (pickAt cells x) s) (suc x) (getD s t 0) (keep (hasTable cells t) (from (suc x) k)) alike (after .listed t h)))
 
@@ -189,23 +228,23 @@ module _ (cells : List Cell) (done x k : ℕ) (few : x < 384 * length cells) (fi
   unfolding next Linked
   own t e =
       rw e (
-        pushed-head (tableAt cells x) x (pickAt cells x) s small (omega arith) (after .long),
+        pushed-head (tableAt cells x) x (pickAt cells x) s small there,
         omega arith,
         few,
-        pushed-pick (tableAt cells x) x (pickAt cells x) s small (omega arith) (after .long),
-        rw (pushed-link (tableAt cells x) x (pickAt cells x) s small (omega arith) (after .long))
+        pushed-pick (tableAt cells x) x (pickAt cells x) s small there,
+        rw (pushed-link (tableAt cells x) x (pickAt cells x) s small there)
             (linked-same cells s (pushed (tableAt cells x) x (pickAt cells x) s) (suc x) (getD s (tableAt cells x) 0) (keep (hasTable cells (tableAt cells x)) (from (suc x) k)) alike (after .listed (tableAt cells x) small)),
       )
 
   put-first : isVariant cells x ≡ true → After cells done x (suc k) next
   unfolding next
   put-first e = record {
-    long = pushed-long (tableAt cells x) x (pickAt cells x) s small (omega arith) (after .long);
+    long = omega (arith, after .long, pushed-long (tableAt cells x) x (pickAt cells x) s);
     listed = λ t h. by-bool (eqb t (tableAt cells x))
         (λ q. rw (kept-own e t q) (own t (eqb-true t (tableAt cells x) q)))
         (λ q. rw (kept-other e t q) (other t h (eqb-false t (tableAt cells x) q)));
     delayed = λ line j d l f.
-        pushed-other (tableAt cells x) x (pickAt cells x) s small (omega arith) (after .long) (delayAddr line j) (λ e. omega (arith, e)) (λ e. omega (arith, e, small)) (λ e. omega (arith, e))
+        pushed-other (tableAt cells x) x (pickAt cells x) s small there (delayAddr line j) (λ e. omega (arith, e)) (λ e. omega (arith, e, small)) (λ e. omega (arith, e))
         ∙ after .delayed line j d l f;
   }
 
@@ -226,15 +265,7 @@ module _ (cells : List Cell) (done x k : ℕ) (few : x < 384 * length cells) (fi
 
 -- ---- the delays
 
-module _ (pins : ℕ) (delays : List ℕ) (line : ℕ) (s : List ℕ) (within : line < 32) (long : length s ≡ 90240) where
-  timed-long : length (timed pins delays line s) ≡ 90240
-  unfolding timed
-  timed-long =
-      length-set (set (set (set s (delayAddr line 0) (delayOf pins delays 0)) (delayAddr line 1) (delayOf pins delays 1)) (delayAddr line 2) (delayOf pins delays 2)) (delayAddr line 3) (delayOf pins delays 3)
-      ∙ length-set (set (set s (delayAddr line 0) (delayOf pins delays 0)) (delayAddr line 1) (delayOf pins delays 1)) (delayAddr line 2) (delayOf pins delays 2)
-      ∙ length-set (set s (delayAddr line 0) (delayOf pins delays 0)) (delayAddr line 1) (delayOf pins delays 1)
-      ∙ length-set s (delayAddr line 0) (delayOf pins delays 0) ∙ long
-
+module _ (pins : ℕ) (delays : List ℕ) (line : ℕ) (s : List ℕ) (within : line < 256) (long : 66560 ≤ length s) where
   timed-other : (a : ℕ) → ((j : ℕ) → j < 4 → ¬ (a ≡ delayAddr line j)) → getD (timed pins delays line s) a 0 ≡ getD s a 0
   unfolding timed
   timed-other a apart =
@@ -281,19 +312,19 @@ next-cell : (c : Cell) (cs : List Cell) (i : ℕ) → cellAt (c ∷ cs) (suc i) 
 unfolding cellAt
 next-cell c cs i = refl
 
-module _ (cells : List Cell) (fits : length cells ≤ 32) where
+module _ (cells : List Cell) (fits : length cells ≤ 256) where
   -- the delays of one line more
   lined : (line k : ℕ) (s : List ℕ) → line < length cells → After cells (suc line) (384 * suc line) k s
       → After cells line (384 * suc line) k (timed (cellAt cells line .pins) (cellAt cells line .delays) line s)
   lined line k s h after = record {
-    long = timed-long pins delays line s within (after .long);
+    long = omega (arith, after .long, timed-long pins delays line s);
     listed = λ t small.
-        rw (timed-other pins delays line s within (after .long) t (λ j l e. omega (arith, e)))
+        rw (timed-other pins delays line s within there t (λ j l e. omega (arith, e)))
         (linked-same cells s (timed pins delays line s) (384 * suc line) (getD s t 0) (keep (hasTable cells t) (from (384 * suc line) k)) alike (after .listed t small));
     delayed = λ l j d i f. by-bool (eqb l line)
-        (λ q. rw (eqb-true l line q) (timed-own pins delays line s within (after .long) j f))
+        (λ q. rw (eqb-true l line q) (timed-own pins delays line s within there j f))
         (λ q. let apart : ¬ (l ≡ line) = eqb-false l line q in
-        timed-other pins delays line s within (after .long) (delayAddr l j) (λ n b e. apart (omega (arith, e))) ∙ after .delayed l j (omega (arith, apart)) i f);
+        timed-other pins delays line s within there (delayAddr l j) (λ n b e. apart (omega (arith, e))) ∙ after .delayed l j (omega (arith, apart)) i f);
   }
     where
       pins : ℕ
@@ -302,11 +333,14 @@ module _ (cells : List Cell) (fits : length cells ≤ 32) where
       delays : List ℕ
       delays = cellAt cells line .delays
 
-      within : line < 32
+      within : line < 256
       within = omega arith
 
+      there : 66560 ≤ length s
+      there = omega (arith, after .long)
+
       alike : Alike cells s (timed pins delays line s) (384 * suc line)
-      alike y l b = (timed-other pins delays line s within (after .long) (linkAddr y) (λ j l e. omega (arith, e)), timed-other pins delays line s within (after .long) (pickAddr y) (λ j l e. omega (arith, e)))
+      alike y l b = (timed-other pins delays line s within there (linkAddr y) (λ j l e. omega (arith, e)), timed-other pins delays line s within there (pickAddr y) (λ j l e. omega (arith, e)))
 
   -- the variants of a line
   celled : (line k : ℕ) (s : List ℕ) → line < length cells → After cells line (384 * suc line) k s
@@ -329,12 +363,12 @@ module _ (cells : List Cell) (fits : length cells ≤ 32) where
       rw add-zero at (celled line k (timed (cellAt cells line .pins) (cellAt cells line .delays) line s) h (lined line k s h after) 384 0 (zero-add 384))
 
   -- no cell, from a sheet whose chains are empty
-  none-matched : (line : ℕ) (s : List ℕ) → length cells ≤ line → length s ≡ 90240 → ((t : ℕ) → t < 65536 → getD s t 0 ≡ 0) → After cells line (384 * line) 0 s
+  none-matched : (line : ℕ) (s : List ℕ) → length cells ≤ line → sheetLong (length cells) ≤ length s → ((t : ℕ) → t < 65536 → getD s t 0 ≡ 0) → After cells line (384 * line) 0 s
   unfolding keep from Linked
   none-matched line s e long zeros = record { long = long; listed = λ t h. zeros t h; delayed = λ l j d i f. absurd (omega arith) }
 
   all-matched : (cs : List Cell) (line : ℕ) (s : List ℕ) → line + length cs ≡ length cells → ((i : ℕ) → cellAt cs i ≡ cellAt cells (line + i))
-      → length s ≡ 90240 → ((t : ℕ) → t < 65536 → getD s t 0 ≡ 0) → After cells line (384 * line) (384 * length cs) (listMatched cs line s)
+      → sheetLong (length cells) ≤ length s → ((t : ℕ) → t < 65536 → getD s t 0 ≡ 0) → After cells line (384 * line) (384 * length cs) (listMatched cs line s)
   all-matched [] line s e same long zeros = subst (After cells line (384 * line) 0) (matched-none line s) (none-matched line s (omega arith) long zeros)
   all-matched (c ∷ cs) line s e same long zeros =
       let k : 384 + 384 * length cs ≡ 384 * suc (length cs) = omega arith in
@@ -345,15 +379,15 @@ module _ (cells : List Cell) (fits : length cells ≤ 32) where
       (matched line (384 * length cs) rest (omega arith)
       (all-matched cs (suc line) s (omega arith) (λ i. sym (next-cell c cs i) ∙ same (suc i) ∙ ap (cellAt cells) (add-suc line i ∙ sym (suc-add line i))) long zeros)))
 
-  pub list-sheet : ((c : ℕ) → cellAt cells c .pins ≤ 4) → (s : List ℕ) → Blank 90240 s → SheetOf cells (listMatched cells 0 s)
+  all-sheet : Matchable cells → (s : List ℕ) → Blank (length cells) s → SheetOf cells (listMatched cells 0 s)
   unfolding variants below
-  list-sheet four s blank =
-      let a = all-matched cells 0 s (zero-add (length cells)) (λ i. ap (cellAt cells) (sym (zero-add i))) (blank .long) (λ t h. blank .zeros t (omega arith)) in
-      record { few = fits; four = four; chained = a .listed; delayed = λ line j l f. a .delayed line j (omega arith) l f }
+  all-sheet ready s blank =
+      let a = all-matched cells 0 s (zero-add (length cells)) (λ i. ap (cellAt cells) (sym (zero-add i))) (blank .long) (blank .empty) in
+      record { matchable = ready; long = a .long; chained = a .listed; delayed = λ line j l f. a .delayed line j (omega arith) l f }
 
--- after `build`, from a sheet with nothing on it, the sheet is the library's
-pub build-sheet : (l : Library) (s s′ : List ℕ) → Usable l → Blank 90240 s → s′ ≡ listMatched (cellsOf l) 0 s → SheetOf (cellsOf l) s′
-build-sheet l s s′ u blank e = rw e (list-sheet (cellsOf l) (omega (arith, u .whole, u .few)) (u .pins) s blank)
+-- from a sheet with nothing on it, after all cells the sheet is theirs
+pub list-sheet : (cells : List Cell) → Matchable cells → (s : List ℕ) → Blank (length cells) s → SheetOf cells (listMatched cells 0 s)
+list-sheet cells ready s blank = all-sheet cells (ready .few) ready s blank
 
 -- ---- the library of some cells
 

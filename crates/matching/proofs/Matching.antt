@@ -2,23 +2,20 @@
 --     best-chosen         the phase of the best variant is the first of the earliest over the variants
 --     best-match-chosen   and so over the matches of the cut
 -- Assumes nothing.
-use Prim.Native.Nat.{ℕ, _<_, _≤_}
+use Prim.Native.Nat.{ℕ, _<_}
 use mathlib.Core.Path.{_≡_, refl, sym, ap, _∙_}
-use mathlib.Core.Bool.{Bool, true, false, cond}
+use mathlib.Core.Bool.{Bool, false, cond}
 use mathlib.Core.List.{List, [], _∷_, map}
 use native.Mathlib.Omega.{arith}
 use lib.ListN.{length}
-use borrow.Author.Tests.{lt-ltb, le-ltb}
 use Rattle.model.specs.Base.{keep}
-use Rattle.model.specs.Cells.{cellsOf}
 use Rattle.model.specs.Choice.{Phases, absent, earlier, choose, noPhase, matchPhase, cutMatches}
 use Rattle.model.specs.declared.Cell.{Cell}
-use Rattle.model.specs.declared.Library.{Library}
 use Rattle.model.specs.declared.Phase.{Phase}
 use Rattle.model.specs.declared.Source.the-variants.{Cell as Matched}
 use Rattle.theory_graph.proofs.Lists.{map-map, map-same}
 use Rattle.matching.specs.declared.Best.{Best}
-use Rattle.matching.specs.Variants.{Usable, lineOf, matchOf, placesAt, variants}
+use Rattle.matching.specs.Variants.{Matchable, lineOf, matchOf, placesAt, variants}
 use Rattle.matching.specs.Best.{never, TimesOf, Quick, arrivalAt, unmatched, better, bestFrom, bestOf, phaseAs}
 use Rattle.matching.proofs.Choosing.{by-bool, by-less, none-absent, earlier-none, earlier-assoc, earlier-first, earlier-strict, earlier-tie, choose-kept}
 use Rattle.matching.proofs.Listing.{variant-matches}
@@ -89,19 +86,15 @@ module _ (cells : List Cell) (times : List ℕ) (k : ℕ) where
       ∙ earlier-none (choose (map (λ (x : ℕ). phaseAs k (ofVariant cells times x)) (variants cells f)))
 
 -- the best match of a cut is the choice among its matches
-pub best-match-chosen : (l : Library) (known : ℕ → Phases) (cut times : List ℕ) (k f : ℕ) → Usable l → f < 65536 → TimesOf known cut times → Quick known cut
-    → phaseAs k (bestOf (cellsOf l) f times)
-    ≡ choose (map (matchPhase (cellsOf l) known cut) (cutMatches (cellsOf l) 0 k (length cut) f))
-best-match-chosen l known cut times k f usable small timed quick =
+pub best-match-chosen : (cells : List Cell) (known : ℕ → Phases) (cut times : List ℕ) (k f : ℕ) → Matchable cells → f < 65536 → TimesOf known cut times → Quick known cut
+    → phaseAs k (bestOf cells f times) ≡ choose (map (matchPhase cells known cut) (cutMatches cells 0 k (length cut) f))
+best-match-chosen cells known cut times k f usable small timed quick =
     best-chosen cells times k f
     ∙ ap choose (map-same (λ (x : ℕ). phaseAs k (ofVariant cells times x)) (λ (x : ℕ). cond (placesAt cells (length cut) x) (given x) noPhase) (variants cells f) (λ x m. same x))
     ∙ sym (choose-kept given (placesAt cells (length cut)) (variants cells f))
     ∙ ap choose (sym (map-map (matchPhase cells known cut) (matchOf k) (keep (placesAt cells (length cut)) (variants cells f)))
     ∙ ap (map (matchPhase cells known cut)) (variant-matches cells k (length cut) f small (usable .pins)))
   where
-    cells : List Cell
-    cells = cellsOf l
-
     given : ℕ → Phase
     given x = matchPhase cells known cut (matchOf k x)
 

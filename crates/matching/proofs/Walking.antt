@@ -1,12 +1,12 @@
 -- The walk along a chain: what is left of it leads from the best so far to the answer.
 --     swift-arrival       the arrival of a variant, from the sheet
---     walking-within      a head that is not 0 is that of a variant
+--     walking-within      a head that is not 0 is that of a variant, which may be tried
 --     walking-falls       the next head is nearer to the end
 --     walking-next        the best so far and the variant give the next best
 --     walking-end         at the end the best is the answer; `walking-none`: of an empty chain there is none
 -- Assumes nothing.
 use Prim.Native.Nat.{ℕ, zero, suc, _+_, _-_, _*_, _/_, _%_, _<_, _≤_, max}
-use mathlib.Core.Path.{_≡_, refl, sym, ap, ap₂, _∙_}
+use mathlib.Core.Path.{_≡_, refl, sym, ap, ap₂, subst, _∙_}
 use mathlib.Core.Bool.{Bool, true, false, cond, not, false≢true}
 use mathlib.Core.List.{List, [], _∷_}
 use native.Mathlib.Nat.{add-zero}
@@ -25,7 +25,7 @@ use Rattle.truth.proofs.Variants.{place-small}
 use Rattle.matching.specs.declared.Best.{Best}
 use Rattle.matching.specs.Variants.{lineOf, orderOf, maskOf, variants}
 use Rattle.matching.specs.Sheet.{linkAddr, pickAddr, delayAddr, pickPin, pickOf, pickAt, delayOf, Linked, SheetOf, isListed}
-use Rattle.matching.specs.Best.{Timely, unmatched, pinAt, largest, arrivalOf, arrivalAt, waits, swiftAt, better, bestFrom, bestOf}
+use Rattle.matching.specs.Best.{Timely, Triable, unmatched, pinAt, largest, arrivalOf, arrivalAt, waits, swiftAt, better, bestFrom, bestOf}
 use Rattle.matching.proofs.Linking.{linked-lower}
 
 -- ---- one pin
@@ -45,6 +45,14 @@ delay-there pins delays j h = sym (ap (λ (b : Bool). cond b (getD delays j 0) 0
 pub delay-absent : (pins : ℕ) (delays : List ℕ) (j : ℕ) → pins ≤ j → 0 ≡ delayOf pins delays j
 unfolding delayOf
 delay-absent pins delays j h = sym (ap (λ (b : Bool). cond b (getD delays j 0) 0) (le-ltb j pins h))
+
+delay-brief : (pins : ℕ) (delays : List ℕ) (j : ℕ) → getD delays j 0 < 131072 → delayOf pins delays j < 131072
+unfolding delayOf
+delay-brief pins delays j h = go (ltb j pins)
+  where
+    go : (b : Bool) → cond b (getD delays j 0) 0 < 131072
+    go true = h
+    go false = omega arith
 
 pub pick-small : (pins order mask j : ℕ) → order < 24 → j < 4 → pickPin pins (placesOf order) mask j ≤ 8
 unfolding pickPin
@@ -101,7 +109,7 @@ module _ (pins : ℕ) (delays : List ℕ) (order mask : ℕ) (times : List ℕ) 
 -- the pick of each pin out of the word
 nibbles : (a b c d : ℕ) → a ≤ 8 → b ≤ 8 → c ≤ 8 → d ≤ 8
     → ((a + 16 * b + 256 * c + 4096 * d) % 16 ≡ a) × ((a + 16 * b + 256 * c + 4096 * d) / 16 % 16 ≡ b) × ((a + 16 * b + 256 * c + 4096 * d) / 256 % 16 ≡ c)
-    × ((a + 16 * b + 256 * c + 4096 * d) / 4096 ≡ d)
+    × ((a + 16 * b + 256 * c + 4096 * d) / 4096 % 16 ≡ d)
 nibbles a b c d ha hb hc hd = (omega arith, omega arith, omega arith, omega arith)
 
 module _ (cells : List Cell) (s times : List ℕ) (sheet : SheetOf cells s) (timely : Timely times) where
@@ -109,9 +117,9 @@ module _ (cells : List Cell) (s times : List ℕ) (sheet : SheetOf cells s) (tim
   unfolding swiftAt arrivalAt pickAt pickOf wait
   swift-arrival x h e =
       ap (λ (q : ℕ). max (max (waits s times (q % 16) (delayAddr (lineOf x) 0)) (waits s times (q / 16 % 16) (delayAddr (lineOf x) 1)))
-      (max (waits s times (q / 256 % 16) (delayAddr (lineOf x) 2)) (waits s times (q / 4096) (delayAddr (lineOf x) 3)))) e
+      (max (waits s times (q / 256 % 16) (delayAddr (lineOf x) 2)) (waits s times (q / 4096 % 16) (delayAddr (lineOf x) 3)))) e
       ∙ ap₂ max (ap₂ max (one-pin 0 (n .0) (omega arith)) (one-pin 1 (n .1) (omega arith))) (ap₂ max (one-pin 2 (n .2) (omega arith)) (one-pin 3 (n .3) (omega arith)))
-      ∙ arrival-waits pins delays (orderOf x) (maskOf x) times timely (sheet .four (lineOf x))
+      ∙ arrival-waits pins delays (orderOf x) (maskOf x) times timely (sheet .matchable .pins (lineOf x))
     where
       pins : ℕ
       pins = cellAt cells (lineOf x) .pins
@@ -125,7 +133,7 @@ module _ (cells : List Cell) (s times : List ℕ) (sheet : SheetOf cells s) (tim
       word : ℕ
       word = pin 0 + 16 * pin 1 + 256 * pin 2 + 4096 * pin 3
 
-      n : (word % 16 ≡ pin 0) × (word / 16 % 16 ≡ pin 1) × (word / 256 % 16 ≡ pin 2) × (word / 4096 ≡ pin 3)
+      n : (word % 16 ≡ pin 0) × (word / 16 % 16 ≡ pin 1) × (word / 256 % 16 ≡ pin 2) × (word / 4096 % 16 ≡ pin 3)
       n = nibbles (pin 0) (pin 1) (pin 2) (pin 3) (pick-small pins (orderOf x) (maskOf x) 0 (omega arith) (omega arith)) (pick-small pins (orderOf x) (maskOf x) 1 (omega arith) (omega arith)) (pick-small pins (orderOf x) (maskOf x) 2 (omega arith) (omega arith)) (pick-small pins (orderOf x) (maskOf x) 3 (omega arith) (omega arith))
 
       one-pin : (j : ℕ) {i : ℕ} → i ≡ pin j → j < 4 → waits s times i (delayAddr (lineOf x) j) ≡ getD times (pin j) 0 + delayOf pins delays j
@@ -141,20 +149,23 @@ pub better-strict : (b : Best) (x a : ℕ) → a < b .arrival → better b x a �
 unfolding better
 better-strict b x a h = rw (lt-ltb a (b .arrival) h)
 
+pub brief-first : (s : List ℕ) (x : ℕ) → Triable s x → getD s (65536 + 4 * lineOf x) 0 < 131072
+brief-first s x t = subst (λ (a : ℕ). getD s a 0 < 131072) (add-zero (65536 + 4 * lineOf x)) (t .brief 0 (omega arith))
+
 module _ (s times : List ℕ) (x : ℕ) (b : Best) (p : ℕ) (picked : p ≡ getD s (pickAddr x) 0) where
   -- what the four pins wait for
   abbrev pub Four : ℕ → ℕ → ℕ → ℕ → Type 0
   Four t u v w =
-      (t ≡ waits s times (p % 16) (90112 + 4 * lineOf x)) × (u ≡ waits s times (p / 16 % 16) (90112 + 4 * lineOf x + 1))
-      × (v ≡ waits s times (p / 256 % 16) (90112 + 4 * lineOf x + 2)) × (w ≡ waits s times (p / 4096) (90112 + 4 * lineOf x + 3))
+      (t ≡ waits s times (p % 16) (65536 + 4 * lineOf x)) × (u ≡ waits s times (p / 16 % 16) (65536 + 4 * lineOf x + 1))
+      × (v ≡ waits s times (p / 256 % 16) (65536 + 4 * lineOf x + 2)) × (w ≡ waits s times (p / 4096 % 16) (65536 + 4 * lineOf x + 3))
 
   four-swift : (t u v w : ℕ) → Four t u v w → max (max t u) (max v w) ≡ swiftAt s times x
   unfolding swiftAt
   four-swift t u v w f =
-      let e : 90112 + 4 * lineOf x ≡ delayAddr (lineOf x) 0 = sym (add-zero (90112 + 4 * lineOf x)) in
+      let e : 65536 + 4 * lineOf x ≡ delayAddr (lineOf x) 0 = sym (add-zero (65536 + 4 * lineOf x)) in
       ap₂ max (ap₂ max (f .0 ∙ ap (waits s times (p % 16)) e) (f .1)) (ap₂ max (f .2) (f .3))
       ∙ ap (λ (q : ℕ). max (max (waits s times (q % 16) (delayAddr (lineOf x) 0)) (waits s times (q / 16 % 16) (delayAddr (lineOf x) 1)))
-      (max (waits s times (q / 256 % 16) (delayAddr (lineOf x) 2)) (waits s times (q / 4096) (delayAddr (lineOf x) 3)))) picked
+      (max (waits s times (q / 256 % 16) (delayAddr (lineOf x) 2)) (waits s times (q / 4096 % 16) (delayAddr (lineOf x) 3)))) picked
 
   -- one pin that is not earlier is enough
   pub one-late : (t u v w : ℕ) → Four t u v w → b .arrival ≤ max (max t u) (max v w) → b ≡ better b x (swiftAt s times x)
@@ -177,7 +188,7 @@ Walks s f times h b = (cells : List Cell) → SheetOf cells s → Walking cells 
 -- how far a head is from the end
 pub togo : ℕ → ℕ
 togo zero = 0
-togo (suc x) = 65536 - suc x
+togo (suc x) = 131072 - suc x
 
 -- the head of a chain that is not empty
 within : (cells : List Cell) (s : List ℕ) (h : ℕ) (rest : List ℕ) → Linked cells s 0 h rest → 0 < h → h - 1 < 384 * length cells
@@ -185,7 +196,7 @@ unfolding Linked
 within cells s h [] k l = absurd (omega (arith, k))
 within cells s h (x ∷ xs) k l = omega (arith, k .0, k .2)
 
-falls : (cells : List Cell) (s : List ℕ) (h : ℕ) (rest : List ℕ) → Linked cells s 0 h rest → 0 < h → 384 * length cells ≤ 12288 → togo (getD s (linkAddr (h - 1)) 0) < togo h
+falls : (cells : List Cell) (s : List ℕ) (h : ℕ) (rest : List ℕ) → Linked cells s 0 h rest → 0 < h → 384 * length cells ≤ 98304 → togo (getD s (linkAddr (h - 1)) 0) < togo h
 unfolding Linked togo
 falls cells s h [] k l few = absurd (omega (arith, k))
 falls cells s h (x ∷ xs) k l few =
@@ -193,18 +204,25 @@ falls cells s h (x ∷ xs) k l few =
     let p : suc x - 1 ≡ x = omega arith in
     rw (e, p) (next xs (getD s (linkAddr x) 0) (k .4))
   where
-    next : (ys : List ℕ) (g : ℕ) → Linked cells s (suc x) g ys → togo g < 65536 - suc x
+    next : (ys : List ℕ) (g : ℕ) → Linked cells s (suc x) g ys → togo g < 131072 - suc x
     next [] g m = rw m (omega (arith, k .2))
     next (y ∷ ys) g m =
         let e : g ≡ suc y = omega (arith, m .0) in
         rw e (omega (arith, m .1, m .2))
 
 module _ (cells : List Cell) (times : List ℕ) (answer : Best) (s : List ℕ) (sheet : SheetOf cells s) where
-  pub walking-within : (h : ℕ) (b : Best) → Walking cells times answer s h b → 0 < h → h - 1 < 12288
-  walking-within h b w l = omega (arith, within cells s h (w .0) (w .1) l, sheet .few)
+  pub walking-within : (h : ℕ) (b : Best) → Walking cells times answer s h b → 0 < h → Triable s (h - 1)
+  walking-within h b w l =
+      let k = within cells s h (w .0) (w .1) l in
+      record {
+        within = omega (arith, k, sheet .matchable .few);
+        there = omega (arith, k, sheet .long);
+        brief = λ j f. rw (sheet .delayed (lineOf (h - 1)) j (omega arith) f)
+            (delay-brief (cellAt cells (lineOf (h - 1)) .pins) (cellAt cells (lineOf (h - 1)) .delays) j (sheet .matchable .delays (lineOf (h - 1)) j));
+      }
 
   pub walking-falls : (h : ℕ) (b : Best) → Walking cells times answer s h b → 0 < h → togo (getD s (linkAddr (h - 1)) 0) < togo h
-  walking-falls h b w l = falls cells s h (w .0) (w .1) l (omega (arith, sheet .few))
+  walking-falls h b w l = falls cells s h (w .0) (w .1) l (omega (arith, sheet .matchable .few))
 
   step : Timely times → (h : ℕ) (b : Best) (rest : List ℕ) → 0 < h → Linked cells s 0 h rest → bestFrom cells times b rest ≡ answer
       → Walking cells times answer s (getD s (linkAddr (h - 1)) 0) (better b (h - 1) (swiftAt s times (h - 1)))

@@ -23,7 +23,7 @@ never = 2147483647
 
 -- the latest arrival that leaves room for a pin's delay before that
 abbrev pub lastTime : ℕ
-lastTime = 2147418111
+lastTime = 2147352575
 
 -- the arrival of a phase, where it has a source
 unfoldable pub timeOf : Phase → ℕ
@@ -75,7 +75,13 @@ unfoldable pub swiftAt : List ℕ → List ℕ → ℕ → ℕ
 swiftAt s times x =
     let p = getD s (pickAddr x) 0 in
     max (max (waits s times (p % 16) (delayAddr (lineOf x) 0)) (waits s times (p / 16 % 16) (delayAddr (lineOf x) 1)))
-    (max (waits s times (p / 256 % 16) (delayAddr (lineOf x) 2)) (waits s times (p / 4096) (delayAddr (lineOf x) 3)))
+    (max (waits s times (p / 256 % 16) (delayAddr (lineOf x) 2)) (waits s times (p / 4096 % 16) (delayAddr (lineOf x) 3)))
+
+-- what a try of variant x asks: its words are there, and a delay of its cell may be added to an arrival
+pub record Triable (s : List ℕ) (x : ℕ) : Type 0 where
+  pub within : x < 98304
+  pub there : pickAddr x < length s
+  pub brief : (j : ℕ) → j < 4 → getD s (delayAddr (lineOf x) j) 0 < 131072
 
 -- ---- the best of several
 

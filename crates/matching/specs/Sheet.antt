@@ -1,5 +1,6 @@
 -- The sheet: all that a match asks of the cells, once for each library. It has, by table, the head of the chain of the variants that have the
--- table; by variant, the next one of its chain and what feeds its pins; by cell, its delays. Assumes nothing.
+-- table; by cell, its delays; by variant, the next one of its chain and what feeds its pins. What the variants have stands last, so that a shorter
+-- sheet serves fewer cells. Assumes nothing.
 use Prim.Native.Nat.{ℕ, zero, suc, _+_, _*_, _^_, _≤_, _<_}
 use mathlib.Core.Path.{_≡_}
 use mathlib.Core.Bool.{Bool, cond, not}
@@ -11,19 +12,23 @@ use Rattle.model.specs.Cells.{cellAt}
 use Rattle.model.specs.Graph.{literal}
 use Rattle.model.specs.declared.Cell.{Cell}
 use Rattle.truth.specs.Variant.{placesOf, variantTable}
-use Rattle.matching.specs.Variants.{lineOf, orderOf, maskOf, variants}
+use Rattle.matching.specs.Variants.{Matchable, lineOf, orderOf, maskOf, variants}
 
--- ---- what lies where: 65,536 heads, then 32 times 384 links, as many picks, and 32 times 4 delays
+-- ---- what lies where: 65,536 heads, 256 times 4 delays, and for each variant its link and its pick, 384 times 2 for each cell
+
+abbrev pub delayAddr : ℕ → ℕ → ℕ
+delayAddr line j = 65536 + 4 * line + j
 
 -- the next variant of the chain; a head and a link are one more than a variant's number, 0 at the end
 abbrev pub linkAddr : ℕ → ℕ
-linkAddr x = 65536 + x
+linkAddr x = 66560 + 2 * x
 
 abbrev pub pickAddr : ℕ → ℕ
-pickAddr x = 77824 + x
+pickAddr x = 66560 + 2 * x + 1
 
-abbrev pub delayAddr : ℕ → ℕ → ℕ
-delayAddr line j = 90112 + 4 * line + j
+-- the words of a sheet of n cells
+abbrev pub sheetLong : ℕ → ℕ
+sheetLong n = 66560 + 768 * n
 
 -- ---- a variant
 
@@ -95,8 +100,8 @@ Linked cells s low h (x ∷ xs) =
 
 -- the chain of each table lists the variants that have it, ascending; the delays are the cells'
 pub record SheetOf (cells : List Cell) (s : List ℕ) : Type 0 where
-  pub few : length cells ≤ 32
-  pub four : (c : ℕ) → cellAt cells c .pins ≤ 4
+  pub matchable : Matchable cells
+  pub long : sheetLong (length cells) ≤ length s
   pub chained : (t : ℕ) → t < 65536 → Linked cells s 0 (getD s t 0) (variants cells t)
   pub delayed : (line j : ℕ) → line < length cells → j < 4 → getD s (delayAddr line j) 0 ≡ delayOf (cellAt cells line .pins) (cellAt cells line .delays) j
 
@@ -104,7 +109,7 @@ pub record SheetOf (cells : List Cell) (s : List ℕ) : Type 0 where
 unfoldable pub isListed : List ℕ → ℕ → Bool
 isListed s t = not (eqb (getD s t 0) 0)
 
--- n zeros
-pub record Blank (n : ℕ) (xs : List ℕ) : Type 0 where
-  pub long : length xs ≡ n
-  pub zeros : (i : ℕ) → i < n → getD xs i 0 ≡ 0
+-- a sheet for n cells with nothing on it
+pub record Blank (n : ℕ) (s : List ℕ) : Type 0 where
+  pub long : sheetLong n ≤ length s
+  pub empty : (t : ℕ) → t < 65536 → getD s t 0 ≡ 0

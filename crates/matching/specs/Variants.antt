@@ -29,7 +29,7 @@ maskOf x = x % 16
 unfoldable pub matchOf : ℕ → ℕ → Match
 matchOf k x = record { cut = k; cell = lineOf x; order = orderOf x; mask = maskOf x }
 
--- ---- what is asked of a library
+-- ---- what is asked of a library, and of the cells to map with
 
 -- The first n cells are there, "Pins: 0 to 4", "Area and pin delays are decimal, 0 to 65,535".
 pub record Usable (l : Library) : Type 0 where
@@ -37,6 +37,12 @@ pub record Usable (l : Library) : Type 0 where
   pub few : l .n ≤ 32
   pub pins : (c : ℕ) → cellAt (cellsOf l) c .pins ≤ 4
   pub delays : (c j : ℕ) → getD (cellAt (cellsOf l) c .delays) j 0 < 65536
+
+-- "30 when cells and pairs exceed 256"; a pair has at most four pins, and its delays are the sums of two.
+pub record Matchable (cells : List Cell) : Type 0 where
+  pub few : length cells ≤ 256
+  pub pins : (c : ℕ) → cellAt cells c .pins ≤ 4
+  pub delays : (c j : ℕ) → getD (cellAt cells c .delays) j 0 < 131072
 
 -- ---- the variants of a table
 

@@ -1,7 +1,7 @@
-// The best match of the listed cells on a cut. Each cell line, order and mask is one number, a variant: (line * 24 + order) * 16 + mask. Once
-// for each library every variant is put on the chain of its 16-row table, so that a cut looks up its own table and walks the variants that
-// have it, in 01's order: "cell line, order number, mask, lowest first". The chains, what feeds each variant's pins and the cells' delays are one
-// sheet of words: what lies where is said by specs/Sheet.antt.
+// The best match on a cut of the cells to map with, listed ones and pairs. Each cell's number, order and mask is one number, a variant:
+// (cell * 24 + order) * 16 + mask. Once for each library every variant is put on the chain of its 16-row table, so that a cut looks up its own table
+// and walks the variants that have it, in 01's order: "cell line, order number, mask, lowest first". The chains, what feeds each variant's pins and the
+// cells' delays are one sheet of lent words: what lies where is said by specs/Sheet.antt.
 use model::Cell;
 use model::Library;
 use model::Match;
@@ -10,26 +10,28 @@ use model::Source;
 ghost use mathlib.Core.Path.{_≡_};
 ghost use mathlib.Core.List.{List};
 ghost use Prim.Native.Nat.{ℕ, _+_, _*_, _<_, _≤_, max};
-ghost use lib.ListN.{length};
+ghost use lib.ListN.{length, drop, getD};
 ghost use Rattle.model.specs.Cells.{cellAt, cellsOf};
 ghost use Rattle.model.specs.declared.Cell.{Cell};
 ghost use Rattle.truth.specs.Variant.{placesOf};
+ghost use Rattle.pairs.specs.Codes.{cellsBy, Coded};
 ghost use Rattle.matching.specs.Variants.{Usable, matchOf};
-ghost use Rattle.matching.specs.Sheet.{pickPin, pickOf, delayOf, pushed, placed, passed, timed, cellMatched, listMatched, SheetOf, isListed, Blank};
-ghost use Rattle.matching.specs.Best.{never, Timely, waits, swiftAt, better, bestOf, phaseAs};
+ghost use Rattle.matching.specs.Sheet.{pickAddr, sheetLong, pickPin, pickOf, delayOf, pushed, placed, passed, timed, cellMatched, listMatched, SheetOf, isListed, Blank};
+ghost use Rattle.matching.specs.Best.{never, Timely, waits, Triable, swiftAt, better, bestOf, phaseAs};
 ghost use Rattle.matching.specs.Inverters.{quicker, tried, inverterOf};
 
 // The arrival of a phase that has no source.
 pub const NEVER: u32 = 2147483647;
 
-// The words of a sheet.
-pub const SHEET: usize = 90240;
+// The words of a sheet for 32 listed cells.
+pub const SHEET: usize = 91136;
 
-const LINKS: usize = 65536;
+// The words of a sheet for 256 cells, pairs among them.
+pub const PAIRED_SHEET: usize = 263168;
 
-const PICKS: usize = 77824;
+const DELAYS: usize = 65536;
 
-const DELAYS: usize = 90112;
+const VARIANTS: usize = 66560;
 
 // A variant with its arrival, NEVER where there is no match.
 pub struct Best {
@@ -46,21 +48,29 @@ pub enum Inverter {
 // ---- the sheet
 
 // A sheet with nothing on it.
-pub fn no_sheet() -> [u16; SHEET]
-    ensures { λ r. ⌜ Blank 90240 r ⌝ }
+pub fn no_sheet() -> [u32; SHEET]
+    ensures { λ r. ⌜ Blank 32 r ⌝ }
 {
-    [0u16; SHEET]
+    [0u32; SHEET]
+}
+
+// The same for pairs too.
+pub fn no_paired_sheet() -> [u32; PAIRED_SHEET]
+    ensures { λ r. ⌜ Blank 256 r ⌝ }
+{
+    [0u32; PAIRED_SHEET]
 }
 
 // A variant, with its pick, put at the head of the chain of its table.
-fn push(t: u16, x: usize, p: u16, sheet: &mut [u16; SHEET])
-    requires { ⌜ x < 12288 ⌝ }
+fn push(t: u16, x: usize, p: u32, sheet: &mut [u32])
+    requires { ⌜ (x < 98304) × (pickAddr x < length (now sheet)) ⌝ }
     ensures { λ _. ⌜ now (sheet .exit) ≡ pushed t x p (now (sheet .entry)) ⌝ }
 {
     let i = t as usize;
-    sheet[LINKS + x] = sheet[i];
-    sheet[i] = (x + 1) as u16;
-    sheet[PICKS + x] = p;
+    let at = VARIANTS + 2 * x;
+    sheet[at] = sheet[i];
+    sheet[i] = (x + 1) as u32;
+    sheet[at + 1] = p;
 }
 
 // Where the arrival that pin j waits for stands among a cut's: "each pin needing its leaf in the mask's phase". An absent pin waits for none.
@@ -76,7 +86,7 @@ fn pick_pin(pins: u16, order: usize, mask: usize, j: usize) -> usize
 }
 
 // Those of the four pins in one word.
-fn pick(pins: u16, order: usize, mask: usize) -> u16
+fn pick(pins: u16, order: usize, mask: usize) -> u32
     requires { ⌜ order < 24 ⌝ }
     ensures { λ r. ⌜ r ≡ pickOf pins (placesOf order) mask ⌝ }
 {
@@ -84,12 +94,12 @@ fn pick(pins: u16, order: usize, mask: usize) -> u16
     let b = pick_pin(pins, order, mask, 1);
     let c = pick_pin(pins, order, mask, 2);
     let d = pick_pin(pins, order, mask, 3);
-    (a + 16 * b + 256 * c + 4096 * d) as u16
+    (a + 16 * b + 256 * c + 4096 * d) as u32
 }
 
 // A variant of a cell, if its mask has "no bit at or above m".
-fn put(pins: u16, table: u16, x: usize, sheet: &mut [u16; SHEET])
-    requires { ⌜ (pins ≤ 4) × (x < 12288) ⌝ }
+fn put(pins: u16, table: u16, x: usize, sheet: &mut [u32])
+    requires { ⌜ (pins ≤ 4) × (x < 98304) × (pickAddr x < length (now sheet)) ⌝ }
     ensures { λ _. ⌜ now (sheet .exit) ≡ placed pins table x (now (sheet .entry)) ⌝ }
 {
     let order = x / 16 % 24;
@@ -101,15 +111,15 @@ fn put(pins: u16, table: u16, x: usize, sheet: &mut [u16; SHEET])
 }
 
 // The delay of pin j, none for an absent pin.
-fn delay_of(pins: u16, delays: [u16; 4], j: usize) -> u16
+fn delay_of(pins: u16, delays: [u32; 4], j: usize) -> u32
     requires { ⌜ j < 4 ⌝ }
     ensures { λ r. ⌜ r ≡ delayOf pins delays j ⌝ }
 {
     if j < pins as usize { delays[j] } else { 0 }
 }
 
-fn put_delays(pins: u16, delays: [u16; 4], line: usize, sheet: &mut [u16; SHEET])
-    requires { ⌜ line < 32 ⌝ }
+fn put_delays(pins: u16, delays: [u32; 4], line: usize, sheet: &mut [u32])
+    requires { ⌜ (line < 256) × (66560 ≤ length (now sheet)) ⌝ }
     ensures { λ _. ⌜ now (sheet .exit) ≡ timed pins delays line (now (sheet .entry)) ⌝ }
 {
     let at = DELAYS + 4 * line;
@@ -119,9 +129,9 @@ fn put_delays(pins: u16, delays: [u16; 4], line: usize, sheet: &mut [u16; SHEET]
     sheet[at + 3] = delay_of(pins, delays, 3);
 }
 
-// The variants of a line's cell, from the highest number down, so that the chains ascend.
-fn put_variants(pins: u16, table: u16, line: usize, sheet: &mut [u16; SHEET])
-    requires { ⌜ (pins ≤ 4) × (line < 32) ⌝ }
+// The variants of a cell, from the highest number down, so that the chains ascend.
+fn put_variants(pins: u16, table: u16, line: usize, sheet: &mut [u32])
+    requires { ⌜ (pins ≤ 4) × (line < 256) × (sheetLong (line + 1) ≤ length (now sheet)) ⌝ }
     ensures { λ _. ⌜ now (sheet .exit) ≡ passed pins table (384 * line) 384 (now (sheet .entry)) ⌝ }
 {
     let mut k: usize = 384;
@@ -131,19 +141,27 @@ fn put_variants(pins: u16, table: u16, line: usize, sheet: &mut [u16; SHEET])
     }
 }
 
-// One cell matched, by value: its delays, and each of its variants on the chain of its table.
-fn match_cell(c: Cell, line: usize, sheet: &mut [u16; SHEET])
-    requires { ⌜ (c .pins ≤ 4) × (line < 32) ⌝ }
+// One cell matched: its delays, and each of its variants on the chain of its table.
+fn match_parts(pins: u16, table: u16, delays: [u32; 4], line: usize, sheet: &mut [u32])
+    requires { ⌜ (pins ≤ 4) × (line < 256) × (sheetLong (line + 1) ≤ length (now sheet)) ⌝ }
+    ensures { λ _. ⌜ now (sheet .exit) ≡ passed pins table (384 * line) 384 (timed pins delays line (now (sheet .entry))) ⌝ }
+{
+    put_delays(pins, delays, line, sheet);
+    put_variants(pins, table, line, sheet);
+}
+
+// A listed cell, by value.
+fn match_cell(c: Cell, line: usize, sheet: &mut [u32])
+    requires { ⌜ (c .pins ≤ 4) × (line < 256) × (sheetLong (line + 1) ≤ length (now sheet)) ⌝ }
     ensures { λ _. ⌜ now (sheet .exit) ≡ cellMatched c line (now (sheet .entry)) ⌝ }
 {
     let delays = c.delays;
-    put_delays(c.pins, delays, line, sheet);
-    put_variants(c.pins, c.table, line, sheet);
+    match_parts(c.pins, c.table, pairs::widened(delays), line, sheet);
 }
 
 // The cell of a line, out of the list, matched by value.
-fn match_listed(cells: &[Cell], line: usize, sheet: &mut [u16; SHEET])
-    requires { ⌜ (line < length (now cells)) × (line < 32) × (cellAt (now cells) line .pins ≤ 4) ⌝ }
+fn match_listed(cells: &[Cell], line: usize, sheet: &mut [u32])
+    requires { ⌜ (line < length (now cells)) × (line < 256) × (cellAt (now cells) line .pins ≤ 4) × (sheetLong (line + 1) ≤ length (now sheet)) ⌝ }
     ensures { λ _. ⌜ now (sheet .exit) ≡ cellMatched (cellAt (now (cells .entry)) line) line (now (sheet .entry)) ⌝ }
 {
     let c = cells[line];
@@ -151,8 +169,8 @@ fn match_listed(cells: &[Cell], line: usize, sheet: &mut [u16; SHEET])
 }
 
 // "The cells go to the matcher as a lent list of cell records": all of the list, from the last line to the first.
-pub fn build(cells: &[Cell], sheet: &mut [u16; SHEET])
-    requires { ⌜ (length (now cells) ≤ 32) × ((c : ℕ) → cellAt (now cells) c .pins ≤ 4) ⌝ }
+pub fn build(cells: &[Cell], sheet: &mut [u32])
+    requires { ⌜ (length (now cells) ≤ 256) × ((c : ℕ) → cellAt (now cells) c .pins ≤ 4) × (sheetLong (length (now cells)) ≤ length (now sheet)) ⌝ }
     ensures { λ _. ⌜ now (sheet .exit) ≡ listMatched (now (cells .entry)) 0 (now (sheet .entry)) ⌝ }
 {
     let mut i = cells.len();
@@ -162,32 +180,56 @@ pub fn build(cells: &[Cell], sheet: &mut [u16; SHEET])
     }
 }
 
+// The pair of a number, matched as one cell.
+fn match_pair(lib: Library, codes: &[u16], k: usize, sheet: &mut [u32])
+    requires { ⌜ Coded lib (now codes) × (k < lib .n + length (now codes)) × (sheetLong (k + 1) ≤ length (now sheet)) ⌝ }
+    ensures { λ _. ⌜ now (sheet .exit) ≡ cellMatched (cellAt (cellsBy (cellsOf lib) (now (codes .entry))) k) k (now (sheet .entry)) ⌝ }
+{
+    let pins = pairs::pins_of(lib, codes, k);
+    let table = pairs::table_of(lib, codes, k);
+    match_parts(pins, table, pairs::delays_of(lib, codes, k), k, sheet);
+}
+
+// "Pairs follow the listed cells", and the chains are filled from the highest number down: all pairs, from the last to the first, before `build`.
+pub fn build_pairs(lib: Library, codes: &[u16], sheet: &mut [u32])
+    requires { ⌜ Coded lib (now codes) × (sheetLong (lib .n + length (now codes)) ≤ length (now sheet)) ⌝ }
+    ensures { λ _. ⌜ now (sheet .exit) ≡ listMatched (drop (lib .n) (cellsBy (cellsOf lib) (now (codes .entry)))) (lib .n) (now (sheet .entry)) ⌝ }
+{
+    let n = lib.n;
+    let mut i = codes.len();
+    while i > 0 {
+        i -= 1;
+        match_pair(lib, codes, n + i, sheet);
+    }
+}
+
 // ---- the best match
 
 // Whether a function is some variant's: most are none's.
-pub fn is_listed(sheet: &[u16; SHEET], f: u16) -> bool
+pub fn is_listed(sheet: &[u32], f: u16) -> bool
+    requires { ⌜ 65536 ≤ length (now sheet) ⌝ }
     ensures { λ r. ⌜ r ≡ isListed (now (sheet .entry)) f ⌝ }
 {
     sheet[f as usize] != 0
 }
 
 // A word as an index.
-fn wide(x: u16) -> usize
-    ensures { λ r. ⌜ (r ≡ x) × (r < 65536) ⌝ }
+fn wide(x: u32) -> usize
+    ensures { λ r. ⌜ r ≡ x ⌝ }
 {
     x as usize
 }
 
-fn add_delay(t: u32, d: u16) -> u32
-    requires { ⌜ t ≤ never ⌝ }
+fn add_delay(t: u32, d: u32) -> u32
+    requires { ⌜ (t ≤ never) × (d < 131072) ⌝ }
     ensures { λ r. ⌜ r ≡ t + d ⌝ }
 {
-    t + d as u32
+    t + d
 }
 
 // "feeding arrival plus pin delay".
-fn pin_time(sheet: &[u16; SHEET], times: &[u32; 16], select: usize, at: usize) -> u32
-    requires { ⌜ (select < 16) × (at < 90240) × Timely (now times) ⌝ }
+fn pin_time(sheet: &[u32], times: &[u32; 16], select: usize, at: usize) -> u32
+    requires { ⌜ (select < 16) × (at < length (now sheet)) × (getD (now sheet) at 0 < 131072) × Timely (now times) ⌝ }
     ensures { λ r. ⌜ r ≡ waits (now (sheet .entry)) (now (times .entry)) select at ⌝ }
 {
     add_delay(times[select], sheet[at])
@@ -200,11 +242,11 @@ fn larger(a: u32, b: u32) -> u32
 }
 
 // Variant x tried against the best before it, which stays unless x is strictly earlier: one pin that is not earlier is enough.
-fn try_variant(sheet: &[u16; SHEET], times: &[u32; 16], x: usize, b: Best) -> Best
-    requires { ⌜ (x < 12288) × Timely (now times) ⌝ }
+fn try_variant(sheet: &[u32], times: &[u32; 16], x: usize, b: Best) -> Best
+    requires { ⌜ Triable (now sheet) x × Timely (now times) ⌝ }
     ensures { λ r. ⌜ r ≡ better b x (swiftAt (now (sheet .entry)) (now (times .entry)) x) ⌝ }
 {
-    let s = wide(sheet[PICKS + x]);
+    let s = wide(sheet[VARIANTS + 2 * x + 1]);
     let at = DELAYS + 4 * (x / 384);
     let t = pin_time(sheet, times, s % 16, at);
     if b.arrival <= t {
@@ -218,7 +260,7 @@ fn try_variant(sheet: &[u16; SHEET], times: &[u32; 16], x: usize, b: Best) -> Be
     if b.arrival <= v {
         return b;
     }
-    let w = pin_time(sheet, times, s / 4096, at + 3);
+    let w = pin_time(sheet, times, s / 4096 % 16, at + 3);
     if b.arrival <= w {
         return b;
     }
@@ -231,7 +273,7 @@ fn try_variant(sheet: &[u16; SHEET], times: &[u32; 16], x: usize, b: Best) -> Be
 
 // The best match of a cut, f its function in the phase: leaf i's arrivals stand at 2 i, positive, and 2 i + 1, negative. The walk goes along the
 // chain of f.
-pub fn best_match(sheet: &[u16; SHEET], f: u16, times: &[u32; 16]) -> Best
+pub fn best_match(sheet: &[u32], f: u16, times: &[u32; 16]) -> Best
     requires { ⌜ ((cells : List Cell) × SheetOf cells (now sheet)) × Timely (now times) ⌝ }
     ensures { λ r. ⌜ ((cells : List Cell) → SheetOf cells (now (sheet .entry)) → r ≡ bestOf cells f (now (times .entry))) ⌝ }
 {
@@ -243,7 +285,7 @@ pub fn best_match(sheet: &[u16; SHEET], f: u16, times: &[u32; 16]) -> Best
     while h > 0 {
         let x = h - 1;
         b = try_variant(sheet, times, x, b);
-        h = wide(sheet[LINKS + x]);
+        h = wide(sheet[VARIANTS + 2 * x]);
     }
     b
 }
@@ -294,14 +336,16 @@ fn sooner(best: Inverter, line: usize, d: u16) -> Inverter
     }
 }
 
-// A cell tried: "a one-pin cell with table 0001".
+// A cell tried: "a one-pin cell with table 0001" that is listed, and so has a name.
 fn try_inverter(best: Inverter, c: Cell, line: usize) -> Inverter
     ensures { λ r. ⌜ r ≡ tried best c line ⌝ }
 {
     let delays = c.delays;
     if c.pins == 1 {
         if c.table == 1 {
-            return sooner(best, line, delays[0]);
+            if c.len > 0 {
+                return sooner(best, line, delays[0]);
+            }
         }
     }
     best

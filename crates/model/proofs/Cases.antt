@@ -139,15 +139,15 @@ ofGraph p (fault n k) = false
 
 -- a call on a library and a graph's text, with so many words and bytes lent
 abbrev pub given : List ℕ → String → ℕ → ℕ → Call
-given l g words bytes = record { library = l; graph = text g; arrivals = []; words = words; bytes = bytes }
+given l g words bytes = record { paired = false; library = l; graph = text g; arrivals = []; words = words; bytes = bytes }
 
 -- the same with the graph's text as bytes
 abbrev pub givenBytes : List ℕ → List ℕ → ℕ → Call
-givenBytes l g words = record { library = l; graph = g; arrivals = []; words = words; bytes = 65536 }
+givenBytes l g words = record { paired = false; library = l; graph = g; arrivals = []; words = words; bytes = 65536 }
 
 -- the same with an arrivals' text
 abbrev pub givenTimed : List ℕ → List ℕ → List ℕ → ℕ → Call
-givenTimed l g arrivals words = record { library = l; graph = g; arrivals = arrivals; words = words; bytes = 65536 }
+givenTimed l g arrivals words = record { paired = false; library = l; graph = g; arrivals = arrivals; words = words; bytes = 65536 }
 
 -- "It lends 32,768 words and 65,536 bytes."
 unfoldable pub mapText : List ℕ → String → Outcome

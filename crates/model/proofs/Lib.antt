@@ -5,4 +5,6 @@ pub mod TallyCases
 pub mod CheckCases
 pub mod GenlibCases
 pub mod GenlibTables
+pub mod PairCases
+pub mod ShuffleCases
 pub mod TwoCases

@@ -88,6 +88,10 @@ netlists =
     -- "net and output numbers and times may be any digits"
     ∷ counts library emptyTally (with 4 ".gate nand2 A=p007 B=m65536 O=m0\n") once
     ∷ counts library emptyTally (with 8 "# gates 2 area 3 arrival 007\n") once
+    -- "a net `s` followed by the root's net name, which N11 takes in gate lines", and nowhere else
+    ∷ counts library emptyTally (with 4 ".gate nand2 A=sp1 B=p2 O=sm3\n") once
+    ∷ refuses library emptyTally (with 5 ".names sp3 o0\n") 29 84
+    ∷ refuses library emptyTally (with 1 ".inputs p1 sp2\n") 29 11
     -- under the longer names line a timing line for each output is due
     ∷ counts ranged emptyTally (listing ++ text "# timing o7 0 00\n") once
     ∷ refuses ranged emptyTally listing 29 134
@@ -103,7 +107,8 @@ netlists =
     ∷ refuses library emptyTally (with 4 ".gate nand2 A=p1 O=m3\n") 29 57
     ∷ refuses library emptyTally (with 4 ".gate nand2 B=p2 A=p1 O=m3\n") 29 57
     ∷ refuses library emptyTally (with 4 ".gate nand2 A=p1 B=p2 O=n3\n") 29 57
-    ∷ refuses library emptyTally (with 4 ".gate nand2 A=p1 B=p2 O=sm3\n") 29 57
+    ∷ refuses library emptyTally (with 4 ".gate nand2 A=p1 B=p2 O=s3\n") 29 57
+    ∷ refuses library emptyTally (with 4 ".gate nand2 A=p1 B=p2 O=ssm3\n") 29 57
     ∷ refuses library emptyTally (with 5 ".names p3 p4\n") 29 84
     ∷ refuses library emptyTally (with 6 "1 0\n") 29 97
     ∷ refuses library emptyTally (with 7 ".END\n") 29 101

@@ -1,7 +1,7 @@
 -- Two channels in one call, from the texts on, checked against the definitions by computing. Assumes nothing.
 use Prim.Native.Nat.{ℕ}
 use Prim.Native.String.{String}
-use mathlib.Core.Bool.{Bool, _&&_}
+use mathlib.Core.Bool.{Bool, false, _&&_}
 use mathlib.Core.List.{List, [], _∷_, _++_}
 use lib.Dec.{T}
 use lib.ListN.{length, replicate}
@@ -51,7 +51,7 @@ unfoldable pub onBytes : List ℕ → Channel
 onBytes g = record { graph = g; arrivals = []; bytes = 65536 }
 
 unfoldable pub case : List ℕ → ℕ → Channel → Channel → Due → Due → TwoCase
-case l words a b x y = record { call = record { library = l; words = words; first = a; second = b }; first = x; second = y }
+case l words a b x y = record { call = record { paired = false; library = l; words = words; first = a; second = b }; first = x; second = y }
 
 -- B and C need 497 words each, and the graph of I 125
 unfoldable pub twoCases : List TwoCase
@@ -105,7 +105,7 @@ two-cases-hold = tt
 
 -- B in both channels, with so many bytes lent to each
 abbrev pub pair : ℕ → ℕ → TwoCall
-pair a b = record { library = library; words = 994; first = on graphB a; second = on graphB b }
+pair a b = record { paired = false; library = library; words = 994; first = on graphB a; second = on graphB b }
 
 -- what is printed for the second channel, and what is returned for each: B, and B with one byte too few
 pub two-returns : T (

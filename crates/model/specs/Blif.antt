@@ -6,9 +6,9 @@ use mathlib.Core.Option.{Option, none, some}
 use mathlib.Core.List.{List, [], _∷_, map, List·Memᴰ}
 use lib.Dec.{eqb}
 use lib.ListN.{length, getD}
-use Rattle.model.specs.Base.{one, same, andThen, only, below}
+use Rattle.model.specs.Base.{same, andThen, only, below}
 use Rattle.model.specs.Text.{text, parts, fields, between}
-use Rattle.model.specs.Table.{value}
+use Rattle.model.specs.Table.{value, rowOf}
 use Rattle.model.specs.Cells.{nameOf, noCell}
 use Rattle.model.specs.Choice.{latest}
 use Rattle.model.specs.declared.Cell.{Cell}
@@ -239,12 +239,6 @@ drives t = netAt (t .bindings) outputName
 unfoldable pub fedBy : List Cell → GateLine → List (List ℕ)
 unfolding netAt named pinNames
 fedBy cells t = map (netAt (t .bindings)) (pinNames (named cells (t .cell) .pins))
-
--- "bit j of r is pin j"
-unfoldable pub rowOf : List Bool → ℕ
-unfolding one
-rowOf [] = 0
-rowOf (b ∷ bs) = one b + 2 * rowOf bs
 
 -- the nets' values w hold: an input net has its input's value, a gate's net its cell's value at its pins, and an output "is read at its `o` name",
 -- which has its net's value

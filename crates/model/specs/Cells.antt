@@ -2,7 +2,7 @@
 use Prim.Native.Nat.{ℕ, _-_}
 use mathlib.Core.Bool.{Bool, _&&_}
 use mathlib.Core.List.{List, [], _++_}
-use lib.Dec.{eqb}
+use lib.Dec.{eqb, ltb}
 use lib.ListN.{length, take, getD, replicate}
 use Rattle.model.specs.Reading.{Read, holds, fault}
 use Rattle.model.specs.declared.Cell.{Cell}
@@ -22,9 +22,9 @@ noCell = record { name = []; len = 0; pins = 0; table = 0; area = 0; delays = []
 unfoldable pub cellAt : List Cell → ℕ → Cell
 cellAt cells c = getD cells c noCell
 
--- "a one-pin cell with table 0001"
+-- "a one-pin cell with table 0001"; "The inverter role stays with listed cells", and these have names
 unfoldable pub isInverter : Cell → Bool
-isInverter c = eqb (c .pins) 1 && eqb (c .table) 1
+isInverter c = eqb (c .pins) 1 && (eqb (c .table) 1 && ltb 0 (c .len))
 
 -- ---- the library by value
 

@@ -1,15 +1,15 @@
 -- Request N8, "Two channels, one library and one store": two graphs mapped in one call over one cell list and one work memory, "with a text memory each".
 -- Assumes nothing.
 use Prim.Native.Nat.{ℕ, _+_}
+use mathlib.Core.Bool.{Bool}
 use mathlib.Core.List.{List}
 use lib.Dec.{leb}
 use lib.ListN.{length, replicate}
 use Rattle.model.specs.Limits.{need}
 use Rattle.model.specs.Reading.{Read, holds, fault, next, unless}
-use Rattle.model.specs.LibraryText.{readLibrary}
 use Rattle.model.specs.GraphText.{readHeader}
 use Rattle.model.specs.Netlist.{Outcome, refused}
-use Rattle.model.specs.Mapper.{Call, short, mapTexts, answerOf}
+use Rattle.model.specs.Mapper.{Call, short, readListed, mapTexts, answerOf}
 use Rattle.model.specs.declared.Two.{Two}
 
 -- what is a channel's own: "its own graph, arrivals and text length"
@@ -18,8 +18,9 @@ pub record Channel : Type 0 where
   pub arrivals : List ℕ
   pub bytes : ℕ
 
--- what a call for two channels is given
+-- what a call for two channels is given: pairs are wanted for both or for neither
 pub record TwoCall : Type 0 where
+  pub paired : Bool
   pub library : List ℕ
   pub words : ℕ
   pub first : Channel
@@ -30,19 +31,19 @@ abbrev pub channelOf : List ℕ → List ℕ → List ℕ → Channel
 channelOf graph arrivals text = record { graph = graph; arrivals = arrivals; bytes = length text }
 
 -- the call on a library and two channels, with work memory lent
-abbrev pub twoCallOf : List ℕ → Channel → Channel → List ℕ → TwoCall
-twoCallOf library first second work = record { library = library; words = length work; first = first; second = second }
+abbrev pub twoCallOf : Bool → List ℕ → Channel → Channel → List ℕ → TwoCall
+twoCallOf paired library first second work = record { paired = paired; library = library; words = length work; first = first; second = second }
 
 -- a channel "alone": the call on the library and its own texts, with so many words
-abbrev pub alone : List ℕ → Channel → ℕ → Call
-alone library ch words = record { library = library; graph = ch .graph; arrivals = ch .arrivals; words = words; bytes = ch .bytes }
+abbrev pub alone : Bool → List ℕ → Channel → ℕ → Call
+alone paired library ch words = record { paired = paired; library = library; graph = ch .graph; arrivals = ch .arrivals; words = words; bytes = ch .bytes }
 
--- how many words a channel needs, or the first refusal tried before 10 that applies to its texts: 1 to 9, 19 and 27
-unfoldable pub needOf : List ℕ → Channel → Read ℕ
-unfolding next unless readLibrary readHeader need
-needOf library ch =
-    unless (short (alone library ch 0)) 1 0
-    (next (readLibrary library) (λ _.
+-- how many words a channel needs, or the first refusal tried before 10 that applies to its texts: 1 to 9, 19, 27 and 30
+unfoldable pub needOf : Bool → List ℕ → Channel → Read ℕ
+unfolding next unless readListed readHeader need
+needOf paired library ch =
+    unless (short (alone paired library ch 0)) 1 0
+    (next (readListed paired library) (λ _.
     next (readHeader (ch .graph)) (λ h. holds (need (h .size) (h .outputs)))))
 
 -- how many words each channel needs
@@ -55,8 +56,8 @@ pub record Needs : Type 0 where
 unfoldable pub needsOf : TwoCall → Read Needs
 unfolding next unless needOf
 needsOf c =
-    next (needOf (c .library) (c .first)) (λ a.
-    next (needOf (c .library) (c .second)) (λ b.
+    next (needOf (c .paired) (c .library) (c .first)) (λ a.
+    next (needOf (c .paired) (c .library) (c .second)) (λ b.
     unless (leb (a + b) (c .words)) 10 0 (holds (record { first = a; second = b }))))
 
 -- what comes of each channel
@@ -69,7 +70,7 @@ pub record Outcomes : Type 0 where
 unfoldable pub mapNeeds : TwoCall → Read Needs → Outcomes
 unfolding mapTexts
 mapNeeds c (fault n k) = record { first = refused n k; second = refused n k }
-mapNeeds c (holds n) = record { first = mapTexts (alone (c .library) (c .first) (n .first)); second = mapTexts (alone (c .library) (c .second) (n .second)) }
+mapNeeds c (holds n) = record { first = mapTexts (alone (c .paired) (c .library) (c .first) (n .first)); second = mapTexts (alone (c .paired) (c .library) (c .second) (n .second)) }
 
 -- the outcomes of a call
 unfoldable pub mapTwo : TwoCall → Outcomes

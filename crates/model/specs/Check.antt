@@ -9,13 +9,12 @@ use Rattle.model.specs.Base.{bit, all, any, keep, each, same, below, and
 use Rattle.model.specs.Limits.{need}
 use Rattle.model.specs.Text.{Line, endedByTen, text, linesFrom, fields, between, isLetter}
 use Rattle.model.specs.Reading.{Read, holds, fault, next, unless, from?}
-use Rattle.model.specs.Table.{value}
+use Rattle.model.specs.Table.{value, rowOf}
 use Rattle.model.specs.Cells.{nameOf}
 use Rattle.model.specs.Graph.{Graph, literal, unplaced, literalValue, valueOf}
 use Rattle.model.specs.LibraryText.{readLibrary}
 use Rattle.model.specs.GraphText.{readHeader, readGraph}
 use Rattle.model.specs.Netlist.{netName, outName}
-use Rattle.model.specs.Blif.{rowOf}
 use Rattle.model.specs.Mapper.{triedEarly}
 use Rattle.model.specs.declared.Cell.{Cell}
 use Rattle.model.specs.declared.Checked.{Checked}

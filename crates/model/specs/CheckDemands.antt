@@ -7,10 +7,9 @@ use mathlib.Core.Logic.{_↔_}
 use lib.ListN.{length, getD}
 use Rattle.model.specs.Limits.{need}
 use Rattle.model.specs.Reading.{holds}
-use Rattle.model.specs.Table.{value}
+use Rattle.model.specs.Table.{value, rowOf}
 use Rattle.model.specs.Graph.{Graph, literalValue, GraphValues}
 use Rattle.model.specs.Netlist.{mapped, outName}
-use Rattle.model.specs.Blif.{rowOf}
 use Rattle.model.specs.Mapper.{Call, Design, readTexts, mapTexts}
 use Rattle.model.specs.Check.{Driver, Edited, Told, inputNets, settingOf, lineEnds, readEdited, checkTexts, toldOf, checkedWork}
 use Rattle.model.specs.declared.Figures.{Figures}

@@ -1,7 +1,7 @@
--- The three demands as types, for every call: library text, graph text in either form, arrivals' text, number of lent words and number of lent bytes; and
--- what is promised of two texts that mean the same graph, of texts alike but for line ends, of inputs that arrive late, and of delays given as ranges.
--- Assumes nothing.
-use Prim.Native.Nat.{ℕ, suc, _*_, _≤_, _<_}
+-- The three demands as types, for every call: pairs wanted or not, library text, graph text in either form, arrivals' text, number of lent words and
+-- number of lent bytes; and what is promised of two texts that mean the same graph, of texts alike but for line ends, of inputs that arrive late, and of
+-- delays given as ranges. Assumes nothing.
+use Prim.Native.Nat.{ℕ, suc, _+_, _*_, _≤_, _<_}
 use mathlib.Core.Path.{_≡_}
 use mathlib.Core.Bool.{Bool, true, false, cond, _&&_, _||_}
 use mathlib.Core.Option.{some}
@@ -9,25 +9,26 @@ use mathlib.Core.List.{List, [], _∷_, _++_, map, List·Memᴰ}
 use mathlib.Core.Logic.{_⊎_, _↔_}
 use Prim.Native.Nat.{Ordering·gt}
 use lib.Dec.{eqb, leb}
-use lib.ListN.{length, getD}
+use lib.ListN.{length, take, drop, getD}
 use Rattle.model.specs.Base.{each, below, same}
 use Rattle.model.specs.Limits.{need}
 use Rattle.model.specs.Text.{Line, text, linesFrom, shown, fields}
 use Rattle.model.specs.Reading.{Read, holds, fault, next, unless}
-use Rattle.model.specs.Cells.{nameOf}
+use Rattle.model.specs.Cells.{nameOf, cellAt}
 use Rattle.model.specs.Graph.{Graph, literal, varOf, negated, unplaced, placingOrder, literalValue, GraphValues}
-use Rattle.model.specs.LibraryText.{readLibrary, isRanged}
+use Rattle.model.specs.LibraryText.{isRanged}
+use Rattle.model.specs.Pairs.{pairAt}
 use Rattle.model.specs.FormerLibrary.{formerLibrary}
 use Rattle.model.specs.GraphText.{readHeader, readGraph, asciiText}
 use Rattle.model.specs.ArrivalsText.{Late, readArrivals}
 use Rattle.model.specs.Cuts.{cutsOf, compareLeaves, crowded}
-use Rattle.model.specs.Choice.{feeds, cellOf, absent, chosen, preference}
+use Rattle.model.specs.Choice.{feeds, absent, chosen, preference}
 use Rattle.model.specs.Cover.{IsOwn, Allowed, Needed, arrivalBy, Cover, CoverArrivals}
-use Rattle.model.specs.Netlist.{Outcome, refused, mapped, mapGraph, gates, figuresOf, netlistText, netName, outName, sum, largest}
+use Rattle.model.specs.Netlist.{Outcome, refused, mapped, mapGraph, gates, numberOf, figuresOf, netlistText, netName, outName, sum, largest}
 use Rattle.model.specs.Timing.{lowOf, timingLines}
 use Rattle.model.specs.Blif.{GateLine, Binding, Wire, Blif, readBlif, readFigures, TimingLine, readTimings, named, drives, fedBy, pinNames, outputName, NetValues, Delays, delaysAt, NetTimes, NetArrivals, InRange}
 use Rattle.model.specs.ArrivalsText.{timedBy}
-use Rattle.model.specs.Mapper.{Call, Design, short, readTexts, within, mapDesign, mapTexts, answerOf, returned, returnedBy, textAfter, workAfter}
+use Rattle.model.specs.Mapper.{Call, Design, designOf, short, readListed, readTexts, within, mapDesign, mapTexts, answerOf, returned, returnedBy, textAfter, workAfter}
 use Rattle.model.specs.declared.Cell.{Cell}
 use Rattle.model.specs.declared.Header.{Header}
 use Rattle.model.specs.declared.Source.{Source}
@@ -62,9 +63,9 @@ pub record Printed (c : Call) (t : List ℕ) (f : Figures) (d : Design) (n : Bli
   pub reads : readBlif t ≡ some n
   pub says : readFigures t ≡ some f
 
--- a statement of what a call prints
-abbrev pub OfPrinted : (List Cell → Graph → Figures → Blif → Type 0) → Call → Type 0
-OfPrinted P c = (t : List ℕ) (f : Figures) (d : Design) (n : Blif) → Printed c t f d n → P (d .cells) (d .graph) f n
+-- a statement of what a call prints: of the listed cells, the cells that are mapped with, the graph, the figures and the netlist
+abbrev pub OfPrinted : (List Cell → List Cell → Graph → Figures → Blif → Type 0) → Call → Type 0
+OfPrinted P c = (t : List ℕ) (f : Figures) (d : Design) (n : Blif) → Printed c t f d n → P (d .listed) (d .cells) (d .graph) f n
 
 -- what is printed is read from a design, and reads back
 abbrev pub Readable : Call → Type 0
@@ -72,18 +73,18 @@ Readable c = (t : List ℕ) (f : Figures) → mapTexts c ≡ mapped t f → (d :
 
 -- "Inputs and outputs keep the file's order." "The list becomes `o0`, `o1` and so on, in file order. Before `.end`, each gets `.names` with its net and
 -- its own name": the wires lead to the listed names, in this order, from the nets of the graph's outputs. "Nets are `p` or `m` (negative) and the
--- variable": inputs' and gates' nets are such, and all others are outputs' own names. Each gate is of a listed cell and binds its pins and its
--- output; no net is driven twice, and every net that is used is driven
-pub record Formed (cells : List Cell) (g : Graph) (f : Figures) (n : Blif) : Type 0 where
+-- variable", and a pair's inner gate is "on a net `s` followed by the root's net name": inputs' and gates' nets are such, and all others are outputs' own
+-- names. Each gate is of a listed cell and binds its pins and its output; no net is driven twice, and every net that is used is driven
+pub record Formed (listed cells : List Cell) (g : Graph) (f : Figures) (n : Blif) : Type 0 where
   pub inputs : n .inputs ≡ map (λ (v : ℕ). netName (literal false v)) (g .inputs)
   pub outputs : n .outputs ≡ map outName (below (length (g .outputs)))
   pub targets : map (λ (x : Wire). x .target) (n .wires) ≡ n .outputs
   pub sources : map (λ (x : Wire). x .source) (n .wires) ≡ map netName (g .outputs)
-  pub listed : (t : GateLine) → List·Memᴰ t (n .gates) → (c : Cell) × List·Memᴰ c cells × (nameOf c ≡ t .cell)
+  pub ofCells : (t : GateLine) → List·Memᴰ t (n .gates) → (c : Cell) × List·Memᴰ c listed × (nameOf c ≡ t .cell)
       × (map (λ (b : Binding). b .pin) (t .bindings) ≡ pinNames (c .pins) ++ (outputName ∷ []))
-  pub nets : (net : List ℕ) → List·Memᴰ net (n .inputs ++ map drives (n .gates)) → (l : ℕ) × (net ≡ netName l)
+  pub nets : (net : List ℕ) → List·Memᴰ net (n .inputs ++ map drives (n .gates)) → (l : ℕ) × ((net ≡ netName l) ⊎ (net ≡ 115 ∷ netName l))
   pub once : Distinct (drivenNets n)
-  pub driven : (net : List ℕ) → List·Memᴰ net (n .outputs ++ (each (fedBy cells) (n .gates) ++ map (λ (x : Wire). x .source) (n .wires))) → List·Memᴰ net (drivenNets n)
+  pub driven : (net : List ℕ) → List·Memᴰ net (n .outputs ++ (each (fedBy listed) (n .gates) ++ map (λ (x : Wire). x .source) (n .wires))) → List·Memᴰ net (drivenNets n)
 
 -- "by ascending variable, `p` first"
 abbrev pub Before : ℕ → ℕ → Type 0
@@ -94,44 +95,71 @@ abbrev pub InOrder : List ℕ → Type 0
 InOrder [] = Unit
 InOrder (l ∷ ls) = ((k : ℕ) → List·Memᴰ k ls → Before l k) × InOrder ls
 
--- "Needed phases, inputs' own positive nets apart, become gates by ascending variable, `p` first": the gate lines drive the nets of these phases and
--- no others, in this order, and each is of its phase's chosen cell, fed by the nets of the phases that the chosen source is fed by
-pub record Gated (cells : List Cell) (g : Graph) (f : Figures) (n : Blif) : Type 0 where
+-- the lines of phase l where its source's cell has number k and is fed by these nets. A listed cell is one line ..
+pub record OneLine (listed : List Cell) (k : ℕ) (nets : List (List ℕ)) (l : ℕ) (t : GateLine) : Type 0 where
+  pub isListed : k < length listed
+  pub cell : t .cell ≡ nameOf (cellAt listed k)
+  pub net : drives t ≡ netName l
+  pub fed : fedBy listed t ≡ nets
+
+-- .. and "A pair prints as two gates, the inner first, on a net `s` followed by the root's net name": "Its pins are the root's in order, with the inner's,
+-- in order, at the fed pin's place."
+pub record TwoLines (listed : List Cell) (k : ℕ) (nets : List (List ℕ)) (l : ℕ) (s t : GateLine) : Type 0 where
+  pub isPair : length listed ≤ k
+  pub innerCell : s .cell ≡ nameOf (cellAt listed (pairAt listed k .inner))
+  pub rootCell : t .cell ≡ nameOf (cellAt listed (pairAt listed k .root))
+  pub innerNet : drives s ≡ 115 ∷ netName l
+  pub rootNet : drives t ≡ netName l
+  pub innerFed : fedBy listed s ≡ take (cellAt listed (pairAt listed k .inner) .pins) (drop (pairAt listed k .pin) nets)
+  pub rootFed : fedBy listed t
+      ≡ take (pairAt listed k .pin) nets ++ ((115 ∷ netName l) ∷ drop (pairAt listed k .pin + cellAt listed (pairAt listed k .inner) .pins) nets)
+
+-- the lines of phases, in the order of these
+pub data LinesOf (listed : List Cell) (number : ℕ → ℕ) (nets : ℕ → List (List ℕ)) : List ℕ → List GateLine → Type 0 where
+  none : LinesOf listed number nets [] []
+  one : {l : ℕ} {ls : List ℕ} {t : GateLine} {ts : List GateLine} → OneLine listed (number l) (nets l) l t → LinesOf listed number nets ls ts
+      → LinesOf listed number nets (l ∷ ls) (t ∷ ts)
+  two : {l : ℕ} {ls : List ℕ} {s t : GateLine} {ts : List GateLine} → TwoLines listed (number l) (nets l) l s t → LinesOf listed number nets ls ts
+      → LinesOf listed number nets (l ∷ ls) (s ∷ t ∷ ts)
+
+-- "Needed phases, inputs' own positive nets apart, become gates by ascending variable, `p` first": the gate lines drive the nets of these phases and no
+-- other phase's; they are the lines of these phases, in this order, each of its phase's chosen cell, fed by the nets of the phases that the chosen source
+-- is fed by
+pub record Gated (listed cells : List Cell) (g : Graph) (f : Figures) (n : Blif) : Type 0 where
   pub nets : (l : ℕ) → List·Memᴰ (netName l) (map drives (n .gates)) ↔ (Needed cells g (g .outputs) (λ x. chosen cells g x .source) l × (¬ IsOwn g l))
-  pub order : (ls : List ℕ) × InOrder ls × (map drives (n .gates) ≡ map netName ls)
-  pub sources : (t : GateLine) → List·Memᴰ t (n .gates) → (l : ℕ) → drives t ≡ netName l
-      → (t .cell ≡ nameOf (cellOf cells (chosen cells g l .source))) × (fedBy cells t ≡ map netName (feeds cells (cutsOf g) l (chosen cells g l .source)))
+  pub order : (ls : List ℕ) × InOrder ls
+      × LinesOf listed (λ l. numberOf (chosen cells g l .source)) (λ l. map netName (feeds cells (cutsOf g) l (chosen cells g l .source))) ls (n .gates)
 
 -- ---- Demand 2: "the printed netlist, read by BLIF's rules with the listed cells' tables, gives every output the value that the AIGER graph
 -- gives it, for every setting of the inputs": both have values, and with any such values each output, at its `o` name, has the graph's
-pub record SameValues (cells : List Cell) (g : Graph) (f : Figures) (n : Blif) : Type 0 where
+pub record SameValues (listed cells : List Cell) (g : Graph) (f : Figures) (n : Blif) : Type 0 where
   pub graphHas : (setting : ℕ → Bool) → (v : ℕ → Bool) × GraphValues g setting v
-  pub netlistHas : (setting : ℕ → Bool) → (w : List ℕ → Bool) × NetValues cells n (map setting (g .inputs)) w
-  pub same : (setting v : ℕ → Bool) → GraphValues g setting v → (w : List ℕ → Bool) → NetValues cells n (map setting (g .inputs)) w
+  pub netlistHas : (setting : ℕ → Bool) → (w : List ℕ → Bool) × NetValues listed n (map setting (g .inputs)) w
+  pub same : (setting v : ℕ → Bool) → GraphValues g setting v → (w : List ℕ → Bool) → NetValues listed n (map setting (g .inputs)) w
       → map w (n .outputs) ≡ map (literalValue v) (g .outputs)
 
 -- "the figures equal those of the printed text": nets have arrivals, from those of the graph's inputs on, and with any such arrivals, an output's
 -- "read at its `o` name", the figures are the text's.
--- "Gates number at most 2(M+1)."
-pub record SameFigures (cells : List Cell) (g : Graph) (f : Figures) (n : Blif) : Type 0 where
-  pub hasArrivals : (at : List ℕ → ℕ) × NetArrivals cells n (map (g .late) (g .inputs)) at
+-- "the gate bound becomes 4(M+1)"
+pub record SameFigures (listed cells : List Cell) (g : Graph) (f : Figures) (n : Blif) : Type 0 where
+  pub hasArrivals : (at : List ℕ → ℕ) × NetArrivals listed n (map (g .late) (g .inputs)) at
   pub count : f .gates ≡ length (n .gates)
-  pub area : f .area ≡ sum (map (λ (t : GateLine). named cells (t .cell) .area) (n .gates))
-  pub arrival : (at : List ℕ → ℕ) → NetArrivals cells n (map (g .late) (g .inputs)) at → f .arrival ≡ largest (map at (n .outputs))
-  pub bound : f .gates ≤ 2 * suc (g .size)
+  pub area : f .area ≡ sum (map (λ (t : GateLine). named listed (t .cell) .area) (n .gates))
+  pub arrival : (at : List ℕ → ℕ) → NetArrivals listed n (map (g .late) (g .inputs)) at → f .arrival ≡ largest (map at (n .outputs))
+  pub bound : f .gates ≤ 4 * suc (g .size)
 
 -- ---- Demand 3: "for each net of the printed netlist, every cover of the outputs that has this net gives it an arrival no earlier".
--- "A cover has a net if it needs that net's phase". Both arrivals start from the inputs' own: "no cover so timed gives a printed net earlier"
-abbrev pub NoEarlier : List Cell → Graph → Figures → Blif → Type 0
-NoEarlier cells g f n =
-    (at : List ℕ → ℕ) → NetArrivals cells n (map (g .late) (g .inputs)) at → (l : ℕ) → List·Memᴰ (netName l) (drivenNets n)
+-- "A cover has a net if it needs that net's phase". "The earliest-arrival promise, for `p` and `m` nets, .. range over covers with pairs too". Both arrivals start from the inputs' own: "no cover so timed gives a printed net earlier"
+abbrev pub NoEarlier : List Cell → List Cell → Graph → Figures → Blif → Type 0
+NoEarlier listed cells g f n =
+    (at : List ℕ → ℕ) → NetArrivals listed n (map (g .late) (g .inputs)) at → (l : ℕ) → List·Memᴰ (netName l) (drivenNets n)
     → (c : Cover cells g (g .outputs)) (arrival : ℕ → ℕ) → CoverArrivals cells g (g .outputs) c arrival → Needed cells g (g .outputs) (c .source) l
     → at (netName l) ≤ arrival l
 
 -- the same of the nets `o0`, `o1` and so on: output k's own name arrives as its net, which every cover of the outputs has
-abbrev pub OutputsNoEarlier : List Cell → Graph → Figures → Blif → Type 0
-OutputsNoEarlier cells g f n =
-    (at : List ℕ → ℕ) → NetArrivals cells n (map (g .late) (g .inputs)) at → (k : ℕ) → k < length (g .outputs)
+abbrev pub OutputsNoEarlier : List Cell → List Cell → Graph → Figures → Blif → Type 0
+OutputsNoEarlier listed cells g f n =
+    (at : List ℕ → ℕ) → NetArrivals listed n (map (g .late) (g .inputs)) at → (k : ℕ) → k < length (g .outputs)
     → (at (outName k) ≡ at (netName (getD (g .outputs) k 0)))
     × ((c : Cover cells g (g .outputs)) (arrival : ℕ → ℕ) → CoverArrivals cells g (g .outputs) c arrival → at (outName k) ≤ arrival (getD (g .outputs) k 0))
 
@@ -142,8 +170,8 @@ pub record Mappable (c : Call) (d : Design) : Type 0 where
   pub few : crowded (d .graph) ≡ []
 
 -- a statement of the outcome of a call whose texts can be mapped
-abbrev pub OfMappable : (Bool → ℕ → Outcome → List Cell → Graph → Type 0) → Call → Type 0
-OfMappable P c = (d : Design) → Mappable c d → P (d .ranged) (c .bytes) (mapTexts c) (d .cells) (d .graph)
+abbrev pub OfMappable : (Bool → ℕ → Outcome → List Cell → List Cell → Graph → Type 0) → Call → Type 0
+OfMappable P c = (d : Design) → Mappable c d → P (d .ranged) (c .bytes) (mapTexts c) (d .listed) (d .cells) (d .graph)
 
 -- every cover has arrivals, and on the phases that it needs no others: where there is no cover there are no sources for one. "every arrival starts from
 -- it": an input's own net has the input's arrival
@@ -153,8 +181,8 @@ pub record Timed (cells : List Cell) (g : Graph) (outs : List ℕ) (c : Cover ce
       → (l : ℕ) → Needed cells g outs (c .source) l → at l ≡ bt l
   pub starts : (at : ℕ → ℕ) → CoverArrivals cells g outs c at → (l : ℕ) → Needed cells g outs (c .source) l → IsOwn g l → at l ≡ g .late (varOf l)
 
-abbrev pub CoversTimed : Bool → ℕ → Outcome → List Cell → Graph → Type 0
-CoversTimed ranged bytes outcome cells g = (outs : List ℕ) (c : Cover cells g outs) → Timed cells g outs c
+abbrev pub CoversTimed : Bool → ℕ → Outcome → List Cell → List Cell → Graph → Type 0
+CoversTimed ranged bytes outcome listed cells g = (outs : List ℕ) (c : Cover cells g outs) → Timed cells g outs c
 
 -- output k is the lowest that has no cover: "a cover of one output is a cover with that as the only output"
 pub record LowestUncovered (cells : List Cell) (g : Graph) (k : ℕ) : Type 0 where
@@ -163,25 +191,26 @@ pub record LowestUncovered (cells : List Cell) (g : Graph) (k : ℕ) : Type 0 wh
   pub before : (j : ℕ) → j < k → Cover cells g (getD (g .outputs) j 0 ∷ [])
 
 -- the text and the figures of the netlist of the cover that 01's choice gives
-abbrev pub choiceFigures : List Cell → Graph → Figures
-choiceFigures cells g = figuresOf g (chosen cells g) (gates cells g (chosen cells g))
+abbrev pub choiceFigures : List Cell → List Cell → Graph → Figures
+choiceFigures listed cells g = figuresOf g (chosen cells g) (gates listed cells g (chosen cells g))
 
 -- its text
-abbrev pub choiceText : List Cell → Graph → List ℕ
-choiceText cells g = netlistText g (gates cells g (chosen cells g)) (choiceFigures cells g)
+abbrev pub choiceText : List Cell → List Cell → Graph → List ℕ
+choiceText listed cells g = netlistText g (gates listed cells g (chosen cells g)) (choiceFigures listed cells g)
 
 -- what is printed: the netlist, and where delays are ranges it is "followed by a line per output"
-abbrev pub printedText : Bool → List Cell → Graph → List ℕ
-printedText ranged cells g = cond ranged (choiceText cells g ++ timingLines (lowOf cells g) (λ (l : ℕ). chosen cells g l .arrival) 0 (g .outputs)) (choiceText cells g)
+abbrev pub printedText : Bool → List Cell → List Cell → Graph → List ℕ
+printedText ranged listed cells g =
+    cond ranged (choiceText listed cells g ++ timingLines (lowOf cells g) (λ (l : ℕ). chosen cells g l .arrival) 0 (g .outputs)) (choiceText listed cells g)
 
 -- "refusal 17 comes exactly when some output has no cover, and names the lowest; else the netlist of the cover that 01's choice gives is
 -- printed, or 18 exactly when it applies"
-pub record Decided (ranged : Bool) (bytes : ℕ) (outcome : Outcome) (cells : List Cell) (g : Graph) : Type 0 where
+pub record Decided (ranged : Bool) (bytes : ℕ) (outcome : Outcome) (listed cells : List Cell) (g : Graph) : Type 0 where
   pub seventeen : (k : ℕ) → (outcome ≡ refused 17 k) ↔ LowestUncovered cells g k
-  pub prints : ((l : ℕ) → List·Memᴰ l (g .outputs) → Cover cells g (l ∷ [])) → length (printedText ranged cells g) ≤ bytes
-      → outcome ≡ mapped (printedText ranged cells g) (choiceFigures cells g)
-  pub eighteen : ((l : ℕ) → List·Memᴰ l (g .outputs) → Cover cells g (l ∷ [])) → bytes < length (printedText ranged cells g)
-      → outcome ≡ refused 18 (length (printedText ranged cells g))
+  pub prints : ((l : ℕ) → List·Memᴰ l (g .outputs) → Cover cells g (l ∷ [])) → length (printedText ranged listed cells g) ≤ bytes
+      → outcome ≡ mapped (printedText ranged listed cells g) (choiceFigures listed cells g)
+  pub eighteen : ((l : ℕ) → List·Memᴰ l (g .outputs) → Cover cells g (l ∷ [])) → bytes < length (printedText ranged listed cells g)
+      → outcome ≡ refused 18 (length (printedText ranged listed cells g))
 
 -- "the cover that 01's choice gives": where every output has a cover, the chosen sources and arrivals are a cover of the outputs
 pub record ChosenCover (cells : List Cell) (g : Graph) : Type 0 where
@@ -201,7 +230,7 @@ pub record Preferred (cells : List Cell) (g : Graph) (l : ℕ) : Type 0 where
       × (¬ (compareLeaves (preference (chosen cells g l)) (preference (record { source = s; arrival = arrivalBy cells g (λ x. chosen cells g x .arrival) l s })) ≡ Ordering·gt))
 
 -- what is said of the choice
-pub record Chosen (ranged : Bool) (bytes : ℕ) (outcome : Outcome) (cells : List Cell) (g : Graph) : Type 0 where
+pub record Chosen (ranged : Bool) (bytes : ℕ) (outcome : Outcome) (listed cells : List Cell) (g : Graph) : Type 0 where
   pub covers : ((l : ℕ) → List·Memᴰ l (g .outputs) → Cover cells g (l ∷ [])) → ChosenCover cells g
   pub preferred : (l : ℕ) → List·Memᴰ (varOf l) (placingOrder g) → Preferred cells g l
 
@@ -211,21 +240,21 @@ pub record Chosen (ranged : Bool) (bytes : ℕ) (outcome : Outcome) (cells : Lis
 -- fixed separately per gate, puts the output within these two, and each end is reached by some choice": a choice gives any delays to any gate line, apart from
 -- what it gives to the others; it has arrivals, from those of the graph's inputs on; within the ranges it puts every output, "read at its `o` name", between
 -- the two numbers of its line. One choice reaches the low ends of all lines, and one the high ends
-pub record WithinRanges (cells : List Cell) (g : Graph) (n : Blif) (ts : List TimingLine) : Type 0 where
+pub record WithinRanges (listed : List Cell) (g : Graph) (n : Blif) (ts : List TimingLine) : Type 0 where
   pub names : map (λ (x : TimingLine). x .output) ts ≡ n .outputs
   pub separate : (ds : List (List ℕ)) → length ds ≡ length (n .gates) → (delays : Delays) × (map (delaysAt delays) (n .gates) ≡ ds)
-  pub hasTimes : (delays : Delays) → (at : List ℕ → ℕ) × NetTimes cells delays n (map (g .late) (g .inputs)) at
-  pub within : (delays : Delays) → InRange cells delays n → (at : List ℕ → ℕ) → NetTimes cells delays n (map (g .late) (g .inputs)) at
+  pub hasTimes : (delays : Delays) → (at : List ℕ → ℕ) × NetTimes listed delays n (map (g .late) (g .inputs)) at
+  pub within : (delays : Delays) → InRange listed delays n → (at : List ℕ → ℕ) → NetTimes listed delays n (map (g .late) (g .inputs)) at
       → (x : TimingLine) → List·Memᴰ x ts → (x .low ≤ at (x .output)) × (at (x .output) ≤ x .high)
-  pub lowest : (delays : Delays) × InRange cells delays n
-      × ((at : List ℕ → ℕ) → NetTimes cells delays n (map (g .late) (g .inputs)) at → map at (n .outputs) ≡ map (λ (x : TimingLine). x .low) ts)
-  pub highest : (delays : Delays) × InRange cells delays n
-      × ((at : List ℕ → ℕ) → NetTimes cells delays n (map (g .late) (g .inputs)) at → map at (n .outputs) ≡ map (λ (x : TimingLine). x .high) ts)
+  pub lowest : (delays : Delays) × InRange listed delays n
+      × ((at : List ℕ → ℕ) → NetTimes listed delays n (map (g .late) (g .inputs)) at → map at (n .outputs) ≡ map (λ (x : TimingLine). x .low) ts)
+  pub highest : (delays : Delays) × InRange listed delays n
+      × ((at : List ℕ → ℕ) → NetTimes listed delays n (map (g .late) (g .inputs)) at → map at (n .outputs) ≡ map (λ (x : TimingLine). x .high) ts)
 
 -- what a printed text says behind its `# gates` line, read there: under the longer names line these lines, under the shorter nothing
 pub record Ranges (c : Call) : Type 0 where
   pub timed : (t : List ℕ) (f : Figures) (d : Design) (n : Blif) → Printed c t f d n → isRanged (c .library) ≡ true
-      → (ts : List TimingLine) × (readTimings t ≡ some ts) × WithinRanges (d .cells) (d .graph) n ts
+      → (ts : List TimingLine) × (readTimings t ≡ some ts) × WithinRanges (d .listed) (d .graph) n ts
   pub untimed : (t : List ℕ) (f : Figures) → mapTexts c ≡ mapped t f → isRanged (c .library) ≡ false → readTimings t ≡ some []
 
 -- ---- demands 2 and 3 together, for a call
@@ -258,7 +287,7 @@ pub record Means (bytes : List ℕ) (g : Graph) : Type 0 where
 
 -- the call with another graph's text
 abbrev pub onGraph : Call → List ℕ → Call
-onGraph c t = record { library = c .library; graph = t; arrivals = c .arrivals; words = c .words; bytes = c .bytes }
+onGraph c t = record { paired = c .paired; library = c .library; graph = t; arrivals = c .arrivals; words = c .words; bytes = c .bytes }
 
 -- "A file free of 19 to 21 and its ASCII twin, each within the length in 1, must give the same netlist": what a call's text means, its ASCII twin
 -- means; and whatever else differs in two texts that mean the same graph, the outcome is the same, netlist, figures or refusal
@@ -299,6 +328,7 @@ pub record Short (c : Call) : Type 0 where
 -- two calls that differ in no more than the ends of their texts' lines. Either ending is accepted "in library and ASCII graph", and lines of arrivals are
 -- "ended as library lines are"; a graph in the binary form is the same in both
 pub record AlikeTexts (c d : Call) : Type 0 where
+  pub paired : c .paired ≡ d .paired
   pub libraries : Alike (c .library) (d .library)
   pub graphs : Alike (c .graph) (d .graph)
   pub arrivals : Alike (c .arrivals) (d .arrivals)
@@ -323,9 +353,9 @@ ofArrivals n = eqb n 25 || eqb n 26
 
 -- the refusals of the library's text
 abbrev pub ofLibrary : ℕ → Bool
-ofLibrary n = leb n 6 || eqb n 27
+ofLibrary n = leb n 6 || (eqb n 27 || eqb n 30)
 
--- the text that a refusal's place is in: 2 to 6 and 27 are the library's, 25 and 26 the arrivals', the others tried before 15 the graph's
+-- the text that a refusal's place is in: 2 to 6, 27 and 30 are the library's, 25 and 26 the arrivals', the others tried before 15 the graph's
 unfoldable pub atFault : ℕ → Call → List ℕ
 atFault n c = cond (ofLibrary n) (c .library) (cond (ofArrivals n) (c .arrivals) (c .graph))
 
@@ -348,10 +378,10 @@ EitherEnd c = (d : Call) → AlikeTexts c d → SameButEnds c d
 abbrev pub readUntimed : Call → Read Design
 readUntimed c =
     unless (leb (length (c .library)) 65536 && leb (length (c .graph)) 65536) 1 0
-    (next (readLibrary (c .library)) (λ cells.
+    (next (readListed (c .paired) (c .library)) (λ listed.
     next (readHeader (c .graph)) (λ h.
     unless (leb (need (h .size) (h .outputs)) (c .words)) 10 0
-    (next (readGraph (c .graph) h) (λ g. holds (record { cells = cells; ranged = isRanged (c .library); graph = g }))))))
+    (next (readGraph (c .graph) h) (λ g. holds (designOf c listed g))))))
 
 -- the third text is "empty for none": the outcome is then that of the library and the graph alone
 pub record Untimed (c : Call) : Type 0 where
@@ -374,9 +404,9 @@ pub record ListedFor (g : Graph) (es : List Late) : Type 0 where
 abbrev pub Listed : Call → Type 0
 Listed c = (d : Design) → readTexts c ≡ holds d → (es : List Late) × (readArrivals (length (d .graph .inputs)) (c .arrivals) ≡ holds es) × ListedFor (d .graph) es
 
--- ---- the shorter names line: what was printed and refused before there were ranges is so still
+-- ---- the shorter names line and no pairs: what was printed and refused before there were ranges and pairs is so still
 
--- what the texts hold where the library's is read as it was before there were ranges
+-- what the texts hold where the library's is read as it was before there were ranges and pairs
 abbrev pub readFormer : Call → Read Design
 readFormer c =
     unless (short c) 1 0
@@ -384,15 +414,15 @@ readFormer c =
     next (readHeader (c .graph)) (λ h.
     unless (leb (need (h .size) (h .outputs)) (c .words)) 10 0
     (next (readGraph (c .graph) h) (λ g.
-    next (readArrivals (h .inputs) (c .arrivals)) (λ es. holds (record { cells = cells; ranged = false; graph = timedBy g es })))))))
+    next (readArrivals (h .inputs) (c .arrivals)) (λ es. holds (record { listed = cells; cells = cells; ranged = false; graph = timedBy g es })))))))
 
 -- and what came of it
 unfoldable pub formerOutcome : ℕ → Read Design → Outcome
 unfolding within mapGraph
-formerOutcome bytes (holds d) = within bytes (mapGraph (d .cells) (d .graph))
+formerOutcome bytes (holds d) = within bytes (mapGraph (d .listed) (d .cells) (d .graph))
 formerOutcome bytes (fault n k) = refused n k
 
--- "mapping uses the `d` figures as before": without the longer names line the call reads and answers as before
+-- "mapping uses the `d` figures as before": without the longer names line, and where pairs are not wanted, the call reads and answers as before
 pub record Former (c : Call) : Type 0 where
-  pub reads : isRanged (c .library) ≡ false → readTexts c ≡ readFormer c
-  pub outcome : isRanged (c .library) ≡ false → mapTexts c ≡ formerOutcome (c .bytes) (readFormer c)
+  pub reads : c .paired ≡ false → isRanged (c .library) ≡ false → readTexts c ≡ readFormer c
+  pub outcome : c .paired ≡ false → isRanged (c .library) ≡ false → mapTexts c ≡ formerOutcome (c .bytes) (readFormer c)

@@ -9,6 +9,7 @@ pub mod Cuts
 pub mod Matching
 pub mod Choice
 pub mod Cover
+pub mod Pairs
 pub mod Netlist
 pub mod Timing
 pub mod Blif
@@ -19,6 +20,7 @@ pub mod ArrivalsText
 pub mod Mapper
 pub mod Channels
 pub mod Demands
+pub mod ShuffleDemands
 pub mod TwoDemands
 pub mod NetlistLines
 pub mod Tally

@@ -7,6 +7,7 @@ use lib.ListN.{length, drop, replicate}
 use Rattle.model.specs.Limits.{need}
 use Rattle.model.specs.Reading.{Read, holds, fault, next, unless}
 use Rattle.model.specs.LibraryText.{readLibrary, isRanged}
+use Rattle.model.specs.Pairs.{cellsFor}
 use Rattle.model.specs.GraphText.{readHeader, readGraph}
 use Rattle.model.specs.ArrivalsText.{readArrivals, timedBy}
 use Rattle.model.specs.Graph.{Graph}
@@ -16,39 +17,52 @@ use Rattle.model.specs.declared.Cell.{Cell}
 use Rattle.model.specs.declared.Answer.{Answer}
 use Rattle.model.specs.declared.Answer.the-variants.{Mapped, Refused}
 
--- what a call is given: the library's text, the graph's, the arrivals', "or empty for none", and how many words and bytes are lent to it
+-- what a call is given: whether it wants pairs of cells, the library's text, the graph's, the arrivals', "or empty for none", and how many words and
+-- bytes are lent to it
 pub record Call : Type 0 where
+  pub paired : Bool
   pub library : List ℕ
   pub graph : List ℕ
   pub arrivals : List ℕ
   pub words : ℕ
   pub bytes : ℕ
 
--- the call on three texts, with work memory and text memory lent
-abbrev pub callOf : List ℕ → List ℕ → List ℕ → List ℕ → List ℕ → Call
-callOf library graph arrivals work text = record { library = library; graph = graph; arrivals = arrivals; words = length work; bytes = length text }
+-- the call on three texts, pairs wanted or not, with work memory and text memory lent
+abbrev pub callOf : Bool → List ℕ → List ℕ → List ℕ → List ℕ → List ℕ → Call
+callOf paired library graph arrivals work text = record { paired = paired; library = library; graph = graph; arrivals = arrivals; words = length work; bytes = length text }
 
--- what the texts hold: the cells, whether their delays are ranges, and the graph
+-- what the texts hold: the listed cells, the cells to map with, which are these and, where pairs are wanted, the pairs behind them, whether delays are
+-- ranges, and the graph
 pub record Design : Type 0 where
+  pub listed : List Cell
   pub cells : List Cell
   pub ranged : Bool
   pub graph : Graph
+
+-- what a call's listed cells and graph make
+abbrev pub designOf : Call → List Cell → Graph → Design
+designOf c listed g = record { listed = listed; cells = cellsFor (c .paired) listed; ranged = isRanged (c .library); graph = g }
 
 -- "A text is longer than 65,536 bytes": any of the three
 abbrev pub short : Call → Bool
 short c = leb (length (c .library)) 65536 && (leb (length (c .graph)) 65536 && leb (length (c .arrivals)) 65536)
 
--- refusals 1 to 14, 19 to 21 and 25 to 27: "Work memory has fewer than 124(M+1) + O 16-bit words" stands between the header's and those of what follows
+-- the listed cells of a library's text: "30 when cells and pairs exceed 256, after 6, place 0"
+unfoldable pub readListed : Bool → List ℕ → Read (List Cell)
+unfolding next unless readLibrary cellsFor
+readListed paired library = next (readLibrary library) (λ cells. unless (leb (length (cellsFor paired cells)) 256) 30 0 (holds cells))
+
+-- refusals 1 to 14, 19 to 21, 25 to 27 and 30: "Work memory has fewer than 124(M+1) + O 16-bit words" stands between the header's and those of what follows
 -- it, and the arrivals' come "after 14"
 unfoldable pub readTexts : Call → Read Design
-unfolding next unless readLibrary isRanged readHeader readGraph readArrivals timedBy need
+unfolding next unless readListed cellsFor isRanged readHeader readGraph readArrivals timedBy need
 readTexts c =
     unless (short c) 1 0
-    (next (readLibrary (c .library)) (λ cells.
+    (next (readListed (c .paired) (c .library)) (λ listed.
     next (readHeader (c .graph)) (λ h.
     unless (leb (need (h .size) (h .outputs)) (c .words)) 10 0
     (next (readGraph (c .graph) h) (λ g.
-    next (readArrivals (h .inputs) (c .arrivals)) (λ es. holds (record { cells = cells; ranged = isRanged (c .library); graph = timedBy g es })))))))
+    next (readArrivals (h .inputs) (c .arrivals)) (λ es. holds (designOf c listed (timedBy g es))))))))
 
 -- "Text memory is shorter than the netlist; place, the length needed."
 unfoldable pub within : ℕ → Outcome → Outcome
@@ -58,7 +72,7 @@ within bytes (mapped t f) = cond (leb (length t) bytes) (mapped t f) (refused 18
 -- the outcome for what was read
 unfoldable pub mapDesign : ℕ → Read Design → Outcome
 unfolding within mapGraph followed
-mapDesign bytes (holds d) = within bytes (followed (d .ranged) (d .cells) (d .graph) (mapGraph (d .cells) (d .graph)))
+mapDesign bytes (holds d) = within bytes (followed (d .ranged) (d .cells) (d .graph) (mapGraph (d .listed) (d .cells) (d .graph)))
 mapDesign bytes (fault n k) = refused n k
 
 -- the outcome of a call
@@ -96,9 +110,9 @@ unfoldable pub textAfter : Outcome → List ℕ → List ℕ
 textAfter (refused n k) memory = memory
 textAfter (mapped t f) memory = t ++ drop (length t) memory
 
--- the refusals "tried up to 10": 19 is "tried after 9", and 27 "after 6 on its line"
+-- the refusals "tried up to 10": 19 is "tried after 9", 27 "after 6 on its line", and 30 "after 6"
 abbrev pub triedEarly : ℕ → Bool
-triedEarly n = leb n 10 || (eqb n 19 || eqb n 27)
+triedEarly n = leb n 10 || (eqb n 19 || (eqb n 27 || eqb n 30))
 
 -- "Work memory is unchanged by every refusal tried up to 10, and all zero after a later one and after success."
 unfoldable pub workAfter : Outcome → List ℕ → List ℕ

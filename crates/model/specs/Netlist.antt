@@ -3,14 +3,16 @@ use Prim.Native.Nat.{ℕ, suc, _+_, _*_, max}
 use mathlib.Core.Bool.{Bool, true, false, cond, not}
 use mathlib.Core.Option.{Option, none, some}
 use mathlib.Core.List.{List, [], _∷_, _++_, map, reverse}
-use lib.ListN.{length}
+use lib.Dec.{ltb}
+use lib.ListN.{length, take, drop}
 use Rattle.model.specs.Base.{keep, each, find, elem, below, lowest}
 use Rattle.model.specs.Text.{text, decimal}
 use Rattle.model.specs.Reading.{refusedAt, firstOf}
-use Rattle.model.specs.Cells.{nameOf}
+use Rattle.model.specs.Cells.{nameOf, cellAt}
+use Rattle.model.specs.Pairs.{splice, Pair, pairAt}
 use Rattle.model.specs.Graph.{Graph, placingOrder, unplaced, varOf, negated, literal}
 use Rattle.model.specs.Cuts.{cutsOf, crowded}
-use Rattle.model.specs.Choice.{Phases, noPhases, phaseOf, feeds, cellOf, absent, choices, chosen}
+use Rattle.model.specs.Choice.{Phases, noPhases, phaseOf, feeds, absent, choices, chosen}
 use Rattle.model.specs.declared.Cell.{Cell}
 use Rattle.model.specs.declared.Source.{Source}
 use Rattle.model.specs.declared.Source.the-variants.{Input, Cell as Matched, Inverter as Inverted, Nothing}
@@ -47,11 +49,35 @@ needed cells g phase = spread cells (cutsOf g) phase (each (backwards phase) (re
 
 -- ---- gates
 
--- a gate: its cell, the nets of its pins in order, and its own net
+-- a net that a gate drives: phase l's, or, where a pair drives phase l, the one inside the pair
+pub data Net : Type 0 where
+  ofPhase : ℕ → Net
+  ofPair : ℕ → Net
+
+-- a gate of the netlist: its cell, which is listed, the nets of its pins in order, and its own net
 pub record Gate : Type 0 where
   pub cell : Cell
-  pub pins : List ℕ
-  pub net : ℕ
+  pub pins : List Net
+  pub net : Net
+
+-- a listed cell that drives phase l, fed by phases
+unfoldable pub oneGate : Cell → List ℕ → ℕ → List Gate
+oneGate c fed l = record { cell = c; pins = map ofPhase fed; net = ofPhase l } ∷ []
+
+-- "A pair prints as two gates, the inner first": the inner's pins are the phases from the fed pin's place on, and the net inside feeds that pin
+unfoldable pub twoGates : Cell → ℕ → Cell → List ℕ → ℕ → List Gate
+unfolding splice
+twoGates root pin inner fed l =
+    record { cell = inner; pins = take (inner .pins) (drop pin (map ofPhase fed)); net = ofPair l }
+    ∷ record { cell = root; pins = splice pin (inner .pins) (λ (_ : List Net). ofPair l) (map ofPhase fed); net = ofPhase l }
+    ∷ []
+
+-- the gates of phase l by the cell of a number, `listed` being the listed cells
+unfoldable pub gatesBy : List Cell → ℕ → List ℕ → ℕ → List Gate
+unfolding oneGate twoGates cellAt pairAt
+gatesBy listed k fed l =
+    let p = pairAt listed k in
+    cond (ltb k (length listed)) (oneGate (cellAt listed k) fed l) (twoGates (cellAt listed (p .root)) (p .pin) (cellAt listed (p .inner)) fed l)
 
 -- "inputs' own positive nets"
 unfoldable pub isOwn : Source → Bool
@@ -60,12 +86,19 @@ isOwn Nothing = false
 isOwn (Matched m) = false
 isOwn (Inverted c) = false
 
+-- the number of a source's cell
+unfoldable pub numberOf : Source → ℕ
+numberOf Input = 0
+numberOf Nothing = 0
+numberOf (Matched m) = m .cell
+numberOf (Inverted c) = c
+
 -- "Needed phases, inputs' own positive nets apart, become gates by ascending variable, `p` first."
-unfoldable pub gates : List Cell → Graph → (ℕ → Phase) → List Gate
-unfolding keep needed elem below feeds cellOf isOwn cutsOf
-gates cells g phase =
+unfoldable pub gates : List Cell → List Cell → Graph → (ℕ → Phase) → List Gate
+unfolding keep needed elem below feeds gatesBy numberOf isOwn cutsOf each
+gates listed cells g phase =
     let nets = needed cells g phase in
-    map (λ (l : ℕ). record { cell = cellOf cells (phase l .source); pins = feeds cells (cutsOf g) l (phase l .source); net = l })
+    each (λ (l : ℕ). gatesBy listed (numberOf (phase l .source)) (feeds cells (cutsOf g) l (phase l .source)) l)
     (keep (λ (l : ℕ). cond (elem l nets) (not (isOwn (phase l .source))) false) (below (2 * suc (g .size))))
 
 -- ---- the text
@@ -75,15 +108,21 @@ unfoldable pub netName : ℕ → List ℕ
 unfolding decimal negated varOf
 netName l = cond (negated l) 109 112 ∷ decimal (varOf l)
 
--- " A=net" and so on from pin letter b
-unfoldable pub pinWords : ℕ → List ℕ → List ℕ
+-- the name of a gate's net: "on a net `s` followed by the root's net name"
+unfoldable pub label : Net → List ℕ
 unfolding netName
+label (ofPhase l) = netName l
+label (ofPair l) = 115 ∷ netName l
+
+-- " A=net" and so on from pin letter b
+unfoldable pub pinWords : ℕ → List Net → List ℕ
+unfolding label
 pinWords b [] = []
-pinWords b (l ∷ ls) = 32 ∷ b ∷ 61 ∷ netName l ++ pinWords (suc b) ls
+pinWords b (n ∷ ns) = 32 ∷ b ∷ 61 ∷ label n ++ pinWords (suc b) ns
 
 -- "a gate line is `.gate`, the cell's name, each pin in order with `=` and its net, then the output likewise": "pins A to D, output O"
 unfoldable pub gateLine : Gate → List ℕ
-unfolding text pinWords netName nameOf
+unfolding text pinWords nameOf
 gateLine t = text ".gate " ++ (nameOf (t .cell) ++ (pinWords 65 (t .pins) ++ (pinWords 79 (t .net ∷ []) ++ text "\n")))
 
 -- "With no names the second or third line is the keyword alone."
@@ -170,29 +209,29 @@ pub data Outcome : Type 0 where
   mapped : List ℕ → Figures → Outcome
 
 -- the netlist, unless some output is uncovered
-unfoldable pub printed : List Cell → Graph → (ℕ → Phase) → List ℕ → Outcome
+unfoldable pub printed : List Cell → List Cell → Graph → (ℕ → Phase) → List ℕ → Outcome
 unfolding gates figuresOf netlistText
-printed cells g phase (k ∷ ks) = refused 17 k
-printed cells g phase [] = let ts = gates cells g phase in let f = figuresOf g phase ts in mapped (netlistText g ts f) f
+printed listed cells g phase (k ∷ ks) = refused 17 k
+printed listed cells g phase [] = let ts = gates listed cells g phase in let f = figuresOf g phase ts in mapped (netlistText g ts f) f
 
 -- what is printed for the choice
-unfoldable pub mapChosen : List Cell → Graph → List (ℕ × Phases) → Outcome
+unfoldable pub mapChosen : List Cell → List Cell → Graph → List (ℕ × Phases) → Outcome
 unfolding printed uncovered phaseOf find noPhases
-mapChosen cells g found = let phase = phaseOf (λ u. find noPhases u found) in printed cells g phase (uncovered phase 0 (g .outputs))
+mapChosen listed cells g found = let phase = phaseOf (λ u. find noPhases u found) in printed listed cells g phase (uncovered phase 0 (g .outputs))
 
 -- the choice, unless some AND has too many cuts
-unfoldable pub mapCut : List Cell → Graph → List ℕ → Outcome
+unfoldable pub mapCut : List Cell → List Cell → Graph → List ℕ → Outcome
 unfolding mapChosen choices
-mapCut cells g (v ∷ vs) = refused 16 v
-mapCut cells g [] = mapChosen cells g (choices cells g)
+mapCut listed cells g (v ∷ vs) = refused 16 v
+mapCut listed cells g [] = mapChosen listed cells g (choices cells g)
 
 -- the cuts, unless some AND can't be placed: "place, the lowest such variable"
-unfoldable pub mapPlaced : List Cell → Graph → Option ℕ → Outcome
+unfoldable pub mapPlaced : List Cell → List Cell → Graph → Option ℕ → Outcome
 unfolding mapCut crowded
-mapPlaced cells g (some v) = refused 15 v
-mapPlaced cells g none = mapCut cells g (crowded g)
+mapPlaced listed cells g (some v) = refused 15 v
+mapPlaced listed cells g none = mapCut listed cells g (crowded g)
 
--- what is printed for a library and a graph, 15 to 17 tried in this order
-unfoldable pub mapGraph : List Cell → Graph → Outcome
+-- what is printed for a library and a graph, 15 to 17 tried in this order: `cells` are the listed cells, and pairs where they are wanted
+unfoldable pub mapGraph : List Cell → List Cell → Graph → Outcome
 unfolding mapPlaced lowest unplaced
-mapGraph cells g = mapPlaced cells g (lowest (unplaced g))
+mapGraph listed cells g = mapPlaced listed cells g (lowest (unplaced g))

@@ -28,10 +28,15 @@ unfoldable pub isPhaseNet : List ℕ → Bool
 unfolding isLabel
 isPhaseNet w = isLabel 112 w || isLabel 109 w
 
--- a net of a gate line, at a pin or at the output
-unfoldable pub isGateNet : List ℕ → Bool
+-- "a net `s` followed by the root's net name"
+unfoldable pub isInnerNet : List ℕ → Bool
 unfolding isPhaseNet
-isGateNet w = isPhaseNet w
+isInnerNet w = eqb (getD w 0 0) 115 && isPhaseNet (drop 1 w)
+
+-- a net of a gate line, at a pin or at the output: one inside a pair too, "which N11 takes in gate lines"
+unfoldable pub isGateNet : List ℕ → Bool
+unfolding isPhaseNet isInnerNet
+isGateNet w = isPhaseNet w || isInnerNet w
 
 -- "each pin in order with `=` and its net": the pin of letter b
 unfoldable pub isBound : ℕ → List ℕ → Bool

@@ -9,6 +9,12 @@ unfoldable pub value : ℕ → ℕ → Bool
 unfolding bit
 value table r = bit table r
 
+-- "bit j of r is pin j"
+unfoldable pub rowOf : List Bool → ℕ
+unfolding one
+rowOf [] = 0
+rowOf (b ∷ bs) = one b + 2 * rowOf bs
+
 -- each element of a list with the others, in the list's order
 unfoldable pub picks : List ℕ → List (ℕ × List ℕ)
 picks [] = []

@@ -1,7 +1,7 @@
 -- The demands for two channels, for every call: library text, each channel's texts and number of lent bytes, and number of lent words. Assumes nothing.
 use Prim.Native.Nat.{ℕ, _+_, _≤_, _<_}
 use mathlib.Core.Path.{_≡_}
-use mathlib.Core.Bool.{true, false}
+use mathlib.Core.Bool.{Bool, true, false}
 use mathlib.Core.List.{List}
 use mathlib.Core.Logic.{_↔_}
 use Rattle.model.specs.Reading.{holds, fault}
@@ -10,6 +10,7 @@ use Rattle.model.specs.Netlist.{refused, mapped}
 use Rattle.model.specs.Mapper.{Call, Design, mapTexts, returned, returnedBy, textAfter, workAfter, triedEarly}
 use Rattle.model.specs.Channels.{Channel, TwoCall, alone, needOf, needsOf, mapTwo, answersOf, twoWorkAfter}
 use Rattle.model.specs.Demands.{Values, Earliest, Twins, Sequenced, Untimed, Listed, Former, Means, Decided, Mappable, AlikeTexts, EitherEnd}
+use Rattle.model.specs.ShuffleDemands.{Shuffles}
 use Rattle.model.specs.declared.Figures.{Figures}
 use Rattle.model.specs.declared.Two.{Two}
 
@@ -27,38 +28,38 @@ pub record TwoMemory (c : TwoCall) (work first second : List ℕ) (answer : Two)
 
 -- what `needOf` says is what a channel's own call says: a refusal tried before 10 comes whatever number of words is lent; else 10 comes exactly where there
 -- are fewer words than it needs; and with words enough no refusal tried up to 10 comes, and words beyond the need change nothing
-pub record Alone (library : List ℕ) (ch : Channel) : Type 0 where
-  pub early : (n k : ℕ) → needOf library ch ≡ fault n k → (words : ℕ) → mapTexts (alone library ch words) ≡ refused n k
-  pub tried : (n k : ℕ) → needOf library ch ≡ fault n k → (triedEarly n ≡ true) × (¬ (n ≡ 10))
-  pub ten : (a : ℕ) → needOf library ch ≡ holds a → (words : ℕ) → (mapTexts (alone library ch words) ≡ refused 10 0) ↔ (words < a)
-  pub late : (a : ℕ) → needOf library ch ≡ holds a → (words : ℕ) → a ≤ words → (n k : ℕ) → mapTexts (alone library ch words) ≡ refused n k → triedEarly n ≡ false
-  pub beyond : (a : ℕ) → needOf library ch ≡ holds a → (words : ℕ) → a ≤ words → mapTexts (alone library ch words) ≡ mapTexts (alone library ch a)
+pub record Alone (paired : Bool) (library : List ℕ) (ch : Channel) : Type 0 where
+  pub early : (n k : ℕ) → needOf paired library ch ≡ fault n k → (words : ℕ) → mapTexts (alone paired library ch words) ≡ refused n k
+  pub tried : (n k : ℕ) → needOf paired library ch ≡ fault n k → (triedEarly n ≡ true) × (¬ (n ≡ 10))
+  pub ten : (a : ℕ) → needOf paired library ch ≡ holds a → (words : ℕ) → (mapTexts (alone paired library ch words) ≡ refused 10 0) ↔ (words < a)
+  pub late : (a : ℕ) → needOf paired library ch ≡ holds a → (words : ℕ) → a ≤ words → (n k : ℕ) → mapTexts (alone paired library ch words) ≡ refused n k → triedEarly n ≡ false
+  pub beyond : (a : ℕ) → needOf paired library ch ≡ holds a → (words : ℕ) → a ≤ words → mapTexts (alone paired library ch words) ≡ mapTexts (alone paired library ch a)
 
 -- ---- independence: "A channel's netlist or refusal depends on the library, its own graph, arrivals and text length, and nothing of the other's, except .."
 
 -- where a refusal tried up to 10 applies to either, both have it: the first channel's, else the second's, else 10
 pub record TogetherRefused (c : TwoCall) : Type 0 where
-  pub first : (n k : ℕ) → needOf (c .library) (c .first) ≡ fault n k → mapTwo c ≡ record { first = refused n k; second = refused n k }
-  pub second : (a n k : ℕ) → needOf (c .library) (c .first) ≡ holds a → needOf (c .library) (c .second) ≡ fault n k
+  pub first : (n k : ℕ) → needOf (c .paired) (c .library) (c .first) ≡ fault n k → mapTwo c ≡ record { first = refused n k; second = refused n k }
+  pub second : (a n k : ℕ) → needOf (c .paired) (c .library) (c .first) ≡ holds a → needOf (c .paired) (c .library) (c .second) ≡ fault n k
       → mapTwo c ≡ record { first = refused n k; second = refused n k }
-  pub ten : (a b : ℕ) → needOf (c .library) (c .first) ≡ holds a → needOf (c .library) (c .second) ≡ holds b → c .words < a + b
+  pub ten : (a b : ℕ) → needOf (c .paired) (c .library) (c .first) ≡ holds a → needOf (c .paired) (c .library) (c .second) ≡ holds b → c .words < a + b
       → mapTwo c ≡ record { first = refused 10 0; second = refused 10 0 }
 
 -- neither has a refusal tried up to 10
 pub record Neither (c : TwoCall) : Type 0 where
   pub first : ℕ
   pub second : ℕ
-  pub needsFirst : needOf (c .library) (c .first) ≡ holds first
-  pub needsSecond : needOf (c .library) (c .second) ≡ holds second
+  pub needsFirst : needOf (c .paired) (c .library) (c .first) ≡ holds first
+  pub needsSecond : needOf (c .paired) (c .library) (c .second) ≡ holds second
   pub enough : first + second ≤ c .words
 
 -- then each has what comes of it alone, with any number of words that is enough for it, whatever the other's texts are; and work memory is left as each
 -- outcome alone would leave it
 pub record Independent (c : TwoCall) : Type 0 where
-  pub first : (e : Neither c) (words : ℕ) → e .first ≤ words → mapTwo c .first ≡ mapTexts (alone (c .library) (c .first) words)
-  pub second : (e : Neither c) (words : ℕ) → e .second ≤ words → mapTwo c .second ≡ mapTexts (alone (c .library) (c .second) words)
-  pub firstKept : Neither c → (d : TwoCall) → Neither d → c .library ≡ d .library → c .first ≡ d .first → mapTwo c .first ≡ mapTwo d .first
-  pub secondKept : Neither c → (d : TwoCall) → Neither d → c .library ≡ d .library → c .second ≡ d .second → mapTwo c .second ≡ mapTwo d .second
+  pub first : (e : Neither c) (words : ℕ) → e .first ≤ words → mapTwo c .first ≡ mapTexts (alone (c .paired) (c .library) (c .first) words)
+  pub second : (e : Neither c) (words : ℕ) → e .second ≤ words → mapTwo c .second ≡ mapTexts (alone (c .paired) (c .library) (c .second) words)
+  pub firstKept : Neither c → (d : TwoCall) → Neither d → c .paired ≡ d .paired → c .library ≡ d .library → c .first ≡ d .first → mapTwo c .first ≡ mapTwo d .first
+  pub secondKept : Neither c → (d : TwoCall) → Neither d → c .paired ≡ d .paired → c .library ≡ d .library → c .second ≡ d .second → mapTwo c .second ≡ mapTwo d .second
   pub worksFirst : (work : List ℕ) → twoWorkAfter (needsOf c) work ≡ workAfter (mapTwo c .first) work
   pub worksSecond : (work : List ℕ) → twoWorkAfter (needsOf c) work ≡ workAfter (mapTwo c .second) work
 
@@ -74,16 +75,17 @@ pub record Promised (c : Call) : Type 0 where
   pub untimed : Untimed c
   pub listed : Listed c
   pub former : Former c
+  pub shuffles : Shuffles c
 
 -- each channel's netlist is the one that it has alone, with all the lent words, of which everything is promised; "the promise on when mapping is refused,
 -- where neither has a refusal tried up to 10"
 pub record Each (c : TwoCall) : Type 0 where
-  pub first : Promised (alone (c .library) (c .first) (c .words))
-  pub second : Promised (alone (c .library) (c .second) (c .words))
-  pub printedFirst : (t : List ℕ) (f : Figures) → mapTwo c .first ≡ mapped t f → mapTexts (alone (c .library) (c .first) (c .words)) ≡ mapped t f
-  pub printedSecond : (t : List ℕ) (f : Figures) → mapTwo c .second ≡ mapped t f → mapTexts (alone (c .library) (c .second) (c .words)) ≡ mapped t f
-  pub decidedFirst : Neither c → (d : Design) → Mappable (alone (c .library) (c .first) (c .words)) d → Decided (d .ranged) (c .first .bytes) (mapTwo c .first) (d .cells) (d .graph)
-  pub decidedSecond : Neither c → (d : Design) → Mappable (alone (c .library) (c .second) (c .words)) d → Decided (d .ranged) (c .second .bytes) (mapTwo c .second) (d .cells) (d .graph)
+  pub first : Promised (alone (c .paired) (c .library) (c .first) (c .words))
+  pub second : Promised (alone (c .paired) (c .library) (c .second) (c .words))
+  pub printedFirst : (t : List ℕ) (f : Figures) → mapTwo c .first ≡ mapped t f → mapTexts (alone (c .paired) (c .library) (c .first) (c .words)) ≡ mapped t f
+  pub printedSecond : (t : List ℕ) (f : Figures) → mapTwo c .second ≡ mapped t f → mapTexts (alone (c .paired) (c .library) (c .second) (c .words)) ≡ mapped t f
+  pub decidedFirst : Neither c → (d : Design) → Mappable (alone (c .paired) (c .library) (c .first) (c .words)) d → Decided (d .ranged) (c .first .bytes) (mapTwo c .first) (d .listed) (d .cells) (d .graph)
+  pub decidedSecond : Neither c → (d : Design) → Mappable (alone (c .paired) (c .library) (c .second) (c .words)) d → Decided (d .ranged) (c .second .bytes) (mapTwo c .second) (d .listed) (d .cells) (d .graph)
 
 -- ---- texts that mean the same graph, and texts alike but for line ends
 
@@ -94,14 +96,14 @@ onText ch t = record { graph = t; arrivals = ch .arrivals; bytes = ch .bytes }
 -- "A file .. and its ASCII twin .. must give the same netlist": in either channel, and the other's outcome is the same too
 pub record TwinChannels (c : TwoCall) : Type 0 where
   pub first : (t : List ℕ) (g : Graph) → Means (c .first .graph) g → Means t g
-      → mapTwo (record { library = c .library; words = c .words; first = onText (c .first) t; second = c .second }) ≡ mapTwo c
+      → mapTwo (record { paired = c .paired; library = c .library; words = c .words; first = onText (c .first) t; second = c .second }) ≡ mapTwo c
   pub second : (t : List ℕ) (g : Graph) → Means (c .second .graph) g → Means t g
-      → mapTwo (record { library = c .library; words = c .words; first = c .first; second = onText (c .second) t }) ≡ mapTwo c
+      → mapTwo (record { paired = c .paired; library = c .library; words = c .words; first = c .first; second = onText (c .second) t }) ≡ mapTwo c
 
 -- two calls whose texts differ in no more than the ends of their lines
 pub record AlikeChannels (c d : TwoCall) : Type 0 where
-  pub first : AlikeTexts (alone (c .library) (c .first) (c .words)) (alone (d .library) (d .first) (d .words))
-  pub second : AlikeTexts (alone (c .library) (c .second) (c .words)) (alone (d .library) (d .second) (d .words))
+  pub first : AlikeTexts (alone (c .paired) (c .library) (c .first) (c .words)) (alone (d .paired) (d .library) (d .first) (d .words))
+  pub second : AlikeTexts (alone (c .paired) (c .library) (c .second) (c .words)) (alone (d .paired) (d .library) (d .second) (d .words))
 
 -- print the same netlists
 pub record EitherEndTwo (c : TwoCall) : Type 0 where

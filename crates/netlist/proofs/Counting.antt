@@ -3,28 +3,30 @@
 use mathlib.Core.Path.{_≡_, refl, sym, ap, _∙_}
 use mathlib.Core.Bool.{Bool, true, false, cond}
 use mathlib.Core.List.{List, [], _∷_, _++_, map, append-assoc, append-nil}
-use Prim.Native.Nat.{ℕ, suc, _+_, _-_, _*_, _/_, _≤_, _<_, max}
+use Prim.Native.Nat.{ℕ, suc, _+_, _-_, _*_, _/_, _%_, _≤_, _<_, max}
 use native.Mathlib.Nat.{add-zero}
 use native.Mathlib.Numerals.{add-one}
 use native.Mathlib.Omega.{arith}
+use borrow.Author.Tests.{eq-eqb, ne-eqb}
 use lib.ListN.{length, take, drop, getD, length-append, drop-of-length-le}
 use lib.Seq.{drop-cons, length-take-le, getD-take}
 use Rattle.model.specs.Base.{from, each}
 use Rattle.model.specs.Text.{text, decimal}
 use Rattle.model.specs.Cells.{nameOf}
 use Rattle.model.specs.Graph.{varOf}
-use Rattle.model.specs.Netlist.{Gate, netName, outName, pinWords, gateLine, wireLine, sum, largest}
+use Rattle.model.specs.Netlist.{ofPhase, ofPair, Gate, netName, label, outName, pinWords, gateLine, wireLine, sum, largest}
 use Rattle.model.specs.declared.Cell.{Cell}
-use Rattle.model.specs.declared.Library.{Library}
 use Rattle.model.specs.declared.Header.{Header}
 use Rattle.model.specs.declared.Figures.{Figures}
 use Rattle.words.specs.Layout.{outputAt}
 use Rattle.words.specs.Phases.{phaseAt, isNeeded}
 use Rattle.text.proofs.Decimal.{dec-below}
-use Rattle.netlist.specs.declared.Driver.{Driver}
+use Rattle.drivers.specs.declared.Instance.{Instance}
+use Rattle.drivers.specs.declared.Driver.{Driver}
 use Rattle.netlist.specs.declared.Tally.{Tally}
 use Rattle.netlist.specs.declared.Measured.{Measured}
-use Rattle.netlist.specs.Lines.{lineOf, gateBy, gateAt, gatesFrom, gatesOf, tallied, noTally, inputNet, inputNamesFrom, outputNamesFrom, spaced, wireLinesFrom, latestFrom, frameText, figuresText, gatesIn, figuresIn, textIn, measuredIn}
+use Rattle.drivers.specs.Gates.{netOf, gateOf, gatesOf}
+use Rattle.netlist.specs.Lines.{netWords, lineOf, gateBy, gateAt, gatesFrom, tallied, noTally, inputNet, inputNamesFrom, outputNamesFrom, spaced, wireLinesFrom, latestFrom, frameText, figuresText, allGates, figuresIn, textIn, measuredIn}
 
 -- ---- names
 
@@ -43,30 +45,40 @@ out-length k = ap length (out-is k) ∙ sym (add-one (length (decimal k)))
 pub ten-digits : (n : ℕ) → n < 4294967296 → length (decimal n) ≤ 10
 ten-digits n h = dec-below 9 n (omega arith)
 
+-- ---- nets of given numbers
+
+pub label-inside : (n : ℕ) → n % 2 ≡ 1 → label (netOf n) ≡ 115 ∷ netName (n / 2)
+unfolding netOf label
+label-inside n e = ap (λ (b : Bool). label (cond b (ofPair (n / 2)) (ofPhase (n / 2)))) (eq-eqb (n % 2) 1 e)
+
+pub label-phase : (n : ℕ) → (n % 2 ≡ 1 → ⊥) → label (netOf n) ≡ netName (n / 2)
+unfolding netOf label
+label-phase n h = ap (λ (b : Bool). label (cond b (ofPair (n / 2)) (ofPhase (n / 2)))) (ne-eqb (n % 2) 1 h)
+
 -- ---- pins
 
 -- one pin's word, and those of more pins behind it
-pub pin-cons : (b l : ℕ) (ls : List ℕ) → pinWords b (l ∷ ls) ≡ pinWords b (l ∷ []) ++ pinWords (b + 1) ls
+pub pin-cons : (b l : ℕ) (ls : List ℕ) → netWords b (l ∷ ls) ≡ netWords b (l ∷ []) ++ netWords (b + 1) ls
 unfolding pinWords
 pin-cons b l ls =
-    ap (λ (k : ℕ). 32 ∷ b ∷ 61 ∷ netName l ++ pinWords k ls) (sym (add-one b))
-    ∙ ap (λ (x : List ℕ). 32 ∷ b ∷ 61 ∷ x ++ pinWords (b + 1) ls) (sym (append-nil (netName l)))
+    ap (λ (k : ℕ). 32 ∷ b ∷ 61 ∷ label (netOf l) ++ netWords k ls) (sym (add-one b))
+    ∙ ap (λ (x : List ℕ). 32 ∷ b ∷ 61 ∷ x ++ netWords (b + 1) ls) (sym (append-nil (label (netOf l))))
 
-pub pin-one : (b l : ℕ) → pinWords b (l ∷ []) ≡ 32 ∷ b ∷ 61 ∷ netName l
+pub pin-one : (b l : ℕ) → netWords b (l ∷ []) ≡ 32 ∷ b ∷ 61 ∷ label (netOf l)
 unfolding pinWords
-pin-one b l = ap (λ (x : List ℕ). 32 ∷ b ∷ 61 ∷ x) (append-nil (netName l))
+pin-one b l = ap (λ (x : List ℕ). 32 ∷ b ∷ 61 ∷ x) (append-nil (label (netOf l)))
 
-pub pin-length : (b l : ℕ) → length (pinWords b (l ∷ [])) ≡ 3 + length (netName l)
-pin-length b l = let e : length (pinWords b (l ∷ [])) ≡ suc (suc (suc (length (netName l)))) = ap length (pin-one b l) in omega arith
+pub pin-length : (b l : ℕ) → length (netWords b (l ∷ [])) ≡ 3 + length (label (netOf l))
+pin-length b l = let e : length (netWords b (l ∷ [])) ≡ suc (suc (suc (length (label (netOf l))))) = ap length (pin-one b l) in omega arith
 
 -- the pins from number j on
 pub pins-at : (b : ℕ) (ls : List ℕ) (j : ℕ) → j < length ls
-    → pinWords (b + j) (drop j ls) ≡ pinWords (b + j) (getD ls j 0 ∷ []) ++ pinWords (b + (j + 1)) (drop (j + 1) ls)
+    → netWords (b + j) (drop j ls) ≡ netWords (b + j) (getD ls j 0 ∷ []) ++ netWords (b + (j + 1)) (drop (j + 1) ls)
 pins-at b ls j h =
     let e : b + j + 1 ≡ b + (j + 1) = omega arith in
-    ap (pinWords (b + j)) (drop-cons ls j 0 h ∙ ap (λ (k : ℕ). getD ls j 0 ∷ drop k ls) (sym (add-one j)))
+    ap (netWords (b + j)) (drop-cons ls j 0 h ∙ ap (λ (k : ℕ). getD ls j 0 ∷ drop k ls) (sym (add-one j)))
     ∙ pin-cons (b + j) (getD ls j 0) (drop (j + 1) ls)
-    ∙ ap (λ (k : ℕ). pinWords (b + j) (getD ls j 0 ∷ []) ++ pinWords k (drop (j + 1) ls)) e
+    ∙ ap (λ (k : ℕ). netWords (b + j) (getD ls j 0 ∷ []) ++ netWords k (drop (j + 1) ls)) e
 
 -- those of an array's first pins
 module _ (nets : List ℕ) (count : ℕ) (four : length nets ≡ 4) (few : count ≤ 4) where
@@ -74,24 +86,24 @@ module _ (nets : List ℕ) (count : ℕ) (four : length nets ≡ 4) (few : count
   long = length-take-le count nets (omega arith)
 
   pub pins-next : (j : ℕ) → j < count
-      → pinWords (65 + j) (drop j (take count nets)) ≡ pinWords (65 + j) (getD nets j 0 ∷ []) ++ pinWords (65 + (j + 1)) (drop (j + 1) (take count nets))
+      → netWords (65 + j) (drop j (take count nets)) ≡ netWords (65 + j) (getD nets j 0 ∷ []) ++ netWords (65 + (j + 1)) (drop (j + 1) (take count nets))
   pins-next j h =
       pins-at 65 (take count nets) j (omega (arith, long))
-      ∙ ap (λ (x : ℕ). pinWords (65 + j) (x ∷ []) ++ pinWords (65 + (j + 1)) (drop (j + 1) (take count nets))) (getD-take count nets j 0 h)
+      ∙ ap (λ (x : ℕ). netWords (65 + j) (x ∷ []) ++ netWords (65 + (j + 1)) (drop (j + 1) (take count nets))) (getD-take count nets j 0 h)
 
-  pub pins-none : (j : ℕ) → count ≤ j → pinWords (65 + j) (drop j (take count nets)) ≡ []
+  pub pins-none : (j : ℕ) → count ≤ j → netWords (65 + j) (drop j (take count nets)) ≡ []
   unfolding pinWords
-  pins-none j h = ap (pinWords (65 + j)) (drop-of-length-le (take count nets) {i = j} (omega (arith, long)))
+  pins-none j h = ap (netWords (65 + j)) (drop-of-length-le (take count nets) {i = j} (omega (arith, long)))
 
 -- ---- gate lines
 
 pub line-is : (c : Cell) (nets : List ℕ) (net : ℕ)
-    → lineOf c nets net ≡ (46 ∷ 103 ∷ 97 ∷ 116 ∷ 101 ∷ 32 ∷ []) ++ (take (c .len) (c .name) ++ (pinWords 65 nets ++ (pinWords 79 (net ∷ []) ++ (10 ∷ []))))
+    → lineOf c nets net ≡ (46 ∷ 103 ∷ 97 ∷ 116 ∷ 101 ∷ 32 ∷ []) ++ (take (c .len) (c .name) ++ (netWords 65 nets ++ (netWords 79 (net ∷ []) ++ (10 ∷ []))))
 unfolding gateLine text nameOf
 line-is c nets net = refl
 
 pub line-length : (c : Cell) (nets : List ℕ) (net : ℕ)
-    → length (lineOf c nets net) ≡ length (take (c .len) (c .name)) + length (pinWords 65 nets) + length (netName net) + 10
+    → length (lineOf c nets net) ≡ length (take (c .len) (c .name)) + length (netWords 65 nets) + length (label (netOf net)) + 10
 line-length c nets net =
     ap length (line-is c nets net)
     ∙ simp length-append (omega (arith, pin-length 79 net))
@@ -135,52 +147,62 @@ unfolding sum
 sum-append [] ys = omega arith
 sum-append (x ∷ xs) ys = omega (arith, sum-append xs ys)
 
-module _ (w : List ℕ) (lib : Library) (m n : ℕ) where
-  pub gates-next : (l : ℕ) → l < n → gatesFrom w lib m l (n - l) ≡ gateAt w lib m l ++ gatesFrom w lib m (l + 1) (n - (l + 1))
+module _ (w book : List ℕ) (m n : ℕ) where
+  pub gates-next : (l : ℕ) → l < n → gatesFrom w book m l (n - l) ≡ gateAt w book m l ++ gatesFrom w book m (l + 1) (n - (l + 1))
   unfolding gatesFrom
-  gates-next l h = each-next (gateAt w lib m) n l h
+  gates-next l h = each-next (gateAt w book m) n l h
 
-  pub gates-none : (l : ℕ) → n ≤ l → gatesFrom w lib m l (n - l) ≡ []
+  pub gates-none : (l : ℕ) → n ≤ l → gatesFrom w book m l (n - l) ≡ []
   unfolding gatesFrom
-  gates-none l h = each-none (gateAt w lib m) n l h
+  gates-none l h = each-none (gateAt w book m) n l h
 
-  pub lines-next : (l : ℕ) → l < n → each gateLine (gatesFrom w lib m l (n - l)) ≡ each gateLine (gateAt w lib m l) ++ each gateLine (gatesFrom w lib m (l + 1) (n - (l + 1)))
-  lines-next l h = ap (each gateLine) (gates-next l h) ∙ each-append gateLine (gateAt w lib m l) (gatesFrom w lib m (l + 1) (n - (l + 1)))
+  pub lines-next : (l : ℕ) → l < n → each gateLine (gatesFrom w book m l (n - l)) ≡ each gateLine (gateAt w book m l) ++ each gateLine (gatesFrom w book m (l + 1) (n - (l + 1)))
+  lines-next l h = ap (each gateLine) (gates-next l h) ∙ each-append gateLine (gateAt w book m l) (gatesFrom w book m (l + 1) (n - (l + 1)))
 
-  pub lines-none : (l : ℕ) → n ≤ l → each gateLine (gatesFrom w lib m l (n - l)) ≡ []
+  pub lines-none : (l : ℕ) → n ≤ l → each gateLine (gatesFrom w book m l (n - l)) ≡ []
   unfolding each
   lines-none l h = ap (each gateLine) (gates-none l h)
 
 -- the gate of phase l, by whether the phase is needed
-module _ (w : List ℕ) (lib : Library) (m l : ℕ) where
-  pub gate-needed : isNeeded w m l ≡ true → gateAt w lib m l ≡ gateBy w lib m l (phaseAt w m l .source)
+module _ (w book : List ℕ) (m l : ℕ) where
+  pub gate-needed : isNeeded w m l ≡ true → gateAt w book m l ≡ gateBy w book m l (phaseAt w m l .source)
   unfolding gateAt
-  gate-needed e = ap (λ (b : Bool). cond b (gateBy w lib m l (phaseAt w m l .source)) []) e
+  gate-needed e = ap (λ (b : Bool). cond b (gateBy w book m l (phaseAt w m l .source)) []) e
 
-  pub gate-idle : isNeeded w m l ≡ false → gateAt w lib m l ≡ []
+  pub gate-idle : isNeeded w m l ≡ false → gateAt w book m l ≡ []
   unfolding gateAt
-  gate-idle e = ap (λ (b : Bool). cond b (gateBy w lib m l (phaseAt w m l .source)) []) e
+  gate-idle e = ap (λ (b : Bool). cond b (gateBy w book m l (phaseAt w m l .source)) []) e
 
--- the gate of a driver, by whether it is there
+-- the gates of a driver, by whether it is there and a pair
 module _ (d : Driver) where
-  abbrev pub gateOf : Gate
-  gateOf = record { cell = d .cell; pins = take (d .count) (d .nets); net = d .net }
-
-  pub gates-there : d .there ≡ true → gatesOf d ≡ gateOf ∷ []
+  pub gates-two : d .there ≡ true → d .pair ≡ true → gatesOf d ≡ gateOf (d .inner) ∷ gateOf (d .root) ∷ []
   unfolding gatesOf
-  gates-there e = ap (λ (b : Bool). cond b (gateOf ∷ []) []) e
+  gates-two e f = λ i. cond (e i) (cond (f i) (gateOf (d .inner) ∷ gateOf (d .root) ∷ []) (gateOf (d .root) ∷ [])) []
+
+  pub gates-one : d .there ≡ true → d .pair ≡ false → gatesOf d ≡ gateOf (d .root) ∷ []
+  unfolding gatesOf
+  gates-one e f = λ i. cond (e i) (cond (f i) (gateOf (d .inner) ∷ gateOf (d .root) ∷ []) (gateOf (d .root) ∷ [])) []
 
   pub gates-absent : d .there ≡ false → gatesOf d ≡ []
   unfolding gatesOf
-  gates-absent e = ap (λ (b : Bool). cond b (gateOf ∷ []) []) e
+  gates-absent e = ap (λ (b : Bool). cond b (cond (d .pair) (gateOf (d .inner) ∷ gateOf (d .root) ∷ []) (gateOf (d .root) ∷ [])) []) e
 
-  pub lines-there : d .there ≡ true → each gateLine (gatesOf d) ≡ lineOf (d .cell) (take (d .count) (d .nets)) (d .net)
+  pub lines-two : d .there ≡ true → d .pair ≡ true → each gateLine (gatesOf d) ≡ gateLine (gateOf (d .inner)) ++ gateLine (gateOf (d .root))
   unfolding each
-  lines-there e = ap (each gateLine) (gates-there e) ∙ append-nil (gateLine gateOf)
+  lines-two e f = ap (each gateLine) (gates-two e f) ∙ ap (λ (bs : List ℕ). gateLine (gateOf (d .inner)) ++ bs) (append-nil (gateLine (gateOf (d .root))))
+
+  pub lines-one : d .there ≡ true → d .pair ≡ false → each gateLine (gatesOf d) ≡ gateLine (gateOf (d .root))
+  unfolding each
+  lines-one e f = ap (each gateLine) (gates-one e f) ∙ append-nil (gateLine (gateOf (d .root)))
 
   pub lines-absent : d .there ≡ false → each gateLine (gatesOf d) ≡ []
   unfolding each
   lines-absent e = ap (each gateLine) (gates-absent e)
+
+-- an instance's line
+pub line-of : (g : Instance) → gateLine (gateOf g) ≡ lineOf (g .cell) (take (g .count) (g .nets)) (g .net)
+unfolding gateOf
+line-of g = refl
 
 -- what is counted one after the other
 pub tally-append : (t : Tally) (ts us : List Gate) → tallied (tallied t ts) us ≡ tallied t (ts ++ us)
@@ -318,21 +340,21 @@ longer xs ys = omega (arith, length-append xs ys)
 
 -- ---- what is measured
 
-module _ (w : List ℕ) (lib : Library) (h : Header) (t : Tally) (counted : t ≡ tallied noTally (gatesFrom w lib (h .size) 0 (2 * (h .size + 1)))) where
-  pub figures-in : (a : ℕ) → a ≡ latestFrom w (h .size) 0 (h .outputs) → _≡_ {A = Figures} (record { gates = t .gates; area = t .area; arrival = a }) (figuresIn w lib h)
-  unfolding figuresIn gatesIn tallied
+module _ (w book : List ℕ) (h : Header) (t : Tally) (counted : t ≡ tallied noTally (gatesFrom w book (h .size) 0 (2 * (h .size + 1)))) where
+  pub figures-in : (a : ℕ) → a ≡ latestFrom w (h .size) 0 (h .outputs) → _≡_ {A = Figures} (record { gates = t .gates; area = t .area; arrival = a }) (figuresIn w book h)
+  unfolding figuresIn allGates tallied
   figures-in a e =
-      let gates : t .gates ≡ length (gatesIn w lib h) = ap (λ (x : Tally). x .gates) counted ∙ omega arith in
-      let area : t .area ≡ sum (map (λ (u : Gate). u .cell .area) (gatesIn w lib h)) = ap (λ (x : Tally). x .area) counted ∙ omega arith in
+      let gates : t .gates ≡ length (allGates w book h) = ap (λ (x : Tally). x .gates) counted ∙ omega arith in
+      let area : t .area ≡ sum (map (λ (u : Gate). u .cell .area) (allGates w book h)) = ap (λ (x : Tally). x .area) counted ∙ omega arith in
       λ i. record { gates = gates i; area = area i; arrival = e i }
 
-  pub measured-in : (f : Figures) (frame wires figures : ℕ) → f ≡ figuresIn w lib h → frame ≡ length (frameText w (h .size) (h .inputs) (h .outputs))
+  pub measured-in : (f : Figures) (frame wires figures : ℕ) → f ≡ figuresIn w book h → frame ≡ length (frameText w (h .size) (h .inputs) (h .outputs))
       → wires ≡ length (wireLinesFrom w (h .size) 0 (h .outputs)) → figures ≡ length (figuresText f)
-      → _≡_ {A = Measured} (record { length = frame + t .length + wires + figures; figures = f }) (measuredIn w lib h)
-  unfolding measuredIn textIn gatesIn tallied
+      → _≡_ {A = Measured} (record { length = frame + t .length + wires + figures; figures = f }) (measuredIn w book h)
+  unfolding measuredIn textIn allGates tallied
   measured-in f frame wires figures e p q r =
       let top = frameText w (h .size) (h .inputs) (h .outputs) in
-      let lines = each gateLine (gatesIn w lib h) in
+      let lines = each gateLine (allGates w book h) in
       let ends = wireLinesFrom w (h .size) 0 (h .outputs) in
       let counts : t .length ≡ length lines = ap (λ (x : Tally). x .length) counted ∙ omega arith in
       let parts : length (top ++ (lines ++ (ends ++ figuresText f))) ≡ length top + (length lines + (length ends + length (figuresText f))) = simp length-append in
@@ -340,7 +362,7 @@ module _ (w : List ℕ) (lib : Library) (h : Header) (t : Tally) (counted : t �
       (λ i. record { length = whole i; figures = f })
       ∙ ap (λ (x : Figures). record { length = length (top ++ (lines ++ (ends ++ figuresText x))); figures = x }) e
 
-pub text-is : (w : List ℕ) (lib : Library) (h : Header) (f : Figures)
-    → textIn w lib h f ≡ frameText w (h .size) (h .inputs) (h .outputs) ++ (each gateLine (gatesFrom w lib (h .size) 0 (2 * (h .size + 1))) ++ (wireLinesFrom w (h .size) 0 (h .outputs) ++ figuresText f))
-unfolding textIn gatesIn
-text-is w lib h f = refl
+pub text-is : (w book : List ℕ) (h : Header) (f : Figures)
+    → textIn w book h f ≡ frameText w (h .size) (h .inputs) (h .outputs) ++ (each gateLine (gatesFrom w book (h .size) 0 (2 * (h .size + 1))) ++ (wireLinesFrom w (h .size) 0 (h .outputs) ++ figuresText f))
+unfolding textIn allGates
+text-is w book h f = refl

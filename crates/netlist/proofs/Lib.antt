@@ -1,7 +1,6 @@
--- `Counting`: lengths and figures of lines. `Walking`: the walk over the gates. `Carrying`: the walk as a local of a loop. `Again`: a slice lent again for a call. `Feeding`: the nets of a match. `Held`: what the words hold is what `model` defines.
+-- `Counting`: lengths and figures of lines. `Walking`: the walk over the gates. `Carrying`: the walk as a local of a loop. `Again`: a slice lent again for a call. `Held`: what the words hold is what `model` defines.
 pub mod Counting
 pub mod Walking
 pub mod Carrying
 pub mod Again
-pub mod Feeding
 pub mod Held

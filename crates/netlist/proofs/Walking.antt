@@ -11,7 +11,6 @@ use native.Mathlib.Numerals.{add-one}
 use native.Mathlib.Omega.{arith}
 use Rattle.model.specs.Base.{from, each}
 use Rattle.model.specs.Netlist.{Gate}
-use Rattle.model.specs.declared.Library.{Library}
 use Rattle.model.specs.declared.Source.{Source}
 use Rattle.model.specs.declared.Source.the-variants.{Input, Cell as Matched, Inverter as Inverted, Nothing}
 use Rattle.words.specs.Phases.{phaseAt, isNeeded, makesGate}
@@ -30,20 +29,20 @@ module _ (w : List ℕ) (m l : ℕ) where
   is-gate-idle e = ap (λ (b : Bool). cond b (makesGate (phaseAt w m l .source)) false) e
 
 -- a source that makes no gate
-none-by : (w : List ℕ) (lib : Library) (m l : ℕ) (s : Source) → makesGate s ≡ false → gateBy w lib m l s ≡ []
+none-by : (w book : List ℕ) (m l : ℕ) (s : Source) → makesGate s ≡ false → gateBy w book m l s ≡ []
 unfolding makesGate gateBy
-none-by w lib m l Input e = refl
-none-by w lib m l Nothing e = refl
-none-by w lib m l (Matched x) e = absurd (true≢false e)
-none-by w lib m l (Inverted c) e = absurd (true≢false e)
+none-by w book m l Input e = refl
+none-by w book m l Nothing e = refl
+none-by w book m l (Matched x) e = absurd (true≢false e)
+none-by w book m l (Inverted c) e = absurd (true≢false e)
 
 -- a phase that is no gate
-pub gate-none : (w : List ℕ) (lib : Library) (m l : ℕ) → isGateAt w m l ≡ false → gateAt w lib m l ≡ []
-gate-none w lib m l e = go (isNeeded w m l) refl
+pub gate-none : (w book : List ℕ) (m l : ℕ) → isGateAt w m l ≡ false → gateAt w book m l ≡ []
+gate-none w book m l e = go (isNeeded w m l) refl
   where
-    go : (b : Bool) → isNeeded w m l ≡ b → gateAt w lib m l ≡ []
-    go true n = gate-needed w lib m l n ∙ none-by w lib m l (phaseAt w m l .source) (sym (is-gate-needed w m l n) ∙ e)
-    go false n = gate-idle w lib m l n
+    go : (b : Bool) → isNeeded w m l ≡ b → gateAt w book m l ≡ []
+    go true n = gate-needed w book m l n ∙ none-by w book m l (phaseAt w m l .source) (sym (is-gate-needed w m l n) ∙ e)
+    go false n = gate-idle w book m l n
 
 -- ---- the first gate
 
@@ -88,23 +87,23 @@ module _ (w : List ℕ) (m : ℕ) where
 
 -- ---- the phases passed over
 
-module _ (w : List ℕ) (lib : Library) (m : ℕ) where
-  skip : (n l : ℕ) → gatesFrom w lib m l n ≡ gatesFrom w lib m (gateFrom w m l n) (l + n - gateFrom w m l n)
+module _ (w book : List ℕ) (m : ℕ) where
+  skip : (n l : ℕ) → gatesFrom w book m l n ≡ gatesFrom w book m (gateFrom w m l n) (l + n - gateFrom w m l n)
   unfolding gatesFrom gateFrom from each
-  skip zero l = let k : 0 ≡ l + 0 - l = omega arith in ap (gatesFrom w lib m l) k
+  skip zero l = let k : 0 ≡ l + 0 - l = omega arith in ap (gatesFrom w book m l) k
   skip (suc n) l = go (isGateAt w m l) refl (skip n (suc l))
     where
-      go : (b : Bool) → isGateAt w m l ≡ b → gatesFrom w lib m (suc l) n ≡ gatesFrom w lib m (gateFrom w m (suc l) n) (suc l + n - gateFrom w m (suc l) n)
-          → gatesFrom w lib m l (suc n) ≡ gatesFrom w lib m (gateFrom w m l (suc n)) (l + suc n - gateFrom w m l (suc n))
+      go : (b : Bool) → isGateAt w m l ≡ b → gatesFrom w book m (suc l) n ≡ gatesFrom w book m (gateFrom w m (suc l) n) (suc l + n - gateFrom w m (suc l) n)
+          → gatesFrom w book m l (suc n) ≡ gatesFrom w book m (gateFrom w m l (suc n)) (l + suc n - gateFrom w m l (suc n))
       go true e more =
           let k : suc n ≡ l + suc n - l = omega arith in
-          ap (gatesFrom w lib m l) k ∙ ap (λ (g : ℕ). gatesFrom w lib m g (l + suc n - g)) (sym (first-here w m l n e))
+          ap (gatesFrom w book m l) k ∙ ap (λ (g : ℕ). gatesFrom w book m g (l + suc n - g)) (sym (first-here w m l n e))
       go false e more =
           let k : suc l + n ≡ l + suc n = omega arith in
-          ap (λ (ts : List Gate). ts ++ gatesFrom w lib m (suc l) n) (gate-none w lib m l e)
+          ap (λ (ts : List Gate). ts ++ gatesFrom w book m (suc l) n) (gate-none w book m l e)
           ∙ more
-          ∙ ap (λ (end : ℕ). gatesFrom w lib m (gateFrom w m (suc l) n) (end - gateFrom w m (suc l) n)) k
-          ∙ ap (λ (g : ℕ). gatesFrom w lib m g (l + suc n - g)) (sym (first-later w m l n e))
+          ∙ ap (λ (end : ℕ). gatesFrom w book m (gateFrom w m (suc l) n) (end - gateFrom w m (suc l) n)) k
+          ∙ ap (λ (g : ℕ). gatesFrom w book m g (l + suc n - g)) (sym (first-later w m l n e))
 
 -- g is the first gate of the phases from l up to the end
 module _ (w : List ℕ) (m l end g : ℕ) (within : l ≤ end) (first : g ≡ gateFrom w m l (end - l)) where
@@ -114,9 +113,9 @@ module _ (w : List ℕ) (m l end g : ℕ) (within : l ≤ end) (first : g ≡ ga
   pub gate-from-high : g ≤ end
   gate-from-high = omega (arith, high w m (end - l) l)
 
-  pub gates-skip : (lib : Library) → gatesFrom w lib m l (end - l) ≡ gatesFrom w lib m g (end - g)
-  gates-skip lib =
+  pub gates-skip : (book : List ℕ) → gatesFrom w book m l (end - l) ≡ gatesFrom w book m g (end - g)
+  gates-skip book =
       let k : l + (end - l) ≡ end = omega arith in
-      skip w lib m (end - l) l
-      ∙ ap (λ (x : ℕ). gatesFrom w lib m (gateFrom w m l (end - l)) (x - gateFrom w m l (end - l))) k
-      ∙ ap (λ (x : ℕ). gatesFrom w lib m x (end - x)) (sym first)
+      skip w book m (end - l) l
+      ∙ ap (λ (x : ℕ). gatesFrom w book m (gateFrom w m l (end - l)) (x - gateFrom w m l (end - l))) k
+      ∙ ap (λ (x : ℕ). gatesFrom w book m x (end - x)) (sym first)

@@ -3,86 +3,75 @@ use mathlib.Core.Path.{_≡_}
 use mathlib.Core.Bool.{Bool, false, cond}
 use mathlib.Core.List.{List, [], _∷_, _++_, map}
 use Prim.Native.Nat.{ℕ, zero, suc, _+_, _*_, _/_, _≤_, _<_}
-use lib.ListN.{length, getD, take}
+use lib.ListN.{length, getD}
 use Rattle.model.specs.Base.{from, each}
 use Rattle.model.specs.Limits.{cutLimit}
-use Rattle.model.specs.Cells.{noCell}
 use Rattle.model.specs.Table.{orders}
 use Rattle.model.specs.Text.{text, decimal}
 use Rattle.model.specs.Graph.{varOf, literal, opposite}
 use Rattle.model.specs.Matching.{fedNets}
-use Rattle.model.specs.Netlist.{Gate, netName, outName, gateLine, wireLine, sum, largest}
+use Rattle.model.specs.Netlist.{Gate, oneGate, netName, outName, pinWords, gateLine, wireLine, sum, largest}
 use Rattle.model.specs.declared.Cell.{Cell}
-use Rattle.model.specs.declared.Library.{Library}
 use Rattle.model.specs.declared.Header.{Header}
 use Rattle.model.specs.declared.Match.{Match}
 use Rattle.model.specs.declared.Figures.{Figures}
 use Rattle.model.specs.declared.Source.{Source}
 use Rattle.model.specs.declared.Source.the-variants.{Input, Cell as Matched, Inverter as Inverted, Nothing}
-use Rattle.truth.specs.Variant.{pinNet}
 use Rattle.words.specs.Layout.{Room, RoomFor, slotAt, outputAt}
 use Rattle.words.specs.Record.{cutOf}
 use Rattle.words.specs.Phases.{phaseAt, makesGate, isNeeded}
-use Rattle.netlist.specs.declared.Driver.{Driver}
+use Rattle.book.specs.Bytes.{lineCell}
+use Rattle.drivers.specs.Gates.{netOf, pinsBy, gatesUnder, LineReady, NumberReady}
 use Rattle.netlist.specs.declared.Tally.{Tally}
 use Rattle.netlist.specs.declared.Measured.{Measured}
 
 -- ---- gates
 
--- the cell at a line
-abbrev pub lineCell : Library → ℕ → Cell
-lineCell lib c = getD (lib .cells) c noCell
-
--- what makes a match's gate: its cell is listed and has at most four pins, and its cut and its order are there
-pub record MatchReady (lib : Library) (x : Match) : Type 0 where
+-- what makes a match's gate: its cell's number is in the book, and its cut and its order are there
+pub record MatchReady (book : List ℕ) (x : Match) : Type 0 where
   pub cut : x .cut < cutLimit
   pub order : x .order < 24
-  pub cell : x .cell < 32
-  pub pins : lineCell lib (x .cell) .pins ≤ 4
+  pub number : NumberReady book (x .cell)
 
-abbrev pub SourceReady : Library → Source → Type 0
-SourceReady lib Input = Unit {0}
-SourceReady lib Nothing = Unit {0}
-SourceReady lib (Matched x) = MatchReady lib x
-SourceReady lib (Inverted c) = c < 32
+abbrev pub SourceReady : List ℕ → Source → Type 0
+SourceReady book Input = Unit {0}
+SourceReady book Nothing = Unit {0}
+SourceReady book (Matched x) = MatchReady book x
+SourceReady book (Inverted c) = LineReady book c
 
 -- the gates of the words can be made
-pub record Gated (w : List ℕ) (lib : Library) (m : ℕ) : Type 0 where
+pub record Gated (w book : List ℕ) (m : ℕ) : Type 0 where
   pub room : Room w m
-  pub sources : (l : ℕ) → l / 2 ≤ m → SourceReady lib (phaseAt w m l .source)
+  pub sources : (l : ℕ) → l / 2 ≤ m → SourceReady book (phaseAt w m l .source)
 
--- the nets that feed four pins
-abbrev pub fourNets : List ℕ → ℕ → List ℕ → List ℕ
-fourNets places mask leaves = pinNet places mask leaves 0 ∷ pinNet places mask leaves 1 ∷ pinNet places mask leaves 2 ∷ pinNet places mask leaves 3 ∷ []
+-- the words of pins with nets of given numbers, from pin letter b on
+abbrev pub netWords : ℕ → List ℕ → List ℕ
+netWords b nets = pinWords b (map netOf nets)
 
--- the line of a gate
+-- the line of a gate with nets of given numbers
 abbrev pub lineOf : Cell → List ℕ → ℕ → List ℕ
-lineOf c nets net = gateLine (record { cell = c; pins = nets; net = net })
+lineOf c nets net = gateLine (record { cell = c; pins = map netOf nets; net = netOf net })
 
--- the gate of phase l by a match, and by an inverter
-unfoldable pub matchedGate : List ℕ → Library → ℕ → ℕ → Match → Gate
-unfolding varOf fedNets orders
-matchedGate w lib m l x = record {
-  cell = lineCell lib (x .cell);
-  pins = fedNets (lineCell lib (x .cell) .pins) (getD orders (x .order) []) (x .mask) (cutOf w m (varOf l) (x .cut) .leaves);
-  net = l;
-}
+-- the gates of phase l by a match, and by an inverter
+unfoldable pub matchedGates : List ℕ → List ℕ → ℕ → ℕ → Match → List Gate
+unfolding varOf fedNets orders gatesUnder pinsBy
+matchedGates w book m l x = gatesUnder book (x .cell) (fedNets (pinsBy book (x .cell)) (getD orders (x .order) []) (x .mask) (cutOf w m (varOf l) (x .cut) .leaves)) l
 
-unfoldable pub invertedGate : Library → ℕ → ℕ → Gate
-unfolding opposite
-invertedGate lib l c = record { cell = lineCell lib c; pins = opposite l ∷ []; net = l }
+unfoldable pub invertedGates : List ℕ → ℕ → ℕ → List Gate
+unfolding opposite oneGate
+invertedGates book l c = oneGate (lineCell book c) (opposite l ∷ []) l
 
--- the gate that a source of phase l makes, if it makes one
-unfoldable pub gateBy : List ℕ → Library → ℕ → ℕ → Source → List Gate
-gateBy w lib m l Input = []
-gateBy w lib m l Nothing = []
-gateBy w lib m l (Matched x) = matchedGate w lib m l x ∷ []
-gateBy w lib m l (Inverted c) = invertedGate lib l c ∷ []
+-- the gates that a source of phase l makes
+unfoldable pub gateBy : List ℕ → List ℕ → ℕ → ℕ → Source → List Gate
+gateBy w book m l Input = []
+gateBy w book m l Nothing = []
+gateBy w book m l (Matched x) = matchedGates w book m l x
+gateBy w book m l (Inverted c) = invertedGates book l c
 
--- the gate of phase l, if it is needed and no input's own net
-unfoldable pub gateAt : List ℕ → Library → ℕ → ℕ → List Gate
+-- the gates of phase l, if it is needed and no input's own net
+unfoldable pub gateAt : List ℕ → List ℕ → ℕ → ℕ → List Gate
 unfolding gateBy
-gateAt w lib m l = cond (isNeeded w m l) (gateBy w lib m l (phaseAt w m l .source)) []
+gateAt w book m l = cond (isNeeded w m l) (gateBy w book m l (phaseAt w m l .source)) []
 
 -- whether phase l becomes a gate
 unfoldable pub isGateAt : List ℕ → ℕ → ℕ → Bool
@@ -96,17 +85,9 @@ gateFrom w m l zero = l
 gateFrom w m l (suc n) = cond (isGateAt w m l) l (gateFrom w m (suc l) n)
 
 -- the gates of n phases from l on
-unfoldable pub gatesFrom : List ℕ → Library → ℕ → ℕ → ℕ → List Gate
+unfoldable pub gatesFrom : List ℕ → List ℕ → ℕ → ℕ → ℕ → List Gate
 unfolding each from gateAt
-gatesFrom w lib m l n = each (gateAt w lib m) (from l n)
-
--- the gate that a driver is, if it is one
-unfoldable pub gatesOf : Driver → List Gate
-gatesOf d = cond (d .there) (record { cell = d .cell; pins = take (d .count) (d .nets); net = d .net } ∷ []) []
-
-pub record Drives (d : Driver) (ts : List Gate) : Type 0 where
-  pub isGate : gatesOf d ≡ ts
-  pub few : d .count ≤ 4
+gatesFrom w book m l n = each (gateAt w book m) (from l n)
 
 -- ---- figures
 
@@ -122,11 +103,22 @@ tallied t ts = record {
 abbrev pub noTally : Tally
 noTally = record { length = 0; gates = 0; area = 0 }
 
--- a tally of at most n gates
+-- a tally of the gates of at most n phases, two a phase
 pub record Bounded (t : Tally) (n : ℕ) : Type 0 where
-  pub length : t .length ≤ 85 * n
-  pub gates : t .gates ≤ n
-  pub area : t .area ≤ 65535 * n
+  pub length : t .length ≤ 180 * n
+  pub gates : t .gates ≤ 2 * n
+  pub area : t .area ≤ 131070 * n
+
+-- one gate more can be counted, and has been
+pub record Roomy (t : Tally) : Type 0 where
+  pub length : t .length ≤ 2147483647
+  pub gates : t .gates ≤ 2147483647
+  pub area : t .area ≤ 2147483647
+
+pub record Grown (t r : Tally) : Type 0 where
+  pub length : r .length ≤ t .length + 90
+  pub gates : r .gates ≤ t .gates + 1
+  pub area : r .area ≤ t .area + 65535
 
 -- ---- the names lines, and the outputs' wires
 
@@ -178,30 +170,30 @@ unfoldable pub figuresText : Figures → List ℕ
 unfolding text decimal
 figuresText f = text ".end\n# gates " ++ (decimal (f .gates) ++ (text " area " ++ (decimal (f .area) ++ (text " arrival " ++ (decimal (f .arrival) ++ text "\n")))))
 
-unfoldable pub gatesIn : List ℕ → Library → Header → List Gate
+unfoldable pub allGates : List ℕ → List ℕ → Header → List Gate
 unfolding gatesFrom
-gatesIn w lib h = gatesFrom w lib (h .size) 0 (2 * (h .size + 1))
+allGates w book h = gatesFrom w book (h .size) 0 (2 * (h .size + 1))
 
-unfoldable pub figuresIn : List ℕ → Library → Header → Figures
-unfolding gatesIn sum latestFrom
-figuresIn w lib h = record {
-  gates = length (gatesIn w lib h);
-  area = sum (map (λ (u : Gate). u .cell .area) (gatesIn w lib h));
+unfoldable pub figuresIn : List ℕ → List ℕ → Header → Figures
+unfolding allGates sum latestFrom
+figuresIn w book h = record {
+  gates = length (allGates w book h);
+  area = sum (map (λ (u : Gate). u .cell .area) (allGates w book h));
   arrival = latestFrom w (h .size) 0 (h .outputs);
 }
 
-unfoldable pub textIn : List ℕ → Library → Header → Figures → List ℕ
-unfolding each gatesIn
-textIn w lib h f =
+unfoldable pub textIn : List ℕ → List ℕ → Header → Figures → List ℕ
+unfolding each allGates
+textIn w book h f =
     frameText w (h .size) (h .inputs) (h .outputs)
-    ++ (each gateLine (gatesIn w lib h) ++ (wireLinesFrom w (h .size) 0 (h .outputs) ++ figuresText f))
+    ++ (each gateLine (allGates w book h) ++ (wireLinesFrom w (h .size) 0 (h .outputs) ++ figuresText f))
 
-unfoldable pub measuredIn : List ℕ → Library → Header → Measured
+unfoldable pub measuredIn : List ℕ → List ℕ → Header → Measured
 unfolding textIn figuresIn
-measuredIn w lib h = record { length = length (textIn w lib h (figuresIn w lib h)); figures = figuresIn w lib h }
+measuredIn w book h = record { length = length (textIn w book h (figuresIn w book h)); figures = figuresIn w book h }
 
 -- bounds of what is measured
 pub record Small (r : Measured) : Type 0 where
-  pub length : r .length < 1048576
-  pub gates : r .figures .gates ≤ 8192
+  pub length : r .length < 2097152
+  pub gates : r .figures .gates ≤ 16384
   pub area : r .figures .area < 1073741824

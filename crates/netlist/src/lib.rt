@@ -1,6 +1,8 @@
 // Layer six: the needed phases become the lines of a netlist, and its figures are those of the lines.
 // "Needed phases, inputs' own positive nets apart, become gates by ascending variable, `p` first." A phase is its literal, 2v positive and
 // 2v+1 negative, so that ascending literals are this order.
+use drivers::Driver;
+use drivers::Instance;
 use model::Cell;
 use model::Figures;
 use model::Header;
@@ -14,22 +16,13 @@ ghost use lib.ListN.{length, take, drop};
 ghost use Rattle.model.specs.Base.{each};
 ghost use Rattle.model.specs.Text.{decimal};
 ghost use Rattle.model.specs.Graph.{Graph};
-ghost use Rattle.model.specs.Netlist.{netName, pinWords, gateLine, outName, wireLine};
+ghost use Rattle.model.specs.Netlist.{netName, label, gateLine, outName, wireLine};
 ghost use Rattle.words.specs.Layout.{Room, RoomFor, outputAt};
 ghost use Rattle.words.specs.Phases.{phaseAt};
-ghost use Rattle.truth.specs.Variant.{placesOf};
 ghost use Rattle.text.specs.Writing.{Wrote};
-ghost use Rattle.netlist.specs.Lines.{lineOf, fourNets, MatchReady, SourceReady, Gated, matchedGate, invertedGate, gateBy, gateAt, isGateAt, gateFrom, gatesFrom, gatesOf, Drives, tallied, noTally, Bounded, Named, inputNet, inputNamesFrom, outputNamesFrom, spaced, wireLinesFrom, latestFrom, frameText, figuresText, textIn, measuredIn, Small};
+ghost use Rattle.drivers.specs.Gates.{netOf, gateOf, gatesOf, FewPins, LineReady, Drives};
+ghost use Rattle.netlist.specs.Lines.{netWords, lineOf, MatchReady, SourceReady, Gated, matchedGates, invertedGates, gateBy, gateAt, isGateAt, gateFrom, gatesFrom, tallied, noTally, Bounded, Roomy, Grown, Named, inputNet, inputNamesFrom, outputNamesFrom, spaced, wireLinesFrom, latestFrom, frameText, figuresText, textIn, measuredIn, Small};
 ghost use Rattle.netlist.specs.Mapped.{Mapped, textFor, measuredFor};
-
-// What drives a net: a cell and, for its first `count` pins, the nets that feed it, as literals. Nothing where the net is not there.
-struct Driver {
-    there: bool,
-    cell: Cell,
-    nets: [u32; 4],
-    count: usize,
-    net: u32,
-}
 
 // "A walk over the mapped gates holds the lent words and the next gate": `next` is the gate's phase, as a literal, past the last phase at the
 // end.
@@ -75,22 +68,44 @@ fn put_net(out: &mut [u8], at: usize, l: u32) -> usize
     text::put_number(out, next, l / 2)
 }
 
+// The name of a gate's net: a phase's, or "a net `s` followed by the root's net name".
+fn put_label(out: &mut [u8], at: usize, n: u32) -> usize
+    requires { ⌜ at + length (label (netOf n)) ≤ length (now out) ⌝ }
+    ensures { λ r. ⌜ Wrote (now (out .entry)) (now (out .exit)) at r (label (netOf n)) ⌝ }
+{
+    if n % 2 == 1 {
+        let next = text::put_byte(out, at, b's');
+        return put_net(out, next, n / 2);
+    }
+    put_net(out, at, n / 2)
+}
+
+fn label_len(n: u32) -> usize
+    ensures { λ r. ⌜ (r ≡ length (label (netOf n))) × (r ≤ 12) ⌝ }
+{
+    if n % 2 == 1 {
+        net_len(n / 2) + 1
+    } else {
+        net_len(n / 2)
+    }
+}
+
 // ---- pins
 
 // A pin's word: " A=net".
-fn put_pin(out: &mut [u8], at: usize, b: u8, l: u32) -> usize
-    requires { ⌜ at + length (pinWords b (l ∷ [])) ≤ length (now out) ⌝ }
-    ensures { λ r. ⌜ Wrote (now (out .entry)) (now (out .exit)) at r (pinWords b (l ∷ [])) ⌝ }
+fn put_pin(out: &mut [u8], at: usize, b: u8, n: u32) -> usize
+    requires { ⌜ at + length (netWords b (n ∷ [])) ≤ length (now out) ⌝ }
+    ensures { λ r. ⌜ Wrote (now (out .entry)) (now (out .exit)) at r (netWords b (n ∷ [])) ⌝ }
 {
     let head = [b' ', b, b'='];
     let next = text::put_bytes(out, at, &head);
-    put_net(out, next, l)
+    put_label(out, next, n)
 }
 
 // "each pin in order with `=` and its net"
 fn put_pins(out: &mut [u8], at: usize, nets: [u32; 4], count: usize) -> usize
-    requires { ⌜ (count ≤ 4) × (at + length (pinWords 65 (take count nets)) ≤ length (now out)) ⌝ }
-    ensures { λ r. ⌜ Wrote (now (out .entry)) (now (out .exit)) at r (pinWords 65 (take count nets)) ⌝ }
+    requires { ⌜ (count ≤ 4) × (at + length (netWords 65 (take count nets)) ≤ length (now out)) ⌝ }
+    ensures { λ r. ⌜ Wrote (now (out .entry)) (now (out .exit)) at r (netWords 65 (take count nets)) ⌝ }
 {
     let mut next = at;
     let mut j: usize = 0;
@@ -104,12 +119,12 @@ fn put_pins(out: &mut [u8], at: usize, nets: [u32; 4], count: usize) -> usize
 // How long they are.
 fn pins_len(nets: [u32; 4], count: usize) -> usize
     requires { ⌜ count ≤ 4 ⌝ }
-    ensures { λ r. ⌜ (r ≡ length (pinWords 65 (take count nets))) × (r ≤ 56) ⌝ }
+    ensures { λ r. ⌜ (r ≡ length (netWords 65 (take count nets))) × (r ≤ 60) ⌝ }
 {
     let mut len: usize = 0;
     let mut j: usize = 0;
     while j < count {
-        len = len + 3 + net_len(nets[j]);
+        len = len + 3 + label_len(nets[j]);
         j += 1;
     }
     len
@@ -117,18 +132,11 @@ fn pins_len(nets: [u32; 4], count: usize) -> usize
 
 // ---- gate lines
 
-// How long a cell's name is: never past its eight bytes.
-fn name_len(len: usize) -> usize
-    ensures { λ r. ⌜ (r ≤ 8) × ((s : List ℕ) → length s ≡ 8 → take r s ≡ take len s) ⌝ }
-{
-    if len < 8 { len } else { 8 }
-}
-
 fn put_name(out: &mut [u8], at: usize, name: [u8; 8], len: usize) -> usize
     requires { ⌜ at + length (take len name) ≤ length (now out) ⌝ }
     ensures { λ r. ⌜ Wrote (now (out .entry)) (now (out .exit)) at r (take len name) ⌝ }
 {
-    let n = name_len(len);
+    let n = book::name_len(len);
     text::put_bytes(out, at, &name[..n])
 }
 
@@ -148,104 +156,58 @@ fn put_gate(out: &mut [u8], at: usize, c: Cell, nets: [u32; 4], count: usize, ne
 // How long a gate line is.
 fn gate_len(c: Cell, nets: [u32; 4], count: usize, net: u32) -> usize
     requires { ⌜ count ≤ 4 ⌝ }
-    ensures { λ r. ⌜ (r ≡ length (lineOf c (take count nets) net)) × (r ≤ 85) ⌝ }
+    ensures { λ r. ⌜ (r ≡ length (lineOf c (take count nets) net)) × (r ≤ 90) ⌝ }
 {
-    name_len(c.len) + pins_len(nets, count) + net_len(net) + 10
+    book::name_len(c.len) + pins_len(nets, count) + label_len(net) + 10
 }
 
 // ---- what drives a net
 
-fn four_nets(leaves: [u16; 4], order: usize, mask: usize) -> [u32; 4]
-    requires { ⌜ order < 24 ⌝ }
-    ensures { λ r. ⌜ r ≡ fourNets (placesOf order) mask leaves ⌝ }
-{
-    let a = truth::pin_net(leaves, order, mask, 0);
-    let b = truth::pin_net(leaves, order, mask, 1);
-    let c = truth::pin_net(leaves, order, mask, 2);
-    let d = truth::pin_net(leaves, order, mask, 3);
-    [a as u32, b as u32, c as u32, d as u32]
-}
-
-// No gate.
-fn no_driver() -> Driver
-    ensures { λ r. ⌜ Drives r [] ⌝ }
-{
-    let cell = Cell {
-        name: [0; 8],
-        len: 0,
-        pins: 0,
-        table: 0,
-        area: 0,
-        delays: [0; 4],
-        lows: [0; 4],
-    };
-    Driver {
-        there: false,
-        cell,
-        nets: [0; 4],
-        count: 0,
-        net: 0,
-    }
-}
-
 // A cell matched on a cut of phase l's variable.
-fn matched(work: &[u16], lib: Library, m: usize, l: usize, x: Match) -> Driver
-    requires { ⌜ Room (now work) m × (l / 2 ≤ m) × MatchReady lib x ⌝ }
-    ensures { λ r. ⌜ Drives r (matchedGate (now (work .entry)) lib m l x ∷ []) ⌝ }
+fn matched(work: &[u16], book: &[u8], m: usize, l: usize, x: Match) -> Driver
+    requires { ⌜ Room (now work) m × (l / 2 ≤ m) × MatchReady (now book) x ⌝ }
+    ensures { λ r. ⌜ Drives r (matchedGates (now (work .entry)) (now (book .entry)) m l x) ⌝ }
 {
-    let i = x.cell;
-    let cell = lib.cells[i];
     let cut = words::load_cut(work, m, l / 2, x.cut);
     let leaves = cut.leaves;
-    let nets = four_nets(leaves, x.order, x.mask);
-    Driver {
-        there: true,
-        cell,
-        nets,
-        count: cell.pins as usize,
-        net: l as u32,
-    }
+    let nets = drivers::four_nets(leaves, x.order, x.mask);
+    drivers::gates_by(book, x.cell, nets, l)
 }
 
 // "a one-pin cell with table 0001 fed by the opposite phase of that variable"
-fn inverted(lib: Library, l: usize, i: usize) -> Driver
-    requires { ⌜ (l < 65536) × (i < 32) ⌝ }
-    ensures { λ r. ⌜ Drives r (invertedGate lib l i ∷ []) ⌝ }
+fn inverted(book: &[u8], l: usize, i: usize) -> Driver
+    requires { ⌜ (l < 65536) × LineReady (now book) i ⌝ }
+    ensures { λ r. ⌜ Drives r (invertedGates (now (book .entry)) l i) ⌝ }
 {
-    let cell = lib.cells[i];
+    let cell = book::cell_at(book, i);
     let fed = truth::opposite(l);
-    Driver {
-        there: true,
-        cell,
-        nets: [fed as u32, 0, 0, 0],
-        count: 1,
-        net: l as u32,
-    }
+    let nets = [2 * fed as u32, 0, 0, 0];
+    drivers::one_gate(cell, nets, 1, l)
 }
 
-fn driver_of(work: &[u16], lib: Library, m: usize, l: usize, s: Source) -> Driver
-    requires { ⌜ Room (now work) m × (l / 2 ≤ m) × SourceReady lib s ⌝ }
-    ensures { λ r. ⌜ Drives r (gateBy (now (work .entry)) lib m l s) ⌝ }
+fn driver_of(work: &[u16], book: &[u8], m: usize, l: usize, s: Source) -> Driver
+    requires { ⌜ Room (now work) m × (l / 2 ≤ m) × SourceReady (now book) s ⌝ }
+    ensures { λ r. ⌜ Drives r (gateBy (now (work .entry)) (now (book .entry)) m l s) ⌝ }
 {
     match s {
-        Source::Input => no_driver(),
-        Source::Cell(x) => matched(work, lib, m, l, x),
-        Source::Inverter(i) => inverted(lib, l, i),
-        Source::Nothing => no_driver(),
+        Source::Input => drivers::no_driver(),
+        Source::Cell(x) => matched(work, book, m, l, x),
+        Source::Inverter(i) => inverted(book, l, i),
+        Source::Nothing => drivers::no_driver(),
     }
 }
 
 // What drives phase l, if it is needed and no input's own net.
-fn driver_at(work: &[u16], lib: Library, m: usize, l: usize) -> Driver
-    requires { ⌜ Gated (now work) lib m × (l / 2 ≤ m) ⌝ }
-    ensures { λ r. ⌜ Drives r (gateAt (now (work .entry)) lib m l) ⌝ }
+fn driver_at(work: &[u16], book: &[u8], m: usize, l: usize) -> Driver
+    requires { ⌜ Gated (now work) (now book) m × (l / 2 ≤ m) ⌝ }
+    ensures { λ r. ⌜ Drives r (gateAt (now (work .entry)) (now (book .entry)) m l) ⌝ }
 {
     if words::is_needed(work, m, l) {
         let p = words::phase(work, m, l);
         let s = p.source;
-        driver_of(work, lib, m, l, s)
+        driver_of(work, book, m, l, s)
     } else {
-        no_driver()
+        drivers::no_driver()
     }
 }
 
@@ -303,29 +265,42 @@ fn step<'a>(w: Walk<'a>, m: usize) -> Walk<'a>
 
 // ---- all gates
 
+fn put_instance(out: &mut [u8], at: usize, g: Instance) -> usize
+    requires { ⌜ (g .count ≤ 4) × (at + length (gateLine (gateOf g)) ≤ length (now out)) ⌝ }
+    ensures { λ r. ⌜ Wrote (now (out .entry)) (now (out .exit)) at r (gateLine (gateOf g)) ⌝ }
+{
+    let c = g.cell;
+    let nets = g.nets;
+    put_gate(out, at, c, nets, g.count, g.net)
+}
+
+// "A pair prints as two gates, the inner first".
 fn put_driver(out: &mut [u8], at: usize, d: Driver) -> usize
-    requires { ⌜ (d .count ≤ 4) × (at + length (each gateLine (gatesOf d)) ≤ length (now out)) ⌝ }
+    requires { ⌜ FewPins d × (at + length (each gateLine (gatesOf d)) ≤ length (now out)) ⌝ }
     ensures { λ r. ⌜ Wrote (now (out .entry)) (now (out .exit)) at r (each gateLine (gatesOf d)) ⌝ }
 {
     if d.there {
-        let c = d.cell;
-        let nets = d.nets;
-        put_gate(out, at, c, nets, d.count, d.net)
-    } else {
-        at
+        let root = d.root;
+        if d.pair {
+            let inner = d.inner;
+            let next = put_instance(out, at, inner);
+            return put_instance(out, next, root);
+        }
+        return put_instance(out, at, root);
     }
+    at
 }
 
 // "become gates by ascending variable, `p` first"
-fn put_gates(work: &[u16], lib: Library, m: usize, out: &mut [u8], at: usize) -> usize
-    requires { ⌜ Gated (now work) lib m × (at + length (each gateLine (gatesFrom (now work) lib m 0 (2 * (m + 1)))) ≤ length (now out)) ⌝ }
-    ensures { λ r. ⌜ Wrote (now (out .entry)) (now (out .exit)) at r (each gateLine (gatesFrom (now (work .entry)) lib m 0 (2 * (m + 1)))) ⌝ }
+fn put_gates(work: &[u16], book: &[u8], m: usize, out: &mut [u8], at: usize) -> usize
+    requires { ⌜ Gated (now work) (now book) m × (at + length (each gateLine (gatesFrom (now work) (now book) m 0 (2 * (m + 1)))) ≤ length (now out)) ⌝ }
+    ensures { λ r. ⌜ Wrote (now (out .entry)) (now (out .exit)) at r (each gateLine (gatesFrom (now (work .entry)) (now (book .entry)) m 0 (2 * (m + 1)))) ⌝ }
 {
     let end = 2 * (m + 1);
     let mut next = at;
     let mut w = walk_over(work, m);
     while w.next < end {
-        let d = driver_at(w.words, lib, m, w.next);
+        let d = driver_at(w.words, book, m, w.next);
         next = put_driver(out, next, d);
         w = step(w, m);
     }
@@ -342,33 +317,45 @@ fn no_tally() -> Tally
     }
 }
 
-fn count_driver(t: Tally, d: Driver, n: usize) -> Tally
-    requires { ⌜ (d .count ≤ 4) × Bounded t n × (n < 8192) ⌝ }
-    ensures { λ r. ⌜ (r ≡ tallied t (gatesOf d)) × Bounded r (n + 1) ⌝ }
+fn count_instance(t: Tally, g: Instance) -> Tally
+    requires { ⌜ (g .count ≤ 4) × Roomy t ⌝ }
+    ensures { λ r. ⌜ (r ≡ tallied t (gateOf g ∷ [])) × Grown t r ⌝ }
 {
-    if d.there {
-        let c = d.cell;
-        let nets = d.nets;
-        Tally {
-            length: t.length + gate_len(c, nets, d.count, d.net),
-            gates: t.gates + 1,
-            area: t.area + c.area as u32,
-        }
-    } else {
-        t
+    let c = g.cell;
+    let nets = g.nets;
+    Tally {
+        length: t.length + gate_len(c, nets, g.count, g.net),
+        gates: t.gates + 1,
+        area: t.area + c.area as u32,
     }
 }
 
+fn count_driver(t: Tally, d: Driver, n: usize) -> Tally
+    requires { ⌜ FewPins d × Bounded t n × (n < 8192) ⌝ }
+    ensures { λ r. ⌜ (r ≡ tallied t (gatesOf d)) × Bounded r (n + 1) ⌝ }
+{
+    if d.there {
+        let root = d.root;
+        if d.pair {
+            let inner = d.inner;
+            let u = count_instance(t, inner);
+            return count_instance(u, root);
+        }
+        return count_instance(t, root);
+    }
+    t
+}
+
 // The gates counted, before a byte is written.
-fn count_gates(work: &[u16], lib: Library, m: usize) -> Tally
-    requires { ⌜ Gated (now work) lib m ⌝ }
-    ensures { λ r. ⌜ (r ≡ tallied noTally (gatesFrom (now (work .entry)) lib m 0 (2 * (m + 1)))) × Bounded r 8192 ⌝ }
+fn count_gates(work: &[u16], book: &[u8], m: usize) -> Tally
+    requires { ⌜ Gated (now work) (now book) m ⌝ }
+    ensures { λ r. ⌜ (r ≡ tallied noTally (gatesFrom (now (work .entry)) (now (book .entry)) m 0 (2 * (m + 1)))) × Bounded r 8192 ⌝ }
 {
     let end = 2 * (m + 1);
     let mut t = no_tally();
     let mut w = walk_over(work, m);
     while w.next < end {
-        let d = driver_at(w.words, lib, m, w.next);
+        let d = driver_at(w.words, book, m, w.next);
         t = count_driver(t, d, w.next);
         w = step(w, m);
     }
@@ -588,11 +575,11 @@ fn latest(work: &[u16], m: usize, inputs: usize, outputs: usize) -> u32
 
 // ---- the netlist
 
-fn measure_words(work: &[u16], lib: Library, h: Header) -> Measured
-    requires { ⌜ Gated (now work) lib (h .size) × Named (now work) (h .size) (h .inputs) (h .outputs) ⌝ }
-    ensures { λ r. ⌜ (r ≡ measuredIn (now (work .entry)) lib h) × Small r ⌝ }
+fn measure_words(work: &[u16], book: &[u8], h: Header) -> Measured
+    requires { ⌜ Gated (now work) (now book) (h .size) × Named (now work) (h .size) (h .inputs) (h .outputs) ⌝ }
+    ensures { λ r. ⌜ (r ≡ measuredIn (now (work .entry)) (now (book .entry)) h) × Small r ⌝ }
 {
-    let t = count_gates(work, lib, h.size);
+    let t = count_gates(work, book, h.size);
     let arrival = latest(work, h.size, h.inputs, h.outputs);
     let figures = Figures {
         gates: t.gates,
@@ -605,28 +592,39 @@ fn measure_words(work: &[u16], lib: Library, h: Header) -> Measured
     Measured { length, figures }
 }
 
-fn write_words(work: &[u16], lib: Library, h: Header, f: Figures, out: &mut [u8]) -> usize
-    requires { ⌜ Gated (now work) lib (h .size) × Named (now work) (h .size) (h .inputs) (h .outputs) × (length (textIn (now work) lib h f) ≤ length (now out)) ⌝ }
-    ensures { λ r. ⌜ Wrote (now (out .entry)) (now (out .exit)) 0 r (textIn (now (work .entry)) lib h f) ⌝ }
+fn write_words(work: &[u16], book: &[u8], h: Header, f: Figures, out: &mut [u8]) -> usize
+    requires { ⌜ Gated (now work) (now book) (h .size) × Named (now work) (h .size) (h .inputs) (h .outputs) × (length (textIn (now work) (now book) h f) ≤ length (now out)) ⌝ }
+    ensures { λ r. ⌜ Wrote (now (out .entry)) (now (out .exit)) 0 r (textIn (now (work .entry)) (now (book .entry)) h f) ⌝ }
 {
     let a = put_frame(work, h.size, h.inputs, h.outputs, out);
-    let b = put_gates(work, lib, h.size, out, a);
+    let b = put_gates(work, book, h.size, out, a);
     let c = put_wires(work, h.size, h.outputs, out, b);
     put_figures(out, c, f)
 }
 
 // The netlist's length and figures, before a byte is written.
-pub fn measure(work: &[u16], lib: Library, h: Header) -> Measured
-    requires { ⌜ ((g : Graph) × Mapped (now work) lib h g) ⌝ }
-    ensures { λ r. ⌜ ((g : Graph) → Mapped (now (work .entry)) lib h g → r ≡ measuredFor lib g) × Small r ⌝ }
+pub fn measure(work: &[u16], lib: Library, codes: &[u16], h: Header) -> Measured
+    requires { ⌜ ((g : Graph) × Mapped (now work) lib (now codes) h g) ⌝ }
+    ensures { λ r. ⌜ ((g : Graph) → Mapped (now (work .entry)) lib (now (codes .entry)) h g → r ≡ measuredFor lib (now (codes .entry)) g) × Small r ⌝ }
 {
-    measure_words(work, lib, h)
+    let mut book = [0u8; 833];
+    book::put_book(&mut book, lib, codes);
+    measure_words(work, &book, h)
 }
 
 // "On success text memory begins with the netlist and keeps its other bytes."
-pub fn write(work: &[u16], lib: Library, h: Header, f: Figures, out: &mut [u8]) -> usize
-    requires { ⌜ ((g : Graph) × Mapped (now work) lib h g × (length (textFor lib g f) ≤ length (now out))) ⌝ }
-    ensures { λ r. ⌜ ((g : Graph) → Mapped (now (work .entry)) lib h g → (r ≡ length (textFor lib g f)) × (now (out .exit) ≡ textFor lib g f ++ drop (length (textFor lib g f)) (now (out .entry)))) ⌝ }
+pub fn write(
+    work: &[u16],
+    lib: Library,
+    codes: &[u16],
+    h: Header,
+    f: Figures,
+    out: &mut [u8],
+) -> usize
+    requires { ⌜ ((g : Graph) × Mapped (now work) lib (now codes) h g × (length (textFor lib (now codes) g f) ≤ length (now out))) ⌝ }
+    ensures { λ r. ⌜ ((g : Graph) → Mapped (now (work .entry)) lib (now (codes .entry)) h g → (r ≡ length (textFor lib (now (codes .entry)) g f)) × (now (out .exit) ≡ textFor lib (now (codes .entry)) g f ++ drop (length (textFor lib (now (codes .entry)) g f)) (now (out .entry)))) ⌝ }
 {
-    write_words(work, lib, h, f, out)
+    let mut book = [0u8; 833];
+    book::put_book(&mut book, lib, codes);
+    write_words(work, &book, h, f, out)
 }

@@ -12,13 +12,12 @@ use lib.ListN.{length, replicate}
 use mir.Facts.{leb-yes, leb-no}
 use Rattle.model.specs.Limits.{need}
 use Rattle.model.specs.Reading.{Read, holds, fault, next, unless}
-use Rattle.model.specs.LibraryText.{readLibrary, isRanged}
 use Rattle.model.specs.GraphText.{readHeader, readGraph}
 use Rattle.model.specs.ArrivalsText.{readArrivals, timedBy}
 use Rattle.model.specs.Graph.{Graph}
 use Rattle.model.specs.Netlist.{Outcome, refused, mapped, mapGraph}
 use Rattle.model.specs.Timing.{followed}
-use Rattle.model.specs.Mapper.{Call, Design, short, readTexts, mapDesign, mapTexts, returnedBy, triedEarly, workAfter}
+use Rattle.model.specs.Mapper.{Call, Design, designOf, short, readListed, readTexts, mapDesign, mapTexts, returnedBy, triedEarly, workAfter}
 use Rattle.model.specs.Channels.{Channel, TwoCall, alone, needOf, Needs, needsOf, Outcomes, mapNeeds, mapTwo, twoWorkAfter}
 use Rattle.model.specs.Demands.{Decided, Means, AlikeTexts}
 use Rattle.model.specs.TwoDemands.{Alone, TogetherRefused, Neither, Independent, Promised, Each, onText, TwinChannels, AlikeChannels, EitherEndTwo}
@@ -27,7 +26,7 @@ use Rattle.model.specs.declared.Header.{Header}
 use Rattle.model.specs.declared.Figures.{Figures}
 use Rattle.theory_graph.proofs.Lists.{is-true}
 use Rattle.theory_text.proofs.Steps.{holds-once, fault-never, unless-out, next-out}
-use Rattle.theory_text.proofs.Faults.{Faults, in-holds, in-unless, in-next, library-faults, header-faults, graph-faults, arrivals-faults}
+use Rattle.theory_text.proofs.Faults.{Faults, in-holds, in-unless, in-next, listed-faults, header-faults, graph-faults, arrivals-faults}
 use Rattle.theory_text.proofs.Arrivals.{texts-listed}
 use Rattle.theory_text.proofs.Ends.{demand-ends}
 use Rattle.theory_text.proofs.Former.{demand-former}
@@ -35,6 +34,7 @@ use Rattle.theory.proofs.Outcomes.{refused-never}
 use Rattle.theory.proofs.Refusals.{Refusal, within-refusal, followed-refusal, map-refusal}
 use Rattle.theory.proofs.Sequence.{demand-sequenced}
 use Rattle.theory.proofs.Demanded.{demand-values, demand-earliest, demand-untimed, demand-twins, decided}
+use Rattle.theory.proofs.Shuffles.{demand-shuffles}
 
 -- a refusal, whatever was to be read
 other : {A B : Type 0} → Read A → Read B
@@ -43,35 +43,35 @@ other (fault n k) = fault n k
 
 -- ---- a channel alone
 
-module _ (library : List ℕ) (ch : Channel) where
+module _ (paired : Bool) (library : List ℕ) (ch : Channel) where
   -- what is read behind 10
   abbrev behind : List Cell → Header → Read Design
   behind cells h =
       next (readGraph (ch .graph) h) (λ g.
-      next (readArrivals (h .inputs) (ch .arrivals)) (λ es. holds (record { cells = cells; ranged = isRanged library; graph = timedBy g es })))
+      next (readArrivals (h .inputs) (ch .arrivals)) (λ es. holds (designOf (alone paired library ch 0) cells (timedBy g es))))
 
   -- what is read where no refusal tried before 10 applies
   record Read10 (a : ℕ) : Type 0 where
     cells : List Cell
     header : Header
-    isShort : short (alone library ch 0) ≡ true
-    isLibrary : readLibrary library ≡ holds cells
+    isShort : short (alone paired library ch 0) ≡ true
+    isLibrary : readListed paired library ≡ holds cells
     isHeader : readHeader (ch .graph) ≡ holds header
     isNeed : need (header .size) (header .outputs) ≡ a
 
-  read-10 : (a : ℕ) → needOf library ch ≡ holds a → Read10 a
+  read-10 : (a : ℕ) → needOf paired library ch ≡ holds a → Read10 a
   unfolding needOf
   read-10 a e =
-      let s = unless-out (short (alone library ch 0)) 1 0 _ a e in
-      let l = next-out (readLibrary library) _ a (s .1) in
+      let s = unless-out (short (alone paired library ch 0)) 1 0 _ a e in
+      let l = next-out (readListed paired library) _ a (s .1) in
       let h = next-out (readHeader (ch .graph)) (λ x. holds (need (x .size) (x .outputs))) a (l .2) in
-      record { cells = l .0; header = h .0; isShort = is-true (short (alone library ch 0)) (s .0); isLibrary = l .1; isHeader = h .1; isNeed = holds-once (h .2) }
+      record { cells = l .0; header = h .0; isShort = is-true (short (alone paired library ch 0)) (s .0); isLibrary = l .1; isHeader = h .1; isNeed = holds-once (h .2) }
 
   -- then what the texts hold hangs on the words by 10 alone
-  reads-are : (a : ℕ) (r : Read10 a) (words : ℕ) → readTexts (alone library ch words) ≡ unless (leb a words) 10 0 (behind (r .cells) (r .header))
+  reads-are : (a : ℕ) (r : Read10 a) (words : ℕ) → readTexts (alone paired library ch words) ≡ unless (leb a words) 10 0 (behind (r .cells) (r .header))
   unfolding readTexts next unless
   reads-are a r words =
-      ap (λ (b : Bool). unless b 1 0 (next (readLibrary library) read)) (r .isShort)
+      ap (λ (b : Bool). unless b 1 0 (next (readListed paired library) read)) (r .isShort)
       ∙ ap (λ (x : Read (List Cell)). next x read) (r .isLibrary)
       ∙ ap (λ (x : Read Header). next x (lent (r .cells))) (r .isHeader)
       ∙ ap (λ (n : ℕ). unless (leb n words) 10 0 (behind (r .cells) (r .header))) (r .isNeed)
@@ -82,12 +82,12 @@ module _ (library : List ℕ) (ch : Channel) where
       read : List Cell → Read Design
       read cells = next (readHeader (ch .graph)) (lent cells)
 
-  reads-enough : (a : ℕ) (r : Read10 a) (words : ℕ) → a ≤ words → readTexts (alone library ch words) ≡ behind (r .cells) (r .header)
+  reads-enough : (a : ℕ) (r : Read10 a) (words : ℕ) → a ≤ words → readTexts (alone paired library ch words) ≡ behind (r .cells) (r .header)
   unfolding unless
   reads-enough a r words h =
       reads-are a r words ∙ ap (λ (b : Bool). unless b 10 0 (behind (r .cells) (r .header))) (is-true (leb a words) (le→leb a words h))
 
-  reads-short : (a : ℕ) (r : Read10 a) (words : ℕ) → words < a → readTexts (alone library ch words) ≡ fault 10 0
+  reads-short : (a : ℕ) (r : Read10 a) (words : ℕ) → words < a → readTexts (alone paired library ch words) ≡ fault 10 0
   unfolding unless
   reads-short a r words h = reads-are a r words ∙ ap (λ (b : Bool). unless b 10 0 (behind (r .cells) (r .header))) (lacks (leb a words) leb-yes)
     where
@@ -96,9 +96,9 @@ module _ (library : List ℕ) (ch : Channel) where
       lacks false y = refl
 
   -- a refusal tried before 10 is the call's, whatever number of words is lent
-  alone-early : (n k : ℕ) → needOf library ch ≡ fault n k → (words : ℕ) → mapTexts (alone library ch words) ≡ refused n k
+  alone-early : (n k : ℕ) → needOf paired library ch ≡ fault n k → (words : ℕ) → mapTexts (alone paired library ch words) ≡ refused n k
   unfolding mapTexts mapDesign needOf readTexts next unless other
-  alone-early n k e words = ap (mapDesign (ch .bytes)) (go (short (alone library ch 0)) (readLibrary library) (readHeader (ch .graph)) e)
+  alone-early n k e words = ap (mapDesign (ch .bytes)) (go (short (alone paired library ch 0)) (readListed paired library) (readHeader (ch .graph)) e)
     where
       lent : List Cell → Header → Read Design
       lent cells h = unless (leb (need (h .size) (h .outputs)) words) 10 0 (behind cells h)
@@ -113,16 +113,15 @@ module _ (library : List ℕ) (ch : Channel) where
   abbrev Early : ℕ → ℕ → Type 0
   Early n k = (triedEarly n ≡ true) × (¬ (n ≡ 10))
 
-  alone-tried : (n k : ℕ) → needOf library ch ≡ fault n k → Early n k
+  alone-tried : (n k : ℕ) → needOf paired library ch ≡ fault n k → Early n k
   unfolding needOf
   alone-tried = faults .has
     where
-      faults : Faults Early (needOf library ch)
+      faults : Faults Early (needOf paired library ch)
       faults =
-          in-unless Early (short (alone library ch 0)) 1 0 _ (λ _. (refl, λ q. omega arith))
-          (in-next Early (readLibrary library) _
-          (library-faults Early (refl, λ q. omega arith) (λ _. (refl, λ q. omega arith)) (λ _. (refl, λ q. omega arith)) (λ _. (refl, λ q. omega arith)) (λ _. (refl, λ q. omega arith))
-          (λ _. (refl, λ q. omega arith)) library)
+          in-unless Early (short (alone paired library ch 0)) 1 0 _ (λ _. (refl, λ q. omega arith))
+          (in-next Early (readListed paired library) _
+          (listed-faults Early (refl, λ q. omega arith) (λ _. (refl, λ q. omega arith)) (λ _. (refl, λ q. omega arith)) (λ _. (refl, λ q. omega arith)) (λ _. (refl, λ q. omega arith)) (λ _. (refl, λ q. omega arith)) (refl, λ q. omega arith) paired library)
           (λ cells _. in-next Early (readHeader (ch .graph)) (λ h. holds (need (h .size) (h .outputs)))
           (header-faults Early (refl, λ q. omega arith) (refl, λ q. omega arith) (refl, λ q. omega arith) (refl, λ q. omega arith) (ch .graph))
           (λ h _. in-holds Early (need (h .size) (h .outputs)))))
@@ -134,47 +133,47 @@ module _ (library : List ℕ) (ch : Channel) where
   unfolding next
   behind-late cells h =
       in-next Late10 (readGraph (ch .graph) h) _ (graph-faults Late10 (λ _. refl) (λ _. refl) (λ _. refl) (λ _. refl) (λ _. refl) (λ _. refl) (ch .graph) h)
-      (λ g _. in-next Late10 (readArrivals (h .inputs) (ch .arrivals)) (λ es. holds (record { cells = cells; ranged = isRanged library; graph = timedBy g es }))
+      (λ g _. in-next Late10 (readArrivals (h .inputs) (ch .arrivals)) (λ es. holds (designOf (alone paired library ch 0) cells (timedBy g es)))
       (arrivals-faults Late10 (λ _. refl) (λ _. refl) (h .inputs) (ch .arrivals))
-      (λ es _. in-holds Late10 (record { cells = cells; ranged = isRanged library; graph = timedBy g es })))
+      (λ es _. in-holds Late10 (designOf (alone paired library ch 0) cells (timedBy g es))))
 
   design-late : (r : Read Design) → Faults Late10 r → Refusal Late10 (mapDesign (ch .bytes) r)
   unfolding mapDesign
   design-late (holds d) f =
-      within-refusal Late10 (λ _. refl) (ch .bytes) (followed (d .ranged) (d .cells) (d .graph) (mapGraph (d .cells) (d .graph)))
-      (followed-refusal Late10 (d .ranged) (d .cells) (d .graph) (mapGraph (d .cells) (d .graph)) (map-refusal Late10 (d .cells) (d .graph) (λ _ _. refl) (λ _. refl) (λ _. refl)))
+      within-refusal Late10 (λ _. refl) (ch .bytes) (followed (d .ranged) (d .cells) (d .graph) (mapGraph (d .listed) (d .cells) (d .graph)))
+      (followed-refusal Late10 (d .ranged) (d .cells) (d .graph) (mapGraph (d .listed) (d .cells) (d .graph)) (map-refusal Late10 (d .listed) (d .cells) (d .graph) (λ _ _. refl) (λ _. refl) (λ _. refl)))
   design-late (fault n k) f = f .has n k refl
 
   -- with words enough no refusal tried up to 10 comes
-  alone-late : (a : ℕ) → needOf library ch ≡ holds a → (words : ℕ) → a ≤ words → (n k : ℕ) → mapTexts (alone library ch words) ≡ refused n k → triedEarly n ≡ false
+  alone-late : (a : ℕ) → needOf paired library ch ≡ holds a → (words : ℕ) → a ≤ words → (n k : ℕ) → mapTexts (alone paired library ch words) ≡ refused n k → triedEarly n ≡ false
   unfolding mapTexts
   alone-late a e words h n k q =
       let r = read-10 a e in
       subst (Refusal Late10) (ap (mapDesign (ch .bytes)) (sym (reads-enough a r words h)) ∙ q) (design-late (behind (r .cells) (r .header)) (behind-late (r .cells) (r .header)))
 
-  alone-ten : (a : ℕ) → needOf library ch ≡ holds a → (words : ℕ) → (mapTexts (alone library ch words) ≡ refused 10 0) ↔ (words < a)
+  alone-ten : (a : ℕ) → needOf paired library ch ≡ holds a → (words : ℕ) → (mapTexts (alone paired library ch words) ≡ refused 10 0) ↔ (words < a)
   unfolding mapTexts mapDesign
   alone-ten a e words = (
     (λ q. lacks (leb a words) leb-yes leb-no q),
     (λ h. ap (mapDesign (ch .bytes)) (reads-short a (read-10 a e) words h)),
   )
     where
-      lacks : (b : Bool) → (T b → a ≤ words) → (T (not b) → words < a) → mapTexts (alone library ch words) ≡ refused 10 0 → words < a
+      lacks : (b : Bool) → (T b → a ≤ words) → (T (not b) → words < a) → mapTexts (alone paired library ch words) ≡ refused 10 0 → words < a
       lacks true y z q = absurd (false≢true (sym (alone-late a e words (y tt) 10 0 q)))
       lacks false y z q = z tt
 
   -- "words beyond the need change no outcome"
-  alone-beyond : (a : ℕ) → needOf library ch ≡ holds a → (words : ℕ) → a ≤ words → mapTexts (alone library ch words) ≡ mapTexts (alone library ch a)
+  alone-beyond : (a : ℕ) → needOf paired library ch ≡ holds a → (words : ℕ) → a ≤ words → mapTexts (alone paired library ch words) ≡ mapTexts (alone paired library ch a)
   unfolding mapTexts
   alone-beyond a e words h = let r = read-10 a e in ap (mapDesign (ch .bytes)) (reads-enough a r words h ∙ sym (reads-enough a r a (le-refl a)))
 
-pub channel-alone : (library : List ℕ) (ch : Channel) → Alone library ch
-channel-alone library ch = record {
-  early = alone-early library ch;
-  tried = alone-tried library ch;
-  ten = alone-ten library ch;
-  late = alone-late library ch;
-  beyond = alone-beyond library ch;
+pub channel-alone : (paired : Bool) (library : List ℕ) (ch : Channel) → Alone paired library ch
+channel-alone paired library ch = record {
+  early = alone-early paired library ch;
+  tried = alone-tried paired library ch;
+  ten = alone-ten paired library ch;
+  late = alone-late paired library ch;
+  beyond = alone-beyond paired library ch;
 }
 
 -- ---- both channels
@@ -183,7 +182,7 @@ channel-alone library ch = record {
 neither-needs : (c : TwoCall) (e : Neither c) → needsOf c ≡ holds (record { first = e .first; second = e .second })
 unfolding needsOf next unless
 neither-needs c e =
-    ap (λ (r : Read ℕ). next r (λ a. next (needOf (c .library) (c .second)) (λ b. lent a b))) (e .needsFirst)
+    ap (λ (r : Read ℕ). next r (λ a. next (needOf (c .paired) (c .library) (c .second)) (λ b. lent a b))) (e .needsFirst)
     ∙ ap (λ (r : Read ℕ). next r (lent (e .first))) (e .needsSecond)
     ∙ ap (λ (b : Bool). unless b 10 0 (holds (record { first = e .first; second = e .second }))) (is-true (leb (e .first + e .second) (c .words)) (le→leb (e .first + e .second) (c .words) (e .enough)))
   where
@@ -194,14 +193,14 @@ neither-needs c e =
 needs-neither : (c : TwoCall) (n : Needs) → needsOf c ≡ holds n → Neither c
 unfolding needsOf
 needs-neither c n e =
-    let a = next-out (needOf (c .library) (c .first)) _ n e in
-    let b = next-out (needOf (c .library) (c .second)) _ n (a .2) in
+    let a = next-out (needOf (c .paired) (c .library) (c .first)) _ n e in
+    let b = next-out (needOf (c .paired) (c .library) (c .second)) _ n (a .2) in
     let f = unless-out (leb (a .0 + b .0) (c .words)) 10 0 (holds (record { first = a .0; second = b .0 })) n (b .2) in
     record { first = a .0; second = b .0; needsFirst = a .1; needsSecond = b .1; enough = leb-yes (f .0) }
 
 -- the outcomes then
 neither-outcomes : (c : TwoCall) (e : Neither c)
-    → mapTwo c ≡ record { first = mapTexts (alone (c .library) (c .first) (e .first)); second = mapTexts (alone (c .library) (c .second) (e .second)) }
+    → mapTwo c ≡ record { first = mapTexts (alone (c .paired) (c .library) (c .first) (e .first)); second = mapTexts (alone (c .paired) (c .library) (c .second) (e .second)) }
 unfolding mapTwo mapNeeds
 neither-outcomes c e = ap (mapNeeds c) (neither-needs c e)
 
@@ -219,7 +218,7 @@ together-refused c = record {
     lent a b = unless (leb (a + b) (c .words)) 10 0 (holds (record { first = a; second = b }))
 
     behindFirst : ℕ → Read Needs
-    behindFirst a = next (needOf (c .library) (c .second)) (lent a)
+    behindFirst a = next (needOf (c .paired) (c .library) (c .second)) (lent a)
 
     lacks : (s : ℕ) → c .words < s → (b : Bool) → (T b → s ≤ c .words) → b ≡ false
     lacks s h true y = absurd (let z : s ≤ c .words = y tt in omega arith)
@@ -227,11 +226,11 @@ together-refused c = record {
 
 -- ---- independence
 
-first-alone : (c : TwoCall) (e : Neither c) (words : ℕ) → e .first ≤ words → mapTwo c .first ≡ mapTexts (alone (c .library) (c .first) words)
-first-alone c e words h = ap (λ (o : Outcomes). o .first) (neither-outcomes c e) ∙ sym (alone-beyond (c .library) (c .first) (e .first) (e .needsFirst) words h)
+first-alone : (c : TwoCall) (e : Neither c) (words : ℕ) → e .first ≤ words → mapTwo c .first ≡ mapTexts (alone (c .paired) (c .library) (c .first) words)
+first-alone c e words h = ap (λ (o : Outcomes). o .first) (neither-outcomes c e) ∙ sym (alone-beyond (c .paired) (c .library) (c .first) (e .first) (e .needsFirst) words h)
 
-second-alone : (c : TwoCall) (e : Neither c) (words : ℕ) → e .second ≤ words → mapTwo c .second ≡ mapTexts (alone (c .library) (c .second) words)
-second-alone c e words h = ap (λ (o : Outcomes). o .second) (neither-outcomes c e) ∙ sym (alone-beyond (c .library) (c .second) (e .second) (e .needsSecond) words h)
+second-alone : (c : TwoCall) (e : Neither c) (words : ℕ) → e .second ≤ words → mapTwo c .second ≡ mapTexts (alone (c .paired) (c .library) (c .second) words)
+second-alone c e words h = ap (λ (o : Outcomes). o .second) (neither-outcomes c e) ∙ sym (alone-beyond (c .paired) (c .library) (c .second) (e .second) (e .needsSecond) words h)
 
 -- work memory by an outcome that is refused early, or is not
 module _ (work : List ℕ) where
@@ -239,11 +238,11 @@ module _ (work : List ℕ) where
   unfolding workAfter
   kept-early n k e = ap (λ (b : Bool). cond b work (replicate (length work) 0)) (sym e)
 
-  cleared-late : (library : List ℕ) (ch : Channel) (a : ℕ) → needOf library ch ≡ holds a → replicate (length work) 0 ≡ workAfter (mapTexts (alone library ch a)) work
-  cleared-late library ch a e = go (mapTexts (alone library ch a)) refl
+  cleared-late : (paired : Bool) (library : List ℕ) (ch : Channel) (a : ℕ) → needOf paired library ch ≡ holds a → replicate (length work) 0 ≡ workAfter (mapTexts (alone paired library ch a)) work
+  cleared-late paired library ch a e = go (mapTexts (alone paired library ch a)) refl
     where
-      go : (o : Outcome) → mapTexts (alone library ch a) ≡ o → replicate (length work) 0 ≡ workAfter o work
-      go (refused n k) q = unfold workAfter in ap (λ (b : Bool). cond b work (replicate (length work) 0)) (sym (alone-late library ch a e a (le-refl a) n k q))
+      go : (o : Outcome) → mapTexts (alone paired library ch a) ≡ o → replicate (length work) 0 ≡ workAfter o work
+      go (refused n k) q = unfold workAfter in ap (λ (b : Bool). cond b work (replicate (length work) 0)) (sym (alone-late paired library ch a e a (le-refl a) n k q))
       go (mapped t f) q = unfold workAfter in refl
 
 -- the refusals of the needs are tried up to 10
@@ -256,8 +255,8 @@ needs-tried c = faults .has
 
     faults : Faults Tried (needsOf c)
     faults =
-        in-next Tried (needOf (c .library) (c .first)) _ (record { has = λ n k e. alone-tried (c .library) (c .first) n k e .0 })
-        (λ a _. in-next Tried (needOf (c .library) (c .second)) _ (record { has = λ n k e. alone-tried (c .library) (c .second) n k e .0 })
+        in-next Tried (needOf (c .paired) (c .library) (c .first)) _ (record { has = λ n k e. alone-tried (c .paired) (c .library) (c .first) n k e .0 })
+        (λ a _. in-next Tried (needOf (c .paired) (c .library) (c .second)) _ (record { has = λ n k e. alone-tried (c .paired) (c .library) (c .second) n k e .0 })
         (λ b _. in-unless Tried (leb (a + b) (c .words)) 10 0 (holds (record { first = a; second = b })) (λ _. refl) (in-holds Tried (record { first = a; second = b }))))
 
 works : (c : TwoCall) (work : List ℕ) → (twoWorkAfter (needsOf c) work ≡ workAfter (mapTwo c .first) work) × (twoWorkAfter (needsOf c) work ≡ workAfter (mapTwo c .second) work)
@@ -275,8 +274,8 @@ works c work = go (needsOf c) refl
         let e = needs-neither c n q in
         let l : twoWorkAfter (needsOf c) work ≡ replicate (length work) 0 = ap (λ (r : Read Needs). twoWorkAfter r work) q ∙ (unfold twoWorkAfter in refl) in
         let o = neither-outcomes c e in (
-          l ∙ cleared-late work (c .library) (c .first) (e .first) (e .needsFirst) ∙ ap (λ (x : Outcomes). workAfter (x .first) work) (sym o),
-          l ∙ cleared-late work (c .library) (c .second) (e .second) (e .needsSecond) ∙ ap (λ (x : Outcomes). workAfter (x .second) work) (sym o),
+          l ∙ cleared-late work (c .paired) (c .library) (c .first) (e .first) (e .needsFirst) ∙ ap (λ (x : Outcomes). workAfter (x .first) work) (sym o),
+          l ∙ cleared-late work (c .paired) (c .library) (c .second) (e .second) (e .needsSecond) ∙ ap (λ (x : Outcomes). workAfter (x .second) work) (sym o),
         )
 
 -- "A channel's netlist or refusal depends on the library, its own graph, arrivals and text length, and nothing of the other's"
@@ -284,13 +283,13 @@ pub independent : (c : TwoCall) → Independent c
 independent c = record {
   first = first-alone c;
   second = second-alone c;
-  firstKept = λ e d f l h.
+  firstKept = λ e d f w l h.
       let m = e .first + f .first in
-      first-alone c e m (let q : e .first ≤ e .first + f .first = omega arith in q) ∙ ap₂ (λ (s : List ℕ) (x : Channel). mapTexts (alone s x m)) l h
+      first-alone c e m (let q : e .first ≤ e .first + f .first = omega arith in q) ∙ ap (λ (b : Bool). mapTexts (alone b (c .library) (c .first) m)) w ∙ ap₂ (λ (s : List ℕ) (x : Channel). mapTexts (alone (d .paired) s x m)) l h
       ∙ sym (first-alone d f m (let q : f .first ≤ e .first + f .first = omega arith in q));
-  secondKept = λ e d f l h.
+  secondKept = λ e d f w l h.
       let m = e .second + f .second in
-      second-alone c e m (let q : e .second ≤ e .second + f .second = omega arith in q) ∙ ap₂ (λ (s : List ℕ) (x : Channel). mapTexts (alone s x m)) l h
+      second-alone c e m (let q : e .second ≤ e .second + f .second = omega arith in q) ∙ ap (λ (b : Bool). mapTexts (alone b (c .library) (c .second) m)) w ∙ ap₂ (λ (s : List ℕ) (x : Channel). mapTexts (alone (d .paired) s x m)) l h
       ∙ sym (second-alone d f m (let q : f .second ≤ e .second + f .second = omega arith in q));
   worksFirst = λ work. works c work .0;
   worksSecond = λ work. works c work .1;
@@ -308,6 +307,7 @@ promised c = record {
   untimed = demand-untimed c;
   listed = texts-listed c;
   former = demand-former c;
+  shuffles = demand-shuffles c;
 }
 
 -- a channel is mapped only where neither has a refusal tried up to 10
@@ -328,61 +328,61 @@ second-mapped c t f = go (needsOf c) refl
     go (holds n) q e = needs-neither c n q
 
 -- with all the lent words
-first-whole : (c : TwoCall) → Neither c → mapTwo c .first ≡ mapTexts (alone (c .library) (c .first) (c .words))
+first-whole : (c : TwoCall) → Neither c → mapTwo c .first ≡ mapTexts (alone (c .paired) (c .library) (c .first) (c .words))
 first-whole c e = first-alone c e (c .words) (let q : e .first + e .second ≤ c .words = e .enough in omega arith)
 
-second-whole : (c : TwoCall) → Neither c → mapTwo c .second ≡ mapTexts (alone (c .library) (c .second) (c .words))
+second-whole : (c : TwoCall) → Neither c → mapTwo c .second ≡ mapTexts (alone (c .paired) (c .library) (c .second) (c .words))
 second-whole c e = second-alone c e (c .words) (let q : e .first + e .second ≤ c .words = e .enough in omega arith)
 
 -- "What is promised of one netlist holds for each; the promise on when mapping is refused, where neither has a refusal tried up to 10."
 pub demand-each : (c : TwoCall) → Each c
 demand-each c = record {
-  first = promised (alone (c .library) (c .first) (c .words));
-  second = promised (alone (c .library) (c .second) (c .words));
+  first = promised (alone (c .paired) (c .library) (c .first) (c .words));
+  second = promised (alone (c .paired) (c .library) (c .second) (c .words));
   printedFirst = λ t f q. sym (first-whole c (first-mapped c t f q)) ∙ q;
   printedSecond = λ t f q. sym (second-whole c (second-mapped c t f q)) ∙ q;
   decidedFirst = λ e d p.
-      subst (λ (o : Outcome). Decided (d .ranged) (c .first .bytes) o (d .cells) (d .graph)) (sym (first-whole c e)) (decided (alone (c .library) (c .first) (c .words)) d p);
+      subst (λ (o : Outcome). Decided (d .ranged) (c .first .bytes) o (d .listed) (d .cells) (d .graph)) (sym (first-whole c e)) (decided (alone (c .paired) (c .library) (c .first) (c .words)) d p);
   decidedSecond = λ e d p.
-      subst (λ (o : Outcome). Decided (d .ranged) (c .second .bytes) o (d .cells) (d .graph)) (sym (second-whole c e)) (decided (alone (c .library) (c .second) (c .words)) d p);
+      subst (λ (o : Outcome). Decided (d .ranged) (c .second .bytes) o (d .listed) (d .cells) (d .graph)) (sym (second-whole c e)) (decided (alone (c .paired) (c .library) (c .second) (c .words)) d p);
 }
 
 -- ---- texts that mean the same graph, and texts alike but for line ends
 
 -- a call's refusal with another place, or its netlist
-record SameAlone (l m : List ℕ) (a b : Channel) : Type 0 where
-  refusal : (words n k : ℕ) → mapTexts (alone l a words) ≡ refused n k → (j : ℕ) × (mapTexts (alone m b words) ≡ refused n j)
-  netlist : (words : ℕ) (t : List ℕ) (f : Figures) → mapTexts (alone l a words) ≡ mapped t f → mapTexts (alone m b words) ≡ mapped t f
+record SameAlone (pa pb : Bool) (l m : List ℕ) (a b : Channel) : Type 0 where
+  refusal : (words n k : ℕ) → mapTexts (alone pa l a words) ≡ refused n k → (j : ℕ) × (mapTexts (alone pb m b words) ≡ refused n j)
+  netlist : (words : ℕ) (t : List ℕ) (f : Figures) → mapTexts (alone pa l a words) ≡ mapped t f → mapTexts (alone pb m b words) ≡ mapped t f
 
 -- two channels whose calls alone come to the same, whatever number of words is lent, need as many words
-module _ (l m : List ℕ) (a b : Channel) (alike : SameAlone l m a b) where
+module _ (pa pb : Bool) (l m : List ℕ) (a b : Channel) (alike : SameAlone pa pb l m a b) where
   -- where the one's words are enough, the other has no refusal tried up to 10
-  not-early : (x : ℕ) → needOf l a ≡ holds x → (words : ℕ) → x ≤ words → (n k : ℕ) → mapTexts (alone m b words) ≡ refused n k → triedEarly n ≡ false
+  not-early : (x : ℕ) → needOf pa l a ≡ holds x → (words : ℕ) → x ≤ words → (n k : ℕ) → mapTexts (alone pb m b words) ≡ refused n k → triedEarly n ≡ false
   unfolding returnedBy
-  not-early x e words h n k q = go (mapTexts (alone l a words)) refl
+  not-early x e words h n k q = go (mapTexts (alone pa l a words)) refl
     where
-      go : (o : Outcome) → mapTexts (alone l a words) ≡ o → triedEarly n ≡ false
+      go : (o : Outcome) → mapTexts (alone pa l a words) ≡ o → triedEarly n ≡ false
       go (refused i j) p =
           let r = alike .refusal words i j p in
           let s : i ≡ n = ap (λ (o : Outcome). returnedBy o .number) (sym (r .1) ∙ q) in
-          subst (λ (y : ℕ). triedEarly y ≡ false) s (alone-late l a x e words h i j p)
+          subst (λ (y : ℕ). triedEarly y ≡ false) s (alone-late pa l a x e words h i j p)
       go (mapped t f) p = absurd (refused-never (sym q ∙ alike .netlist words t f p))
 
-  same-need : (x : ℕ) → needOf l a ≡ holds x → needOf m b ≡ holds x
-  same-need x e = go (needOf m b) refl
+  same-need : (x : ℕ) → needOf pa l a ≡ holds x → needOf pb m b ≡ holds x
+  same-need x e = go (needOf pb m b) refl
     where
-      up : (y : ℕ) → needOf m b ≡ holds y → (t : Bool) → (T t → y ≤ x) → (T (not t) → x < y) → y ≤ x
+      up : (y : ℕ) → needOf pb m b ≡ holds y → (t : Bool) → (T t → y ≤ x) → (T (not t) → x < y) → y ≤ x
       up y q true h g = h tt
-      up y q false h g = absurd (false≢true (sym (not-early x e x (le-refl x) 10 0 (alone-ten m b y q x .1 (g tt)))))
+      up y q false h g = absurd (false≢true (sym (not-early x e x (le-refl x) 10 0 (alone-ten pb m b y q x .1 (g tt)))))
 
-      down : (y : ℕ) → needOf m b ≡ holds y → (t : Bool) → (T t → x ≤ y) → (T (not t) → y < x) → x ≤ y
+      down : (y : ℕ) → needOf pb m b ≡ holds y → (t : Bool) → (T t → x ≤ y) → (T (not t) → y < x) → x ≤ y
       down y q true h g = h tt
       down y q false h g =
-          let r = alike .refusal y 10 0 (alone-ten l a x e y .1 (g tt)) in
-          absurd (false≢true (sym (alone-late m b y q y (le-refl y) 10 (r .0) (r .1))))
+          let r = alike .refusal y 10 0 (alone-ten pa l a x e y .1 (g tt)) in
+          absurd (false≢true (sym (alone-late pb m b y q y (le-refl y) 10 (r .0) (r .1))))
 
-      go : (r : Read ℕ) → needOf m b ≡ r → needOf m b ≡ holds x
-      go (fault n k) q = absurd (false≢true (sym (not-early x e x (le-refl x) n k (alone-early m b n k q x)) ∙ alone-tried m b n k q .0))
+      go : (r : Read ℕ) → needOf pb m b ≡ r → needOf pb m b ≡ holds x
+      go (fault n k) q = absurd (false≢true (sym (not-early x e x (le-refl x) n k (alone-early pb m b n k q x)) ∙ alone-tried pb m b n k q .0))
       go (holds y) q =
           let h : y ≤ x = up y q (leb y x) leb-yes leb-no in
           let g : x ≤ y = down y q (leb x y) leb-yes leb-no in
@@ -390,35 +390,35 @@ module _ (l m : List ℕ) (a b : Channel) (alike : SameAlone l m a b) where
           q ∙ ap holds s
 
 -- calls that come to the same, refusals' places too
-same-alike : (l : List ℕ) (a b : Channel) → ((words : ℕ) → mapTexts (alone l a words) ≡ mapTexts (alone l b words)) → SameAlone l l a b
-same-alike l a b h = record { refusal = λ words n k q. (k, sym (h words) ∙ q); netlist = λ words t f q. sym (h words) ∙ q }
+same-alike : (pa : Bool) (l : List ℕ) (a b : Channel) → ((words : ℕ) → mapTexts (alone pa l a words) ≡ mapTexts (alone pa l b words)) → SameAlone pa pa l l a b
+same-alike pa l a b h = record { refusal = λ words n k q. (k, sym (h words) ∙ q); netlist = λ words t f q. sym (h words) ∙ q }
 
 faultOf : Outcome → Read ℕ
 faultOf (refused n k) = fault n k
 faultOf (mapped t f) = fault 0 0
 
-same-needs : (l : List ℕ) (a b : Channel) → ((words : ℕ) → mapTexts (alone l a words) ≡ mapTexts (alone l b words)) → needOf l a ≡ needOf l b
+same-needs : (pa : Bool) (l : List ℕ) (a b : Channel) → ((words : ℕ) → mapTexts (alone pa l a words) ≡ mapTexts (alone pa l b words)) → needOf pa l a ≡ needOf pa l b
 unfolding faultOf
-same-needs l a b h = go (needOf l a) (needOf l b) refl refl
+same-needs pa l a b h = go (needOf pa l a) (needOf pa l b) refl refl
   where
-    go : (r s : Read ℕ) → needOf l a ≡ r → needOf l b ≡ s → needOf l a ≡ needOf l b
-    go (holds x) s q p = q ∙ sym (same-need l l a b (same-alike l a b h) x q)
-    go (fault n k) (holds y) q p = same-need l l b a (same-alike l b a (λ words. sym (h words))) y p ∙ sym p
-    go (fault n k) (fault i j) q p = q ∙ ap faultOf (sym (alone-early l a n k q 0) ∙ h 0 ∙ alone-early l b i j p 0) ∙ sym p
+    go : (r s : Read ℕ) → needOf pa l a ≡ r → needOf pa l b ≡ s → needOf pa l a ≡ needOf pa l b
+    go (holds x) s q p = q ∙ sym (same-need pa pa l l a b (same-alike pa l a b h) x q)
+    go (fault n k) (holds y) q p = same-need pa pa l l b a (same-alike pa l b a (λ words. sym (h words))) y p ∙ sym p
+    go (fault n k) (fault i j) q p = q ∙ ap faultOf (sym (alone-early pa l a n k q 0) ∙ h 0 ∙ alone-early pa l b i j p 0) ∙ sym p
 
-twin-alone : (l : List ℕ) (ch : Channel) (t : List ℕ) (g : Graph) → Means (ch .graph) g → Means t g → (words : ℕ) → mapTexts (alone l (onText ch t) words) ≡ mapTexts (alone l ch words)
-twin-alone l ch t g m n words = demand-twins (alone l ch words) .same t g m n
+twin-alone : (pa : Bool) (l : List ℕ) (ch : Channel) (t : List ℕ) (g : Graph) → Means (ch .graph) g → Means t g → (words : ℕ) → mapTexts (alone pa l (onText ch t) words) ≡ mapTexts (alone pa l ch words)
+twin-alone pa l ch t g m n words = demand-twins (alone pa l ch words) .same t g m n
 
 pub demand-twin-channels : (c : TwoCall) → TwinChannels c
 unfolding mapTwo mapNeeds needsOf
 demand-twin-channels c = record {
   first = λ t g m n.
-      let h = twin-alone (c .library) (c .first) t g m n in
-      ap (λ (r : Read ℕ). mapNeeds (firstOn t) (next r (λ a. next (needOf (c .library) (c .second)) (lent a)))) (same-needs (c .library) (onText (c .first) t) (c .first) h)
+      let h = twin-alone (c .paired) (c .library) (c .first) t g m n in
+      ap (λ (r : Read ℕ). mapNeeds (firstOn t) (next r (λ a. next (needOf (c .paired) (c .library) (c .second)) (lent a)))) (same-needs (c .paired) (c .library) (onText (c .first) t) (c .first) h)
       ∙ firstSame t h (needsOf c);
   second = λ t g m n.
-      let h = twin-alone (c .library) (c .second) t g m n in
-      ap (λ (r : Read ℕ). mapNeeds (secondOn t) (next (needOf (c .library) (c .first)) (λ a. next r (lent a)))) (same-needs (c .library) (onText (c .second) t) (c .second) h)
+      let h = twin-alone (c .paired) (c .library) (c .second) t g m n in
+      ap (λ (r : Read ℕ). mapNeeds (secondOn t) (next (needOf (c .paired) (c .library) (c .first)) (λ a. next r (lent a)))) (same-needs (c .paired) (c .library) (onText (c .second) t) (c .second) h)
       ∙ secondSame t h (needsOf c);
 }
   where
@@ -426,24 +426,25 @@ demand-twin-channels c = record {
     lent a b = unless (leb (a + b) (c .words)) 10 0 (holds (record { first = a; second = b }))
 
     firstOn : List ℕ → TwoCall
-    firstOn t = record { library = c .library; words = c .words; first = onText (c .first) t; second = c .second }
+    firstOn t = record { paired = c .paired; library = c .library; words = c .words; first = onText (c .first) t; second = c .second }
 
     secondOn : List ℕ → TwoCall
-    secondOn t = record { library = c .library; words = c .words; first = c .first; second = onText (c .second) t }
+    secondOn t = record { paired = c .paired; library = c .library; words = c .words; first = c .first; second = onText (c .second) t }
 
-    firstSame : (t : List ℕ) → ((words : ℕ) → mapTexts (alone (c .library) (onText (c .first) t) words) ≡ mapTexts (alone (c .library) (c .first) words))
+    firstSame : (t : List ℕ) → ((words : ℕ) → mapTexts (alone (c .paired) (c .library) (onText (c .first) t) words) ≡ mapTexts (alone (c .paired) (c .library) (c .first) words))
         → (r : Read Needs) → mapNeeds (firstOn t) r ≡ mapNeeds c r
     firstSame t h (fault n k) = refl
-    firstSame t h (holds n) = ap (λ (o : Outcome). record { first = o; second = mapTexts (alone (c .library) (c .second) (n .second)) }) (h (n .first))
+    firstSame t h (holds n) = ap (λ (o : Outcome). record { first = o; second = mapTexts (alone (c .paired) (c .library) (c .second) (n .second)) }) (h (n .first))
 
-    secondSame : (t : List ℕ) → ((words : ℕ) → mapTexts (alone (c .library) (onText (c .second) t) words) ≡ mapTexts (alone (c .library) (c .second) words))
+    secondSame : (t : List ℕ) → ((words : ℕ) → mapTexts (alone (c .paired) (c .library) (onText (c .second) t) words) ≡ mapTexts (alone (c .paired) (c .library) (c .second) words))
         → (r : Read Needs) → mapNeeds (secondOn t) r ≡ mapNeeds c r
     secondSame t h (fault n k) = refl
-    secondSame t h (holds n) = ap (λ (o : Outcome). record { first = mapTexts (alone (c .library) (c .first) (n .first)); second = o }) (h (n .second))
+    secondSame t h (holds n) = ap (λ (o : Outcome). record { first = mapTexts (alone (c .paired) (c .library) (c .first) (n .first)); second = o }) (h (n .second))
 
 -- texts alike but for line ends are so with any number of words
-with-words : (l m : List ℕ) (a b : Channel) (v w words : ℕ) → AlikeTexts (alone l a v) (alone m b w) → AlikeTexts (alone l a words) (alone m b words)
-with-words l m a b v w words e = record {
+with-words : (pa pb : Bool) (l m : List ℕ) (a b : Channel) (v w words : ℕ) → AlikeTexts (alone pa l a v) (alone pb m b w) → AlikeTexts (alone pa l a words) (alone pb m b words)
+with-words pa pb l m a b v w words e = record {
+  paired = e .paired;
   libraries = e .libraries;
   graphs = e .graphs;
   arrivals = e .arrivals;
@@ -454,18 +455,18 @@ with-words l m a b v w words e = record {
   shortToo = record { library = e .shortToo .library; graph = e .shortToo .graph; arrivals = e .shortToo .arrivals };
 }
 
-ends-alike : (l m : List ℕ) (a b : Channel) (v w : ℕ) → AlikeTexts (alone l a v) (alone m b w) → SameAlone l m a b
-ends-alike l m a b v w e = record {
-  refusal = λ words. demand-ends (alone l a words) (alone m b words) (with-words l m a b v w words e) .refusal;
-  netlist = λ words. demand-ends (alone l a words) (alone m b words) (with-words l m a b v w words e) .printed;
+ends-alike : (pa pb : Bool) (l m : List ℕ) (a b : Channel) (v w : ℕ) → AlikeTexts (alone pa l a v) (alone pb m b w) → SameAlone pa pb l m a b
+ends-alike pa pb l m a b v w e = record {
+  refusal = λ words. demand-ends (alone pa l a words) (alone pb m b words) (with-words pa pb l m a b v w words e) .refusal;
+  netlist = λ words. demand-ends (alone pa l a words) (alone pb m b words) (with-words pa pb l m a b v w words e) .printed;
 }
 
 neither-alike : (c d : TwoCall) → AlikeChannels c d → Neither c → Neither d
 neither-alike c d s e = record {
   first = e .first;
   second = e .second;
-  needsFirst = same-need (c .library) (d .library) (c .first) (d .first) (ends-alike (c .library) (d .library) (c .first) (d .first) (c .words) (d .words) (s .first)) (e .first) (e .needsFirst);
-  needsSecond = same-need (c .library) (d .library) (c .second) (d .second) (ends-alike (c .library) (d .library) (c .second) (d .second) (c .words) (d .words) (s .second)) (e .second) (e .needsSecond);
+  needsFirst = same-need (c .paired) (d .paired) (c .library) (d .library) (c .first) (d .first) (ends-alike (c .paired) (d .paired) (c .library) (d .library) (c .first) (d .first) (c .words) (d .words) (s .first)) (e .first) (e .needsFirst);
+  needsSecond = same-need (c .paired) (d .paired) (c .library) (d .library) (c .second) (d .second) (ends-alike (c .paired) (d .paired) (c .library) (d .library) (c .second) (d .second) (c .words) (d .words) (s .second)) (e .second) (e .needsSecond);
   enough = subst (λ (w : ℕ). e .first + e .second ≤ w) (s .first .words) (e .enough);
 }
 
@@ -474,8 +475,8 @@ pub demand-ends-two : (c : TwoCall) → EitherEndTwo c
 demand-ends-two c = record {
   first = λ d s t f q.
       let e = first-mapped c t f q in
-      first-whole d (neither-alike c d s e) ∙ demand-ends (alone (c .library) (c .first) (c .words)) (alone (d .library) (d .first) (d .words)) (s .first) .printed t f (sym (first-whole c e) ∙ q);
+      first-whole d (neither-alike c d s e) ∙ demand-ends (alone (c .paired) (c .library) (c .first) (c .words)) (alone (d .paired) (d .library) (d .first) (d .words)) (s .first) .printed t f (sym (first-whole c e) ∙ q);
   second = λ d s t f q.
       let e = second-mapped c t f q in
-      second-whole d (neither-alike c d s e) ∙ demand-ends (alone (c .library) (c .second) (c .words)) (alone (d .library) (d .second) (d .words)) (s .second) .printed t f (sym (second-whole c e) ∙ q);
+      second-whole d (neither-alike c d s e) ∙ demand-ends (alone (c .paired) (c .library) (c .second) (c .words)) (alone (d .paired) (d .library) (d .second) (d .words)) (s .second) .printed t f (sym (second-whole c e) ∙ q);
 }

@@ -14,35 +14,37 @@ use Rattle.model.specs.Reading.{Read, holds, fault}
 use Rattle.model.specs.Cells.{nameOf}
 use Rattle.model.specs.Base.{each, flip, below}
 use Rattle.model.specs.Graph.{And, Graph, literal, varOf, negated, literalValue, valueOf}
-use Rattle.model.specs.Choice.{chosen}
+use Rattle.model.specs.Choice.{absent, chosen}
 use Rattle.model.specs.Cover.{Cover, output}
 use Rattle.model.specs.Netlist.{Gate, Outcome, refused, mapped, mapGraph, gates, figuresOf, netName, outName, sum, largest}
 use Rattle.model.specs.LibraryText.{noLower, isRanged}
 use Rattle.model.specs.Timing.{lowOf, timingLines, followed}
-use Rattle.model.specs.Blif.{GateLine, Wire, Blif, readBlif, readFigures, TimingLine, readTimings, named, drives}
+use Rattle.model.specs.Blif.{GateLine, Wire, Blif, readBlif, readFigures, TimingLine, readTimings, named, drives, NetArrivals}
 use Rattle.model.specs.Mapper.{Call, Design, readTexts, mapTexts, mapDesign, within}
 use Rattle.model.specs.Demands.{drivenNets, Printed, OfPrinted, Readable, Formed, Gated, SameValues, SameFigures, NoEarlier, OutputsNoEarlier, OfMappable, CoversTimed, Decided, Chosen, choiceText, choiceFigures, printedText, WithinRanges, Ranges, Values, Earliest, Twins, Untimed}
 use Rattle.model.specs.declared.Cell.{Cell}
 use Rattle.model.specs.declared.Figures.{Figures}
 use Rattle.theory_graph.proofs.Lists.{map-out, map-map, map-same, is-true, getD-in}
 use Rattle.theory_graph.proofs.Distinct.{length-map}
-use Rattle.theory_graph.specs.Accepted.{Accepted, libraryFits}
-use Rattle.theory_graph.proofs.Placing.{defined-placed}
+use Rattle.theory_graph.specs.Accepted.{Accepted}
+use Rattle.theory_graph.proofs.Placing.{order-once, defined-placed}
 use Rattle.theory_graph.proofs.GraphValue.{values-exist, values-only}
 use Rattle.theory_cover.proofs.Demand3.{choice-earliest, cover-timed, choice-cover, seventeen-iff, choice-printed}
+use Rattle.theory_cover.proofs.Own.{own-chosen}
 use Rattle.theory_cover.proofs.Preference.{choice-preferred}
 use Rattle.theory_text.proofs.ReadBack.{lineOf, inputNames, wiresFrom, blifOf}
-use Rattle.theory_text.proofs.ReadTexts.{Texts, texts-read, design-library, design-ranged, design-accepted}
+use Rattle.theory_text.proofs.ReadTexts.{Texts, texts-read, design-library, design-written, design-ranged, design-accepted}
 use Rattle.theory_text.proofs.Names.{net-once}
 use Rattle.theory_text.proofs.Twins.{ascii-means, means-outcome}
 use Rattle.theory_text.proofs.Arrivals.{reads-untimed, untimed-zero}
 use Rattle.theory_text.proofs.ReadTimings.{timingsFrom}
-use Rattle.theory.proofs.Gates.{gate-out, line-bound, back, figures-said, timings-said, none-said}
+use Rattle.theory.proofs.Numbered.{Fitting, fitting}
+use Rattle.theory.proofs.Gates.{present, own-net, line-bound, back, figures-said, timings-said, none-said}
 use Rattle.theory.proofs.Wires.{out-net, wire-targets, at-output, at-outputs}
-use Rattle.theory.proofs.Values.{net-value, the, the-holds}
+use Rattle.theory.proofs.Values.{net-value, theValue, the-holds}
 use Rattle.theory.proofs.Arrivals.{theTime, input-time, times-hold, input-at, net-time}
 use Rattle.theory.proofs.Outcomes.{FromChoice, outcome-is, printed-choice, refused-never}
-use Rattle.theory.proofs.Formed.{line-net, gate-count, well-formed}
+use Rattle.theory.proofs.Formed.{gate-count, driven-phase, well-formed}
 use Rattle.theory.proofs.Gated.{gates-gated}
 use Rattle.theory.proofs.Ranges.{within-ranges}
 
@@ -50,28 +52,33 @@ use Rattle.theory.proofs.Ranges.{within-ranges}
 
 -- what the netlist of a design reads back as
 abbrev chosenBlif : Design → Blif
-chosenBlif d = blifOf (d .graph) (gates (d .cells) (d .graph) (chosen (d .cells) (d .graph)))
+chosenBlif d = blifOf (d .graph) (gates (d .listed) (d .cells) (d .graph) (chosen (d .cells) (d .graph)))
+
+-- the cells that a call maps with are the listed ones, which fit, and pairs of them where pairs are wanted
+pub design-fitting : (c : Call) (d : Design) → readTexts c ≡ holds d → Fitting (d .listed) (d .cells)
+design-fitting c d e = subst (Fitting (d .listed)) (texts-read c d e .areCells) (fitting (c .paired) (d .listed) (design-library c d e))
 
 -- what is known of a printed netlist
 record Known (t : List ℕ) (f : Figures) (d : Design) : Type 0 where
-  library : T (libraryFits (d .cells))
+  library : Fitting (d .listed) (d .cells)
   graph : Accepted (d .graph)
-  choice : FromChoice (d .cells) (d .graph) (choiceText (d .cells) (d .graph)) f
-  isText : t ≡ printedText (d .ranged) (d .cells) (d .graph)
-  lows : (k : Cell) → List·Memᴰ k (d .cells) → T (noLower (k .lows) (k .delays))
+  choice : FromChoice (d .listed) (d .cells) (d .graph) (choiceText (d .listed) (d .cells) (d .graph)) f
+  isText : t ≡ printedText (d .ranged) (d .listed) (d .cells) (d .graph)
+  lows : (k : Cell) → List·Memᴰ k (d .listed) → T (noLower (k .lows) (k .delays))
+  fourLows : (k : Cell) → List·Memᴰ k (d .listed) → length (k .lows) ≡ 4
   reads : readBlif t ≡ some (chosenBlif d)
   says : readFigures t ≡ some f
 
 -- what is read of the netlist whatever follows it is read with the timing lines and without
-pub with-timings : {X : Type 0} (read : List ℕ → X) (x : X) (r : Bool) (cells : List Cell) (g : Graph) → ((after : List ℕ) → read (choiceText cells g ++ after) ≡ x) → read (printedText r cells g) ≡ x
-with-timings read x true cells g h = h (timingLines (lowOf cells g) (λ (l : ℕ). chosen cells g l .arrival) 0 (g .outputs))
-with-timings read x false cells g h = ap read (sym (append-nil (choiceText cells g))) ∙ h []
+pub with-timings : {X : Type 0} (read : List ℕ → X) (x : X) (r : Bool) (listed cells : List Cell) (g : Graph) → ((after : List ℕ) → read (choiceText listed cells g ++ after) ≡ x) → read (printedText r listed cells g) ≡ x
+with-timings read x true listed cells g h = h (timingLines (lowOf cells g) (λ (l : ℕ). chosen cells g l .arrival) 0 (g .outputs))
+with-timings read x false listed cells g h = ap read (sym (append-nil (choiceText listed cells g))) ∙ h []
 
 known : (c : Call) (t : List ℕ) (f : Figures) (d : Design) → readTexts c ≡ holds d → mapTexts c ≡ mapped t f → Known t f d
 known c t f d e o =
     let p = printed-choice c d e t f o in
     let k = p .choice in
-    let fit = design-library c d e in
+    let fit = design-fitting c d e in
     let ok = design-accepted c d e (k .placed) in
     record {
       library = fit;
@@ -79,22 +86,23 @@ known c t f d e o =
       choice = k;
       isText = p .isText;
       lows = design-ranged c d e;
+      fourLows = λ x m. design-written c d e x m .0 .fourLows;
       reads = ap readBlif (p .isText)
-          ∙ with-timings readBlif (some (chosenBlif d)) (d .ranged) (d .cells) (d .graph) (back (d .cells) fit (d .graph) ok (k .covered) (choiceFigures (d .cells) (d .graph)));
+          ∙ with-timings readBlif (some (chosenBlif d)) (d .ranged) (d .listed) (d .cells) (d .graph) (back (d .listed) (d .cells) fit (d .graph) ok (k .covered) (choiceFigures (d .listed) (d .cells) (d .graph)));
       says = ap readFigures (p .isText)
-          ∙ with-timings readFigures (some (choiceFigures (d .cells) (d .graph))) (d .ranged) (d .cells) (d .graph)
-          (figures-said (d .cells) fit (d .graph) ok (k .covered) (choiceFigures (d .cells) (d .graph)))
+          ∙ with-timings readFigures (some (choiceFigures (d .listed) (d .cells) (d .graph))) (d .ranged) (d .listed) (d .cells) (d .graph)
+          (figures-said (d .listed) (d .cells) fit (d .graph) ok (k .covered) (choiceFigures (d .listed) (d .cells) (d .graph)))
           ∙ ap some (sym (k .areFigures));
     }
 
 -- a statement of every printed netlist, from one of the chosen gates
-of-printed : (P : List Cell → Graph → Figures → Blif → Type 0) → ((t : List ℕ) (f : Figures) (d : Design) → Known t f d → P (d .cells) (d .graph) f (chosenBlif d))
+of-printed : (P : List Cell → List Cell → Graph → Figures → Blif → Type 0) → ((t : List ℕ) (f : Figures) (d : Design) → Known t f d → P (d .listed) (d .cells) (d .graph) f (chosenBlif d))
     → (c : Call) → OfPrinted P c
 of-printed P h c t f d n p =
     let k = known c t f d (p .design) (p .outcome) in
     let q : _≡_ {A = Option Blif} (some n) (some (chosenBlif d)) = sym (p .reads) ∙ k .reads in
     let e : n ≡ chosenBlif d = cc in
-    subst (P (d .cells) (d .graph) f) (sym e) (h t f d k)
+    subst (P (d .listed) (d .cells) (d .graph) f) (sym e) (h t f d k)
 
 pub readable : (c : Call) → Readable c
 unfolding mapTexts mapDesign
@@ -105,10 +113,10 @@ readable c t f o = go (readTexts c) refl o
     go (holds d) e q = let k = known c t f d e o in (d, chosenBlif d, record { design = e; outcome = o; reads = k .reads; says = k .says })
 
 pub formed : (c : Call) → OfPrinted Formed c
-formed = of-printed Formed (λ t f d k. well-formed (d .cells) (k .library) (d .graph) (k .graph) (k .choice .covered) f)
+formed = of-printed Formed (λ t f d k. well-formed (d .listed) (d .cells) (k .library) (d .graph) (k .graph) (k .choice .covered) f)
 
 pub gated : (c : Call) → OfPrinted Gated c
-gated = of-printed Gated (λ t f d k. gates-gated (d .cells) (k .library) (d .graph) (k .graph) (k .choice .covered) f)
+gated = of-printed Gated (λ t f d k. gates-gated (d .listed) (d .cells) (k .library) (d .graph) (k .graph) (k .choice .covered) f)
 
 -- ---- demand 2
 
@@ -116,11 +124,11 @@ pub values : (c : Call) → OfPrinted SameValues c
 unfolding blifOf literalValue
 values = of-printed SameValues (λ t f d k. record {
   graphHas = λ setting. (valueOf (d .graph) setting, values-exist (d .graph) (k .graph) setting);
-  netlistHas = λ setting. (the (d .cells) (k .library) (d .graph) (k .graph) (k .choice .covered) setting, the-holds (d .cells) (k .library) (d .graph) (k .graph) (k .choice .covered) setting);
+  netlistHas = λ setting. (theValue (d .listed) (d .cells) (k .library) (d .graph) (k .graph) (k .choice .covered) setting, the-holds (d .listed) (d .cells) (k .library) (d .graph) (k .graph) (k .choice .covered) setting);
   same = λ setting v hv w hw.
       at-outputs w (d .graph .outputs) (hw .atWires)
       ∙ map-same (λ (l : ℕ). w (netName l)) (literalValue v) (d .graph .outputs)
-      (λ l m. net-value (d .cells) (k .library) (d .graph) (k .graph) (k .choice .covered) setting w hw l (output m)
+      (λ l m. net-value (d .listed) (d .cells) (k .library) (d .graph) (k .graph) (k .choice .covered) setting w hw l (output m)
       ∙ ap (flip (negated l))
       (sym (values-only (d .graph) (k .graph) setting v hv (varOf l)
       (defined-placed (d .graph) (k .graph) (varOf l) (k .graph .used l (Memᴰ·append-left (each (λ (a : And). a .left ∷ a .right ∷ []) (d .graph .ands)) m))))));
@@ -129,28 +137,26 @@ values = of-printed SameValues (λ t f d k. record {
 pub figures : (c : Call) → OfPrinted SameFigures c
 unfolding blifOf lineOf figuresOf
 figures = of-printed SameFigures (λ t f d k.
-    let ts = gates (d .cells) (d .graph) (chosen (d .cells) (d .graph)) in
+    let ts = gates (d .listed) (d .cells) (d .graph) (chosen (d .cells) (d .graph)) in
     let c = k .choice in record {
-      hasArrivals = (theTime (d .cells) (k .library) (d .graph) (k .graph) (c .covered), times-hold (d .cells) (k .library) (d .graph) (k .graph) (c .covered));
+      hasArrivals = (theTime (d .listed) (d .cells) (k .library) (d .graph) (k .graph) (c .covered), times-hold (d .listed) (d .cells) (k .library) (d .graph) (k .graph) (c .covered));
       count = ap (λ (x : Figures). x .gates) (c .areFigures) ∙ sym (length-map lineOf ts);
       area =
           ap (λ (x : Figures). x .area) (c .areFigures)
-          ∙ ap sum (map-same (λ (u : Gate). u .cell .area) (λ (u : Gate). named (d .cells) (nameOf (u .cell)) .area) ts (areas t f d k)
-          ∙ sym (map-map (λ (l : GateLine). named (d .cells) (l .cell) .area) lineOf ts));
+          ∙ ap sum (map-same (λ (u : Gate). u .cell .area) (λ (u : Gate). named (d .listed) (nameOf (u .cell)) .area) ts (areas t f d k)
+          ∙ sym (map-map (λ (l : GateLine). named (d .listed) (l .cell) .area) lineOf ts));
       arrival = λ at h.
           ap (λ (x : Figures). x .arrival) (c .areFigures)
           ∙ ap largest (map-same (λ (l : ℕ). chosen (d .cells) (d .graph) l .arrival) (λ (l : ℕ). at (netName l)) (d .graph .outputs)
-          (λ l m. sym (net-time (d .cells) (k .library) (d .graph) (k .graph) (c .covered) at h l (output m)))
+          (λ l m. sym (net-time (d .listed) (d .cells) (k .library) (d .graph) (k .graph) (c .covered) at h l (output m)))
           ∙ sym (at-outputs at (d .graph .outputs) (h .atWires)));
-      bound = le-trans (le-of-eq (ap (λ (x : Figures). x .gates) (c .areFigures))) (gate-count (d .cells) (k .library) (d .graph) (k .graph) (c .covered));
+      bound = le-trans (le-of-eq (ap (λ (x : Figures). x .gates) (c .areFigures))) (gate-count (d .listed) (d .cells) (k .library) (d .graph) (k .graph) (c .covered));
     })
   where
-    areas : (t : List ℕ) (f : Figures) (d : Design) (k : Known t f d) (u : Gate) → List·Memᴰ u (gates (d .cells) (d .graph) (chosen (d .cells) (d .graph)))
-        → u .cell .area ≡ named (d .cells) (nameOf (u .cell)) .area
+    areas : (t : List ℕ) (f : Figures) (d : Design) (k : Known t f d) (u : Gate) → List·Memᴰ u (gates (d .listed) (d .cells) (d .graph) (chosen (d .cells) (d .graph)))
+        → u .cell .area ≡ named (d .listed) (nameOf (u .cell)) .area
     areas t f d k u m =
-        let r = gate-out (d .cells) (k .library) (d .graph) (k .graph) (k .choice .covered) u m in
-        subst (λ (x : Gate). x .cell .area ≡ named (d .cells) (nameOf (x .cell)) .area) (sym (r .isGate))
-        (ap (λ (c : Cell). c .area) (sym (line-bound (d .cells) (k .library) (d .graph) (k .graph) (k .choice .covered) (r .at) (r .needs) (r .notOwn) .isCell)))
+        ap (λ (c : Cell). c .area) (sym (line-bound (d .listed) (d .cells) (k .library) (d .graph) (k .graph) (k .choice .covered) u m .isCell))
 
 -- what is read behind the `# gates` line
 pub ranges : (c : Call) → Ranges c
@@ -162,10 +168,10 @@ ranges c = record {
       let m : n ≡ chosenBlif d = cc in
       let high : ℕ → ℕ = λ l. chosen (d .cells) (d .graph) l .arrival in (
         timingsFrom (lowOf (d .cells) (d .graph)) high 0 (d .graph .outputs),
-        ap readTimings (k .isText ∙ ap (λ (r : Bool). printedText r (d .cells) (d .graph)) (sym (texts-read c d (p .design) .isRange) ∙ e))
-            ∙ timings-said (d .cells) (k .library) (d .graph) (k .graph) (k .choice .covered) (choiceFigures (d .cells) (d .graph)) (lowOf (d .cells) (d .graph)) high,
-        subst (λ (x : Blif). WithinRanges (d .cells) (d .graph) x (timingsFrom (lowOf (d .cells) (d .graph)) high 0 (d .graph .outputs))) (sym m)
-            (within-ranges (d .cells) (k .library) (k .lows) (d .graph) (k .graph) (k .choice .covered)),
+        ap readTimings (k .isText ∙ ap (λ (r : Bool). printedText r (d .listed) (d .cells) (d .graph)) (sym (texts-read c d (p .design) .isRange) ∙ e))
+            ∙ timings-said (d .listed) (d .cells) (k .library) (d .graph) (k .graph) (k .choice .covered) (choiceFigures (d .listed) (d .cells) (d .graph)) (lowOf (d .cells) (d .graph)) high,
+        subst (λ (x : Blif). WithinRanges (d .listed) (d .graph) x (timingsFrom (lowOf (d .cells) (d .graph)) high 0 (d .graph .outputs))) (sym m)
+            (within-ranges (d .listed) (d .cells) (k .library) (k .lows) (k .fourLows) (d .graph) (k .graph) (k .choice .covered)),
       );
   untimed = λ t f o e. go t f (readTexts c) refl o e;
 }
@@ -174,50 +180,62 @@ ranges c = record {
     go t f (fault n k) q o e = absurd (refused-never o)
     go t f (holds d) q o e =
         let k = known c t f d q (ap (mapDesign (c .bytes)) q ∙ o) in
-        ap readTimings (k .isText ∙ ap (λ (r : Bool). printedText r (d .cells) (d .graph)) (sym (texts-read c d q .isRange) ∙ e) ∙ sym (append-nil (choiceText (d .cells) (d .graph))))
-        ∙ none-said (d .cells) (k .library) (d .graph) (k .graph) (k .choice .covered) (choiceFigures (d .cells) (d .graph))
+        ap readTimings (k .isText ∙ ap (λ (r : Bool). printedText r (d .listed) (d .cells) (d .graph)) (sym (texts-read c d q .isRange) ∙ e) ∙ sym (append-nil (choiceText (d .listed) (d .cells) (d .graph))))
+        ∙ none-said (d .listed) (d .cells) (k .library) (d .graph) (k .graph) (k .choice .covered) (choiceFigures (d .listed) (d .cells) (d .graph))
 
 -- ---- demand 3
 
-pub no-earlier : (c : Call) → OfPrinted NoEarlier c
-unfolding blifOf drivenNets
-no-earlier = of-printed NoEarlier at-net
+-- what is known of the arrival t of a `p` or `m` net that is printed: its phase is chosen a source, and t is the chosen arrival
+pub record NetChosen (cells : List Cell) (g : Graph) (l t : ℕ) : Type 0 where
+  pub present : absent (chosen cells g l .source) ≡ false
+  pub time : t ≡ chosen cells g l .arrival
+
+abbrev pub NetsChosen : List Cell → List Cell → Graph → Figures → Blif → Type 0
+NetsChosen listed cells g f n =
+    (at : List ℕ → ℕ) → NetArrivals listed n (map (g .late) (g .inputs)) at → (l : ℕ) → List·Memᴰ (netName l) (drivenNets n) → NetChosen cells g l (at (netName l))
+
+pub nets-chosen : (c : Call) → OfPrinted NetsChosen c
+unfolding blifOf drivenNets absent
+nets-chosen = of-printed NetsChosen at-net
   where
-    at-net : (t : List ℕ) (f : Figures) (d : Design) → Known t f d → NoEarlier (d .cells) (d .graph) f (chosenBlif d)
-    at-net t f d k at h l m c arrival times n = go (List·Memᴰ·append-cases (inputNames (d .graph)) m)
+    at-net : (t : List ℕ) (f : Figures) (d : Design) → Known t f d → NetsChosen (d .listed) (d .cells) (d .graph) f (chosenBlif d)
+    at-net t f d k at h l m = go (List·Memᴰ·append-cases (inputNames (d .graph)) m)
       where
         ts : List Gate
-        ts = gates (d .cells) (d .graph) (chosen (d .cells) (d .graph))
+        ts = gates (d .listed) (d .cells) (d .graph) (chosen (d .cells) (d .graph))
 
         ends : List (List ℕ)
         ends = map (λ (x : Wire). x .target) (wiresFrom 0 (d .graph .outputs))
 
         -- a gate's net, for a net's name is no output's own
-        gate : List·Memᴰ (netName l) (map drives (map lineOf ts)) ⊎ List·Memᴰ (netName l) ends → at (netName l) ≤ arrival l
+        gate : List·Memᴰ (netName l) (map drives (map lineOf ts)) ⊎ List·Memᴰ (netName l) ends → NetChosen (d .cells) (d .graph) l (at (netName l))
         gate (inr i) =
             let o = map-out outName (below (length (d .graph .outputs))) (subst (λ (xs : List (List ℕ)). List·Memᴰ (netName l) xs) (wire-targets (d .graph .outputs)) i) in
             absurd (out-net (o .0) l (sym (o .2)))
         gate (inl i) =
-            let o = map-out drives (map lineOf ts) i in
-            let u = map-out lineOf ts (o .1) in
-            let r = gate-out (d .cells) (k .library) (d .graph) (k .graph) (k .choice .covered) (u .0) (u .1) in
-            let e : netName l ≡ netName (r .at) =
-            o .2 ∙ ap drives (u .2) ∙ line-net (d .cells) (k .library) (d .graph) (k .graph) (k .choice .covered) (u .0) (u .1) ∙ ap (λ (x : Gate). netName (x .net)) (r .isGate) in
-            let s : r .at ≡ l = sym (net-once l (r .at) e) in
-            le-trans
-            (le-of-eq (ap at e ∙ net-time (d .cells) (k .library) (d .graph) (k .graph) (k .choice .covered) at h (r .at) (r .needs)
-            ∙ ap (λ (x : ℕ). chosen (d .cells) (d .graph) x .arrival) s))
-            (choice-earliest (d .cells) (d .graph) (k .graph) (d .graph .outputs) c arrival times l n .1)
+            let q = driven-phase (d .listed) (d .cells) (k .library) (d .graph) (k .graph) (k .choice .covered) l i in
+            record {
+              present = present (d .listed) (d .cells) (k .library) (d .graph) (k .graph) (k .choice .covered) l (q .needs);
+              time = net-time (d .listed) (d .cells) (k .library) (d .graph) (k .graph) (k .choice .covered) at h l (q .needs);
+            }
 
-        go : List·Memᴰ (netName l) (inputNames (d .graph)) ⊎ List·Memᴰ (netName l) (map drives (map lineOf ts) ++ ends) → at (netName l) ≤ arrival l
+        go : List·Memᴰ (netName l) (inputNames (d .graph)) ⊎ List·Memᴰ (netName l) (map drives (map lineOf ts) ++ ends) → NetChosen (d .cells) (d .graph) l (at (netName l))
         go (inl i) =
             let o = map-out (λ (v : ℕ). netName (literal false v)) (d .graph .inputs) i in
             let e : literal false (o .0) ≡ l = sym (net-once l (literal false (o .0)) (o .2)) in
-            le-trans
-            (le-of-eq (ap at (o .2) ∙ input-at (d .graph) at (d .graph .inputs) (h .atInputs) (o .0) (o .1)
-            ∙ sym (input-time (d .cells) (k .library) (d .graph) (k .graph) (k .choice .covered) (o .0) (o .1)) ∙ ap (λ (x : ℕ). chosen (d .cells) (d .graph) x .arrival) e))
-            (choice-earliest (d .cells) (d .graph) (k .graph) (d .graph .outputs) c arrival times l n .1)
+            let w = own-net (d .listed) (d .cells) (k .library) (d .graph) (k .graph) (k .choice .covered) (o .0) (o .1) in
+            record {
+              present = ap (λ (x : ℕ). absent (chosen (d .cells) (d .graph) x .source)) (sym e) ∙ ap absent (own-chosen (d .cells) (d .graph) (order-once (d .graph) (k .graph)) (literal false (o .0)) w);
+              time = ap at (o .2) ∙ input-at (d .graph) at (d .graph .inputs) (h .atInputs) (o .0) (o .1)
+                  ∙ sym (input-time (d .listed) (d .cells) (k .library) (d .graph) (k .graph) (k .choice .covered) (o .0) (o .1)) ∙ ap (λ (x : ℕ). chosen (d .cells) (d .graph) x .arrival) e;
+            }
         go (inr i) = gate (List·Memᴰ·append-cases (map drives (map lineOf ts)) i)
+
+pub no-earlier : (c : Call) → OfPrinted NoEarlier c
+no-earlier c t f d n p at h l m cover arrival times k =
+    let a = printed-choice c d (p .design) t f (p .outcome) .choice in
+    le-trans (le-of-eq (nets-chosen c t f d n p at h l m .time))
+    (choice-earliest (d .cells) (d .graph) (design-accepted c d (p .design) (a .placed)) (d .graph .outputs) cover arrival times l k .1)
 
 pub outputs-no-earlier : (c : Call) → OfPrinted OutputsNoEarlier c
 unfolding blifOf
@@ -227,7 +245,7 @@ outputs-no-earlier = of-printed OutputsNoEarlier (λ t f d k at h j b.
     let e : at (outName j) ≡ at (netName l) = at-output at (d .graph .outputs) (h .atWires) j b in (
       e,
       (λ c arrival times.
-          le-trans (le-of-eq (e ∙ net-time (d .cells) (k .library) (d .graph) (k .graph) (k .choice .covered) at h l n))
+          le-trans (le-of-eq (e ∙ net-time (d .listed) (d .cells) (k .library) (d .graph) (k .graph) (k .choice .covered) at h l n))
           (choice-earliest (d .cells) (d .graph) (k .graph) (d .graph .outputs) c arrival times l (output (getD-in (d .graph .outputs) j 0 b)) .1)),
     ))
 
@@ -258,17 +276,18 @@ followed-seventeen r cells g (refused n j) k = ((λ e. e), (λ e. e))
 followed-seventeen false cells g (mapped t f) k = ((λ e. e), (λ e. e))
 followed-seventeen true cells g (mapped t f) k = ((λ e. absurd (refused-never (sym e))), (λ e. absurd (refused-never (sym e))))
 
-followed-text : (r : Bool) (cells : List Cell) (g : Graph) → followed r cells g (mapped (choiceText cells g) (choiceFigures cells g)) ≡ mapped (printedText r cells g) (choiceFigures cells g)
+followed-text : (r : Bool) (listed cells : List Cell) (g : Graph)
+    → followed r cells g (mapped (choiceText listed cells g) (choiceFigures listed cells g)) ≡ mapped (printedText r listed cells g) (choiceFigures listed cells g)
 unfolding followed
-followed-text true cells g = refl
-followed-text false cells g = refl
+followed-text false listed cells g = refl
+followed-text true listed cells g = refl
 
 pub decided : (c : Call) → OfMappable Decided c
 decided c d p = record {
   seventeen = λ k.
-      let s = seventeen-iff (d .cells) (d .graph) ok (p .few) k in
-      let w = within-seventeen (c .bytes) (followed (d .ranged) (d .cells) (d .graph) (mapGraph (d .cells) (d .graph))) k in
-      let v = followed-seventeen (d .ranged) (d .cells) (d .graph) (mapGraph (d .cells) (d .graph)) k in
+      let s = seventeen-iff (d .cells) (d .graph) ok (d .listed) (p .few) k in
+      let w = within-seventeen (c .bytes) (followed (d .ranged) (d .cells) (d .graph) (mapGraph (d .listed) (d .cells) (d .graph))) k in
+      let v = followed-seventeen (d .ranged) (d .cells) (d .graph) (mapGraph (d .listed) (d .cells) (d .graph)) k in
       ((λ e. s .0 (v .0 (w .0 (sym is ∙ e)))), (λ u. is ∙ w .1 (v .1 (s .1 u))));
   prints = λ covers h. printed covers ∙ fits h;
   eighteen = λ covers h. printed covers ∙ lacks h;
@@ -277,18 +296,18 @@ decided c d p = record {
     ok : Accepted (d .graph)
     ok = design-accepted c d (p .design) (p .placed)
 
-    is : mapTexts c ≡ within (c .bytes) (followed (d .ranged) (d .cells) (d .graph) (mapGraph (d .cells) (d .graph)))
+    is : mapTexts c ≡ within (c .bytes) (followed (d .ranged) (d .cells) (d .graph) (mapGraph (d .listed) (d .cells) (d .graph)))
     is = outcome-is c d (p .design)
 
     t : List ℕ
-    t = printedText (d .ranged) (d .cells) (d .graph)
+    t = printedText (d .ranged) (d .listed) (d .cells) (d .graph)
 
     f : Figures
-    f = choiceFigures (d .cells) (d .graph)
+    f = choiceFigures (d .listed) (d .cells) (d .graph)
 
     printed : ((l : ℕ) → List·Memᴰ l (d .graph .outputs) → Cover (d .cells) (d .graph) (l ∷ [])) → mapTexts c ≡ within (c .bytes) (mapped t f)
     printed covers =
-        is ∙ ap (within (c .bytes)) (ap (followed (d .ranged) (d .cells) (d .graph)) (choice-printed (d .cells) (d .graph) ok (p .few) covers) ∙ followed-text (d .ranged) (d .cells) (d .graph))
+        is ∙ ap (within (c .bytes)) (ap (followed (d .ranged) (d .cells) (d .graph)) (choice-printed (d .cells) (d .graph) ok (d .listed) (p .few) covers) ∙ followed-text (d .ranged) (d .listed) (d .cells) (d .graph))
 
     fits : length t ≤ c .bytes → within (c .bytes) (mapped t f) ≡ mapped t f
     fits h = unfold within in ap (λ (b : Bool). cond b (mapped t f) (refused 18 (length t))) (is-true (leb (length t) (c .bytes)) (le→leb (length t) (c .bytes) h))

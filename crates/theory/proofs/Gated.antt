@@ -1,31 +1,33 @@
 -- The gate lines of the printed netlist are the needed phases, inputs' own nets apart, in their order. Assumes nothing.
-use Prim.Native.Nat.{ℕ, zero, suc, _*_, _/_, _%_, _<_}
+use Prim.Native.Nat.{ℕ, zero, suc, _+_, _*_, _/_, _%_, _≤_, _<_}
 use native.Mathlib.Omega.{arith}
-use mathlib.Core.Path.{_≡_, refl, sym, _∙_, ap, subst}
+use mathlib.Core.Path.{_≡_, refl, sym, _∙_, ap, ap₂, subst}
 use mathlib.Core.Logic.{inl, inr}
 use mathlib.Core.Bool.{Bool, true, false, not, cond, true≢false}
-use mathlib.Core.List.{List, [], _∷_, map, List·Memᴰ, Memᴰ·cast}
+use mathlib.Core.List.{List, [], _∷_, _++_, map, map-append, List·Memᴰ, List·Memᴰ·head, List·Memᴰ·tail}
 use lib.Dec.{T, eqb}
-use Rattle.model.specs.Base.{elem, keep, from, below}
-use Rattle.model.specs.Cells.{nameOf}
+use lib.ListN.{length, take, drop}
+use Rattle.model.specs.Base.{elem, keep, each, from, below}
+use Rattle.model.specs.Cells.{cellAt}
+use Rattle.model.specs.Pairs.{cellOfPair, pairAt}
 use Rattle.model.specs.Graph.{Graph, varOf, negated}
-use Rattle.model.specs.Cuts.{cutsOf}
-use Rattle.model.specs.Choice.{feeds, cellOf, absent, chosen}
+use Rattle.model.specs.Choice.{absent, chosen}
 use Rattle.model.specs.Cover.{IsOwn}
-use Rattle.model.specs.Netlist.{isOwn, needed, netName}
-use Rattle.model.specs.Blif.{GateLine, drives, fedBy}
-use Rattle.model.specs.Demands.{Before, InOrder, Gated}
+use Rattle.model.specs.Netlist.{Net, ofPhase, ofPair, Gate, isOwn, needed, netName, label}
+use Rattle.model.specs.Blif.{drives}
+use Rattle.model.specs.Demands.{Before, InOrder, OneLine, TwoLines, LinesOf, none, one, two, Gated}
 use Rattle.model.specs.declared.Cell.{Cell}
 use Rattle.model.specs.declared.Figures.{Figures}
-use Rattle.theory_graph.proofs.Lists.{map-in, map-out, keep-out, by-eqb}
+use Rattle.theory_graph.proofs.Lists.{keep-out, by-eqb, map-map}
 use Rattle.theory_graph.proofs.Distinct.{from-low}
-use Rattle.theory_graph.specs.Accepted.{Accepted, libraryFits}
+use Rattle.theory_graph.specs.Accepted.{Accepted}
 use Rattle.theory_graph.proofs.Placing.{order-once}
 use Rattle.theory_text.proofs.ReadBack.{lineOf, blifOf}
-use Rattle.theory_text.proofs.Names.{net-once}
-use Rattle.theory.proofs.Gates.{sourceOf, NeedsOf, gateOf, chosenGates, gate-in, gate-out, line-bound, own-source}
 use Rattle.theory_cover.proofs.Own.{own-chosen}
-use Rattle.theory.proofs.Formed.{gateNets, driven-nets}
+use Rattle.theory.proofs.Numbered.{OfPair, Numbered, single, double, Fitting}
+use Rattle.theory.proofs.Settled.{map-take, map-drop, map-run, splice-parts, innerCell, fedPin, cellGate, innerGate, rootGate, gates-single, gates-double, single-bound, double-long, inner-bound, root-bound}
+use Rattle.theory.proofs.Gates.{sourceOf, numberAt, fedAt, NeedsOf, gatesAt, chosenGates, gateNets, gates-are, Gates, net-out, of-cell, number-of, own-source}
+use Rattle.theory.proofs.Formed.{phase-driven, driven-phase}
 
 -- ---- the order
 
@@ -51,9 +53,49 @@ keep-ordered p (x ∷ xs) h = go (p x) (keep-ordered p xs (h .1))
     go true later = ((λ k m. h .0 k (keep-out p xs m .0)), later)
     go false later = later
 
-module _ (cells : List Cell) (fit : T (libraryFits cells)) (g : Graph) (ok : Accepted g)
+-- the lines of a phase's gates
+module _ (listed cells : List Cell) (fit : Fitting listed cells) (k : ℕ) (ins : List ℕ) (l : ℕ) (pins : length ins ≡ cellAt cells k .pins) where
+  abbrev nets : List (List ℕ)
+  nets = map netName ins
+
+  net-names : map label (map ofPhase ins) ≡ nets
+  unfolding label
+  net-names = map-map label ofPhase ins
+
+  one-line : k < length listed → cellAt cells k ≡ cellAt listed k → OneLine listed k nets l (lineOf (cellGate listed k ins l))
+  unfolding label lineOf
+  one-line h e =
+      let b = single-bound listed cells fit k ins l pins h e .bound in
+      record { isListed = h; cell = refl; net = b .isDriven; fed = b .isFed ∙ net-names }
+
+  two-lines : length listed ≤ k → OfPair listed (pairAt listed k) → cellAt cells k ≡ cellOfPair listed (pairAt listed k)
+      → TwoLines listed k nets l (lineOf (innerGate listed k ins l)) (lineOf (rootGate listed k ins l))
+  unfolding label lineOf
+  two-lines h p e =
+      let b = inner-bound listed cells fit k ins l pins p e .bound in
+      let r = root-bound listed cells fit k ins l pins p e .bound in
+      let c = double-long listed cells fit k ins l pins p e in
+      let hasPin = p .hasPin in
+      let some = p .somePin in
+      record {
+        isPair = h;
+        innerCell = refl;
+        rootCell = refl;
+        innerNet = b .isDriven;
+        rootNet = r .isDriven;
+        innerFed = b .isFed ∙ map-run label (fedPin listed k ins l) (innerCell listed k ins l .pins) (map ofPhase ins)
+            ∙ ap (λ (xs : List (List ℕ)). take (innerCell listed k ins l .pins) (drop (fedPin listed k ins l) xs)) net-names;
+        rootFed = r .isFed
+            ∙ ap (map label) (splice-parts (fedPin listed k ins l) (innerCell listed k ins l .pins) (λ (_ : List Net). ofPair l) (map ofPhase ins) (omega (arith, c, hasPin, some)))
+            ∙ map-append label (take (fedPin listed k ins l) (map ofPhase ins)) (ofPair l ∷ drop (fedPin listed k ins l + innerCell listed k ins l .pins) (map ofPhase ins))
+            ∙ ap₂ (λ (xs ys : List (List ℕ)). xs ++ (label (ofPair l) ∷ ys)) (map-take label (fedPin listed k ins l) (map ofPhase ins))
+            (map-drop label (fedPin listed k ins l + innerCell listed k ins l .pins) (map ofPhase ins))
+            ∙ (ap (λ (xs : List (List ℕ)). take (fedPin listed k ins l) xs ++ ((115 ∷ netName l) ∷ drop (fedPin listed k ins l + innerCell listed k ins l .pins) xs)) net-names);
+      }
+
+module _ (listed cells : List Cell) (fit : Fitting listed cells) (g : Graph) (ok : Accepted g)
     (present-outputs : (l : ℕ) → List·Memᴰ l (g .outputs) → absent (chosen cells g l .source) ≡ false) where
-  nets-ordered : InOrder (gateNets cells fit g ok present-outputs)
+  nets-ordered : InOrder (gateNets cells g)
   unfolding below
   nets-ordered =
       keep-ordered (λ (l : ℕ). cond (elem l (needed cells g (chosen cells g))) (not (isOwn (sourceOf cells g l))) false) (below (2 * suc (g .size))) (from-ordered (2 * suc (g .size)) 0)
@@ -63,49 +105,48 @@ module _ (cells : List Cell) (fit : T (libraryFits cells)) (g : Graph) (ok : Acc
   unfolding isOwn
   own-is l o = ap isOwn (own-chosen cells g (order-once g ok) l o)
 
-  -- the phase of a line
-  record OfLine (t : GateLine) : Type 0 where
-    at : ℕ
-    needs : NeedsOf cells g at
-    notOwn : isOwn (sourceOf cells g at) ≡ false
-    isLine : t ≡ lineOf (gateOf cells g at)
+  abbrev Lines : List ℕ → List Gate → Type 0
+  Lines ls ts = LinesOf listed (numberAt cells g) (λ l. map netName (fedAt cells g l)) ls (map lineOf ts)
 
-  line-out : (t : GateLine) → List·Memᴰ t (map lineOf (chosenGates cells g)) → OfLine t
-  line-out t m =
-      let u = map-out lineOf (chosenGates cells g) m in
-      let r = gate-out cells fit g ok present-outputs (u .0) (u .1) in
-      record { at = r .at; needs = r .needs; notOwn = r .notOwn; isLine = u .2 ∙ ap lineOf (r .isGate) }
+  lines-of : (ls : List ℕ) → ((l : ℕ) → List·Memᴰ l ls → Gates listed cells fit g ok present-outputs l) → Lines ls (each (gatesAt listed cells g) ls)
+  unfolding each
+  lines-of [] h = none
+  lines-of (l ∷ ls) h = go (lines-of ls (λ x m. h x (List·Memᴰ·tail m))) (number-of listed cells fit g ok present-outputs l q)
+    where
+      q : Gates listed cells fit g ok present-outputs l
+      q = h l (List·Memᴰ·head refl)
 
-  line-phase : (t : GateLine) (r : OfLine t) (l : ℕ) → drives t ≡ netName l → r .at ≡ l
-  line-phase t r l e = net-once (r .at) l (sym (ap drives (r .isLine) ∙ line-bound cells fit g ok present-outputs (r .at) (r .needs) (r .notOwn) .isDriven) ∙ e)
+      k : ℕ
+      k = numberAt cells g l
 
-  pub gates-gated : (f : Figures) → Gated cells g f (blifOf g (chosenGates cells g))
+      pins : length (fedAt cells g l) ≡ cellAt cells k .pins
+      pins = of-cell listed cells fit g ok present-outputs l q .pins
+
+      go : Lines ls (each (gatesAt listed cells g) ls) → Numbered listed cells k → Lines (l ∷ ls) (gatesAt listed cells g l ++ each (gatesAt listed cells g) ls)
+      go later (single b e) =
+          subst (λ (ts : List Gate). Lines (l ∷ ls) (ts ++ each (gatesAt listed cells g) ls)) (sym (gates-single listed k (fedAt cells g l) l b))
+          (one (one-line listed cells fit k (fedAt cells g l) l pins b e) later)
+      go later (double b p e) =
+          subst (λ (ts : List Gate). Lines (l ∷ ls) (ts ++ each (gatesAt listed cells g) ls)) (sym (gates-double listed k (fedAt cells g l) l b))
+          (two (two-lines listed cells fit k (fedAt cells g l) l pins b p e) later)
+
+  pub gates-gated : (f : Figures) → Gated listed cells g f (blifOf g (chosenGates listed cells g))
   unfolding blifOf
   gates-gated f = record {
     nets = λ l. (is-needed l, (λ h. is-driven l (h .0) (h .1)));
-    order = (gateNets cells fit g ok present-outputs, nets-ordered, driven-nets cells fit g ok present-outputs);
-    sources = λ t m l e. let r = line-out t m in of-source t r l (line-phase t r l e);
+    order = (
+      gateNets cells g,
+      nets-ordered,
+      subst (Lines (gateNets cells g)) (sym (gates-are listed cells g)) (lines-of (gateNets cells g) (net-out listed cells fit g ok present-outputs)),
+    );
   }
     where
-      is-needed : (l : ℕ) → List·Memᴰ (netName l) (map drives (map lineOf (chosenGates cells g))) → NeedsOf cells g l × (¬ IsOwn g l)
-      is-needed l m =
-          let t = map-out drives (map lineOf (chosenGates cells g)) m in
-          let r = line-out (t .0) (t .1) in
-          let e : r .at ≡ l = line-phase (t .0) r l (sym (t .2)) in
-          (subst (NeedsOf cells g) e (r .needs), (λ o. true≢false (sym (own-is l o) ∙ ap (λ (x : ℕ). isOwn (sourceOf cells g x)) (sym e) ∙ r .notOwn)))
+      is-needed : (l : ℕ) → List·Memᴰ (netName l) (map drives (map lineOf (chosenGates listed cells g))) → NeedsOf cells g l × (¬ IsOwn g l)
+      is-needed l m = let h = driven-phase listed cells fit g ok present-outputs l m in (h .needs, (λ o. true≢false (sym (own-is l o) ∙ h .notOwn)))
 
-      is-driven : (l : ℕ) → NeedsOf cells g l → ¬ IsOwn g l → List·Memᴰ (netName l) (map drives (map lineOf (chosenGates cells g)))
+      is-driven : (l : ℕ) → NeedsOf cells g l → ¬ IsOwn g l → List·Memᴰ (netName l) (map drives (map lineOf (chosenGates listed cells g)))
       is-driven l n o = go (isOwn (sourceOf cells g l)) refl
         where
-          go : (b : Bool) → isOwn (sourceOf cells g l) ≡ b → List·Memᴰ (netName l) (map drives (map lineOf (chosenGates cells g)))
-          go true e = absurd (o (own-source cells fit g ok present-outputs l n e))
-          go false e =
-              Memᴰ·cast (sym (line-bound cells fit g ok present-outputs l n e .isDriven)) (map-in drives (map-in lineOf (gate-in cells fit g ok present-outputs l n e)))
-
-      of-source : (t : GateLine) (r : OfLine t) (l : ℕ) → r .at ≡ l
-          → (t .cell ≡ nameOf (cellOf cells (sourceOf cells g l))) × (fedBy cells t ≡ map netName (feeds cells (cutsOf g) l (sourceOf cells g l)))
-      of-source t r l e =
-          subst (λ (k : ℕ). (t .cell ≡ nameOf (cellOf cells (sourceOf cells g k))) × (fedBy cells t ≡ map netName (feeds cells (cutsOf g) k (sourceOf cells g k)))) e (
-            (unfold lineOf in ap (λ (x : GateLine). x .cell) (r .isLine)),
-            ap (fedBy cells) (r .isLine) ∙ line-bound cells fit g ok present-outputs (r .at) (r .needs) (r .notOwn) .isFed,
-          )
+          go : (b : Bool) → isOwn (sourceOf cells g l) ≡ b → List·Memᴰ (netName l) (map drives (map lineOf (chosenGates listed cells g)))
+          go true e = absurd (o (own-source listed cells fit g ok present-outputs l n e))
+          go false e = phase-driven listed cells fit g ok present-outputs l (record { needs = n; notOwn = e })

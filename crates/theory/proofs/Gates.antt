@@ -1,6 +1,7 @@
--- The gates of the chosen cover: each is of a listed cell with as many nets as the cell has pins, and the netlist's text reads back as they.
+-- The gates of the chosen cover: each is of a listed cell with as many nets as the cell has pins, and the netlist's text reads back as they. Of all
+-- cells that fit, pairs among them or not.
 -- Assumes nothing.
-use Prim.Native.Nat.{ℕ, zero, suc, _*_, _/_, _≤_, _<_}
+use Prim.Native.Nat.{ℕ, zero, suc, _+_, _-_, _*_, _/_, _≤_, _<_}
 use native.Mathlib.Nat.{not-suc-le-zero}
 use native.Mathlib.Omega.{arith}
 use mathlib.Core.Path.{_≡_, refl, sym, _∙_, ap, subst}
@@ -9,16 +10,16 @@ use mathlib.Core.Option.{some}
 use mathlib.Core.List.{List, [], _∷_, _++_, List·Memᴰ, List·Memᴰ·head, List·Memᴰ·tail, Memᴰ·append-left, Memᴰ·cast}
 use lib.Dec.{T, eqb, eqb→eq}
 use lib.ListN.{length, getD}
-use mir.Facts.{and-yes}
-use Rattle.model.specs.Base.{all, same, elem, keep, below, flip}
+use Rattle.model.specs.Base.{all, same, elem, keep, below, each, flip}
 use Rattle.model.specs.Table.{orders}
-use Rattle.model.specs.Cells.{nameOf, noCell, cellAt, isInverter}
+use Rattle.model.specs.Cells.{noCell, cellAt}
+use Rattle.model.specs.Pairs.{pairPins, pairOf, cellOfPair, pairAt}
 use Rattle.model.specs.Graph.{Graph, placeF, placingOrder, varOf, negated, literal, literalValue, valueOf, nodeValue}
 use Rattle.model.specs.Cuts.{cutsOf, cutAt}
 use Rattle.model.specs.Matching.{fedNets, matchNets}
 use Rattle.model.specs.Choice.{feeds, cellOf, absent, chosen}
 use Rattle.model.specs.Cover.{IsOwn, Allowed, Needed}
-use Rattle.model.specs.Netlist.{Gate, isOwn, needed, gates, netlistText, netName}
+use Rattle.model.specs.Netlist.{Net, Gate, isOwn, needed, gatesBy, numberOf, gates, netlistText, label}
 use Rattle.model.specs.Timing.{timingLines}
 use Rattle.model.specs.Blif.{readBlif, readFigures, readTimings}
 use Rattle.model.specs.declared.Cell.{Cell}
@@ -26,9 +27,9 @@ use Rattle.model.specs.declared.Match.{Match}
 use Rattle.model.specs.declared.Source.{Source}
 use Rattle.model.specs.declared.Source.the-variants.{Input, Cell as Matched, Inverter as Inverted, Nothing}
 use Rattle.model.specs.declared.Figures.{Figures}
-use Rattle.theory_graph.proofs.Lists.{map-in, map-out, keep-in, keep-out, below-in, getD-in, elem-in, elem-out, same-eq, same-refl, all-of, is-true}
+use Rattle.theory_graph.proofs.Lists.{each-in, each-out, keep-in, keep-out, below-in, getD-in, elem-in, elem-out, same-eq, same-refl, all-of, is-true}
 use Rattle.theory_graph.proofs.Literals.{lit-var, lit-neg, lit-whole}
-use Rattle.theory_graph.specs.Accepted.{Accepted, libraryFits}
+use Rattle.theory_graph.specs.Accepted.{Accepted}
 use Rattle.theory_graph.proofs.Placing.{order-once, order-small}
 use Rattle.theory_graph.proofs.Nodes.{node-input}
 use Rattle.theory_graph.proofs.Values.{valueOf-valuation}
@@ -38,8 +39,11 @@ use Rattle.theory_cover.proofs.Sound.{chosen-fine, needed-present, chosen-cover
 use Rattle.theory_text.proofs.ReadBack.{blifOf, read-back}
 use Rattle.theory_text.proofs.ReadFigures.{figures-back}
 use Rattle.theory_text.proofs.ReadTimings.{timingsFrom, timings-back, timings-none}
-use Rattle.theory_text.proofs.Names.{Bound, gate-bound, library-cell, cell-form, net-once}
+use Rattle.theory_text.proofs.Names.{Bound, library-cell, cell-form, label-once}
+use Rattle.theory_cover.proofs.Gates.{inverter-pins}
 use Rattle.theory.proofs.Needs.{listed-needed, needed-listed}
+use Rattle.theory.proofs.Numbered.{Numbered, single, double, Fitting}
+use Rattle.theory.proofs.Settled.{OfPhase, of-phase}
 
 -- ---- the nets that feed a source are as many as its cell has pins
 
@@ -63,20 +67,20 @@ fed-count (suc n) (p ∷ ps) mask leaves h = ap suc (fed-count n ps (mask / 2) l
 
 -- ---- a look-up by a net's name
 
-module _ {X : Type 0} (d : X) (val : ℕ → X) where
-  pub byName : List ℕ → List ℕ → X
+module _ {X : Type 0} (d : X) (val : Net → X) where
+  pub byName : List Net → List ℕ → X
   byName [] name = d
-  byName (l ∷ ls) name = cond (same (netName l) name) (val l) (byName ls name)
+  byName (n ∷ ns) name = cond (same (label n) name) (val n) (byName ns name)
 
-  pub by-name : (ls : List ℕ) (l : ℕ) → List·Memᴰ l ls → byName ls (netName l) ≡ val l
+  pub by-name : (ns : List Net) (n : Net) → List·Memᴰ n ns → byName ns (label n) ≡ val n
   unfolding byName
-  by-name (k ∷ ls) l m = go (same (netName k) (netName l)) refl m (by-name ls l)
+  by-name (k ∷ ns) n m = go (same (label k) (label n)) refl m (by-name ns n)
     where
-      go : (b : Bool) → same (netName k) (netName l) ≡ b → List·Memᴰ l (k ∷ ls) → (List·Memᴰ l ls → byName ls (netName l) ≡ val l) → cond b (val k) (byName ls (netName l)) ≡ val l
-      go true e n later = ap val (net-once k l (same-eq (netName k) (netName l) (subst T (sym e) tt)))
+      go : (b : Bool) → same (label k) (label n) ≡ b → List·Memᴰ n (k ∷ ns) → (List·Memᴰ n ns → byName ns (label n) ≡ val n) → cond b (val k) (byName ns (label n)) ≡ val n
+      go true e i later = ap val (label-once k n (same-eq (label k) (label n) (subst T (sym e) tt)))
       go false e (List·Memᴰ·head q) later =
-          absurd (true≢false (sym (is-true (same (netName k) (netName l)) (subst (λ (x : ℕ). T (same (netName x) (netName l))) q (same-refl (netName l)))) ∙ e))
-      go false e (List·Memᴰ·tail n) later = later n
+          absurd (true≢false (sym (is-true (same (label k) (label n)) (subst (λ (x : Net). T (same (label x) (label n))) q (same-refl (label n)))) ∙ e))
+      go false e (List·Memᴰ·tail i) later = later i
 
 -- the chosen source of a phase
 abbrev pub sourceOf : List Cell → Graph → ℕ → Source
@@ -86,14 +90,29 @@ sourceOf cells g l = chosen cells g l .source
 abbrev pub NeedsOf : List Cell → Graph → ℕ → Type 0
 NeedsOf cells g l = Needed cells g (g .outputs) (sourceOf cells g) l
 
--- the gate of a phase
-abbrev pub gateOf : List Cell → Graph → ℕ → Gate
-gateOf cells g l = record { cell = cellOf cells (sourceOf cells g l); pins = feeds cells (cutsOf g) l (sourceOf cells g l); net = l }
+-- the number of its cell, and the phases that feed it
+abbrev pub numberAt : List Cell → Graph → ℕ → ℕ
+numberAt cells g l = numberOf (sourceOf cells g l)
 
-abbrev pub chosenGates : List Cell → Graph → List Gate
-chosenGates cells g = gates cells g (chosen cells g)
+abbrev pub fedAt : List Cell → Graph → ℕ → List ℕ
+fedAt cells g l = feeds cells (cutsOf g) l (sourceOf cells g l)
 
-module _ (cells : List Cell) (fit : T (libraryFits cells)) (g : Graph) (ok : Accepted g) (present-outputs : (l : ℕ) → List·Memᴰ l (g .outputs) → absent (chosen cells g l .source) ≡ false) where
+-- the gates of a phase
+abbrev pub gatesAt : List Cell → List Cell → Graph → ℕ → List Gate
+gatesAt listed cells g l = gatesBy listed (numberAt cells g l) (fedAt cells g l) l
+
+abbrev pub chosenGates : List Cell → List Cell → Graph → List Gate
+chosenGates listed cells g = gates listed cells g (chosen cells g)
+
+-- the phases that become gates
+abbrev pub gateNets : List Cell → Graph → List ℕ
+gateNets cells g = keep (λ (l : ℕ). cond (elem l (needed cells g (chosen cells g))) (not (isOwn (sourceOf cells g l))) false) (below (2 * suc (g .size)))
+
+pub gates-are : (listed cells : List Cell) (g : Graph) → chosenGates listed cells g ≡ each (gatesAt listed cells g) (gateNets cells g)
+unfolding gates
+gates-are listed cells g = refl
+
+module _ (listed cells : List Cell) (fit : Fitting listed cells) (g : Graph) (ok : Accepted g) (present-outputs : (l : ℕ) → List·Memᴰ l (g .outputs) → absent (chosen cells g l .source) ≡ false) where
   pub present : (l : ℕ) → NeedsOf cells g l → absent (sourceOf cells g l) ≡ false
   present = needed-present cells g (order-once g ok) (g .outputs) present-outputs
 
@@ -120,81 +139,103 @@ module _ (cells : List Cell) (fit : T (libraryFits cells)) (g : Graph) (ok : Acc
   input-bound v m =
       let h : v ≤ g .size = order-small g ok v (List·Memᴰ·tail (Memᴰ·append-left (placeF (length (g .ands)) (g .ands) (0 ∷ g .inputs)) m)) in omega arith
 
-  pub gate-in : (l : ℕ) → NeedsOf cells g l → isOwn (sourceOf cells g l) ≡ false → List·Memᴰ (gateOf cells g l) (chosenGates cells g)
-  unfolding gates
-  gate-in l n h =
-      map-in (gateOf cells g)
-      (keep-in (λ (k : ℕ). cond (elem k (needed cells g (chosen cells g))) (not (isOwn (sourceOf cells g k))) false) (below-in (2 * suc (g .size)) l (bound l n))
-      (subst (λ (b : Bool). T (cond b (not (isOwn (sourceOf cells g l))) false)) (sym (elem-in l (needed cells g (chosen cells g)) (needed-listed cells g (order-once g ok) l n)))
-      (subst (λ (b : Bool). T (not b)) (sym h) tt)))
+  -- a phase that becomes gates
+  pub record Gates (l : ℕ) : Type 0 where
+    pub needs : NeedsOf cells g l
+    pub notOwn : isOwn (sourceOf cells g l) ≡ false
 
-  pub record IsGate (t : Gate) : Type 0 where
-    pub at : ℕ
-    pub needs : NeedsOf cells g at
-    pub notOwn : isOwn (sourceOf cells g at) ≡ false
-    pub isGate : t ≡ gateOf cells g at
+  pub net-in : (l : ℕ) → Gates l → List·Memᴰ l (gateNets cells g)
+  net-in l h =
+      keep-in (λ (k : ℕ). cond (elem k (needed cells g (chosen cells g))) (not (isOwn (sourceOf cells g k))) false) (below-in (2 * suc (g .size)) l (bound l (h .needs)))
+      (subst (λ (b : Bool). T (cond b (not (isOwn (sourceOf cells g l))) false)) (sym (elem-in l (needed cells g (chosen cells g)) (needed-listed cells g (order-once g ok) l (h .needs))))
+      (subst (λ (b : Bool). T (not b)) (sym (h .notOwn)) tt))
 
-  pub gate-out : (t : Gate) → List·Memᴰ t (chosenGates cells g) → IsGate t
-  unfolding gates
-  gate-out t m =
-      let o = map-out (gateOf cells g) (keep (λ (k : ℕ). cond (elem k (needed cells g (chosen cells g))) (not (isOwn (sourceOf cells g k))) false) (below (2 * suc (g .size)))) m in
-      let k = keep-out (λ (j : ℕ). cond (elem j (needed cells g (chosen cells g))) (not (isOwn (sourceOf cells g j))) false) (below (2 * suc (g .size))) (o .1) in
-      let r = both-tests (elem (o .0) (needed cells g (chosen cells g))) (isOwn (sourceOf cells g (o .0))) (k .1) in
-      record { at = o .0; needs = listed-needed cells g (order-once g ok) (o .0) (elem-out (o .0) (needed cells g (chosen cells g)) (r .0)); notOwn = r .1; isGate = o .2 }
+  pub net-out : (l : ℕ) → List·Memᴰ l (gateNets cells g) → Gates l
+  net-out l m =
+      let k = keep-out (λ (j : ℕ). cond (elem j (needed cells g (chosen cells g))) (not (isOwn (sourceOf cells g j))) false) (below (2 * suc (g .size))) m in
+      let r = both-tests (elem l (needed cells g (chosen cells g))) (isOwn (sourceOf cells g l)) (k .1) in
+      record { needs = listed-needed cells g (order-once g ok) l (elem-out l (needed cells g (chosen cells g)) (r .0)); notOwn = r .1 }
     where
       both-tests : (a b : Bool) → T (cond a (not b) false) → (a ≡ true) × (b ≡ false)
       both-tests true true u = absurd u
       both-tests true false u = (refl, refl)
       both-tests false b u = absurd u
 
-  -- a gate's cell stands in the library, and as many nets feed it as it has pins
+  pub gate-in : (l : ℕ) → Gates l → (t : Gate) → List·Memᴰ t (gatesAt listed cells g l) → List·Memᴰ t (chosenGates listed cells g)
+  gate-in l h t m = subst (λ (ts : List Gate). List·Memᴰ t ts) (sym (gates-are listed cells g)) (each-in (gatesAt listed cells g) (net-in l h) m)
+
+  pub record IsGate (t : Gate) : Type 0 where
+    pub at : ℕ
+    pub gates : Gates at
+    pub isGate : List·Memᴰ t (gatesAt listed cells g at)
+
+  pub gate-out : (t : Gate) → List·Memᴰ t (chosenGates listed cells g) → IsGate t
+  gate-out t m =
+      let o = each-out (gatesAt listed cells g) (gateNets cells g) (subst (λ (ts : List Gate). List·Memᴰ t ts) (gates-are listed cells g) m) in
+      record { at = o .0; gates = net-out (o .0) (o .1); isGate = o .2 }
+
+  -- the source's cell stands under its number, and as many nets feed it as it has pins
   pub record OfCell (l : ℕ) (s : Source) : Type 0 where
-    pub listed : List·Memᴰ (cellOf cells s) cells
-    pub pins : length (feeds cells (cutsOf g) l s) ≡ cellOf cells s .pins
+    pub hasNumber : numberOf s < length cells
+    pub isCell : cellOf cells s ≡ cellAt cells (numberOf s)
+    pub pins : length (feeds cells (cutsOf g) l s) ≡ cellAt cells (numberOf s) .pins
+
+  -- at most four, of a listed cell or of a pair
+  few-pins : (k : ℕ) → Numbered listed cells k → cellAt cells k .pins ≤ 4
+  unfolding cellAt cellOfPair pairOf pairPins
+  few-pins k (single h e) =
+      let few : getD listed k noCell .pins ≤ 4 = cell-form (getD listed k noCell) (library-cell listed (fit .fits) (getD listed k noCell) (getD-in listed k noCell h)) .fewPins in
+      let q : getD cells k noCell .pins ≡ getD listed k noCell .pins = ap (λ (c : Cell). c .pins) e in
+      omega arith
+  few-pins k (double h p e) =
+      let few = p .few in
+      let some = p .somePin in
+      let q : getD cells k noCell .pins ≡ getD listed (pairAt listed k .root) noCell .pins + getD listed (pairAt listed k .inner) noCell .pins - 1 = ap (λ (c : Cell). c .pins) e in
+      omega (arith, few, some)
 
   matched-pins : (m : Match) (cut : List ℕ) → m .order < 24 → m .cell < length cells → length (matchNets cells cut m) ≡ cellAt cells (m .cell) .pins
-  unfolding matchNets cellAt
+  unfolding matchNets
   matched-pins m cut o h =
-      let few : getD cells (m .cell) noCell .pins ≤ 4 = cell-form (getD cells (m .cell) noCell) (library-cell cells fit (getD cells (m .cell) noCell) (getD-in cells (m .cell) noCell h)) .fewPins in
-      fed-count (getD cells (m .cell) noCell .pins) (getD orders (m .order) []) (m .mask) cut (omega (arith, order-long (m .order) o))
+      let few : cellAt cells (m .cell) .pins ≤ 4 = few-pins (m .cell) (fit .numbered (m .cell) h) in
+      fed-count (cellAt cells (m .cell) .pins) (getD orders (m .order) []) (m .mask) cut (omega (arith, order-long (m .order) o))
 
-  pub of-cell : (l : ℕ) → NeedsOf cells g l → isOwn (sourceOf cells g l) ≡ false → OfCell l (sourceOf cells g l)
-  unfolding cellOf cellAt isOwn feeds isInverter
-  of-cell l n h = go (sourceOf cells g l) (chosen-fine cells g (order-once g ok) l (present l n) .0 .allowed) h
+  pub of-cell : (l : ℕ) → Gates l → OfCell l (sourceOf cells g l)
+  unfolding cellOf numberOf isOwn feeds
+  of-cell l h = go (sourceOf cells g l) (chosen-fine cells g (order-once g ok) l (present l (h .needs)) .0 .allowed) (h .notOwn)
     where
       go : (s : Source) → Allowed cells g l s → isOwn s ≡ false → OfCell l s
       go Input a q = absurd (true≢false q)
       go Nothing a q = absurd a
-      go (Matched m) a q = record { listed = getD-in cells (m .cell) noCell (a .hasCell); pins = matched-pins m (cutAt (cutsOf g) (varOf l) (m .cut)) (a .hasOrder) (a .hasCell) }
-      go (Inverted i) a q = record {
-        listed = getD-in cells i noCell (a .hasCell);
-        pins = sym (eqb→eq (getD cells i noCell .pins) 1 (and-yes (eqb (getD cells i noCell .pins) 1) (eqb (getD cells i noCell .table) 1) (a .inverts) .0));
-      }
+      go (Matched m) a q = record { hasNumber = a .hasCell; isCell = refl; pins = matched-pins m (cutAt (cutsOf g) (varOf l) (m .cut)) (a .hasOrder) (a .hasCell) }
+      go (Inverted i) a q = record { hasNumber = a .hasCell; isCell = refl; pins = sym (inverter-pins (cellAt cells i) (a .inverts)) }
 
-  -- what its line says
-  pub line-bound : (l : ℕ) → NeedsOf cells g l → isOwn (sourceOf cells g l) ≡ false → Bound cells (gateOf cells g l)
-  line-bound l n h = let c = of-cell l n h in gate-bound cells fit (gateOf cells g l) (c .listed) (c .pins)
+  pub number-of : (l : ℕ) → Gates l → Numbered listed cells (numberAt cells g l)
+  number-of l h = fit .numbered (numberAt cells g l) (of-cell l h .hasNumber)
 
-  pub gate-listed : (l : ℕ) → NeedsOf cells g l → isOwn (sourceOf cells g l) ≡ false → List·Memᴰ (cellOf cells (sourceOf cells g l)) cells
-  gate-listed l n h = of-cell l n h .listed
+  -- what each of its gates is
+  pub of-gates : (l : ℕ) → Gates l → (t : Gate) → List·Memᴰ t (gatesAt listed cells g l) → OfPhase listed (fedAt cells g l) l (gatesAt listed cells g l) t
+  of-gates l h = of-phase listed cells fit (numberAt cells g l) (fedAt cells g l) l (of-cell l h .pins) (number-of l h)
 
-  gate-named : (t : Gate) → List·Memᴰ t (chosenGates cells g) → T (Rattle.model.specs.Text.isName (nameOf (t .cell)))
-  gate-named t m =
-      let r = gate-out t m in
-      subst (λ (u : Gate). T (Rattle.model.specs.Text.isName (nameOf (u .cell)))) (sym (r .isGate)) (line-bound (r .at) (r .needs) (r .notOwn) .isNamed)
+  -- a gate is of a listed cell, and as many nets feed it as the cell has pins
+  pub gate-listed : (t : Gate) → List·Memᴰ t (chosenGates listed cells g) → List·Memᴰ (t .cell) listed × (length (t .pins) ≡ t .cell .pins)
+  gate-listed t m = let r = gate-out t m in let o = of-gates (r .at) (r .gates) t (r .isGate) in (o .isListed, o .count)
 
-  pub back : (f : Figures) (after : List ℕ) → readBlif (netlistText g (chosenGates cells g) f ++ after) ≡ some (blifOf g (chosenGates cells g))
-  back f after = read-back g (chosenGates cells g) f after gate-named
+  -- what the line of a gate says
+  pub line-bound : (t : Gate) → List·Memᴰ t (chosenGates listed cells g) → Bound listed t
+  line-bound t m = let r = gate-out t m in of-gates (r .at) (r .gates) t (r .isGate) .bound
 
-  pub figures-said : (f : Figures) (after : List ℕ) → readFigures (netlistText g (chosenGates cells g) f ++ after) ≡ some f
-  figures-said f after = figures-back g (chosenGates cells g) f after gate-named
+  pub back : (f : Figures) (after : List ℕ) → readBlif (netlistText g (chosenGates listed cells g) f ++ after) ≡ some (blifOf g (chosenGates listed cells g))
+  back f after = read-back g (chosenGates listed cells g) f after (λ t m. line-bound t m .isNamed)
+
+  pub figures-said : (f : Figures) (after : List ℕ) → readFigures (netlistText g (chosenGates listed cells g) f ++ after) ≡ some f
+  figures-said f after = figures-back g (chosenGates listed cells g) f after (λ t m. line-bound t m .isNamed)
 
   pub timings-said : (f : Figures) (low high : ℕ → ℕ)
-      → readTimings (netlistText g (chosenGates cells g) f ++ timingLines low high 0 (g .outputs)) ≡ some (timingsFrom low high 0 (g .outputs))
-  timings-said f low high = timings-back g (chosenGates cells g) f low high gate-named
+      → readTimings (netlistText g (chosenGates listed cells g) f ++ timingLines low high 0 (g .outputs)) ≡ some (timingsFrom low high 0 (g .outputs))
+  timings-said f low high = timings-back g (chosenGates listed cells g) f low high (λ t m. line-bound t m .isNamed)
 
-  pub none-said : (f : Figures) → readTimings (netlistText g (chosenGates cells g) f ++ []) ≡ some []
-  none-said f = timings-none g (chosenGates cells g) f gate-named
+  pub none-said : (f : Figures) → readTimings (netlistText g (chosenGates listed cells g) f ++ []) ≡ some []
+  none-said f = timings-none g (chosenGates listed cells g) f (λ t m. line-bound t m .isNamed)
 
   -- ---- an input's own net
 

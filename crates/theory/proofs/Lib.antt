@@ -1,6 +1,9 @@
 pub mod Needs
+pub mod Numbered
+pub mod Settled
 pub mod Gates
 pub mod Wires
+pub mod Nets
 pub mod Values
 pub mod Arrivals
 pub mod Outcomes
@@ -8,6 +11,7 @@ pub mod Formed
 pub mod Gated
 pub mod Ranges
 pub mod Demanded
+pub mod Shuffles
 pub mod Refusals
 pub mod Sequence
 pub mod Channels

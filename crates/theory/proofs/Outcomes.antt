@@ -36,12 +36,12 @@ figuresIn : Figures → Outcome → Figures
 figuresIn d (refused n k) = d
 figuresIn d (mapped t f) = f
 
-pub record FromChoice (cells : List Cell) (g : Graph) (t : List ℕ) (f : Figures) : Type 0 where
+pub record FromChoice (listed cells : List Cell) (g : Graph) (t : List ℕ) (f : Figures) : Type 0 where
   pub placed : unplaced g ≡ []
   pub few : crowded g ≡ []
   pub covered : (l : ℕ) → List·Memᴰ l (g .outputs) → absent (chosen cells g l .source) ≡ false
-  pub isText : t ≡ choiceText cells g
-  pub areFigures : f ≡ choiceFigures cells g
+  pub isText : t ≡ choiceText listed cells g
+  pub areFigures : f ≡ choiceFigures listed cells g
 
 -- where none is uncovered, each output has a source
 pub outputs-present : (phase : ℕ → Phase) (k : ℕ) (ls : List ℕ) → uncovered phase k ls ≡ [] → (l : ℕ) → List·Memᴰ l ls → absent (phase l .source) ≡ false
@@ -54,25 +54,25 @@ outputs-present phase k (x ∷ ls) e l m = go (absent (phase x .source)) refl e 
     go false a q (List·Memᴰ·head s) later = ap (λ (y : ℕ). absent (phase y .source)) s ∙ a
     go false a q (List·Memᴰ·tail n) later = later q n
 
-module _ (cells : List Cell) (g : Graph) (t : List ℕ) (f : Figures) where
-  from-choice : mapGraph cells g ≡ mapped t f → FromChoice cells g t f
+module _ (listed cells : List Cell) (g : Graph) (t : List ℕ) (f : Figures) where
+  from-choice : mapGraph listed cells g ≡ mapped t f → FromChoice listed cells g t f
   unfolding mapGraph mapPlaced mapCut mapChosen printed chosen lowest smaller textOf figuresIn
   from-choice e = places (unplaced g) refl e
     where
-      outs : unplaced g ≡ [] → crowded g ≡ [] → (us : List ℕ) → uncovered (chosen cells g) 0 (g .outputs) ≡ us → printed cells g (chosen cells g) us ≡ mapped t f → FromChoice cells g t f
+      outs : unplaced g ≡ [] → crowded g ≡ [] → (us : List ℕ) → uncovered (chosen cells g) 0 (g .outputs) ≡ us → printed listed cells g (chosen cells g) us ≡ mapped t f → FromChoice listed cells g t f
       outs p c [] q h =
           record { placed = p; few = c; covered = outputs-present (chosen cells g) 0 (g .outputs) q; isText = sym (ap textOf h); areFigures = sym (ap (figuresIn f) h) }
       outs p c (k ∷ ks) q h = absurd (refused-never h)
 
-      cuts : unplaced g ≡ [] → (vs : List ℕ) → crowded g ≡ vs → mapCut cells g vs ≡ mapped t f → FromChoice cells g t f
+      cuts : unplaced g ≡ [] → (vs : List ℕ) → crowded g ≡ vs → mapCut listed cells g vs ≡ mapped t f → FromChoice listed cells g t f
       cuts p [] c h = outs p c (uncovered (chosen cells g) 0 (g .outputs)) refl h
       cuts p (v ∷ vs) c h = absurd (refused-never h)
 
-      none-lowest : (u : ℕ) (o : Option ℕ) → ¬ (mapPlaced cells g (smaller u o) ≡ mapped t f)
+      none-lowest : (u : ℕ) (o : Option ℕ) → ¬ (mapPlaced listed cells g (smaller u o) ≡ mapped t f)
       none-lowest u none h = refused-never h
       none-lowest u (some w) h = refused-never h
 
-      places : (us : List ℕ) → unplaced g ≡ us → mapPlaced cells g (lowest us) ≡ mapped t f → FromChoice cells g t f
+      places : (us : List ℕ) → unplaced g ≡ us → mapPlaced listed cells g (lowest us) ≡ mapped t f → FromChoice listed cells g t f
       places [] p h = cuts p (crowded g) refl h
       places (u ∷ us) p h = absurd (none-lowest u (lowest us) h)
 
@@ -87,18 +87,18 @@ within-mapped bytes (mapped u h) t f e = go (leb (length u) bytes) e
     go false q = absurd (refused-never q)
 
 -- the netlist is the graph's, and the timing lines follow it where delays are ranges
-pub record FromDesign (ranged : Bool) (cells : List Cell) (g : Graph) (t : List ℕ) (f : Figures) : Type 0 where
-  pub choice : FromChoice cells g (choiceText cells g) f
-  pub isText : t ≡ printedText ranged cells g
+pub record FromDesign (ranged : Bool) (listed cells : List Cell) (g : Graph) (t : List ℕ) (f : Figures) : Type 0 where
+  pub choice : FromChoice listed cells g (choiceText listed cells g) f
+  pub isText : t ≡ printedText ranged listed cells g
 
-from-design : (ranged : Bool) (cells : List Cell) (g : Graph) (t : List ℕ) (f : Figures) → followed ranged cells g (mapGraph cells g) ≡ mapped t f → FromDesign ranged cells g t f
+from-design : (ranged : Bool) (listed cells : List Cell) (g : Graph) (t : List ℕ) (f : Figures) → followed ranged cells g (mapGraph listed cells g) ≡ mapped t f → FromDesign ranged listed cells g t f
 unfolding followed textOf figuresIn
-from-design ranged cells g t f = go ranged (mapGraph cells g) refl
+from-design ranged listed cells g t f = go ranged (mapGraph listed cells g) refl
   where
-    plain : (u : List ℕ) (h : Figures) → mapGraph cells g ≡ mapped u h → h ≡ f → (u ≡ choiceText cells g) × FromChoice cells g (choiceText cells g) f
-    plain u h e q = let c = from-choice cells g u h e in (c .isText, subst (FromChoice cells g (choiceText cells g)) q (subst (λ (x : List ℕ). FromChoice cells g x h) (c .isText) c))
+    plain : (u : List ℕ) (h : Figures) → mapGraph listed cells g ≡ mapped u h → h ≡ f → (u ≡ choiceText listed cells g) × FromChoice listed cells g (choiceText listed cells g) f
+    plain u h e q = let c = from-choice listed cells g u h e in (c .isText, subst (FromChoice listed cells g (choiceText listed cells g)) q (subst (λ (x : List ℕ). FromChoice listed cells g x h) (c .isText) c))
 
-    go : (r : Bool) (o : Outcome) → mapGraph cells g ≡ o → followed r cells g o ≡ mapped t f → FromDesign r cells g t f
+    go : (r : Bool) (o : Outcome) → mapGraph listed cells g ≡ o → followed r cells g o ≡ mapped t f → FromDesign r listed cells g t f
     go r (refused n k) e q = absurd (refused-never q)
     go false (mapped u h) e q = let c = plain u h e (ap (figuresIn f) q) in record { choice = c .1; isText = sym (ap textOf q) ∙ c .0 }
     go true (mapped u h) e q =
@@ -107,11 +107,11 @@ from-design ranged cells g t f = go ranged (mapGraph cells g) refl
 
 module _ (c : Call) (d : Design) (e : readTexts c ≡ holds d) where
   -- the outcome of texts that are read
-  pub outcome-is : mapTexts c ≡ within (c .bytes) (followed (d .ranged) (d .cells) (d .graph) (mapGraph (d .cells) (d .graph)))
+  pub outcome-is : mapTexts c ≡ within (c .bytes) (followed (d .ranged) (d .cells) (d .graph) (mapGraph (d .listed) (d .cells) (d .graph)))
   unfolding mapTexts mapDesign
   outcome-is = ap (mapDesign (c .bytes)) e
 
-  pub printed-choice : (t : List ℕ) (f : Figures) → mapTexts c ≡ mapped t f → FromDesign (d .ranged) (d .cells) (d .graph) t f
+  pub printed-choice : (t : List ℕ) (f : Figures) → mapTexts c ≡ mapped t f → FromDesign (d .ranged) (d .listed) (d .cells) (d .graph) t f
   printed-choice t f h =
-      from-design (d .ranged) (d .cells) (d .graph) t f
-      (within-mapped (c .bytes) (followed (d .ranged) (d .cells) (d .graph) (mapGraph (d .cells) (d .graph))) t f (sym outcome-is ∙ h))
+      from-design (d .ranged) (d .listed) (d .cells) (d .graph) t f
+      (within-mapped (c .bytes) (followed (d .ranged) (d .cells) (d .graph) (mapGraph (d .listed) (d .cells) (d .graph))) t f (sym outcome-is ∙ h))

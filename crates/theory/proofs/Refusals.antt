@@ -39,18 +39,18 @@ module _ (P : ℕ → ℕ → Type 0) where
   followed-refusal false cells g (mapped t f) l = tt
 
   -- 15 to 17
-  pub map-refusal : (cells : List Cell) (g : Graph) → ((v : ℕ) → lowest (unplaced g) ≡ some v → P 15 v) → ((k : ℕ) → P 16 k) → ((k : ℕ) → P 17 k) → Refusal P (mapGraph cells g)
+  pub map-refusal : (listed cells : List Cell) (g : Graph) → ((v : ℕ) → lowest (unplaced g) ≡ some v → P 15 v) → ((k : ℕ) → P 16 k) → ((k : ℕ) → P 17 k) → Refusal P (mapGraph listed cells g)
   unfolding mapGraph mapPlaced mapCut mapChosen printed
-  map-refusal cells g p15 p16 p17 = places (lowest (unplaced g)) refl
+  map-refusal listed cells g p15 p16 p17 = places (lowest (unplaced g)) refl
     where
-      outs : (us : List ℕ) → Refusal P (printed cells g (chosen cells g) us)
+      outs : (us : List ℕ) → Refusal P (printed listed cells g (chosen cells g) us)
       outs [] = tt
       outs (u ∷ us) = p17 u
 
-      cuts : (vs : List ℕ) → Refusal P (mapCut cells g vs)
+      cuts : (vs : List ℕ) → Refusal P (mapCut listed cells g vs)
       cuts [] = unfold chosen in outs (uncovered (chosen cells g) 0 (g .outputs))
       cuts (v ∷ vs) = p16 v
 
-      places : (o : Option ℕ) → lowest (unplaced g) ≡ o → Refusal P (mapPlaced cells g o)
+      places : (o : Option ℕ) → lowest (unplaced g) ≡ o → Refusal P (mapPlaced listed cells g o)
       places none e = cuts (crowded g)
       places (some v) e = p15 v e

@@ -8,13 +8,12 @@ use lib.Dec.{T, leb, ltb}
 use Rattle.model.specs.Base.{lowest}
 use Rattle.model.specs.Limits.{need}
 use Rattle.model.specs.Reading.{Read, holds, fault, next, unless}
-use Rattle.model.specs.LibraryText.{readLibrary, isRanged}
 use Rattle.model.specs.Graph.{And, Graph, varOf, unplaced}
 use Rattle.model.specs.GraphText.{readHeader, readGraph}
 use Rattle.model.specs.Netlist.{mapGraph}
 use Rattle.model.specs.ArrivalsText.{Late, readArrivals, timedBy}
 use Rattle.model.specs.Timing.{followed}
-use Rattle.model.specs.Mapper.{Call, Design, short, readTexts, mapDesign, mapTexts}
+use Rattle.model.specs.Mapper.{Call, Design, designOf, short, readListed, readTexts, mapDesign, mapTexts}
 use Rattle.model.specs.Demands.{Sequenced}
 use Rattle.model.specs.declared.Cell.{Cell}
 use Rattle.model.specs.declared.Header.{Header}
@@ -23,7 +22,7 @@ use Rattle.theory_graph.specs.Accepted.{andVars}
 use Rattle.theory_graph.proofs.Timed.{timed-unplaced}
 use Rattle.theory_order.proofs.Sequence.{Lower, rising-placed}
 use Rattle.theory_text.proofs.Steps.{holds-once}
-use Rattle.theory_text.proofs.Faults.{Faults, in-holds, in-unless, in-next, library-faults, header-faults, arrivals-faults}
+use Rattle.theory_text.proofs.Faults.{Faults, in-holds, in-unless, in-next, listed-faults, header-faults, arrivals-faults}
 use Rattle.theory_text.proofs.ReadGraph.{graph-known}
 use Rattle.theory_text.proofs.ReadTexts.{texts-read}
 use Rattle.theory_text.proofs.Sequence.{binary-faults, binary-falls}
@@ -56,8 +55,8 @@ module _ (c : Call) (h : Header) (d : readHeader (c .graph) ≡ holds h) (b : h 
   texts-other : Faults Other (readTexts c)
   unfolding readTexts
   texts-other =
-      in-unless Other (short c) 1 0 (next (readLibrary (c .library)) read) (λ _. tt)
-      (in-next Other (readLibrary (c .library)) read (library-faults Other tt (λ _. tt) (λ _. tt) (λ _. tt) (λ _. tt) (λ _. tt) (c .library))
+      in-unless Other (short c) 1 0 (next (readListed (c .paired) (c .library)) read) (λ _. tt)
+      (in-next Other (readListed (c .paired) (c .library)) read (listed-faults Other tt (λ _. tt) (λ _. tt) (λ _. tt) (λ _. tt) (λ _. tt) tt (c .paired) (c .library))
       (λ cells _.
       in-next Other (readHeader (c .graph)) (words cells) (header-faults Other tt tt tt tt (c .graph))
       (λ k e.
@@ -66,10 +65,10 @@ module _ (c : Call) (h : Header) (d : readHeader (c .graph) ≡ holds h) (b : h 
       (binary-faults (c .graph) k e (ap (λ (x : Header). x .binary) (holds-once (sym e ∙ d)) ∙ b) Other (λ _. tt) (λ _. tt) (λ _ _. tt) (λ _ _. tt))
       (λ g _.
       in-next Other (readArrivals (k .inputs) (c .arrivals)) (made cells g) (arrivals-faults Other (λ _. tt) (λ _. tt) (k .inputs) (c .arrivals))
-      (λ es _. in-holds Other (record { cells = cells; ranged = isRanged (c .library); graph = timedBy g es })))))))
+      (λ es _. in-holds Other (designOf c cells (timedBy g es))))))))
     where
       made : List Cell → Graph → List Late → Read Design
-      made cells g es = holds (record { cells = cells; ranged = isRanged (c .library); graph = timedBy g es })
+      made cells g es = holds (designOf c cells (timedBy g es))
 
       timed : List Cell → Header → Graph → Read Design
       timed cells k g = next (readArrivals (k .inputs) (c .arrivals)) (made cells g)
@@ -90,9 +89,9 @@ module _ (c : Call) (h : Header) (d : readHeader (c .graph) ≡ holds h) (b : h 
           let p : unplaced (x .graph) ≡ [] =
           ap unplaced (sym (t .isTimed)) ∙ timed-unplaced (t .meant) (t .late)
           ∙ binary-placed (c .graph) h (t .meant) d b (subst (λ (k : Header). readGraph (c .graph) k ≡ holds (t .meant)) (holds-once (sym (t .isHeader) ∙ d)) (t .isGraph)) in
-          within-refusal Other (λ _. tt) (c .bytes) (followed (x .ranged) (x .cells) (x .graph) (mapGraph (x .cells) (x .graph)))
-          (followed-refusal Other (x .ranged) (x .cells) (x .graph) (mapGraph (x .cells) (x .graph))
-          (map-refusal Other (x .cells) (x .graph) (λ v q. absurd (List·Memᴰ·not-nil (lowest-in [] v (sym (ap lowest p) ∙ q)))) (λ _. tt) (λ _. tt)))
+          within-refusal Other (λ _. tt) (c .bytes) (followed (x .ranged) (x .cells) (x .graph) (mapGraph (x .listed) (x .cells) (x .graph)))
+          (followed-refusal Other (x .ranged) (x .cells) (x .graph) (mapGraph (x .listed) (x .cells) (x .graph))
+          (map-refusal Other (x .listed) (x .cells) (x .graph) (λ v q. absurd (List·Memᴰ·not-nil (lowest-in [] v (sym (ap lowest p) ∙ q)))) (λ _. tt) (λ _. tt)))
       go (fault n k) e f = f .has n k refl
 
 -- "Inputs are variables 1 to I and ANDs follow in sequence": 13, 14 and 15 refuse no text in the binary form

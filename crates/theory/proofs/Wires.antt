@@ -10,7 +10,7 @@ use lib.ListN.{length, getD}
 use Rattle.model.specs.Base.{from, below}
 use Rattle.model.specs.Text.{asDigits, decimal}
 use Rattle.model.specs.Graph.{negated, varOf}
-use Rattle.model.specs.Netlist.{netName, outName}
+use Rattle.model.specs.Netlist.{Net, ofPhase, ofPair, netName, label, outName}
 use Rattle.model.specs.Blif.{Wire}
 use Rattle.theory_graph.proofs.Lists.{map-map, map-same, getD-in}
 use Rattle.theory_text.proofs.ReadBack.{wiresFrom}
@@ -32,6 +32,12 @@ out-net k l e = go (negated l) (head-eq-of-cons-eq e)
     go : (b : Bool) → ¬ (_≡_ {A = ℕ} 111 (cond b 109 112))
     go true q = omega arith
     go false q = omega arith
+
+-- nor has it the name of a gate's net
+pub out-label : (k : ℕ) (n : Net) → ¬ (outName k ≡ label n)
+unfolding label outName
+out-label k (ofPhase l) e = out-net k l e
+out-label k (ofPair l) e = let q : _≡_ {A = ℕ} 111 115 = head-eq-of-cons-eq e in omega arith
 
 -- ---- wires
 
@@ -101,30 +107,39 @@ module _ {X : Type 0} (f : List ℕ → X) (outs : List ℕ) (hands-on : (x : Wi
 
 -- ---- a look-up by a net's name or an output's own
 
-first-of : (b : Bool) → eqb (cond b 109 112) 111 ≡ false
-first-of true = refl
-first-of false = refl
+first-of : (n : Net) → (b : ℕ) × (bs : List ℕ) × (label n ≡ b ∷ bs) × (eqb b 111 ≡ false)
+unfolding label netName
+first-of (ofPhase l) = (cond (negated l) 109 112, decimal (varOf l), refl, go (negated l))
+  where
+    go : (b : Bool) → eqb (cond b 109 112) 111 ≡ false
+    go true = refl
+    go false = refl
+first-of (ofPair l) = (115, netName l, refl, refl)
 
-module _ {X : Type 0} (d : X) (val : ℕ → X) (outs ls : List ℕ) where
+module _ {X : Type 0} (d : X) (val : Net → X) (outs : List ℕ) (ns : List Net) where
   pub byLabel : List ℕ → X
-  byLabel [] = byName d val ls []
-  byLabel (b ∷ bs) = cond (eqb b 111) (val (getD outs (asDigits 0 bs) 0)) (byName d val ls (b ∷ bs))
+  byLabel [] = byName d val ns []
+  byLabel (b ∷ bs) = cond (eqb b 111) (val (ofPhase (getD outs (asDigits 0 bs) 0))) (byName d val ns (b ∷ bs))
 
-  pub by-net : (l : ℕ) → List·Memᴰ l ls → byLabel (netName l) ≡ val l
-  unfolding byLabel netName
-  by-net l m = ap (λ (b : Bool). cond b (val (getD outs (asDigits 0 (decimal (varOf l))) 0)) (byName d val ls (netName l))) (first-of (negated l)) ∙ by-name d val ls l m
+  pub by-net : (n : Net) → List·Memᴰ n ns → byLabel (label n) ≡ val n
+  unfolding byLabel
+  by-net n m =
+      let f = first-of n in
+      ap byLabel (f .2) ∙ ap (λ (b : Bool). cond b (val (ofPhase (getD outs (asDigits 0 (f .1)) 0))) (byName d val ns (f .0 ∷ f .1))) (f .3)
+      ∙ ap (byName d val ns) (sym (f .2)) ∙ by-name d val ns n m
 
-  by-out : (k : ℕ) → byLabel (outName k) ≡ val (getD outs k 0)
+  by-out : (k : ℕ) → byLabel (outName k) ≡ val (ofPhase (getD outs k 0))
   unfolding byLabel outName
-  by-out k = ap (λ (n : ℕ). val (getD outs n 0)) (decimal-value k)
+  by-out k = ap (λ (n : ℕ). val (ofPhase (getD outs n 0))) (decimal-value k)
 
   -- the wires hand on what is looked up
-  pub by-wire : ((l : ℕ) → List·Memᴰ l outs → List·Memᴰ l ls) → (x : Wire) → List·Memᴰ x (wiresFrom 0 outs) → byLabel (x .target) ≡ byLabel (x .source)
+  pub by-wire : ((l : ℕ) → List·Memᴰ l outs → List·Memᴰ (ofPhase l) ns) → (x : Wire) → List·Memᴰ x (wiresFrom 0 outs) → byLabel (x .target) ≡ byLabel (x .source)
+  unfolding label
   by-wire h x m =
       let r = wire-out 0 outs x m in
       let l = getD outs (r .at) 0 in
       ap (λ (y : Wire). byLabel (y .target)) (r .is)
       ∙ by-out (0 + r .at)
-      ∙ ap (λ (n : ℕ). val (getD outs n 0)) (zero-add (r .at))
-      ∙ sym (by-net l (h l (getD-in outs (r .at) 0 (r .here))))
+      ∙ ap (λ (n : ℕ). val (ofPhase (getD outs n 0))) (zero-add (r .at))
+      ∙ sym (by-net (ofPhase l) (h l (getD-in outs (r .at) 0 (r .here))))
       ∙ sym (ap (λ (y : Wire). byLabel (y .source)) (r .is))

@@ -17,7 +17,7 @@ use Rattle.model.specs.Cover.{output}
 use Rattle.model.specs.LibraryText.{readLibrary}
 use Rattle.model.specs.GraphText.{readHeader, readGraph}
 use Rattle.model.specs.ArrivalsText.{Late, timedBy}
-use Rattle.model.specs.Netlist.{Gate, netName, outName, pinWords, gateLine, namesLine, wireLine, wireLines, netlistText}
+use Rattle.model.specs.Netlist.{Net, Gate, netName, label, outName, pinWords, gateLine, namesLine, wireLine, wireLines, netlistText}
 use Rattle.model.specs.Mapper.{Call}
 use Rattle.model.specs.Demands.{choiceText, choiceFigures}
 use Rattle.model.specs.Check.{Driver, gateDriver, isGate, isLine, unlessAt, readNames, readDrivers, pastLines, frameOf, inputNets, outputNets, readNetlist, judgeNets, lineEnds, settingOf, readEdited}
@@ -25,7 +25,7 @@ use Rattle.model.specs.CheckDemands.{Right, AcceptsPrinted}
 use Rattle.model.specs.declared.Cell.{Cell}
 use Rattle.model.specs.declared.Header.{Header}
 use Rattle.model.specs.declared.Figures.{Figures}
-use Rattle.theory_graph.specs.Accepted.{Accepted, libraryFits}
+use Rattle.theory_graph.specs.Accepted.{Accepted}
 use Rattle.theory_graph.proofs.Lists.{is-true, same-refl, getD-in}
 use Rattle.theory_graph.proofs.Distinct.{length-map}
 use Rattle.theory_graph.proofs.Placing.{defined-placed}
@@ -35,22 +35,23 @@ use Rattle.theory_text.proofs.Plain.{Free, net-free}
 use Rattle.theory_text.proofs.LineLaws.{lineOfBytes, line-first}
 use Rattle.theory_text.proofs.ReadBack.{blifOf}
 use Rattle.theory_text.proofs.ReadGraph.{Counted, graph-counted}
-use Rattle.theory_text.proofs.ReadTexts.{Texts, texts-read, design-library, design-accepted, design-graph}
+use Rattle.theory_text.proofs.ReadTexts.{Texts, texts-read, design-accepted, design-graph}
+use Rattle.theory.proofs.Numbered.{Fitting}
 use Rattle.theory.proofs.Gates.{chosenGates}
 use Rattle.theory.proofs.Wires.{at-output}
 use Rattle.theory.proofs.Values.{net-value}
 use Rattle.theory.proofs.Outcomes.{FromChoice, FromDesign, printed-choice}
-use Rattle.theory.proofs.Demanded.{with-timings}
+use Rattle.theory.proofs.Demanded.{design-fitting, with-timings}
 use Rattle.theory_check.proofs.PrintedLines.{Clear, Clears, AreNets, worded, worded-line, bindWords, Shown, shownWords, shownLine, gatesAt, behindGates, gates-read, namesText, namesAt, names-read, names-fields, out-clear}
 use Rattle.theory_check.proofs.PrintedNets.{shownOf, printedDrivers, outputs-form, gates-fine, drivers-pass, drivers-values}
 use Rattle.theory_check.proofs.Whole.{edited-compared}
 
 -- ---- the printed text by its words
 
-pin-words : (b : ℕ) (ls : List ℕ) → pinWords b ls ≡ each (λ (n : List ℕ). 32 ∷ n) (bindWords b (map netName ls))
+pin-words : (b : ℕ) (ns : List Net) → pinWords b ns ≡ each (λ (n : List ℕ). 32 ∷ n) (bindWords b (map label ns))
 unfolding pinWords bindWords each
 pin-words b [] = refl
-pin-words b (l ∷ ls) = ap (λ (x : List ℕ). 32 ∷ b ∷ 61 ∷ netName l ++ x) (pin-words (suc b) ls)
+pin-words b (n ∷ ns) = ap (λ (x : List ℕ). 32 ∷ b ∷ 61 ∷ label n ++ x) (pin-words (suc b) ns)
 
 each-append : (ws vs : List (List ℕ)) → each (λ (n : List ℕ). 32 ∷ n) (ws ++ vs) ≡ each (λ (n : List ℕ). 32 ∷ n) ws ++ each (λ (n : List ℕ). 32 ∷ n) vs
 unfolding each
@@ -63,9 +64,9 @@ gate-shown t =
     ap (λ (x : List ℕ). text ".gate " ++ x)
     (ap₂ (λ (a b : List ℕ). nameOf (t .cell) ++ (a ++ (b ++ text "\n"))) (pin-words 65 (t .pins)) (pin-words 79 (t .net ∷ []))
     ∙ ap (λ (x : List ℕ). nameOf (t .cell) ++ x)
-    (sym (append-assoc (spaced (bindWords 65 (map netName (t .pins)))) (spaced (bindWords 79 (netName (t .net) ∷ []))) (10 ∷ []))
-    ∙ ap (λ (x : List ℕ). x ++ (10 ∷ [])) (sym (each-append (bindWords 65 (map netName (t .pins))) (bindWords 79 (netName (t .net) ∷ [])))))
-    ∙ sym (append-assoc (nameOf (t .cell)) (spaced (bindWords 65 (map netName (t .pins)) ++ bindWords 79 (netName (t .net) ∷ []))) (10 ∷ [])))
+    (sym (append-assoc (spaced (bindWords 65 (map label (t .pins)))) (spaced (bindWords 79 (label (t .net) ∷ []))) (10 ∷ []))
+    ∙ ap (λ (x : List ℕ). x ++ (10 ∷ [])) (sym (each-append (bindWords 65 (map label (t .pins))) (bindWords 79 (label (t .net) ∷ [])))))
+    ∙ sym (append-assoc (nameOf (t .cell)) (spaced (bindWords 65 (map label (t .pins)) ++ bindWords 79 (label (t .net) ∷ []))) (10 ∷ [])))
     ∙ (unfold bindWords in refl)
   where
     spaced : List (List ℕ) → List ℕ
@@ -138,27 +139,27 @@ clears-map : {A : Type 0} (f : A → List ℕ) → ((x : A) → Clear (f x)) →
 clears-map f h [] = tt
 clears-map f h (x ∷ xs) = (h x, clears-map f h xs)
 
-module _ (cells : List Cell) (fit : T (libraryFits cells)) (g : Graph) (ok : Accepted g) (small : g .size ≤ 4095)
+module _ (listed cells : List Cell) (fit : Fitting listed cells) (g : Graph) (ok : Accepted g) (small : g .size ≤ 4095)
     (present-outputs : (l : ℕ) → List·Memᴰ l (g .outputs) → absent (chosen cells g l .source) ≡ false) where
   -- the printed text is read as the drivers of its lines, whatever follows it
   printed-read : (f : Figures) → (at behind : ℕ) × ((after : List ℕ)
-      → readNetlist cells g (netlistText g (chosenGates cells g) f ++ after) ≡ holds (printedDrivers cells fit g ok small present-outputs at behind))
+      → readNetlist listed g (netlistText g (chosenGates listed cells g) f ++ after) ≡ holds (printedDrivers listed cells fit g ok small present-outputs at behind))
   unfolding readNetlist frameOf
-  printed-read f = (third, behindGates third shown, λ after. ap (λ (r : Read (List Line)). next r (readDrivers cells (end after) outs)) (frame after) ∙ gates after)
+  printed-read f = (third, behindGates third shown, λ after. ap (λ (r : Read (List Line)). next r (readDrivers listed (end after) outs)) (frame after) ∙ gates after)
     where
       shown : List Shown
-      shown = map shownOf (chosenGates cells g)
+      shown = map shownOf (chosenGates listed cells g)
 
       tail : List ℕ → List ℕ
       tail after = text "# gates " ++ (decimal (f .gates) ++ (text " area " ++ (decimal (f .area) ++ (text " arrival " ++ (decimal (f .arrival) ++ (10 ∷ after))))))
 
       body : List ℕ → List ℕ
-      body after = each gateLine (chosenGates cells g) ++ (wireLines 0 (g .outputs) ++ (text ".end" ++ (10 ∷ tail after)))
+      body after = each gateLine (chosenGates listed cells g) ++ (wireLines 0 (g .outputs) ++ (text ".end" ++ (10 ∷ tail after)))
 
       end : List ℕ → ℕ
-      end after = length (netlistText g (chosenGates cells g) f ++ after)
+      end after = length (netlistText g (chosenGates listed cells g) f ++ after)
 
-      whole : (after : List ℕ) → netlistText g (chosenGates cells g) f ++ after
+      whole : (after : List ℕ) → netlistText g (chosenGates listed cells g) f ++ after
           ≡ text ".model top" ++ (10 ∷ namesLine (text ".inputs") (inputNets g) ++ (namesLine (text ".outputs") (outputNets g) ++ body after))
       whole after = unfold netlistText inputNets outputNets text in simp append-assoc
 
@@ -177,7 +178,7 @@ module _ (cells : List Cell) (fit : T (libraryFits cells)) (g : Graph) (ok : Acc
       outputs-clear : Clears (outputNets g)
       outputs-clear = unfold outputNets in clears-map outName out-clear (below (length (g .outputs)))
 
-      frame : (after : List ℕ) → pastLines (end after) (frameOf g) (linesFrom 0 [] (netlistText g (chosenGates cells g) f ++ after)) ≡ holds (linesFrom third [] (body after))
+      frame : (after : List ℕ) → pastLines (end after) (frameOf g) (linesFrom 0 [] (netlistText g (chosenGates listed cells g) f ++ after)) ≡ holds (linesFrom third [] (body after))
       frame after = unfold inputNets outputNets pastLines in
           ap (λ (t : List ℕ). pastLines (end after) (frameOf g) (linesFrom 0 [] t)) (whole after)
           ∙ frame-line (end after) 0 (text ".model top") [] (worded (text ".inputs") (inputNets g) ∷ worded (text ".outputs") (outputNets g) ∷ []) (namesLine (text ".inputs") (inputNets g) ++ (namesLine (text ".outputs") (outputNets g) ++ body after))
@@ -189,24 +190,24 @@ module _ (cells : List Cell) (fit : T (libraryFits cells)) (g : Graph) (ok : Acc
           ∙ frame-line (end after) second (text ".outputs") (outputNets g) [] (body after)
           (refl, (refl, (refl, (refl, (refl, (refl, (refl, (refl, tt)))))))) (refl, (refl, (refl, (refl, (refl, (refl, (refl, (refl, tt)))))))) outputs-clear
 
-      gates : (after : List ℕ) → readDrivers cells (end after) outs (linesFrom third [] (body after)) ≡ holds (gatesAt third shown ++ namesAt (behindGates third shown) 0 (map netName (g .outputs)))
+      gates : (after : List ℕ) → readDrivers listed (end after) outs (linesFrom third [] (body after)) ≡ holds (gatesAt third shown ++ namesAt (behindGates third shown) 0 (map netName (g .outputs)))
       gates after =
-          ap₂ (λ (a b : List ℕ). readDrivers cells (end after) outs (linesFrom third [] (a ++ (b ++ (text ".end" ++ (10 ∷ tail after)))))) (gates-shown (chosenGates cells g)) (wire-shown 0 (g .outputs))
-          ∙ gates-read cells fit (end after) outs shown (gates-fine cells fit g ok small present-outputs 0 0) third (namesText 0 (map netName (g .outputs)) ++ (text ".end" ++ (10 ∷ tail after)))
+          ap₂ (λ (a b : List ℕ). readDrivers listed (end after) outs (linesFrom third [] (a ++ (b ++ (text ".end" ++ (10 ∷ tail after)))))) (gates-shown (chosenGates listed cells g)) (wire-shown 0 (g .outputs))
+          ∙ gates-read listed (fit .fits) (end after) outs shown (gates-fine listed cells fit g ok small present-outputs 0 0) third (namesText 0 (map netName (g .outputs)) ++ (text ".end" ++ (10 ∷ tail after)))
           (namesAt (behindGates third shown) 0 (map netName (g .outputs)))
-          (names-first cells (end after) outs (map netName (g .outputs)) (outputs-form cells fit g ok small present-outputs 0 0) (behindGates third shown) (tail after)
+          (names-first listed (end after) outs (map netName (g .outputs)) (outputs-form listed cells fit g ok small present-outputs 0 0) (behindGates third shown) (tail after)
           ∙ ap (λ (n : ℕ). readNames (end after) 0 n (linesFrom (behindGates third shown) [] (namesText 0 (map netName (g .outputs)) ++ (text ".end" ++ (10 ∷ tail after))))) (sym (length-map netName (g .outputs)))
-          ∙ names-read (end after) 0 (map netName (g .outputs)) (outputs-form cells fit g ok small present-outputs 0 0) (behindGates third shown) (tail after))
+          ∙ names-read (end after) 0 (map netName (g .outputs)) (outputs-form listed cells fit g ok small present-outputs 0 0) (behindGates third shown) (tail after))
 
   -- each output has the graph's value
-  printed-right : (at behind s k : ℕ) → k < length (g .outputs) → Right g (printedDrivers cells fit g ok small present-outputs at behind) s k
+  printed-right : (at behind s k : ℕ) → k < length (g .outputs) → Right g (printedDrivers listed cells fit g ok small present-outputs at behind) s k
   unfolding literalValue blifOf
   printed-right at behind s k h v hv w hw =
-      let nets = drivers-values cells fit g ok small present-outputs at behind s w hw in
+      let nets = drivers-values listed cells fit g ok small present-outputs at behind s w hw in
       let l = getD (g .outputs) k 0 in
       let m = getD-in (g .outputs) k 0 h in
       at-output w (g .outputs) (nets .atWires) k h
-      ∙ net-value cells fit g ok present-outputs (settingOf s 0 (g .inputs)) w nets l (output m)
+      ∙ net-value listed cells fit g ok present-outputs (settingOf s 0 (g .inputs)) w nets l (output m)
       ∙ ap (flip (negated l)) (sym (values-only g ok (settingOf s 0 (g .inputs)) v hv (varOf l)
       (defined-placed g ok (varOf l) (ok .used l (Memᴰ·append-left (each (λ (a : And). a .left ∷ a .right ∷ []) (g .ands)) m)))))
 
@@ -250,10 +251,13 @@ pub accepts-printed : (c : Call) → AcceptsPrinted c
 accepts-printed c d t f words e o few short enough =
     edited-compared (c .library) (c .graph) t words (record { graph = g; drivers = ds }) reads .accepts .1
     (λ s b k h. timed-right g es ds s k
-    (subst (λ (x : Graph). Right x ds s k) (sym (tx .isTimed)) (printed-right cells fit (d .graph) ok small (ch .covered) (rd .0) (rd .1) s k (subst (λ (n : ℕ). k < n) (sym (outs-length .2)) h))))
+    (subst (λ (x : Graph). Right x ds s k) (sym (tx .isTimed)) (printed-right listed cells fit (d .graph) ok small (ch .covered) (rd .0) (rd .1) s k (subst (λ (n : ℕ). k < n) (sym (outs-length .2)) h))))
   where
     tx : Texts c d
     tx = texts-read c d e
+
+    listed : List Cell
+    listed = d .listed
 
     cells : List Cell
     cells = d .cells
@@ -264,14 +268,14 @@ accepts-printed c d t f words e o few short enough =
     es : List Late
     es = tx .late
 
-    pr : FromDesign (d .ranged) (d .cells) (d .graph) t f
+    pr : FromDesign (d .ranged) (d .listed) (d .cells) (d .graph) t f
     pr = printed-choice c d e t f o
 
-    ch : FromChoice (d .cells) (d .graph) (choiceText (d .cells) (d .graph)) f
+    ch : FromChoice (d .listed) (d .cells) (d .graph) (choiceText (d .listed) (d .cells) (d .graph)) f
     ch = pr .choice
 
-    fit : T (libraryFits (d .cells))
-    fit = design-library c d e
+    fit : Fitting (d .listed) (d .cells)
+    fit = design-fitting c d e
 
     ok : Accepted (d .graph)
     ok = design-accepted c d e (ch .placed)
@@ -279,11 +283,11 @@ accepts-printed c d t f words e o few short enough =
     small : d .graph .size ≤ 4095
     small = design-graph c d e .size
 
-    rd : (at behind : ℕ) × ((after : List ℕ) → readNetlist cells (d .graph) (choiceText cells (d .graph) ++ after) ≡ holds (printedDrivers cells fit (d .graph) ok small (ch .covered) at behind))
-    rd = printed-read cells fit (d .graph) ok small (ch .covered) (choiceFigures cells (d .graph))
+    rd : (at behind : ℕ) × ((after : List ℕ) → readNetlist listed (d .graph) (choiceText listed cells (d .graph) ++ after) ≡ holds (printedDrivers listed cells fit (d .graph) ok small (ch .covered) at behind))
+    rd = printed-read listed cells fit (d .graph) ok small (ch .covered) (choiceFigures listed cells (d .graph))
 
     ds : List Driver
-    ds = printedDrivers cells fit (d .graph) ok small (ch .covered) (rd .0) (rd .1)
+    ds = printedDrivers listed cells fit (d .graph) ok small (ch .covered) (rd .0) (rd .1)
 
     -- the numbers of the design's graph are those of the graph meant
     outs-length : (d .graph .size ≡ g .size) × (length (d .graph .inputs) ≡ length (g .inputs)) × (length (d .graph .outputs) ≡ length (g .outputs))
@@ -296,20 +300,20 @@ accepts-printed c d t f words e o few short enough =
     counted : Counted (tx .header) g
     counted = graph-counted (c .graph) (tx .header) g (tx .isHeader) (tx .isGraph)
 
-    netlist-read : readNetlist cells g t ≡ holds ds
+    netlist-read : readNetlist listed g t ≡ holds ds
     netlist-read =
-        sym (timed-netlist g es cells t) ∙ ap (λ (x : Graph). readNetlist cells x t) (tx .isTimed)
-        ∙ ap (readNetlist cells (d .graph)) (pr .isText) ∙ with-timings (readNetlist cells (d .graph)) (holds ds) (d .ranged) cells (d .graph) (rd .2)
+        sym (timed-netlist g es listed t) ∙ ap (λ (x : Graph). readNetlist listed x t) (tx .isTimed)
+        ∙ ap (readNetlist listed (d .graph)) (pr .isText) ∙ with-timings (readNetlist listed (d .graph)) (holds ds) (d .ranged) listed cells (d .graph) (rd .2)
 
     nets-judged : judgeNets (inputNets g) ds ≡ holds ds
     nets-judged =
         ap (λ (ns : List (List ℕ)). judgeNets ns ds) (sym (timed-inputs g es) ∙ ap inputNets (tx .isTimed))
-        ∙ drivers-pass cells fit (d .graph) ok small (ch .covered) (rd .0) (rd .1)
+        ∙ drivers-pass listed cells fit (d .graph) ok small (ch .covered) (rd .0) (rd .1)
 
     placed : lowest (unplaced g) ≡ none
     placed = unfold lowest in ap lowest (sym (timed-unplaced g es) ∙ ap unplaced (tx .isTimed) ∙ ch .placed)
 
     reads : readEdited (c .library) (c .graph) t words ≡ holds (record { graph = g; drivers = ds })
-    reads = edited-read (c .library) (c .graph) t words cells (tx .header) g ds (tx .shortLibrary) (tx .shortGraph) short (tx .isLibrary) (tx .isHeader)
+    reads = edited-read (c .library) (c .graph) t words listed (tx .header) g ds (tx .shortLibrary) (tx .shortGraph) short (tx .isLibrary) (tx .isHeader)
         (subst (λ (n : ℕ). n ≤ words) (ap₂ (λ (m k : ℕ). need m k + 8 * lineEnds t) (outs-length .0 ∙ counted .size) (outs-length .2 ∙ counted .outputs)) enough)
         (tx .isGraph) placed (subst (λ (n : ℕ). n ≤ 12) (outs-length .1) few) netlist-read nets-judged

@@ -152,6 +152,11 @@ module _ (g : Graph) (ds : List Driver) (ok : Sound g ds) where
     atDrivers = λ d m. runs-follow (inputNets g) (starts s) order (is-order .ordered) (is-order .once (ok .once)) away d (is-order .has d m);
   }
 
+  -- the values by which `wrongAt` goes hold
+  pub run-values : (s : ℕ) → DriverValues g ds s (netValue (runNets (settled (length ds) (inputNets g) ds) (inputValues s 0 (inputNets g))))
+  unfolding the order starts
+  run-values s = the-values s
+
   the-only : (s : ℕ) (w : List ℕ → Bool) → DriverValues g ds s w → (n : List ℕ) → List·Memᴰ n (netsOf ds) → w n ≡ the s n
   unfolding the
   the-only s w h n m =

@@ -8,8 +8,7 @@ use lib.Dec.{T, eqb, eqb→eq}
 use mir.Facts.{yes-eqb}
 use lib.ListN.{length}
 use Rattle.model.specs.Base.{bit, same}
-use Rattle.model.specs.Table.{value}
-use Rattle.model.specs.Blif.{rowOf}
+use Rattle.model.specs.Table.{value, rowOf}
 use Rattle.model.specs.Check.{Driver, netValue, runNets, inputValues, settingOf}
 use Rattle.model.specs.Demands.{Distinct}
 use Rattle.theory_graph.proofs.Lists.{map-same, same-eq, same-refl, is-true}

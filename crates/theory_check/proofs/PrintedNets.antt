@@ -10,29 +10,30 @@ use mathlib.Core.Option.{Option, none, some}
 use mathlib.Core.List.{List, [], _∷_, _++_, map, List·Memᴰ, List·Memᴰ·head, List·Memᴰ·tail, List·Memᴰ·not-nil, List·Memᴰ·append-cases, Memᴰ·append-left, Memᴰ·append-right, Memᴰ·cast}
 use lib.Dec.{T, ltb, ltb→lt, leb, nltb→le, le→leb}
 use lib.ListN.{length}
-use Rattle.model.specs.Base.{bit, one, all, any, from, below}
+use Rattle.model.specs.Base.{bit, one, all, any, each, from, below}
 use Rattle.model.specs.Text.{digits, decimal, between, isLetter}
 use Rattle.model.specs.Reading.{holds}
-use Rattle.model.specs.Table.{value}
+use Rattle.model.specs.Table.{value, rowOf}
 use Rattle.model.specs.Graph.{Graph, varOf, negated}
-use Rattle.model.specs.Cuts.{cutsOf}
-use Rattle.model.specs.Choice.{feeds, absent, chosen}
+use Rattle.model.specs.Choice.{absent, chosen}
 use Rattle.model.specs.Cover.{output, fed}
-use Rattle.model.specs.Netlist.{Gate, netName, outName}
-use Rattle.model.specs.Blif.{GateLine, Wire, named, drives, fedBy, pinNames, rowOf, NetValues}
+use Rattle.model.specs.Netlist.{Net, ofPhase, ofPair, Gate, netName, label, outName}
+use Rattle.model.specs.Blif.{GateLine, Wire, named, drives, fedBy, NetValues}
 use Rattle.model.specs.Check.{Driver, isNet, among, drivenTwice, undriven, firstLine, onCircle, unlessAt, judgeNets, inputNets, settingOf}
 use Rattle.model.specs.CheckDemands.{DriverValues}
 use Rattle.model.specs.Demands.{Distinct, drivenNets}
 use Rattle.model.specs.declared.Cell.{Cell}
-use Rattle.theory_graph.specs.Accepted.{Accepted, libraryFits}
-use Rattle.theory_graph.proofs.Lists.{map-in, map-out, map-map, map-same}
-use Rattle.theory_graph.proofs.Distinct.{length-map, length-from}
-use Rattle.theory_text.proofs.Plain.{net-free}
+use Rattle.theory_graph.specs.Accepted.{Accepted}
+use Rattle.theory_graph.proofs.Lists.{map-in, map-out, each-in, map-map, map-same}
+use Rattle.theory_graph.proofs.Distinct.{length-map}
+use Rattle.theory_text.proofs.Plain.{net-free, label-free}
 use Rattle.theory_text.proofs.ReadBack.{lineOf, inputNames, wiresFrom, blifOf}
-use Rattle.theory_text.proofs.Names.{net-once}
-use Rattle.theory.proofs.Gates.{sourceOf, NeedsOf, gateOf, chosenGates, by-feeding, bound, gate-in, gate-out, line-bound, gate-listed}
-use Rattle.theory.proofs.Wires.{out-net, wire-targets}
-use Rattle.theory.proofs.Formed.{line-net, needed-driven, well-formed}
+use Rattle.theory_text.proofs.Names.{label-once}
+use Rattle.theory.proofs.Numbered.{Fitting}
+use Rattle.theory.proofs.Settled.{inside-apart, OfPhase}
+use Rattle.theory.proofs.Gates.{fedAt, NeedsOf, gatesAt as phaseGates, chosenGates, Gates, by-feeding, bound, gate-out, of-gates, line-bound, gate-listed}
+use Rattle.theory.proofs.Wires.{out-label, wire-targets}
+use Rattle.theory.proofs.Formed.{keyOf, few-key, few-at, needed-driven, well-formed}
 use Rattle.theory_check.proofs.Settling.{netsOf, FeedsNet, directly, through, NoCircle, join-feeds, among-in, among-out}
 use Rattle.theory_check.proofs.Circles.{found-circle}
 use Rattle.theory_check.proofs.PrintedLines.{Clear, AreNets, Shown, Fine, driverAt, gatesAt, wireDriver, namesAt}
@@ -82,20 +83,33 @@ digits-short (suc k) (suc fuel) n after h =
     go false more = omega arith
 
 -- a net of a variable up to 4,095 has a letter and at most four digits
-pub net-form : (l : ℕ) → l < 8192 → T (isNet (netName l)) × Clear (netName l)
-unfolding isNet netName decimal isNetByte all varOf
-net-form l h =
-    let n = length (decimal (l / 2)) in
-    let z : n ≤ 4 + 0 = digits-short 3 (suc (l / 2)) (l / 2) [] (let q : l / 2 < 10000 = omega arith in q) in (
-      and-both (leb 1 (suc n)) (leb (suc n) 8 && all isNetByte (netName l)) (le→leb 1 (suc n) (omega arith))
-          (and-both (leb (suc n) 8) (all isNetByte (netName l)) (le→leb (suc n) 8 (omega arith))
-          (and-both (isNetByte (cond (negated l) 109 112)) (all isNetByte (decimal (l / 2))) (letter (negated l)) (digits-bytes (suc (l / 2)) (l / 2) [] tt))),
-      (λ s k. net-free s l k),
+net-bytes : (l : ℕ) → l < 8192 → (length (netName l) ≤ 5) × T (all isNetByte (netName l))
+unfolding netName decimal isNetByte isLetter between all varOf
+net-bytes l h =
+    let z : length (decimal (l / 2)) ≤ 4 + 0 = digits-short 3 (suc (l / 2)) (l / 2) [] (let q : l / 2 < 10000 = omega arith in q) in (
+      omega arith,
+      and-both (isNetByte (cond (negated l) 109 112)) (all isNetByte (decimal (l / 2))) (letter (negated l)) (digits-bytes (suc (l / 2)) (l / 2) [] tt),
     )
   where
     letter : (b : Bool) → T (isNetByte (cond b 109 112))
     letter true = tt
     letter false = tt
+
+-- so that it is a net's name, and with the `s` of a net inside a pair too
+form-of : (w : List ℕ) → 1 ≤ length w → length w ≤ 8 → T (all isNetByte w) → T (isNet w)
+unfolding isNet isNetByte
+form-of w a b t = and-both (leb 1 (length w)) (leb (length w) 8 && all isNetByte w) (le→leb 1 (length w) a) (and-both (leb (length w) 8) (all isNetByte w) (le→leb (length w) 8 b) t)
+
+pub label-form : (n : Net) → keyOf n < 8192 → T (isNet (label n)) × Clear (label n)
+unfolding label keyOf netName all isNetByte isLetter between
+label-form (ofPhase l) h = let b = net-bytes l h in (form-of (netName l) (omega arith) (omega (arith, b .0)) (b .1), (λ s k. label-free s (ofPhase l) k))
+label-form (ofPair l) h =
+    let b = net-bytes l h in
+    (form-of (115 ∷ netName l) (omega arith) (omega (arith, b .0)) (b .1), (λ s k. label-free s (ofPair l) k))
+
+pub net-form : (l : ℕ) → l < 8192 → T (isNet (netName l)) × Clear (netName l)
+unfolding label keyOf
+net-form l h = label-form (ofPhase l) h
 
 -- ---- the lines, one by one
 
@@ -191,148 +205,250 @@ nets-pass inputs ds once used circle =
 -- ---- the netlist of the choice
 
 abbrev pub shownOf : Gate → Shown
-shownOf t = record { cell = t .cell; pins = map netName (t .pins); net = netName (t .net) }
+shownOf t = record { cell = t .cell; pins = map label (t .pins); net = label (t .net) }
 
 -- a net that feeds another is used by a line
 feeds-used : (ds : List Driver) (x y : List ℕ) → FeedsNet ds x y → (d : Driver) × List·Memᴰ d ds × List·Memᴰ x (d .uses)
 feeds-used ds x y (directly d m u) = (d, m, u)
 feeds-used ds x y (through {y = z} d f m u) = feeds-used ds x z f
 
-module _ (cells : List Cell) (fit : T (libraryFits cells)) (g : Graph) (ok : Accepted g) (small : g .size ≤ 4095)
+-- what a net's line uses feeds itself where the net does
+record Round (ds : List Driver) (y : List ℕ) : Type 0 where
+  line : Driver
+  isLine : List·Memᴰ line ds
+  ofNet : y ≡ line .net
+  user : List ℕ
+  isUsed : List·Memᴰ user (line .uses)
+  again : FeedsNet ds user user
+
+round : (ds : List Driver) (x y : List ℕ) → x ≡ y → FeedsNet ds x y → Round ds y
+round ds x y e (directly d m u) = record {
+  line = d;
+  isLine = m;
+  ofNet = refl;
+  user = x;
+  isUsed = u;
+  again = subst (λ (z : List ℕ). FeedsNet ds x z) (sym e) (directly d m u);
+}
+round ds x y e (through {y = z} d h m u) = record {
+  line = d;
+  isLine = m;
+  ofNet = refl;
+  user = z;
+  isUsed = u;
+  again = join-feeds ds z x z (subst (λ (w : List ℕ). FeedsNet ds z w) (sym e) (directly d m u)) h;
+}
+
+module _ (listed cells : List Cell) (fit : Fitting listed cells) (g : Graph) (ok : Accepted g) (small : g .size ≤ 4095)
     (present-outputs : (l : ℕ) → List·Memᴰ l (g .outputs) → absent (chosen cells g l .source) ≡ false) (at behind : ℕ) where
   abbrev pub printedDrivers : List Driver
-  printedDrivers = gatesAt at (map shownOf (chosenGates cells g)) ++ namesAt behind 0 (map netName (g .outputs))
+  printedDrivers = gatesAt at (map shownOf (chosenGates listed cells g)) ++ namesAt behind 0 (map netName (g .outputs))
 
-  needed-form : (l : ℕ) → NeedsOf cells g l → T (isNet (netName l)) × Clear (netName l)
-  needed-form l n = net-form l (let b : l < 2 * suc (g .size) = bound cells fit g ok present-outputs l n in omega arith)
+  needed-form : (n : Net) → NeedsOf cells g (keyOf n) → T (isNet (label n)) × Clear (label n)
+  needed-form n h = label-form n (let b : keyOf n < 2 * suc (g .size) = bound listed cells fit g ok present-outputs (keyOf n) h in omega arith)
+
+  labels-form : (ns : List Net) → ((n : Net) → List·Memᴰ n ns → NeedsOf cells g (keyOf n)) → AreNets (map label ns)
+  labels-form [] h = tt
+  labels-form (n ∷ ns) h = (needed-form n (h n (List·Memᴰ·head refl)), labels-form ns (λ k m. h k (List·Memᴰ·tail m)))
 
   nets-form : (ls : List ℕ) → ((l : ℕ) → List·Memᴰ l ls → NeedsOf cells g l) → AreNets (map netName ls)
+  unfolding label keyOf
   nets-form [] h = tt
-  nets-form (l ∷ ls) h = (needed-form l (h l (List·Memᴰ·head refl)), nets-form ls (λ k m. h k (List·Memᴰ·tail m)))
+  nets-form (l ∷ ls) h = (needed-form (ofPhase l) (h l (List·Memᴰ·head refl)), nets-form ls (λ k m. h k (List·Memᴰ·tail m)))
 
   pub outputs-form : AreNets (map netName (g .outputs))
   outputs-form = nets-form (g .outputs) (λ l m. output m)
 
-  pub gates-fine : (x : Shown) → List·Memᴰ x (map shownOf (chosenGates cells g)) → Fine cells x
-  unfolding fedBy pinNames below
+  -- a gate of a phase that becomes gates
+  abbrev IsPhase : ℕ → Type 0
+  IsPhase = Gates listed cells fit g ok present-outputs
+
+  -- what feeds a gate of phase l is of a needed phase
+  pin-needed : (l : ℕ) → IsPhase l → (t : Gate) → List·Memᴰ t (phaseGates listed cells g l) → (n : Net) → List·Memᴰ n (t .pins) → NeedsOf cells g (keyOf n)
+  unfolding keyOf
+  pin-needed l h t m n i = go (of-gates listed cells fit g ok present-outputs l h t m .pins n i)
+    where
+      go : List·Memᴰ n (map ofPhase (fedAt cells g l)) ⊎ ((n ≡ ofPair l) × List·Memᴰ n (map (λ (u : Gate). u .net) (phaseGates listed cells g l))) → NeedsOf cells g (keyOf n)
+      go (inl j) = let x = map-out ofPhase (fedAt cells g l) j in subst (λ (k : Net). NeedsOf cells g (keyOf k)) (sym (x .2)) (fed (h .needs) (x .1))
+      go (inr j) = subst (λ (k : Net). NeedsOf cells g (keyOf k)) (sym (j .0)) (h .needs)
+
+  -- a gate's net is of its phase
+  net-key : (l : ℕ) (t : Gate) → List·Memᴰ t (phaseGates listed cells g l) → keyOf (t .net) ≡ l
+  net-key l t m = few-key l (phaseGates listed cells g l) (few-at listed cells fit g ok present-outputs l) (t .net) (map-in (λ (u : Gate). u .net) m)
+
+  pub gates-fine : (x : Shown) → List·Memᴰ x (map shownOf (chosenGates listed cells g)) → Fine listed x
   gates-fine x m =
-      let o = map-out shownOf (chosenGates cells g) m in
-      let r = gate-out cells fit g ok present-outputs (o .0) (o .1) in
-      let l = r .at in
-      let b = line-bound cells fit g ok present-outputs l (r .needs) (r .notOwn) in
-      subst (Fine cells) (sym (o .2 ∙ ap shownOf (r .isGate))) (record {
-        listed = gate-listed cells fit g ok present-outputs l (r .needs) (r .notOwn);
-        count = ap length (sym (b .isFed))
-            ∙ length-map _ (map (λ (j : ℕ). (65 + j) ∷ []) (from 0 (named cells (lineOf (gateOf cells g l) .cell) .pins)))
-            ∙ length-map (λ (j : ℕ). (65 + j) ∷ []) (from 0 (named cells (lineOf (gateOf cells g l) .cell) .pins))
-            ∙ length-from (named cells (lineOf (gateOf cells g l) .cell) .pins) 0
-            ∙ ap (λ (c : Cell). c .pins) (b .isCell);
-        nets = nets-form (feeds cells (cutsOf g) l (sourceOf cells g l)) (λ k i. fed (r .needs) i);
-        isNetToo = needed-form l (r .needs);
+      let o = map-out shownOf (chosenGates listed cells g) m in
+      let t = o .0 in
+      let r = gate-out listed cells fit g ok present-outputs t (o .1) in
+      let c = gate-listed listed cells fit g ok present-outputs t (o .1) in
+      subst (Fine listed) (sym (o .2)) (record {
+        listed = c .0;
+        count = length-map label (t .pins) ∙ c .1;
+        nets = labels-form (t .pins) (pin-needed (r .at) (r .gates) t (r .isGate));
+        isNetToo = needed-form (t .net) (subst (NeedsOf cells g) (sym (net-key (r .at) t (r .isGate))) (r .gates .needs));
       })
 
   -- the nets that the lines drive are those of the netlist that reads back
-  nets-driven : inputNets g ++ netsOf printedDrivers ≡ drivenNets (blifOf g (chosenGates cells g))
+  nets-driven : inputNets g ++ netsOf printedDrivers ≡ drivenNets (blifOf g (chosenGates listed cells g))
   unfolding inputNets drivenNets blifOf below
   nets-driven =
       ap (λ (ns : List (List ℕ)). inputNames g ++ ns)
-      (nets-append (gatesAt at (map shownOf (chosenGates cells g))) (namesAt behind 0 (map netName (g .outputs)))
+      (nets-append (gatesAt at (map shownOf (chosenGates listed cells g))) (namesAt behind 0 (map netName (g .outputs)))
       ∙ ap₂ (λ (a b : List (List ℕ)). a ++ b)
-      (gates-nets at (map shownOf (chosenGates cells g))
-      ∙ map-map (λ (x : Shown). x .net) shownOf (chosenGates cells g)
-      ∙ map-same (λ (u : Gate). netName (u .net)) (λ (u : Gate). drives (lineOf u)) (chosenGates cells g) (λ u m. sym (line-net cells fit g ok present-outputs u m))
-      ∙ sym (map-map drives lineOf (chosenGates cells g)))
+      (gates-nets at (map shownOf (chosenGates listed cells g))
+      ∙ map-map (λ (x : Shown). x .net) shownOf (chosenGates listed cells g)
+      ∙ map-same (λ (u : Gate). label (u .net)) (λ (u : Gate). drives (lineOf u)) (chosenGates listed cells g)
+      (λ u m. sym (line-bound listed cells fit g ok present-outputs u m .isDriven))
+      ∙ sym (map-map drives lineOf (chosenGates listed cells g)))
       (names-nets behind 0 (map netName (g .outputs))
       ∙ ap (λ (n : ℕ). map outName (from 0 n)) (length-map netName (g .outputs))
       ∙ sym (wire-targets (g .outputs))))
 
-  -- a line is a gate's of a needed phase, or an output's
+  -- a line is a gate's of a phase, or an output's
   data IsLine (d : Driver) : Type 0 where
-    ofGate : (l k : ℕ) → NeedsOf cells g l → d ≡ driverAt k (shownOf (gateOf cells g l)) → IsLine d
+    ofGate : (l k : ℕ) (t : Gate) → IsPhase l → List·Memᴰ t (phaseGates listed cells g l) → List·Memᴰ t (chosenGates listed cells g) → d ≡ driverAt k (shownOf t) → IsLine d
     ofOutput : (l i j : ℕ) → List·Memᴰ l (g .outputs) → d ≡ wireDriver i j (netName l) → IsLine d
 
   line-is : (d : Driver) → List·Memᴰ d printedDrivers → IsLine d
-  line-is d m = go (List·Memᴰ·append-cases (gatesAt at (map shownOf (chosenGates cells g))) m)
+  line-is d m = go (List·Memᴰ·append-cases (gatesAt at (map shownOf (chosenGates listed cells g))) m)
     where
-      go : List·Memᴰ d (gatesAt at (map shownOf (chosenGates cells g))) ⊎ List·Memᴰ d (namesAt behind 0 (map netName (g .outputs))) → IsLine d
+      go : List·Memᴰ d (gatesAt at (map shownOf (chosenGates listed cells g))) ⊎ List·Memᴰ d (namesAt behind 0 (map netName (g .outputs))) → IsLine d
       go (inl i) =
-          let x = gates-out at (map shownOf (chosenGates cells g)) d i in
-          let o = map-out shownOf (chosenGates cells g) (x .1) in
-          let r = gate-out cells fit g ok present-outputs (o .0) (o .1) in
-          ofGate (r .at) (x .2 .0) (r .needs) (x .2 .1 ∙ ap (λ (y : Shown). driverAt (x .2 .0) y) (o .2 ∙ ap shownOf (r .isGate)))
+          let x = gates-out at (map shownOf (chosenGates listed cells g)) d i in
+          let o = map-out shownOf (chosenGates listed cells g) (x .1) in
+          let r = gate-out listed cells fit g ok present-outputs (o .0) (o .1) in
+          ofGate (r .at) (x .2 .0) (o .0) (r .gates) (r .isGate) (o .1) (x .2 .1 ∙ ap (λ (y : Shown). driverAt (x .2 .0) y) (o .2))
       go (inr i) =
           let x = names-out behind 0 (map netName (g .outputs)) d i in
           let o = map-out netName (g .outputs) (x .1) in
           ofOutput (o .0) (x .2 .0) (x .2 .1) (o .1) (x .2 .2 ∙ ap (wireDriver (x .2 .0) (x .2 .1)) (o .2))
 
-  -- what a line uses is the net of a needed phase
-  use-needed : (d : Driver) → IsLine d → (n : List ℕ) → List·Memᴰ n (d .uses) → (l : ℕ) × NeedsOf cells g l × (n ≡ netName l)
-  use-needed d (ofGate l k h e) n m =
-      let o = map-out netName (feeds cells (cutsOf g) l (sourceOf cells g l)) (subst (λ (y : Driver). List·Memᴰ n (y .uses)) e m) in (o .0, fed h (o .1), o .2)
-  use-needed d (ofOutput l i j h e) n m = (l, output h, one (subst (λ (y : Driver). List·Memᴰ n (y .uses)) e m))
+  -- what a line uses is the net of a phase, or one inside a pair
+  use-net : (d : Driver) → IsLine d → (n : List ℕ) → List·Memᴰ n (d .uses) → (m : Net) × NeedsOf cells g (keyOf m) × (n ≡ label m)
+  unfolding label keyOf
+  use-net d (ofGate l k t h i c e) n m =
+      let o = map-out label (t .pins) (subst (λ (y : Driver). List·Memᴰ n (y .uses)) e m) in (o .0, pin-needed l h t i (o .0) (o .1), o .2)
+  use-net d (ofOutput l i j h e) n m = (ofPhase l, output h, one-of (subst (λ (y : Driver). List·Memᴰ n (y .uses)) e m))
     where
-      one : List·Memᴰ n (netName l ∷ []) → n ≡ netName l
-      one (List·Memᴰ·head q) = q
-      one (List·Memᴰ·tail q) = absurd (List·Memᴰ·not-nil q)
+      one-of : List·Memᴰ n (netName l ∷ []) → n ≡ netName l
+      one-of (List·Memᴰ·head q) = q
+      one-of (List·Memᴰ·tail q) = absurd (List·Memᴰ·not-nil q)
+
+  formed-nets : (n : List ℕ) → List·Memᴰ n (each (fedBy listed) (map lineOf (chosenGates listed cells g))) → List·Memᴰ n (drivenNets (blifOf g (chosenGates listed cells g)))
+  unfolding blifOf
+  formed-nets n m =
+      well-formed listed cells fit g ok present-outputs (record { gates = 0; area = 0; arrival = 0 }) .driven n
+      (Memᴰ·append-right (map outName (below (length (g .outputs)))) (Memᴰ·append-left (map (λ (x : Wire). x .source) (wiresFrom 0 (g .outputs))) m))
 
   used-driven : (d : Driver) → List·Memᴰ d printedDrivers → (n : List ℕ) → List·Memᴰ n (d .uses) → List·Memᴰ n (inputNets g ++ netsOf printedDrivers)
-  used-driven d m n u =
-      let r = use-needed d (line-is d m) n u in
-      subst (λ (ns : List (List ℕ)). List·Memᴰ n ns) (sym nets-driven) (Memᴰ·cast (r .2) (needed-driven cells fit g ok present-outputs (r .0) (r .1)))
-
-  -- no needed phase's net feeds itself: what feeds it would
-  net-free-of-circles : (l : ℕ) → NeedsOf cells g l → ¬ FeedsNet printedDrivers (netName l) (netName l)
-  net-free-of-circles = by-feeding cells fit g ok present-outputs (λ l. ¬ FeedsNet printedDrivers (netName l) (netName l)) step
+  used-driven d m n u = subst (λ (ns : List (List ℕ)). List·Memᴰ n ns) (sym nets-driven) (go (line-is d m))
     where
-      step : (l : ℕ) → NeedsOf cells g l → ((x : ℕ) → List·Memᴰ x (feeds cells (cutsOf g) l (sourceOf cells g l)) → ¬ FeedsNet printedDrivers (netName x) (netName x))
-          → ¬ FeedsNet printedDrivers (netName l) (netName l)
-      step l n ih f = last (netName l) refl f
+      go : IsLine d → List·Memᴰ n (drivenNets (blifOf g (chosenGates listed cells g)))
+      go (ofGate l k t h i c e) =
+          formed-nets n (each-in (fedBy listed) (map-in lineOf c)
+          (subst (λ (ns : List (List ℕ)). List·Memᴰ n ns) (sym (line-bound listed cells fit g ok present-outputs t c .isFed)) (subst (λ (y : Driver). List·Memᴰ n (y .uses)) e u)))
+      go (ofOutput l i j h e) = Memᴰ·cast (one-of (subst (λ (y : Driver). List·Memᴰ n (y .uses)) e u)) (needed-driven listed cells fit g ok present-outputs l (output h))
         where
-          -- the line of the net itself
-          user : (d : Driver) → netName l ≡ d .net → IsLine d → (u : List ℕ) → List·Memᴰ u (d .uses) → (x : ℕ) × List·Memᴰ x (feeds cells (cutsOf g) l (sourceOf cells g l)) × (u ≡ netName x)
-          user d e (ofGate k i h q) u m =
-              let same-net : l ≡ k = net-once l k (e ∙ ap (λ (y : Driver). y .net) q) in
-              map-out netName (feeds cells (cutsOf g) l (sourceOf cells g l))
-              (subst (λ (j : ℕ). List·Memᴰ u (map netName (feeds cells (cutsOf g) j (sourceOf cells g j)))) (sym same-net) (subst (λ (y : Driver). List·Memᴰ u (y .uses)) q m))
-          user d e (ofOutput k i j h q) u m = absurd (out-net j l (sym (e ∙ ap (λ (y : Driver). y .net) q)))
+          one-of : List·Memᴰ n (netName l ∷ []) → n ≡ netName l
+          one-of (List·Memᴰ·head q) = q
+          one-of (List·Memᴰ·tail q) = absurd (List·Memᴰ·not-nil q)
 
-          last : (y : List ℕ) → netName l ≡ y → FeedsNet printedDrivers (netName l) y → ⊥
-          last y e (directly d m u) = let r = user d e (line-is d m) (netName l) u in
-              ih (r .0) (r .1) (subst (λ (z : List ℕ). FeedsNet printedDrivers z z) (r .2) f)
-          last y e (through {y = z} d h m u) = let r = user d e (line-is d m) z u in
-              ih (r .0) (r .1) (subst (λ (x : List ℕ). FeedsNet printedDrivers x x) (r .2)
-              (join-feeds printedDrivers z (netName l) z (subst (FeedsNet printedDrivers z) (sym e) (directly d m u)) h))
+  -- what the line of a net of phase l uses: what feeds the phase, or, at the phase's own net, the net inside
+  data Used (l : ℕ) (m : Net) (u : List ℕ) : Type 0 where
+    byPhase : (x : ℕ) → List·Memᴰ x (fedAt cells g l) → u ≡ label (ofPhase x) → Used l m u
+    byInside : m ≡ ofPhase l → u ≡ label (ofPair l) → Used l m u
+
+  line-uses : (m : Net) (d : Driver) → label m ≡ d .net → IsLine d → (u : List ℕ) → List·Memᴰ u (d .uses) → Used (keyOf m) m u
+  line-uses m d e (ofOutput k i j h q) u n = absurd (out-label j m (sym (e ∙ ap (λ (y : Driver). y .net) q)))
+  line-uses m d e (ofGate k i t h a c q) u n =
+      subst (λ (l : ℕ). Used l m u) (sym (net-key k t a) ∙ ap keyOf (sym same-net)) (go m same-net (o .0) (o .2) (b .pins (o .0) (o .1)))
+    where
+      o : (p : Net) × List·Memᴰ p (t .pins) × (u ≡ label p)
+      o = map-out label (t .pins) (subst (λ (y : Driver). List·Memᴰ u (y .uses)) q n)
+
+      b : OfPhase listed (fedAt cells g k) k (phaseGates listed cells g k) t
+      b = of-gates listed cells fit g ok present-outputs k h t a
+
+      same-net : m ≡ t .net
+      same-net = label-once m (t .net) (e ∙ ap (λ (y : Driver). y .net) q)
+
+      phase-is : (x : ℕ) → keyOf (ofPhase x) ≡ x
+      phase-is x = unfold keyOf in refl
+
+      inner-is : (x : ℕ) → keyOf (ofPair x) ≡ x
+      inner-is x = unfold keyOf in refl
+
+      by-phase : (m : Net) (p : Net) → u ≡ label p → List·Memᴰ p (map ofPhase (fedAt cells g k)) → Used k m u
+      by-phase m p s i = let x = map-out ofPhase (fedAt cells g k) i in byPhase (x .0) (x .1) (s ∙ ap label (x .2))
+
+      go : (m : Net) → m ≡ t .net → (p : Net) → u ≡ label p → List·Memᴰ p (map ofPhase (fedAt cells g k)) ⊎ ((p ≡ ofPair k) × List·Memᴰ p (map (λ (v : Gate). v .net) (phaseGates listed cells g k)))
+          → Used k m u
+      go m r p s (inl i) = by-phase m p s i
+      go (ofPhase x) r p s (inr i) = byInside (ap ofPhase (sym (phase-is x) ∙ ap keyOf r ∙ net-key k t a)) (s ∙ ap label (i .0))
+      go (ofPair x) r p s (inr i) =
+          by-phase (ofPair x) (o .0) (o .2) (b .inside (sym r ∙ ap ofPair (sym (inner-is x) ∙ ap keyOf r ∙ net-key k t a)) (o .0) (o .1))
+
+  -- no net feeds itself: what feeds it would
+  net-free-of-circles : (l : ℕ) → NeedsOf cells g l → (m : Net) → keyOf m ≡ l → ¬ FeedsNet printedDrivers (label m) (label m)
+  net-free-of-circles = by-feeding listed cells fit g ok present-outputs (λ l. (m : Net) → keyOf m ≡ l → ¬ FeedsNet printedDrivers (label m) (label m)) step
+    where
+      step : (l : ℕ) → NeedsOf cells g l → ((x : ℕ) → List·Memᴰ x (fedAt cells g l) → (m : Net) → keyOf m ≡ x → ¬ FeedsNet printedDrivers (label m) (label m))
+          → (m : Net) → keyOf m ≡ l → ¬ FeedsNet printedDrivers (label m) (label m)
+      step l n ih = whole
+        where
+          around : (m : Net) → keyOf m ≡ l → FeedsNet printedDrivers (label m) (label m) → (u : List ℕ) × FeedsNet printedDrivers u u × Used l m u
+          around m k f =
+              let r = round printedDrivers (label m) (label m) refl f in
+              (r .user, r .again, subst (λ (x : ℕ). Used x m (r .user)) k (line-uses m (r .line) (r .ofNet) (line-is (r .line) (r .isLine)) (r .user) (r .isUsed)))
+
+          of-phase : (x : ℕ) (u : List ℕ) → List·Memᴰ x (fedAt cells g l) → u ≡ label (ofPhase x) → FeedsNet printedDrivers u u → ⊥
+          of-phase x u m e f = ih x m (ofPhase x) (unfold keyOf in refl) (subst (λ (w : List ℕ). FeedsNet printedDrivers w w) e f)
+
+          inner : (x : ℕ) → keyOf (ofPair x) ≡ l → FeedsNet printedDrivers (label (ofPair x)) (label (ofPair x)) → ⊥
+          inner x k f = let r = around (ofPair x) k f in go (r .0) (r .1) (r .2)
+            where
+              go : (u : List ℕ) → FeedsNet printedDrivers u u → Used l (ofPair x) u → ⊥
+              go u h (byPhase y i e) = of-phase y u i e h
+              go u h (byInside e q) = inside-apart l x (sym e)
+
+          whole : (m : Net) → keyOf m ≡ l → ¬ FeedsNet printedDrivers (label m) (label m)
+          whole m k f = let r = around m k f in go (r .0) (r .1) (r .2)
+            where
+              go : (u : List ℕ) → FeedsNet printedDrivers u u → Used l m u → ⊥
+              go u h (byPhase y i e) = of-phase y u i e h
+              go u h (byInside e q) = inner l (unfold keyOf in refl) (subst (λ (w : List ℕ). FeedsNet printedDrivers w w) q h)
 
   no-circle : NoCircle printedDrivers
   no-circle d m f = go (line-is d m)
     where
       go : IsLine d → ⊥
-      go (ofGate l k h e) = net-free-of-circles l h (subst (λ (y : Driver). FeedsNet printedDrivers (y .net) (y .net)) e f)
+      go (ofGate l k t h i c e) = net-free-of-circles l (h .needs) (t .net) (net-key l t i) (subst (λ (y : Driver). FeedsNet printedDrivers (y .net) (y .net)) e f)
       go (ofOutput l i j h e) =
           let u = feeds-used printedDrivers (d .net) (d .net) f in
-          let r = use-needed (u .0) (line-is (u .0) (u .1)) (d .net) (u .2) in
-          out-net j (r .0) (sym (ap (λ (y : Driver). y .net) e) ∙ r .2)
+          let r = use-net (u .0) (line-is (u .0) (u .1)) (d .net) (u .2) in
+          out-label j (r .0) (sym (ap (λ (y : Driver). y .net) e) ∙ r .2)
 
   -- 33 finds nothing
   pub drivers-pass : judgeNets (inputNets g) printedDrivers ≡ holds printedDrivers
-  drivers-pass = nets-pass (inputNets g) printedDrivers (subst Distinct (sym nets-driven) (well-formed cells fit g ok present-outputs (record { gates = 0; area = 0; arrival = 0 }) .once)) used-driven no-circle
+  drivers-pass =
+      nets-pass (inputNets g) printedDrivers (subst Distinct (sym nets-driven) (well-formed listed cells fit g ok present-outputs (record { gates = 0; area = 0; arrival = 0 }) .once)) used-driven no-circle
 
   -- values that follow the lines are values of the netlist that reads back
-  pub drivers-values : (s : ℕ) (w : List ℕ → Bool) → DriverValues g printedDrivers s w → NetValues cells (blifOf g (chosenGates cells g)) (map (settingOf s 0 (g .inputs)) (g .inputs)) w
+  pub drivers-values : (s : ℕ) (w : List ℕ → Bool) → DriverValues g printedDrivers s w → NetValues listed (blifOf g (chosenGates listed cells g)) (map (settingOf s 0 (g .inputs)) (g .inputs)) w
   unfolding blifOf inputNets
   drivers-values s w h = record {
     atInputs = h .atInputs;
-    atGates = λ t m. at-gate t (map-out lineOf (chosenGates cells g) m);
-    atWires = wires-hand w behind 0 (g .outputs) (λ d m. h .atDrivers d (Memᴰ·append-right (gatesAt at (map shownOf (chosenGates cells g))) m));
+    atGates = λ t m. at-gate t (map-out lineOf (chosenGates listed cells g) m);
+    atWires = wires-hand w behind 0 (g .outputs) (λ d m. h .atDrivers d (Memᴰ·append-right (gatesAt at (map shownOf (chosenGates listed cells g))) m));
   }
     where
-      at-gate : (t : GateLine) → (u : Gate) × List·Memᴰ u (chosenGates cells g) × (t ≡ lineOf u) → w (drives t) ≡ value (named cells (t .cell) .table) (rowOf (map w (fedBy cells t)))
+      at-gate : (t : GateLine) → (u : Gate) × List·Memᴰ u (chosenGates listed cells g) × (t ≡ lineOf u) → w (drives t) ≡ value (named listed (t .cell) .table) (rowOf (map w (fedBy listed t)))
       at-gate t o =
-          let r = gate-out cells fit g ok present-outputs (o .0) (o .1) in
-          let l = r .at in
-          let b = line-bound cells fit g ok present-outputs l (r .needs) (r .notOwn) in
-          let k = gates-have at (map shownOf (chosenGates cells g)) (shownOf (gateOf cells g l)) (map-in shownOf (gate-in cells fit g ok present-outputs l (r .needs) (r .notOwn))) in
-          subst (λ (x : GateLine). w (drives x) ≡ value (named cells (x .cell) .table) (rowOf (map w (fedBy cells x)))) (sym (o .2 ∙ ap lineOf (r .isGate)))
+          let u = o .0 in
+          let b = line-bound listed cells fit g ok present-outputs u (o .1) in
+          let k = gates-have at (map shownOf (chosenGates listed cells g)) (shownOf u) (map-in shownOf (o .1)) in
+          subst (λ (x : GateLine). w (drives x) ≡ value (named listed (x .cell) .table) (rowOf (map w (fedBy listed x)))) (sym (o .2))
           (ap w (b .isDriven)
-          ∙ h .atDrivers (driverAt (k .0) (shownOf (gateOf cells g l))) (Memᴰ·append-left (namesAt behind 0 (map netName (g .outputs))) (k .1))
+          ∙ h .atDrivers (driverAt (k .0) (shownOf u)) (Memᴰ·append-left (namesAt behind 0 (map netName (g .outputs))) (k .1))
           ∙ sym (ap₂ (λ (c : Cell) (nets : List (List ℕ)). value (c .table) (rowOf (map w nets))) (b .isCell) (b .isFed)))

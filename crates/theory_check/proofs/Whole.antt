@@ -1,9 +1,9 @@
 -- An unrefused netlist: what was read is sound, so the answer is the comparison's. Assumes nothing.
-use Prim.Native.Nat.{ℕ, _+_, _*_}
+use Prim.Native.Nat.{ℕ, _+_, _*_, _<_}
 use mathlib.Core.Path.{_≡_, refl, sym, _∙_, ap, subst}
 use mathlib.Core.Bool.{Bool, true, false, _&&_, true≢false}
 use mathlib.Core.Option.{Option, none, some}
-use mathlib.Core.List.{List, [], _∷_}
+use mathlib.Core.List.{List, [], _∷_, List·Memᴰ}
 use lib.Dec.{leb}
 use lib.ListN.{length}
 use Rattle.model.specs.Base.{lowest, smaller}
@@ -13,7 +13,7 @@ use Rattle.model.specs.Reading.{Read, holds}
 use Rattle.model.specs.Graph.{Graph, literal, varOf, unplaced, placeF, placingOrder}
 use Rattle.model.specs.LibraryText.{readLibrary}
 use Rattle.model.specs.GraphText.{readHeader, readGraph}
-use Rattle.model.specs.Netlist.{netName}
+use Rattle.model.specs.Netlist.{netName, outName}
 use Rattle.model.specs.Check.{Driver, Edited, lineEnds, readNetlist, judgeNets, inputNets, frameOf, pastLines, readDrivers, readEdited, checkRead, checkTexts}
 use Rattle.model.specs.CheckDemands.{Compared, ComparedCheck}
 use Rattle.model.specs.Demands.{Distinct}
@@ -24,6 +24,7 @@ use Rattle.theory_graph.proofs.Placing.{order-once}
 use Rattle.theory_text.proofs.Steps.{holds-once, unless-out, next-out}
 use Rattle.theory_text.proofs.ReadGraph.{graph-accepted}
 use Rattle.theory_text.proofs.Names.{net-once}
+use Rattle.theory_check.proofs.Settling.{netsOf}
 use Rattle.theory_check.proofs.Comparing.{Sound, compared}
 use Rattle.theory_check.proofs.Judged.{unless-none, nets-judged, drivers-outputs}
 
@@ -32,7 +33,7 @@ isSome none = false
 isSome (some k) = true
 
 -- all are placed where there is no lowest that is not
-all-placed : (vs : List ℕ) → lowest vs ≡ none → vs ≡ []
+pub all-placed : (vs : List ℕ) → lowest vs ≡ none → vs ≡ []
 unfolding lowest
 all-placed [] e = refl
 all-placed (v ∷ vs) e = absurd (go (lowest vs) e)
@@ -41,7 +42,7 @@ all-placed (v ∷ vs) e = absurd (go (lowest vs) e)
     go none q = true≢false (unfold smaller isSome in ap isSome q)
     go (some w) q = true≢false (unfold smaller isSome in ap isSome q)
 
-inputs-once : (g : Graph) → Accepted g → Distinct (g .inputs)
+pub inputs-once : (g : Graph) → Accepted g → Distinct (g .inputs)
 unfolding placingOrder
 inputs-once g ok = front-distinct (g .inputs) (placeF (length (g .ands)) (g .ands) (0 ∷ g .inputs)) (order-once g ok .1)
 
@@ -50,6 +51,21 @@ unfolding inputNets
 nets-once g d =
     map-distinct (λ (v : ℕ). netName (literal false v)) (g .inputs)
     (λ x y e. sym (lit-var false x) ∙ ap varOf (net-once (literal false x) (literal false y) e) ∙ lit-var false y) d
+
+-- drivers that 33 does not refuse, each output's own name among them, are sound
+pub judged-sound : (g : Graph) (ds : List Driver) → Accepted g → judgeNets (inputNets g) ds ≡ holds ds → ((k : ℕ) → k < length (g .outputs) → List·Memᴰ (outName k) (netsOf ds)) → Sound g ds
+judged-sound g ds ok e outs =
+    let k = nets-judged (inputNets g) ds ds e in
+    record {
+      graph = ok;
+      inputsOnce = nets-once g (inputs-once g ok);
+      varsOnce = inputs-once g ok;
+      once = k .0 .once;
+      apart = k .0 .apart;
+      used = k .0 .used;
+      noCircle = k .0 .noCircle;
+      outputs = outs;
+    }
 
 -- what is read is sound
 pub edited-sound : (library graph netlist : List ℕ) (words : ℕ) (e : Edited) → readEdited library graph netlist words ≡ holds e → Sound (e .graph) (e .drivers)
@@ -69,16 +85,7 @@ edited-sound library graph netlist words e q =
     let k = nets-judged (inputNets g) (n .0) (j .0) (j .1) in
     let ok : Accepted g = graph-accepted graph h g (c .1) (f .1) (all-placed (unplaced g) (p .0)) in
     let l = next-out (pastLines (length netlist) (frameOf g) (linesFrom 0 [] netlist)) (readDrivers (b .0) (length netlist) (length (g .outputs))) (n .0) (n .1) in
-    let s : Sound g (n .0) = record {
-      graph = ok;
-      inputsOnce = nets-once g (inputs-once g ok);
-      varsOnce = inputs-once g ok;
-      once = k .0 .once;
-      apart = k .0 .apart;
-      used = k .0 .used;
-      noCircle = k .0 .noCircle;
-      outputs = drivers-outputs (b .0) (length netlist) (length (g .outputs)) (l .0) (n .0) (l .2);
-    } in
+    let s : Sound g (n .0) = judged-sound g (n .0) ok (j .1 ∙ ap holds (sym (k .1))) (drivers-outputs (b .0) (length netlist) (length (g .outputs)) (l .0) (n .0) (l .2)) in
     subst (λ (x : Edited). Sound (x .graph) (x .drivers)) (holds-once (j .2)) (subst (λ (ds : List Driver). Sound g ds) (k .1) s)
 
 -- "Unrefused, it is accepted exactly when every output equals the graph's for each of the 2^I input settings"

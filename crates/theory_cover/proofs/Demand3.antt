@@ -85,48 +85,49 @@ module _ (cells : List Cell) (g : Graph) (ok : Accepted g) where
     arrivals = chosen-timed cells g (order-once g ok) (g .outputs) (λ l i. covered-present l (h l i));
   }
 
-  lowest-from : (k : ℕ) (us : List ℕ) → Starts (chosen cells g) 0 (g .outputs) us → (printed cells g (chosen cells g) us ≡ refused 17 k) ↔ LowestUncovered cells g k
-  unfolding printed
-  lowest-from k us (nowhere h) = (
-    (λ e. let z : _≡_ {A = ℕ} 0 1 = cc in absurd (omega arith)),
-    (λ p. absurd (p .hasNone (present-covered (getD (g .outputs) k 0) (h k (p .isOutput))))),
-  )
-  lowest-from k us (at j rest f) = (
-    (λ e. let q : 0 + j ≡ k = cc in subst (LowestUncovered cells g) (sym (zero-add j) ∙ q) here),
-    (λ p. ap (refused 17) (zero-add j ∙ meet p)),
-  )
-    where
-      here : LowestUncovered cells g j
-      here = record {
-        isOutput = f .here;
-        hasNone = choice-nothing (getD (g .outputs) j 0) .0 (subst T (sym (f .none-at)) tt);
-        before = λ i h. present-covered (getD (g .outputs) i 0) (f .before i h);
-      }
+  module _ (listed : List Cell) where
+    lowest-from : (k : ℕ) (us : List ℕ) → Starts (chosen cells g) 0 (g .outputs) us → (printed listed cells g (chosen cells g) us ≡ refused 17 k) ↔ LowestUncovered cells g k
+    unfolding printed
+    lowest-from k us (nowhere h) = (
+      (λ e. let z : _≡_ {A = ℕ} 0 1 = cc in absurd (omega arith)),
+      (λ p. absurd (p .hasNone (present-covered (getD (g .outputs) k 0) (h k (p .isOutput))))),
+    )
+    lowest-from k us (at j rest f) = (
+      (λ e. let q : 0 + j ≡ k = cc in subst (LowestUncovered cells g) (sym (zero-add j) ∙ q) here),
+      (λ p. ap (refused 17) (zero-add j ∙ meet p)),
+    )
+      where
+        here : LowestUncovered cells g j
+        here = record {
+          isOutput = f .here;
+          hasNone = choice-nothing (getD (g .outputs) j 0) .0 (subst T (sym (f .none-at)) tt);
+          before = λ i h. present-covered (getD (g .outputs) i 0) (f .before i h);
+        }
 
-      meet : LowestUncovered cells g k → j ≡ k
-      meet p = le-antisymm
-          (elim (decLe j k) [ yes h ↦ h | no h ↦ absurd (p .hasNone (present-covered (getD (g .outputs) k 0) (f .before k (lt-of-not-le h)))) ])
-          (elim (decLe k j) [ yes h ↦ h | no h ↦ absurd (here .hasNone (p .before j (lt-of-not-le h))) ])
+        meet : LowestUncovered cells g k → j ≡ k
+        meet p = le-antisymm
+            (elim (decLe j k) [ yes h ↦ h | no h ↦ absurd (p .hasNone (present-covered (getD (g .outputs) k 0) (f .before k (lt-of-not-le h)))) ])
+            (elim (decLe k j) [ yes h ↦ h | no h ↦ absurd (here .hasNone (p .before j (lt-of-not-le h))) ])
 
-  printed-from : (us : List ℕ) → Starts (chosen cells g) 0 (g .outputs) us → ((l : ℕ) → List·Memᴰ l (g .outputs) → Cover cells g (l ∷ []))
-      → printed cells g (chosen cells g) us ≡ mapped (choiceText cells g) (choiceFigures cells g)
-  unfolding printed
-  printed-from us (nowhere h) c = refl
-  printed-from us (at j rest f) c =
-      absurd (true≢false (sym (f .none-at) ∙ covered-present (getD (g .outputs) j 0) (c (getD (g .outputs) j 0) (getD-in (g .outputs) j 0 (f .here)))))
+    printed-from : (us : List ℕ) → Starts (chosen cells g) 0 (g .outputs) us → ((l : ℕ) → List·Memᴰ l (g .outputs) → Cover cells g (l ∷ []))
+        → printed listed cells g (chosen cells g) us ≡ mapped (choiceText listed cells g) (choiceFigures listed cells g)
+    unfolding printed
+    printed-from us (nowhere h) c = refl
+    printed-from us (at j rest f) c =
+        absurd (true≢false (sym (f .none-at) ∙ covered-present (getD (g .outputs) j 0) (c (getD (g .outputs) j 0) (getD-in (g .outputs) j 0 (f .here)))))
 
-  module _ (few : crowded g ≡ []) where
-    -- an accepted graph with few cuts is answered from the choice
-    pub mapped-choice : mapGraph cells g ≡ printed cells g (chosen cells g) (uncovered (chosen cells g) 0 (g .outputs))
-    unfolding mapGraph mapPlaced mapCut mapChosen chosen lowest
-    mapped-choice = ap (λ (us : List ℕ). mapPlaced cells g (lowest us)) (ok .placed) ∙ ap (mapCut cells g) few
+    module _ (few : crowded g ≡ []) where
+      -- an accepted graph with few cuts is answered from the choice
+      pub mapped-choice : mapGraph listed cells g ≡ printed listed cells g (chosen cells g) (uncovered (chosen cells g) 0 (g .outputs))
+      unfolding mapGraph mapPlaced mapCut mapChosen chosen lowest
+      mapped-choice = ap (λ (us : List ℕ). mapPlaced listed cells g (lowest us)) (ok .placed) ∙ ap (mapCut listed cells g) few
 
-    -- "refusal 17 comes exactly when some output has no cover, and names the lowest"
-    pub seventeen-iff : (k : ℕ) → (mapGraph cells g ≡ refused 17 k) ↔ LowestUncovered cells g k
-    seventeen-iff k =
-        let r = lowest-from k (uncovered (chosen cells g) 0 (g .outputs)) (starts (chosen cells g) 0 (g .outputs)) in
-        ((λ e. r .0 (sym mapped-choice ∙ e)), (λ p. mapped-choice ∙ r .1 p))
+      -- "refusal 17 comes exactly when some output has no cover, and names the lowest"
+      pub seventeen-iff : (k : ℕ) → (mapGraph listed cells g ≡ refused 17 k) ↔ LowestUncovered cells g k
+      seventeen-iff k =
+          let r = lowest-from k (uncovered (chosen cells g) 0 (g .outputs)) (starts (chosen cells g) 0 (g .outputs)) in
+          ((λ e. r .0 (sym mapped-choice ∙ e)), (λ p. mapped-choice ∙ r .1 p))
 
-    -- "else the netlist of the cover that 01's choice gives is printed"
-    pub choice-printed : ((l : ℕ) → List·Memᴰ l (g .outputs) → Cover cells g (l ∷ [])) → mapGraph cells g ≡ mapped (choiceText cells g) (choiceFigures cells g)
-    choice-printed c = mapped-choice ∙ printed-from (uncovered (chosen cells g) 0 (g .outputs)) (starts (chosen cells g) 0 (g .outputs)) c
+      -- "else the netlist of the cover that 01's choice gives is printed"
+      pub choice-printed : ((l : ℕ) → List·Memᴰ l (g .outputs) → Cover cells g (l ∷ [])) → mapGraph listed cells g ≡ mapped (choiceText listed cells g) (choiceFigures listed cells g)
+      choice-printed c = mapped-choice ∙ printed-from (uncovered (chosen cells g) 0 (g .outputs)) (starts (chosen cells g) 0 (g .outputs)) c

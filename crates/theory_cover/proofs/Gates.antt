@@ -5,21 +5,20 @@ use native.Mathlib.Nat.{le-refl, le-of-suc-le-suc, not-suc-le-zero, add-zero, ze
 use native.Mathlib.Omega.{arith}
 use mathlib.Core.Path.{_≡_, refl, sym, _∙_, ap, ap₂, subst}
 use mathlib.Core.Logic.{_⊎_, inl, inr}
-use mathlib.Core.Bool.{Bool, true, false, not, Bool·beq}
+use mathlib.Core.Bool.{Bool, true, false, not, _&&_, Bool·beq}
 use mathlib.Core.List.{List, [], _∷_, map, List·Memᴰ, List·Memᴰ·not-nil, List·Memᴰ·cases-cons, List·Memᴰ·eq-of-singleton}
 use lib.Dec.{T, eqb, eqb→eq, leb, leb→le, ltb, ltb→lt}
 use lib.ListN.{length, take, getD, length-map, List·getD-map}
 use lib.Pow.{pow-pos}
 use mir.Facts.{and-yes, eqb-no}
 use Rattle.model.specs.Base.{all, bit, one, flip, below, each, union, find}
-use Rattle.model.specs.Table.{value, orders, pinRow}
+use Rattle.model.specs.Table.{value, rowOf, orders, pinRow}
 use Rattle.model.specs.Cells.{cellAt, isInverter}
 use Rattle.model.specs.Graph.{Graph, Node, constant, input, undefined, both, node, placingOrder, span, varOf, negated, opposite, literalValue}
 use Rattle.model.specs.Cuts.{tabulate, walk, cutTable, cutsOf, nodeCuts, unions, compareCuts}
 use Rattle.model.specs.Matching.{phaseTable, placesFit, rowsAgree, fedNets, matchNets}
 use Rattle.model.specs.Choice.{feeds}
 use Rattle.model.specs.Cover.{IsMatch}
-use Rattle.model.specs.Blif.{rowOf}
 use Rattle.model.specs.Demands.{Distinct}
 use Rattle.model.specs.declared.Cell.{Cell}
 use Rattle.model.specs.declared.Match.{Match}
@@ -66,7 +65,7 @@ tabulate-lt f (suc n) =
     omega (arith, one-le (f 0), tabulate-lt (λ r. f (suc r)) n, two-pow n)
 
 -- the bits of a row are what it is made of
-bit-row : (bs : List Bool) (i : ℕ) (d : Bool) → i < length bs → bit (rowOf bs) i ≡ getD bs i d
+pub bit-row : (bs : List Bool) (i : ℕ) (d : Bool) → i < length bs → bit (rowOf bs) i ≡ getD bs i d
 unfolding rowOf
 bit-row [] i d h = absurd (not-suc-le-zero h)
 bit-row (b ∷ bs) zero d h = bit-low b (rowOf bs)
@@ -109,7 +108,7 @@ carry-row w (x ∷ xs) r i h = (
 row-bit : (w : ℕ → Bool) (xs : List ℕ) (k : ℕ) → k < length xs → bit (rowOf (map w xs)) k ≡ w (getD xs k 0)
 row-bit w xs k h = bit-row (map w xs) k (w 0) (omega (arith, length-map xs w)) ∙ List·getD-map w xs k 0
 
-row-lt : (bs : List Bool) (n : ℕ) → length bs ≤ n → rowOf bs < 2 ^ n
+pub row-lt : (bs : List Bool) (n : ℕ) → length bs ≤ n → rowOf bs < 2 ^ n
 unfolding rowOf
 row-lt [] n h = pow-pos n
 row-lt (b ∷ bs) zero h = absurd (not-suc-le-zero h)
@@ -201,11 +200,25 @@ gate-value cells g once setting w isValue l m k =
         all-of (λ (q : ℕ). Bool·beq (bit f q) (bit (c .table) (pinRow (c .pins) places (m .mask) q))) (below 16)
         (fits-rows c places (m .mask) (length cut) f (k .agrees)) r (below-in 16 r r-small)
 
+-- "a one-pin cell with table 0001"
+pub inverter-pins : (c : Cell) → T (isInverter c) → c .pins ≡ 1
+unfolding isInverter
+inverter-pins c t = eqb→eq (c .pins) 1 (and-yes (eqb (c .pins) 1) (eqb (c .table) 1 && ltb 0 (c .len)) t .0)
+
+inverter-table : (c : Cell) → T (isInverter c) → c .table ≡ 1
+unfolding isInverter
+inverter-table c t = eqb→eq (c .table) 1 (and-yes (eqb (c .table) 1) (ltb 0 (c .len)) (and-yes (eqb (c .pins) 1) (eqb (c .table) 1 && ltb 0 (c .len)) t .1) .0)
+
+-- "The inverter role stays with listed cells": one has a name
+pub inverter-named : (c : Cell) → T (isInverter c) → 0 < c .len
+unfolding isInverter
+inverter-named c t = ltb→lt 0 (c .len) (and-yes (eqb (c .table) 1) (ltb 0 (c .len)) (and-yes (eqb (c .pins) 1) (eqb (c .table) 1 && ltb 0 (c .len)) t .1) .1)
+
 -- an inverter computes its phase
 pub inverter-value : (c : Cell) (w : ℕ → Bool) (l : ℕ) → T (isInverter c) → value (c .table) (rowOf (literalValue w (opposite l) ∷ [])) ≡ literalValue w l
-unfolding value isInverter bit rowOf one flip literalValue
+unfolding value bit rowOf one flip literalValue
 inverter-value c w l t =
-    ap (λ (x : ℕ). bit x (rowOf (literalValue w (opposite l) ∷ []))) (eqb→eq (c .table) 1 (and-yes (eqb (c .pins) 1) (eqb (c .table) 1) t .1))
+    ap (λ (x : ℕ). bit x (rowOf (literalValue w (opposite l) ∷ []))) (inverter-table c t)
     ∙ ap (λ (b : Bool). bit 1 (rowOf (b ∷ []))) (ap₂ flip (opposite-neg l) (ap w (opposite-var l))) ∙ turned (negated l) (w (varOf l))
   where
     turned : (a b : Bool) → bit 1 (rowOf (flip (not a) b ∷ [])) ≡ flip a b

@@ -6,7 +6,10 @@ pub mod Sound
 pub mod Own
 pub mod Demand3
 pub mod Gates
+pub mod Joined
 pub mod Pins
 pub mod Pairs
 pub mod Preference
+pub mod Shuffled
+pub mod ShuffledPairs
 pub mod Retime

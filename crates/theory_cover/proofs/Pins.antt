@@ -14,11 +14,10 @@ use lib.Dec.{T, ltb, ltb→lt, lt→ltb}
 use lib.ListN.{length, take, getD}
 use mir.Facts.{and-yes, yes-and, eqb-no}
 use Rattle.model.specs.Base.{all, bit, one, flip, from, below}
-use Rattle.model.specs.Table.{value, pinRow}
+use Rattle.model.specs.Table.{value, rowOf, pinRow}
 use Rattle.model.specs.Graph.{Graph, span}
 use Rattle.model.specs.Cuts.{walk, cutTable}
 use Rattle.model.specs.Matching.{phaseTable, placesFit, rowsAgree, fits}
-use Rattle.model.specs.Blif.{rowOf}
 use Rattle.model.specs.declared.Cell.{Cell}
 use Rattle.theory_graph.proofs.Lists.{all-of, all-in, below-in, below-out}
 use Rattle.theory_cover.proofs.Gates.{bit-tabulate, two-pow, tabulate-lt, phase-bit, beq-eq}

@@ -15,7 +15,7 @@ use Rattle.model.specs.Reading.{Read, holds, next, unless}
 use Rattle.model.specs.Cells.{nameOf, cellAt}
 use Rattle.model.specs.LibraryText.{readLibrary, isRanged}
 use Rattle.model.specs.Graph.{Graph}
-use Rattle.model.specs.Choice.{absent, cellOf, chosen}
+use Rattle.model.specs.Choice.{absent, chosen}
 use Rattle.model.specs.Netlist.{Gate, outName, sum, figuresOf}
 use Rattle.model.specs.Timing.{lowOf}
 use Rattle.model.specs.Mapper.{Call, readTexts}
@@ -30,11 +30,12 @@ use Rattle.theory_graph.proofs.Distinct.{length-map, length-from}
 use Rattle.theory_text.proofs.LineLaws.{lineOfBytes}
 use Rattle.theory_text.proofs.Plain.{bytes-free}
 use Rattle.theory_text.proofs.Steps.{holds-once}
-use Rattle.theory_text.proofs.ReadTexts.{texts-read, design-library, design-accepted}
-use Rattle.theory.proofs.Gates.{sourceOf, chosenGates, gate-out, of-cell}
+use Rattle.theory_text.proofs.ReadTexts.{texts-read, design-accepted}
+use Rattle.theory.proofs.Numbered.{Fitting}
+use Rattle.theory.proofs.Gates.{chosenGates, gate-listed, line-bound}
 use Rattle.theory.proofs.Outcomes.{printed-choice}
-use Rattle.theory.proofs.Demanded.{readable}
-use Rattle.theory_text.proofs.Names.{named-cell, library-cell, cell-form}
+use Rattle.theory.proofs.Demanded.{design-fitting, readable}
+use Rattle.theory_text.proofs.Names.{named-cell}
 use Rattle.theory_text.proofs.ReadBack.{outputNames}
 use Rattle.theory_tally.specs.Sums.{Grown, CountsPrinted}
 use Rattle.theory_tally.proofs.Sums.{grown}
@@ -202,29 +203,30 @@ name-clear (b ∷ bs) t s h =
     yes-or-left true y u = tt
     yes-or-left false y u = absurd u
 
-module _ (cells : List Cell) (fit : T (libraryFits cells)) (g : Graph) (ok : Accepted g) (present-outputs : (l : ℕ) → List·Memᴰ l (g .outputs) → absent (chosen cells g l .source) ≡ false) where
-  gates-fine : (t : Gate) → List·Memᴰ t (chosenGates cells g) → Fine cells t
+module _ (listed cells : List Cell) (fit : Fitting listed cells) (g : Graph) (ok : Accepted g)
+    (present-outputs : (l : ℕ) → List·Memᴰ l (g .outputs) → absent (chosen cells g l .source) ≡ false) where
+  gates-fine : (t : Gate) → List·Memᴰ t (chosenGates listed cells g) → Fine listed t
   gates-fine t m =
-      let r = gate-out cells fit g ok present-outputs t m in
-      let o = of-cell cells fit g ok present-outputs (r .at) (r .needs) (r .notOwn) in
-      subst (Fine cells) (sym (r .isGate)) (record {
-        listed = o .listed;
-        count = o .pins;
-        clear = name-clear (nameOf (cellOf cells (sourceOf cells g (r .at)))) (cell-form (cellOf cells (sourceOf cells g (r .at))) (library-cell cells fit (cellOf cells (sourceOf cells g (r .at))) (o .listed)) .isNamed);
-      })
+      let o = gate-listed listed cells fit g ok present-outputs t m in
+      record { listed = o .0; count = o .1; clear = name-clear (nameOf (t .cell)) (line-bound listed cells fit g ok present-outputs t m .isNamed) }
 
-  printed-read : (ranged : Bool) → (used : List ℕ) × (readCounted ranged cells (printedText ranged cells g) ≡ holds used)
-      × (length used ≡ choiceFigures cells g .gates) × (areaOf cells used ≡ choiceFigures cells g .area)
+  printed-read : (ranged : Bool) → (used : List ℕ) × (readCounted ranged listed (printedText ranged listed cells g) ≡ holds used)
+      × (length used ≡ choiceFigures listed cells g .gates) × (areaOf listed used ≡ choiceFigures listed cells g .area)
   unfolding timings below figuresOf lined
   printed-read false =
-      let r = rows-counted false cells fit g (chosenGates cells g) gates-fine (choiceFigures cells g) refl refl (record { rows = []; met = tt; whole = tt }) in
-      (r .0, (ap (readCounted false cells) (sym (append-nil (choiceText cells g)) ∙ netlist-lined g (chosenGates cells g) (choiceFigures cells g) []) ∙ r .1), r .2, r .3)
+      let r = rows-counted false listed (fit .fits) g (chosenGates listed cells g) gates-fine (choiceFigures listed cells g) refl refl (record { rows = []; met = tt; whole = tt }) in
+      (r .0, (ap (readCounted false listed) (sym (append-nil (choiceText listed cells g)) ∙ netlist-lined g (chosenGates listed cells g) (choiceFigures listed cells g) []) ∙ r .1), r .2, r .3)
   printed-read true =
       let low = lowOf cells g in
       let high : ℕ → ℕ = λ (l : ℕ). chosen cells g l .arrival in
-      let r = rows-counted true cells fit g (chosenGates cells g) gates-fine (choiceFigures cells g) refl refl
-      (record { rows = timingRows low high 0 (g .outputs); met = timings-met low high 0 0 (g .outputs); whole = timings-whole low high 0 (g .outputs) }) in
-      (r .0, (ap (readCounted true cells) (ap (λ (x : List ℕ). choiceText cells g ++ x) (timings-lined low high 0 (g .outputs)) ∙ netlist-lined g (chosenGates cells g) (choiceFigures cells g) (timingRows low high 0 (g .outputs))) ∙ r .1), r .2, r .3)
+      let r = rows-counted true listed (fit .fits) g (chosenGates listed cells g) gates-fine (choiceFigures listed cells g) refl refl
+      (record { rows = timingRows low high 0 (g .outputs); met = timings-met low high 0 0 (g .outputs); whole = timings-whole low high 0 (g .outputs) }) in (
+        r .0,
+        (ap (readCounted true listed) (ap (λ (x : List ℕ). choiceText listed cells g ++ x) (timings-lined low high 0 (g .outputs))
+            ∙ netlist-lined g (chosenGates listed cells g) (choiceFigures listed cells g) (timingRows low high 0 (g .outputs))) ∙ r .1),
+        r .2,
+        r .3,
+      )
 
 -- nothing is refused
 accepted : (tally : Tally) (library netlist : List ℕ) (cells : List Cell) (used : List ℕ) → length library ≤ 65536 → length netlist ≤ 65536 → readLibrary library ≡ holds cells
@@ -240,14 +242,14 @@ counts-printed c t f o short cells e tally h =
     let reads : readTexts c ≡ holds d = r .2 .design in
     let x = texts-read c d reads in
     let p = printed-choice c d reads t f o in
-    let q = printed-read (d .cells) (design-library c d reads) (d .graph) (design-accepted c d reads (p .choice .placed)) (p .choice .covered) (d .ranged) in
-    let read : readCounted (isRanged (c .library)) (d .cells) t ≡ holds (q .0) = ap₂ (λ (b : Bool) (w : List ℕ). readCounted b (d .cells) w) (x .isRange) (p .isText) ∙ q .1 in
-    let w = grown (c .library) (d .cells) (x .isLibrary) tally t (q .0) (h .gatesLong) (h .areasLong) read in
-    let same-cells : d .cells ≡ cells = holds-once (sym (x .isLibrary) ∙ e) in
+    let q = printed-read (d .listed) (d .cells) (design-fitting c d reads) (d .graph) (design-accepted c d reads (p .choice .placed)) (p .choice .covered) (d .ranged) in
+    let read : readCounted (isRanged (c .library)) (d .listed) t ≡ holds (q .0) = ap₂ (λ (b : Bool) (w : List ℕ). readCounted b (d .listed) w) (x .isRange) (p .isText) ∙ q .1 in
+    let w = grown (c .library) (d .listed) (x .isLibrary) tally t (q .0) (h .gatesLong) (h .areasLong) read in
+    let same-cells : d .listed ≡ cells = holds-once (sym (x .isLibrary) ∙ e) in
     let gates : length (q .0) ≡ f .gates = q .2 ∙ ap (λ (k : Figures). k .gates) (sym (p .choice .areFigures)) in
-    let area : areaOf (d .cells) (q .0) ≡ f .area = q .3 ∙ ap (λ (k : Figures). k .area) (sym (p .choice .areFigures)) in (
-      counted (d .cells) (q .0) tally,
-      accepted tally (c .library) t (d .cells) (q .0) (x .shortLibrary) short (x .isLibrary) (h .notFull) (h .fits) read,
-      subst (λ (ks : List Cell). Grown ks tally (counted (d .cells) (q .0) tally) (f .gates) (f .area)) same-cells
+    let area : areaOf (d .listed) (q .0) ≡ f .area = q .3 ∙ ap (λ (k : Figures). k .area) (sym (p .choice .areFigures)) in (
+      counted (d .listed) (q .0) tally,
+      accepted tally (c .library) t (d .listed) (q .0) (x .shortLibrary) short (x .isLibrary) (h .notFull) (h .fits) read,
+      subst (λ (ks : List Cell). Grown ks tally (counted (d .listed) (q .0) tally) (f .gates) (f .area)) same-cells
           (record { gatesGrown = omega (arith, w .gatesGrown, gates); areasGrown = omega (arith, w .areasGrown, area); netlistsGrown = w .netlistsGrown }),
     )

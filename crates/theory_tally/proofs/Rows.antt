@@ -11,14 +11,14 @@ use Rattle.model.specs.Base.{all, each, same, from, below}
 use Rattle.model.specs.Text.{text, digits, decimal, fields, between}
 use Rattle.model.specs.Cells.{nameOf}
 use Rattle.model.specs.Graph.{Graph, literal, negated, varOf}
-use Rattle.model.specs.Netlist.{Gate, netName, outName, pinWords, gateLine, namesLine, wireLine, wireLines, netlistText}
+use Rattle.model.specs.Netlist.{Net, ofPhase, ofPair, Gate, netName, label, outName, pinWords, gateLine, namesLine, wireLine, wireLines, netlistText}
 use Rattle.model.specs.Timing.{timingLines}
-use Rattle.model.specs.NetlistLines.{areDigits, isLabel, isPhaseNet, isGateNet, isBound, ofForm, ofList, isNameList, gateForm, isWire, isFigures, isTiming}
+use Rattle.model.specs.NetlistLines.{areDigits, isLabel, isPhaseNet, isInnerNet, isGateNet, isBound, ofForm, ofList, isNameList, gateForm, isWire, isFigures, isTiming}
 use Rattle.model.specs.declared.Cell.{Cell}
 use Rattle.model.specs.declared.Figures.{Figures}
 use Rattle.theory_graph.proofs.Lists.{is-true, same-refl}
 use Rattle.theory_graph.proofs.Literals.{lit-neg}
-use Rattle.theory_text.proofs.Plain.{above, decimal-free, net-free}
+use Rattle.theory_text.proofs.Plain.{above, decimal-free, net-free, label-free}
 use mir.Facts.{and-yes}
 use Rattle.theory_text.proofs.ReadBack.{namesOf, body, bodyOf, gate-line, wireBody, wire-line, inputNames, outputNames}
 use Rattle.theory_tally.proofs.Worded.{Clear, Clears, clears-map, Whole, Wholes, names-whole, names-fields, names-ended, lined}
@@ -65,21 +65,26 @@ label-is : (b n : ℕ) → isLabel b (b ∷ decimal n) ≡ true
 unfolding isLabel
 label-is b n = rw (eq-eqb b b refl) (decimal-digits n)
 
+or-true : (x : Bool) → (x || true) ≡ true
+or-true true = refl
+or-true false = refl
+
 net-is : (l : ℕ) → isPhaseNet (netName l) ≡ true
 unfolding isPhaseNet netName
 net-is l = go (negated l)
   where
     go : (b : Bool) → (isLabel 112 (cond b 109 112 ∷ decimal (varOf l)) || isLabel 109 (cond b 109 112 ∷ decimal (varOf l))) ≡ true
     go true = rw (label-is 109 (varOf l)) (or-true (isLabel 112 (109 ∷ decimal (varOf l))))
-      where
-        or-true : (x : Bool) → (x || true) ≡ true
-        or-true true = refl
-        or-true false = refl
     go false = rw (label-is 112 (varOf l)) refl
 
-bound-is : (b c l : ℕ) → b ≡ c → isBound c (b ∷ 61 ∷ netName l) ≡ true
-unfolding isBound isGateNet
-bound-is b c l e = rw (eq-eqb b c e) (net-is l)
+gate-net-is : (n : Net) → isGateNet (label n) ≡ true
+unfolding isGateNet isInnerNet label
+gate-net-is (ofPhase l) = rw (net-is l) refl
+gate-net-is (ofPair l) = rw (net-is l) (or-true (isPhaseNet (115 ∷ netName l)))
+
+bound-is : (b c : ℕ) (n : Net) → b ≡ c → isBound c (b ∷ 61 ∷ label n) ≡ true
+unfolding isBound
+bound-is b c n e = rw (eq-eqb b c e) (gate-net-is n)
 
 out-is : (k : ℕ) → isLabel 111 (outName k) ≡ true
 unfolding outName
@@ -87,6 +92,9 @@ out-is k = label-is 111 k
 
 net-clear : (l : ℕ) → Clear (netName l)
 net-clear l s h = net-free s l h
+
+label-clear : (n : Net) → Clear (label n)
+label-clear n s h = label-free s n h
 
 out-clear : (k : ℕ) → Clear (outName k)
 unfolding outName
@@ -98,9 +106,9 @@ decimal-clear n s h = decimal-free s n h
 -- ---- a gate's line
 
 -- the words of pins from letter b on, and of the output
-unfoldable pub boundWords : ℕ → List ℕ → ℕ → List (List ℕ)
-boundWords b [] o = (79 ∷ 61 ∷ netName o) ∷ []
-boundWords b (l ∷ ls) o = (b ∷ 61 ∷ netName l) ∷ boundWords (suc b) ls o
+unfoldable pub boundWords : ℕ → List Net → Net → List (List ℕ)
+boundWords b [] o = (79 ∷ 61 ∷ label o) ∷ []
+boundWords b (l ∷ ls) o = (b ∷ 61 ∷ label l) ∷ boundWords (suc b) ls o
 
 unfoldable pub gateWords : Gate → List (List ℕ)
 unfolding boundWords nameOf
@@ -109,11 +117,11 @@ gateWords t = nameOf (t .cell) ∷ boundWords 65 (t .pins) (t .net)
 abbrev pub gateRow : Gate → List ℕ
 gateRow t = namesOf (text ".gate") (gateWords t)
 
-bound-words : (b : ℕ) (ls : List ℕ) (o : ℕ) → each (λ (n : List ℕ). 32 ∷ n) (boundWords b ls o) ≡ pinWords b ls ++ pinWords 79 (o ∷ [])
+bound-words : (b : ℕ) (ls : List Net) (o : Net) → each (λ (n : List ℕ). 32 ∷ n) (boundWords b ls o) ≡ pinWords b ls ++ pinWords 79 (o ∷ [])
 unfolding each boundWords pinWords
 bound-words b [] o = refl
 bound-words b (l ∷ ls) o =
-    ap (λ (x : List ℕ). 32 ∷ b ∷ 61 ∷ netName l ++ x) (bound-words (suc b) ls o) ∙ ap (λ (x : List ℕ). 32 ∷ b ∷ 61 ∷ x) (sym (append-assoc (netName l) (pinWords (suc b) ls) (pinWords 79 (o ∷ []))))
+    ap (λ (x : List ℕ). 32 ∷ b ∷ 61 ∷ label l ++ x) (bound-words (suc b) ls o) ∙ ap (λ (x : List ℕ). 32 ∷ b ∷ 61 ∷ x) (sym (append-assoc (label l) (pinWords (suc b) ls) (pinWords 79 (o ∷ []))))
 
 row-body : (t : Gate) → bodyOf t ≡ gateRow t
 unfolding bodyOf body namesOf gateWords each text
@@ -126,10 +134,10 @@ gates-lined (t ∷ ts) vs =
     append-assoc (gateLine t) (each gateLine ts) (lined vs) ∙ gate-line t (each gateLine ts ++ lined vs)
     ∙ ap₂ (λ (x y : List ℕ). x ++ (10 ∷ y)) (row-body t) (gates-lined ts vs)
 
-bound-clear : (b : ℕ) → 48 < b → (ls : List ℕ) (o : ℕ) → Clears (boundWords b ls o)
+bound-clear : (b : ℕ) → 48 < b → (ls : List Net) (o : Net) → Clears (boundWords b ls o)
 unfolding boundWords
-bound-clear b h [] o = ((λ s k. (above s 79 (omega arith), (above s 61 (omega arith), net-clear o s k))), tt)
-bound-clear b h (l ∷ ls) o = ((λ s k. (above s b (omega arith), (above s 61 (omega arith), net-clear l s k))), bound-clear (suc b) (omega arith) ls o)
+bound-clear b h [] o = ((λ s k. (above s 79 (omega arith), (above s 61 (omega arith), label-clear o s k))), tt)
+bound-clear b h (l ∷ ls) o = ((λ s k. (above s b (omega arith), (above s 61 (omega arith), label-clear l s k))), bound-clear (suc b) (omega arith) ls o)
 
 gate-clear : (t : Gate) → Clear (nameOf (t .cell)) → Clears (gateWords t)
 unfolding gateWords
@@ -143,7 +151,7 @@ pub gate-whole : (t : Gate) → Clear (nameOf (t .cell)) → Whole (gateRow t)
 unfolding text
 gate-whole t c = names-whole (text ".gate") (gateWords t) ((refl, (refl, (refl, (refl, (refl, tt))))), (refl, (refl, (refl, (refl, (refl, tt)))))) (gate-clear t c)
 
-pins-form : (i b : ℕ) → b ≡ 65 + i → (ls : List ℕ) (o : ℕ) → ofForm (map (λ (j : ℕ). isBound (65 + j)) (from i (length ls)) ++ (isBound 79 ∷ [])) (boundWords b ls o) ≡ true
+pins-form : (i b : ℕ) → b ≡ 65 + i → (ls : List Net) (o : Net) → ofForm (map (λ (j : ℕ). isBound (65 + j)) (from i (length ls)) ++ (isBound 79 ∷ [])) (boundWords b ls o) ≡ true
 unfolding ofForm boundWords from
 pins-form i b e [] o = rw (bound-is 79 79 o refl) refl
 pins-form i b e (l ∷ ls) o = rw (bound-is b (65 + i) l e) (pins-form (suc i) (suc b) (omega arith) ls o)

@@ -17,11 +17,10 @@ use Rattle.model.specs.Base.{all, each, elem, same, andThen, only}
 use Rattle.model.specs.Text.{Line, ended, text, decimal, linesFrom, fields, numbers}
 use Rattle.model.specs.Limits.{need}
 use Rattle.model.specs.Reading.{Read, holds, fault, next, unless, from?}
-use Rattle.model.specs.LibraryText.{readLibrary, isRanged}
 use Rattle.model.specs.Graph.{Graph}
 use Rattle.model.specs.GraphText.{readHeader, readGraph, numbersLine}
 use Rattle.model.specs.ArrivalsText.{Late, lateNumbers, readLate, readLateLines, readArrivals, arrivalsText, timedBy}
-use Rattle.model.specs.Mapper.{Call, Design, readTexts}
+use Rattle.model.specs.Mapper.{Call, Design, designOf, readListed, readTexts}
 use Rattle.model.specs.Demands.{Distinct, readUntimed, Lists, ListedFor, Listed}
 use Rattle.model.specs.declared.Cell.{Cell}
 use Rattle.model.specs.declared.Header.{Header}
@@ -188,24 +187,24 @@ pub reads-untimed : (c : Call) → c .arrivals ≡ [] → readTexts c ≡ readUn
 unfolding readTexts readArrivals readLateLines linesFrom next
 reads-untimed c e =
     ap given e
-    ∙ ap₂ (λ (b : Bool) (k : List Cell → Read Design). unless (leb (length (c .library)) 65536 && b) 1 0 (next (readLibrary (c .library)) k))
+    ∙ ap₂ (λ (b : Bool) (k : List Cell → Read Design). unless (leb (length (c .library)) 65536 && b) 1 0 (next (readListed (c .paired) (c .library)) k))
     (and-true (leb (length (c .graph)) 65536)) (fun-ext (λ cells. ap (next (readHeader (c .graph))) (fun-ext (λ h. ap (unless (leb (need (h .size) (h .outputs)) (c .words)) 10 0) (same-graph cells h)))))
   where
     given : List ℕ → Read Design
     given s =
         unless (leb (length (c .library)) 65536 && (leb (length (c .graph)) 65536 && leb (length s) 65536)) 1 0
-        (next (readLibrary (c .library)) (λ cells.
+        (next (readListed (c .paired) (c .library)) (λ cells.
         next (readHeader (c .graph)) (λ h.
         unless (leb (need (h .size) (h .outputs)) (c .words)) 10 0
         (next (readGraph (c .graph) h) (λ g.
-        next (readArrivals (h .inputs) s) (λ es. holds (record { cells = cells; ranged = isRanged (c .library); graph = timedBy g es })))))))
+        next (readArrivals (h .inputs) s) (λ es. holds (designOf c cells (timedBy g es))))))))
 
     and-true : (b : Bool) → (b && true) ≡ b
     and-true true = refl
     and-true false = refl
 
     made : List Cell → Graph → Read Design
-    made cells g = holds (record { cells = cells; ranged = isRanged (c .library); graph = g })
+    made cells g = holds (designOf c cells g)
 
     same-graph : (cells : List Cell) (h : Header) → next (readGraph (c .graph) h) (λ g. made cells (timedBy g [])) ≡ next (readGraph (c .graph) h) (made cells)
     same-graph cells h = next-same (readGraph (c .graph) h) _ (made cells) (λ g q. ap (made cells) (timed-none g (graph-untimed (c .graph) h g q)))
@@ -214,8 +213,8 @@ reads-untimed c e =
 pub untimed-zero : (c : Call) (d : Design) → readUntimed c ≡ holds d → (v : ℕ) → d .graph .late v ≡ 0
 untimed-zero c d e v =
     let a = unless-out (leb (length (c .library)) 65536 && leb (length (c .graph)) 65536) 1 0 _ d e in
-    let b = next-out (readLibrary (c .library)) _ d (a .1) in
+    let b = next-out (readListed (c .paired) (c .library)) _ d (a .1) in
     let k = next-out (readHeader (c .graph)) _ d (b .2) in
     let f = unless-out (leb (need (k .0 .size) (k .0 .outputs)) (c .words)) 10 0 _ d (k .2) in
-    let g = next-out (readGraph (c .graph) (k .0)) (λ x. holds (record { cells = b .0; ranged = isRanged (c .library); graph = x })) d (f .1) in
+    let g = next-out (readGraph (c .graph) (k .0)) (λ x. holds (designOf c (b .0) x)) d (f .1) in
     subst (λ (x : Design). x .graph .late v ≡ 0) (holds-once (g .2)) (ap (λ (t : ℕ → ℕ). t v) (sym (graph-untimed (c .graph) (k .0) (g .0) (g .1))))

@@ -23,11 +23,12 @@ use Rattle.model.specs.Reading.{Read, holds, fault, next, unless, from?}
 use Rattle.model.specs.Limits.{need}
 use Rattle.model.specs.Cells.{nameOf}
 use Rattle.model.specs.LibraryText.{cellOfFields, cellOfLine, isClean, noLower, isShorter, isLonger, readCells, readLibraryLines, readLibrary, rangedLines, isRanged}
+use Rattle.model.specs.Pairs.{cellsFor}
 use Rattle.model.specs.Graph.{And, Graph, varOf}
 use Rattle.model.specs.GraphText.{closed, headerOfNumbers, headerOf, inLimits, inSequence, readHeader, Kind, anInput, anOutput, anAnd, howMany, defines, due, Item, itemLiterals, readDue, readItems, uses, definedBy, checkUses, sameKind, isKind, graphOf, readGraph}
 use Rattle.model.specs.ArrivalsText.{Late, lateNumbers, readLate, readLateLines, readArrivals, timedBy}
 use Rattle.model.specs.Netlist.{Outcome, refused, mapped}
-use Rattle.model.specs.Mapper.{Call, Design, readTexts, mapDesign, mapTexts, returnedBy}
+use Rattle.model.specs.Mapper.{Call, Design, short, readListed, readTexts, mapDesign, mapTexts, returnedBy}
 use Rattle.model.specs.Demands.{Alike, firstWord, isBinaryText, AlikeTexts, lineStart, SamePlace, ofLibrary, ofArrivals, atFault, SameButEnds, EitherEnd}
 use Rattle.model.specs.declared.Cell.{Cell}
 use Rattle.model.specs.declared.Header.{Header}
@@ -243,6 +244,18 @@ same-library : (s t : List ℕ) (P : ℕ → ℕ → ℕ → Type 0) → ((n : �
 unfolding readLibrary
 same-library s t P put e =
     same-lines (SamePlace s t) P put (inl (0, start-zero s, start-zero t)) (length s) (length t) (linesFrom 0 [] s) (linesFrom 0 [] t) (pair-lines s t e)
+
+-- and 30 hangs on the cells
+same-listed : (paired : Bool) (s t : List ℕ) (P : ℕ → ℕ → ℕ → Type 0) → ((n : ℕ) → ofLibrary n ≡ true → (k j : ℕ) → SamePlace s t k j → P n k j) → Alike s t
+    → Fares _≡_ P (readListed paired s) (readListed paired t)
+unfolding readListed
+same-listed paired s t P put e =
+    fares-next P _≡_ _≡_ (readLibrary s) (readLibrary t) judge judge (same-library s t P put e)
+    (λ cs ds q. subst (λ (x : List Cell). Fares _≡_ P (judge cs) (judge x)) q
+    (fares-unless P _≡_ (leb (length (cellsFor paired cs)) 256) (leb (length (cellsFor paired cs)) 256) 30 0 0 (holds cs) (holds cs) refl (put 30 refl 0 0 (inl (0, start-zero s, start-zero t))) (bothHold refl)))
+  where
+    judge : List Cell → Read (List Cell)
+    judge cs = unless (leb (length (cellsFor paired cs)) 256) 30 0 (holds cs)
 
 -- ---- the due lines
 
@@ -512,31 +525,35 @@ module _ (c d : Call) (alike : AlikeTexts c d) where
       go false false q = absurd (true≢false (sym q))
 
   -- what is read behind the graph, for so many inputs
-  timed : List ℕ → List Cell → ℕ → Graph → Read Design
-  timed s cells inputs g = next (readArrivals inputs s) (λ es. holds (record { cells = cells; ranged = isRanged (c .library); graph = timedBy g es }))
+  timed : Bool → Bool → List ℕ → List Cell → ℕ → Graph → Read Design
+  timed paired ranged s cells inputs g = next (readArrivals inputs s) (λ es. holds (record { listed = cells; cells = cellsFor paired cells; ranged = ranged; graph = timedBy g es }))
 
   -- what is read behind the header
-  behindHeader : List ℕ → List ℕ → ℕ → List Cell → Header → Read Design
-  behindHeader s arrivals words cells h = unless (leb (need (h .size) (h .outputs)) words) 10 0 (next (readGraph s h) (timed arrivals cells (h .inputs)))
+  behindHeader : Bool → Bool → List ℕ → List ℕ → ℕ → List Cell → Header → Read Design
+  behindHeader paired ranged s arrivals words cells h = unless (leb (need (h .size) (h .outputs)) words) 10 0 (next (readGraph s h) (timed paired ranged arrivals cells (h .inputs)))
 
   -- what is read behind the library
-  behindLibrary : List ℕ → List ℕ → ℕ → List Cell → Read Design
-  behindLibrary s arrivals words cells = next (readHeader s) (behindHeader s arrivals words cells)
+  behindLibrary : Bool → Bool → List ℕ → List ℕ → ℕ → List Cell → Read Design
+  behindLibrary paired ranged s arrivals words cells = next (readHeader s) (behindHeader paired ranged s arrivals words cells)
 
-  same-timed : (cells : List Cell) (inputs : ℕ) (x y : Graph) → x ≡ y → Fares _≡_ Places (timed (c .arrivals) cells inputs x) (timed (d .arrivals) cells inputs y)
+  -- the other call's texts, with pairs wanted or not, and delays that are ranges or not
+  textsToo : Bool → Bool → Read Design
+  textsToo paired ranged = unless (short d) 1 0 (next (readListed paired (d .library)) (behindLibrary paired ranged (d .graph) (d .arrivals) (d .words)))
+
+  same-timed : (cells : List Cell) (inputs : ℕ) (x y : Graph) → x ≡ y → Fares _≡_ Places (timed (c .paired) (isRanged (c .library)) (c .arrivals) cells inputs x) (timed (c .paired) (isRanged (c .library)) (d .arrivals) cells inputs y)
   unfolding timed
   same-timed cells inputs x y e =
       fares-next Places _≡_ _≡_ (readArrivals inputs (c .arrivals)) (readArrivals inputs (d .arrivals)) _ _
       (same-arrivals (c .arrivals) (d .arrivals) Places in-arrivals (alike .arrivals) inputs)
-      (λ es fs q. bothHold (ap₂ (λ (g : Graph) (xs : List Late). record { cells = cells; ranged = isRanged (c .library); graph = timedBy g xs }) e q))
+      (λ es fs q. bothHold (ap₂ (λ (g : Graph) (xs : List Late). record { listed = cells; cells = cellsFor (c .paired) cells; ranged = isRanged (c .library); graph = timedBy g xs }) e q))
 
-  one-graph : c .graph ≡ d .graph → (cells : List Cell) → Fares _≡_ Places (behindLibrary (c .graph) (c .arrivals) (c .words) cells) (behindLibrary (d .graph) (d .arrivals) (c .words) cells)
+  one-graph : c .graph ≡ d .graph → (cells : List Cell) → Fares _≡_ Places (behindLibrary (c .paired) (isRanged (c .library)) (c .graph) (c .arrivals) (c .words) cells) (behindLibrary (c .paired) (isRanged (c .library)) (d .graph) (d .arrivals) (c .words) cells)
   unfolding behindLibrary behindHeader
   one-graph e cells =
-      subst (λ (s : List ℕ). Fares _≡_ Places (behindLibrary (c .graph) (c .arrivals) (c .words) cells) (behindLibrary s (d .arrivals) (c .words) cells)) e
+      subst (λ (s : List ℕ). Fares _≡_ Places (behindLibrary (c .paired) (isRanged (c .library)) (c .graph) (c .arrivals) (c .words) cells) (behindLibrary (c .paired) (isRanged (c .library)) s (d .arrivals) (c .words) cells)) e
       (fares-next Places _≡_ _≡_ (readHeader (c .graph)) (readHeader (c .graph)) _ _ (alone (readHeader (c .graph)) (header-faults OfGraph refl refl refl refl (c .graph)))
       (λ h k q.
-      subst (λ (x : Header). Fares _≡_ Places (behindHeader (c .graph) (c .arrivals) (c .words) cells h) (behindHeader (c .graph) (d .arrivals) (c .words) cells x)) q
+      subst (λ (x : Header). Fares _≡_ Places (behindHeader (c .paired) (isRanged (c .library)) (c .graph) (c .arrivals) (c .words) cells h) (behindHeader (c .paired) (isRanged (c .library)) (c .graph) (d .arrivals) (c .words) cells x)) q
       (fares-unless Places _≡_ (leb (need (h .size) (h .outputs)) (c .words)) (leb (need (h .size) (h .outputs)) (c .words)) 10 0 0 _ _ refl (in-graph 10 refl 0 0 (inr (e, refl)))
       (fares-next Places _≡_ _≡_ (readGraph (c .graph) h) (readGraph (c .graph) h) _ _
       (alone (readGraph (c .graph) h) (graph-faults OfGraph (λ k. refl) (λ k. refl) (λ k. refl) (λ k. refl) (λ k. refl) (λ k. refl) (c .graph) h)) (same-timed cells (h .inputs))))))
@@ -548,7 +565,7 @@ module _ (c d : Call) (alike : AlikeTexts c d) where
       alone r f = fares-self Places r (record { has = λ n k q. in-graph n (f .has n k q) k k (inr (e, refl)) })
 
   two-graphs : isBinaryText (c .graph) ≡ false → (cells : List Cell)
-      → Fares _≡_ Places (behindLibrary (c .graph) (c .arrivals) (c .words) cells) (behindLibrary (d .graph) (d .arrivals) (c .words) cells)
+      → Fares _≡_ Places (behindLibrary (c .paired) (isRanged (c .library)) (c .graph) (c .arrivals) (c .words) cells) (behindLibrary (c .paired) (isRanged (c .library)) (d .graph) (d .arrivals) (c .words) cells)
   unfolding behindLibrary behindHeader
   two-graphs a cells =
       fares-next Places (Headers At (c .graph) (d .graph)) _≡_ (readHeader (c .graph)) (readHeader (d .graph)) _ _
@@ -556,7 +573,7 @@ module _ (c d : Call) (alike : AlikeTexts c d) where
       (λ h k r.
       fares-unless Places _≡_ (leb (need (h .size) (h .outputs)) (c .words)) (leb (need (k .size) (k .outputs)) (c .words)) 10 0 0 _ _ (needs r) (in-graph 10 refl 0 0 zero-place)
       (fares-next Places _≡_ _≡_ (readGraph (c .graph) h) (readGraph (d .graph) k) _ _ (same-graph At Places in-graph (c .graph) (d .graph) zero-place h k r)
-      (λ x y e. subst (λ (n : ℕ). Fares _≡_ Places (timed (c .arrivals) cells (h .inputs) x) (timed (d .arrivals) cells n y)) (counts r) (same-timed cells (h .inputs) x y e))))
+      (λ x y e. subst (λ (n : ℕ). Fares _≡_ Places (timed (c .paired) (isRanged (c .library)) (c .arrivals) cells (h .inputs) x) (timed (c .paired) (isRanged (c .library)) (d .arrivals) cells n y)) (counts r) (same-timed cells (h .inputs) x y e))))
     where
       At : ℕ → ℕ → Type 0
       At = SamePlace (c .graph) (d .graph)
@@ -570,29 +587,34 @@ module _ (c d : Call) (alike : AlikeTexts c d) where
       counts : {h k : Header} → Headers At (c .graph) (d .graph) h k → h .inputs ≡ k .inputs
       counts (headers n q ns b) = unfold headerOfNumbers in refl
 
-  same-behind : (cells : List Cell) → Fares _≡_ Places (behindLibrary (c .graph) (c .arrivals) (c .words) cells) (behindLibrary (d .graph) (d .arrivals) (d .words) cells)
+  same-behind : (cells : List Cell) → Fares _≡_ Places (behindLibrary (c .paired) (isRanged (c .library)) (c .graph) (c .arrivals) (c .words) cells) (behindLibrary (c .paired) (isRanged (c .library)) (d .graph) (d .arrivals) (d .words) cells)
   same-behind cells =
-      subst (λ (n : ℕ). Fares _≡_ Places (behindLibrary (c .graph) (c .arrivals) (c .words) cells) (behindLibrary (d .graph) (d .arrivals) n cells)) (alike .words)
+      subst (λ (n : ℕ). Fares _≡_ Places (behindLibrary (c .paired) (isRanged (c .library)) (c .graph) (c .arrivals) (c .words) cells) (behindLibrary (c .paired) (isRanged (c .library)) (d .graph) (d .arrivals) n cells)) (alike .words)
       (go (isBinaryText (c .graph)) refl)
     where
-      go : (b : Bool) → isBinaryText (c .graph) ≡ b → Fares _≡_ Places (behindLibrary (c .graph) (c .arrivals) (c .words) cells) (behindLibrary (d .graph) (d .arrivals) (c .words) cells)
+      go : (b : Bool) → isBinaryText (c .graph) ≡ b → Fares _≡_ Places (behindLibrary (c .paired) (isRanged (c .library)) (c .graph) (c .arrivals) (c .words) cells) (behindLibrary (c .paired) (isRanged (c .library)) (d .graph) (d .arrivals) (c .words) cells)
       go true e = one-graph (alike .binary e) cells
       go false e = two-graphs e cells
 
-  same-texts : Fares _≡_ Places (readTexts c) (readTexts d)
-  unfolding readTexts behindLibrary behindHeader timed unless
-  same-texts =
+  as-one : Fares _≡_ Places (readTexts c) (textsToo (c .paired) (isRanged (c .library)))
+  unfolding readTexts behindLibrary behindHeader timed textsToo unless
+  as-one =
       let a : leb (length (c .library)) 65536 ≡ true = le-leb (length (c .library)) 65536 (alike .short .library) in
       let b : leb (length (c .graph)) 65536 ≡ true = le-leb (length (c .graph)) 65536 (alike .short .graph) in
       let s : leb (length (c .arrivals)) 65536 ≡ true = le-leb (length (c .arrivals)) 65536 (alike .short .arrivals) in
       let e : leb (length (d .library)) 65536 ≡ true = le-leb (length (d .library)) 65536 (alike .shortToo .library) in
       let f : leb (length (d .graph)) 65536 ≡ true = le-leb (length (d .graph)) 65536 (alike .shortToo .graph) in
       let t : leb (length (d .arrivals)) 65536 ≡ true = le-leb (length (d .arrivals)) 65536 (alike .shortToo .arrivals) in
-      let r : isRanged (d .library) ≡ isRanged (c .library) = sym (same-ranged (c .library) (d .library) (alike .libraries)) in
-      rw (a, b, s, e, f, t, r)
-      (fares-next Places _≡_ _≡_ (readLibrary (c .library)) (readLibrary (d .library)) (behindLibrary (c .graph) (c .arrivals) (c .words)) (behindLibrary (d .graph) (d .arrivals) (d .words))
-      (same-library (c .library) (d .library) Places in-library (alike .libraries))
-      (λ x y q. subst (λ (z : List Cell). Fares _≡_ Places (behindLibrary (c .graph) (c .arrivals) (c .words) x) (behindLibrary (d .graph) (d .arrivals) (d .words) z)) q (same-behind x)))
+      rw (a, b, s, e, f, t)
+      (fares-next Places _≡_ _≡_ (readListed (c .paired) (c .library)) (readListed (c .paired) (d .library)) (behindLibrary (c .paired) (isRanged (c .library)) (c .graph) (c .arrivals) (c .words)) (behindLibrary (c .paired) (isRanged (c .library)) (d .graph) (d .arrivals) (d .words))
+      (same-listed (c .paired) (c .library) (d .library) Places in-library (alike .libraries))
+      (λ x y q. subst (λ (z : List Cell). Fares _≡_ Places (behindLibrary (c .paired) (isRanged (c .library)) (c .graph) (c .arrivals) (c .words) x) (behindLibrary (c .paired) (isRanged (c .library)) (d .graph) (d .arrivals) (d .words) z)) q (same-behind x)))
+
+  same-texts : Fares _≡_ Places (readTexts c) (readTexts d)
+  unfolding readTexts behindLibrary behindHeader timed textsToo
+  same-texts =
+      subst (λ (r : Bool). Fares _≡_ Places (readTexts c) (textsToo (d .paired) r)) (same-ranged (c .library) (d .library) (alike .libraries))
+      (subst (λ (b : Bool). Fares _≡_ Places (readTexts c) (textsToo b (isRanged (c .library)))) (alike .paired) as-one)
 
   same-design : (x : Design) → readTexts c ≡ holds x → readTexts d ≡ holds x
   same-design = fares-holds Places (readTexts c) (readTexts d) same-texts

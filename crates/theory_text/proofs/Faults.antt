@@ -13,6 +13,8 @@ use Rattle.model.specs.Reading.{Read, holds, fault, next, unless, from?}
 use Rattle.model.specs.Cells.{nameOf}
 use Rattle.model.specs.Graph.{varOf}
 use Rattle.model.specs.LibraryText.{cellOfLine, isClean, noLower, isShorter, isLonger, readCells, readLibraryLines, readLibrary}
+use Rattle.model.specs.Pairs.{cellsFor}
+use Rattle.model.specs.Mapper.{readListed}
 use Rattle.model.specs.GraphText.{closed, headerOfNumbers, headerOf, inLimits, inSequence, readHeader, Kind, anOutput, anAnd, defines, due, Item, itemLiterals, readDue, Passed, difference, lessBy, readAnds, behindLines, inputItems, readBinary, readItems, uses, definedBy, checkUses, graphOf, readGraph}
 use Rattle.model.specs.ArrivalsText.{Late, lateNumbers, readLate, readLateLines, readArrivals}
 use Rattle.model.specs.declared.Cell.{Cell}
@@ -173,6 +175,13 @@ module _ (P : ℕ → ℕ → Type 0) where
       go : (ls : List Line) → Faults P (readLibraryLines ls)
       go [] = in-fault P 2 0 p2
       go (l ∷ ls) = in-unless P (ended l && (isShorter l || isLonger l)) 2 0 (readCells (isLonger l) 0 [] ls) (λ _. p2) (cells-faults p3 p4 p5 p6 p27 (isLonger l) 0 [] ls)
+
+  -- 2 to 6, 27 and 30
+  pub listed-faults : P 2 0 → ((k : ℕ) → P 3 k) → ((k : ℕ) → P 4 k) → ((k : ℕ) → P 5 k) → ((k : ℕ) → P 6 k) → ((k : ℕ) → P 27 k) → P 30 0 → (paired : Bool) (s : List ℕ) → Faults P (readListed paired s)
+  unfolding readListed
+  listed-faults p2 p3 p4 p5 p6 p27 p30 paired s =
+      in-next P (readLibrary s) (λ cells. unless (leb (length (cellsFor paired cells)) 256) 30 0 (holds cells)) (library-faults p2 p3 p4 p5 p6 p27 s)
+      (λ cells _. in-unless P (leb (length (cellsFor paired cells)) 256) 30 0 (holds cells) (λ _. p30) (in-holds P cells))
 
   -- 25 and 26
   late-faults : ((k : ℕ) → P 25 k) → ((k : ℕ) → P 26 k) → (inputs : ℕ) (before : List ℕ) (ls : List Line) → Faults P (readLate inputs before ls)

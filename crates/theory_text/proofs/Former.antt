@@ -2,7 +2,7 @@
 use Prim.Native.Nat.{ℕ, zero, suc, _^_, _≤_}
 use native.Mathlib.Nat.{le-refl, le-of-suc-le-suc, not-suc-le-zero}
 use native.Mathlib.Omega.{arith}
-use mathlib.Core.Path.{_≡_, refl, sym, _∙_, ap, subst}
+use mathlib.Core.Path.{_≡_, refl, sym, _∙_, ap, ap₂, subst}
 use mathlib.Core.Bool.{Bool, true, false, not, cond, _&&_, _||_}
 use mathlib.Core.Option.{Option, none, some}
 use mathlib.Core.List.{List, [], _∷_, List·Memᴰ}
@@ -16,18 +16,19 @@ use Rattle.model.specs.Reading.{Read, holds, fault, next, unless, from?}
 use Rattle.model.specs.Cells.{nameOf}
 use Rattle.model.specs.Graph.{Graph}
 use Rattle.model.specs.LibraryText.{nameBytes, cellOfFields, cellOfLine, isClean, noLower, isShorter, isLonger, readCells, readLibraryLines, rangedLines, readLibrary, isRanged}
+use Rattle.model.specs.Pairs.{cellsFor}
 use Rattle.model.specs.FormerLibrary.{formerFields, formerLine, formerClean, formerCells, formerLines, formerLibrary}
 use Rattle.model.specs.GraphText.{readHeader, readGraph}
 use Rattle.model.specs.ArrivalsText.{readArrivals, timedBy}
 use Rattle.model.specs.Netlist.{Outcome, refused, mapped, mapGraph}
 use Rattle.model.specs.Timing.{followed}
-use Rattle.model.specs.Mapper.{Call, Design, short, readTexts, within, mapDesign, mapTexts}
+use Rattle.model.specs.Mapper.{Call, Design, short, readListed, readTexts, within, mapDesign, mapTexts}
 use Rattle.model.specs.Demands.{readFormer, formerOutcome, Former}
 use Rattle.model.specs.declared.Cell.{Cell}
 use Rattle.model.specs.declared.Header.{Header}
 use Rattle.theory_graph.proofs.Lists.{is-true}
 use Rattle.theory_text.proofs.Steps.{from-out, then-out, only-out, numbers-length}
-use Rattle.theory_text.proofs.ReadTexts.{texts-read}
+use Rattle.theory_text.proofs.ReadTexts.{texts-read, listed-plain}
 use Rattle.theory_text.proofs.Arrivals.{next-same}
 
 -- ---- a line
@@ -143,22 +144,22 @@ library-former s e = lines-former (linesFrom 0 [] s) e
 
 -- ---- the call
 
-reads-former : (c : Call) → isRanged (c .library) ≡ false → readTexts c ≡ readFormer c
-unfolding readTexts
-reads-former c e =
-    ap (λ (r : Bool). unless (short c) 1 0 (next (readLibrary (c .library)) (behind r))) e
-    ∙ ap (λ (r : Read (List Cell)). unless (short c) 1 0 (next r (behind false))) (library-former (c .library) e)
+reads-former : (c : Call) → c .paired ≡ false → isRanged (c .library) ≡ false → readTexts c ≡ readFormer c
+unfolding readTexts cellsFor
+reads-former c p e =
+    ap₂ (λ (b r : Bool). unless (short c) 1 0 (next (readListed b (c .library)) (behind b r))) p e
+    ∙ ap (λ (r : Read (List Cell)). unless (short c) 1 0 (next r (behind false false))) (listed-plain (c .library) ∙ library-former (c .library) e)
   where
-    behind : Bool → List Cell → Read Design
-    behind r cells =
+    behind : Bool → Bool → List Cell → Read Design
+    behind b r cells =
         next (readHeader (c .graph)) (λ h.
         unless (leb (need (h .size) (h .outputs)) (c .words)) 10 0
         (next (readGraph (c .graph) h) (λ g.
-        next (readArrivals (h .inputs) (c .arrivals)) (λ es. holds (record { cells = cells; ranged = r; graph = timedBy g es })))))
+        next (readArrivals (h .inputs) (c .arrivals)) (λ es. holds (record { listed = cells; cells = cellsFor b cells; ranged = r; graph = timedBy g es })))))
 
-outcome-former : (c : Call) → isRanged (c .library) ≡ false → mapTexts c ≡ formerOutcome (c .bytes) (readFormer c)
+outcome-former : (c : Call) → c .paired ≡ false → isRanged (c .library) ≡ false → mapTexts c ≡ formerOutcome (c .bytes) (readFormer c)
 unfolding mapTexts mapDesign formerOutcome followed
-outcome-former c e = go (readTexts c) refl ∙ ap (formerOutcome (c .bytes)) (reads-former c e)
+outcome-former c p e = go (readTexts c) refl ∙ ap (formerOutcome (c .bytes)) (reads-former c p e)
   where
     unfollowed : (cells : List Cell) (g : Graph) (o : Outcome) → followed false cells g o ≡ o
     unfollowed cells g (refused n k) = refl
@@ -167,8 +168,8 @@ outcome-former c e = go (readTexts c) refl ∙ ap (formerOutcome (c .bytes)) (re
     go : (r : Read Design) → readTexts c ≡ r → mapDesign (c .bytes) r ≡ formerOutcome (c .bytes) r
     go (fault n k) q = refl
     go (holds d) q =
-        ap (λ (b : Bool). within (c .bytes) (followed b (d .cells) (d .graph) (mapGraph (d .cells) (d .graph)))) (sym (texts-read c d q .isRange) ∙ e)
-        ∙ ap (within (c .bytes)) (unfollowed (d .cells) (d .graph) (mapGraph (d .cells) (d .graph)))
+        ap (λ (b : Bool). within (c .bytes) (followed b (d .cells) (d .graph) (mapGraph (d .listed) (d .cells) (d .graph)))) (sym (texts-read c d q .isRange) ∙ e)
+        ∙ ap (within (c .bytes)) (unfollowed (d .cells) (d .graph) (mapGraph (d .listed) (d .cells) (d .graph)))
 
 pub demand-former : (c : Call) → Former c
 demand-former c = record { reads = reads-former c; outcome = outcome-former c }

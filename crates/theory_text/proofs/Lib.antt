@@ -15,6 +15,7 @@ pub mod DueBack
 pub mod Sequence
 pub mod Twins
 pub mod ReadTexts
+pub mod CellLines
 pub mod Arrivals
 pub mod Former
 pub mod Ends

@@ -13,7 +13,7 @@ use Rattle.model.specs.Base.{all, same}
 use Rattle.model.specs.Text.{digits, decimal, asDigits, isName}
 use Rattle.model.specs.Cells.{nameOf}
 use Rattle.model.specs.Graph.{varOf, negated, literal}
-use Rattle.model.specs.Netlist.{Gate, netName}
+use Rattle.model.specs.Netlist.{Net, ofPhase, ofPair, Gate, netName, label}
 use Rattle.model.specs.Blif.{Binding, named, drives, fedBy, pinNames, outputName}
 use Rattle.model.specs.declared.Cell.{Cell}
 use Rattle.theory_graph.proofs.Lists.{same-refl, all-of}
@@ -74,8 +74,8 @@ named-cell (d ∷ cs) t c (List·Memᴰ·tail m) =
 pub record Bound (cells : List Cell) (t : Gate) : Type 0 where
   pub isNamed : T (isName (nameOf (t .cell)))
   pub isCell : named cells (lineOf t .cell) ≡ t .cell
-  pub isDriven : drives (lineOf t) ≡ netName (t .net)
-  pub isFed : fedBy cells (lineOf t) ≡ map netName (t .pins)
+  pub isDriven : drives (lineOf t) ≡ label (t .net)
+  pub isFed : fedBy cells (lineOf t) ≡ map label (t .pins)
   pub isBound : map (λ (p : Binding). p .pin) (lineOf t .bindings) ≡ pinNames (t .cell .pins) ++ (outputName ∷ [])
 
 pub gate-bound : (cells : List Cell) → T (libraryFits cells) → (t : Gate) → List·Memᴰ (t .cell) cells → length (t .pins) ≡ t .cell .pins → Bound cells t
@@ -128,3 +128,20 @@ net-once l k e =
     phase true false h = let z : ⊥ = omega arith in absurd z
     phase false true h = let z : ⊥ = omega arith in absurd z
     phase false false h = refl
+
+-- the letter of a phase is no `s`
+net-plain : (l k : ℕ) → ¬ (netName l ≡ 115 ∷ netName k)
+unfolding netName
+net-plain l k e = go (negated l) (head-eq-of-cons-eq e)
+  where
+    go : (b : Bool) → ¬ (_≡_ {A = ℕ} (cond b 109 112) 115)
+    go true q = omega arith
+    go false q = omega arith
+
+-- and no two nets of gates share one
+pub label-once : (m n : Net) → label m ≡ label n → m ≡ n
+unfolding label
+label-once (ofPhase l) (ofPhase k) e = ap ofPhase (net-once l k e)
+label-once (ofPhase l) (ofPair k) e = absurd (net-plain l k e)
+label-once (ofPair l) (ofPhase k) e = absurd (net-plain k l (sym e))
+label-once (ofPair l) (ofPair k) e = ap ofPair (net-once l k (tail-eq-of-cons-eq e))

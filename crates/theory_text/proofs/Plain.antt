@@ -12,7 +12,7 @@ use Rattle.theory_graph.proofs.Lists.{is-false}
 use Rattle.model.specs.Base.{all}
 use Rattle.model.specs.Text.{digits, decimal, between, isLetter, isNameByte, isName}
 use Rattle.model.specs.Graph.{negated, varOf}
-use Rattle.model.specs.Netlist.{netName}
+use Rattle.model.specs.Netlist.{Net, ofPhase, ofPair, netName, label}
 
 -- the byte s is not in the list
 abbrev pub Free : ℕ → List ℕ → Type 0
@@ -47,6 +47,11 @@ net-free s l h = (go (negated l), decimal-free s (varOf l) h)
     go : (b : Bool) → eqb (cond b 109 112) s ≡ false
     go true = above s 109 (omega arith)
     go false = above s 112 (omega arith)
+
+pub label-free : (s : ℕ) (n : Net) → s < 48 → Free s (label n)
+unfolding label
+label-free s (ofPhase l) h = net-free s l h
+label-free s (ofPair l) h = (above s 115 (omega arith), net-free s l h)
 
 -- ---- a cell's name
 

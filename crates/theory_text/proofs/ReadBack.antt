@@ -12,13 +12,13 @@ use Rattle.model.specs.Base.{each, same, andThen, only, from, below}
 use Rattle.model.specs.Text.{text, decimal, onto, split, parts, isName}
 use Rattle.model.specs.Cells.{nameOf}
 use Rattle.model.specs.Graph.{Graph, literal}
-use Rattle.model.specs.Netlist.{Gate, netName, outName, pinWords, gateLine, namesLine, wireLine, wireLines, netlistText}
+use Rattle.model.specs.Netlist.{Net, Gate, netName, label, outName, pinWords, gateLine, namesLine, wireLine, wireLines, netlistText}
 use Rattle.model.specs.Blif.{Binding, GateLine, Wire, Blif, Body, longer, binding, bindingsOf, afterWord, wordsAfter, gateOf, readGate, wireOf, readWire, readWires, bodyFrom, readBody, readLines, readBlif, named, netAt, pinNames, outputName, drives, fedBy}
 use Rattle.model.specs.declared.Cell.{Cell}
 use Rattle.model.specs.declared.Figures.{Figures}
 use Rattle.theory_graph.proofs.Lists.{map-map, map-same, is-true, is-false}
 use Rattle.theory_graph.proofs.Distinct.{from-low}
-use Rattle.theory_text.proofs.Plain.{Free, above, free-append, decimal-free, net-free, Plain, plain, name-plain}
+use Rattle.theory_text.proofs.Plain.{Free, above, free-append, decimal-free, net-free, label-free, Plain, plain, name-plain}
 
 -- ---- parts
 
@@ -104,48 +104,48 @@ wire-plain = plain {b = 46} {w = 110 ∷ 97 ∷ 109 ∷ 101 ∷ 115 ∷ []} (ref
 -- ---- a gate line
 
 -- the words of a gate's pins and output
-pinWs : ℕ → List ℕ → ℕ → List (List ℕ)
-pinWs b [] o = (79 ∷ 61 ∷ netName o) ∷ []
-pinWs b (l ∷ ls) o = (b ∷ 61 ∷ netName l) ∷ pinWs (suc b) ls o
+pinWs : ℕ → List Net → Net → List (List ℕ)
+pinWs b [] o = (79 ∷ 61 ∷ label o) ∷ []
+pinWs b (l ∷ ls) o = (b ∷ 61 ∷ label l) ∷ pinWs (suc b) ls o
 
-word-free : (s b l : ℕ) → s < 48 → 48 < b → Free s (b ∷ 61 ∷ netName l)
-word-free s b l h k = (above s b (omega arith), (above s 61 (omega arith), net-free s l h))
+word-free : (s b : ℕ) (l : Net) → s < 48 → 48 < b → Free s (b ∷ 61 ∷ label l)
+word-free s b l h k = (above s b (omega arith), (above s 61 (omega arith), label-free s l h))
 
-pins-words : (c : ℕ) (w : List ℕ) → Free 32 (c ∷ w) → (b : ℕ) → 48 < b → (ls : List ℕ) (o : ℕ)
+pins-words : (c : ℕ) (w : List ℕ) → Free 32 (c ∷ w) → (b : ℕ) → 48 < b → (ls : List Net) (o : Net)
     → parts 32 ((c ∷ w) ++ (pinWords b ls ++ pinWords 79 (o ∷ []))) ≡ (c ∷ w) ∷ pinWs b ls o
 unfolding pinWords pinWs
 pins-words c w f b h [] o =
-    parts-line 32 (c ∷ w) (79 ∷ 61 ∷ netName o ++ []) f
-    ∙ ap (λ (n : List ℕ). (c ∷ w) ∷ parts 32 (79 ∷ 61 ∷ n)) (append-nil (netName o))
-    ∙ ap (λ (ps : List (List ℕ)). (c ∷ w) ∷ ps) (parts-last 32 79 (61 ∷ netName o) (word-free 32 79 o (lit< tt) (lit< tt)))
+    parts-line 32 (c ∷ w) (79 ∷ 61 ∷ label o ++ []) f
+    ∙ ap (λ (n : List ℕ). (c ∷ w) ∷ parts 32 (79 ∷ 61 ∷ n)) (append-nil (label o))
+    ∙ ap (λ (ps : List (List ℕ)). (c ∷ w) ∷ ps) (parts-last 32 79 (61 ∷ label o) (word-free 32 79 o (lit< tt) (lit< tt)))
 pins-words c w f b h (l ∷ ls) o =
-    ap (λ (n : List ℕ). parts 32 ((c ∷ w) ++ (32 ∷ b ∷ 61 ∷ n))) (append-assoc (netName l) (pinWords (suc b) ls) (pinWords 79 (o ∷ [])))
-    ∙ parts-line 32 (c ∷ w) (b ∷ 61 ∷ netName l ++ (pinWords (suc b) ls ++ pinWords 79 (o ∷ []))) f
-    ∙ ap (λ (ps : List (List ℕ)). (c ∷ w) ∷ ps) (pins-words b (61 ∷ netName l) (word-free 32 b l (lit< tt) h) (suc b) (omega arith) ls o)
+    ap (λ (n : List ℕ). parts 32 ((c ∷ w) ++ (32 ∷ b ∷ 61 ∷ n))) (append-assoc (label l) (pinWords (suc b) ls) (pinWords 79 (o ∷ [])))
+    ∙ parts-line 32 (c ∷ w) (b ∷ 61 ∷ label l ++ (pinWords (suc b) ls ++ pinWords 79 (o ∷ []))) f
+    ∙ ap (λ (ps : List (List ℕ)). (c ∷ w) ∷ ps) (pins-words b (61 ∷ label l) (word-free 32 b l (lit< tt) h) (suc b) (omega arith) ls o)
 
-pins-free : (b : ℕ) (ls : List ℕ) → 48 < b → Free 10 (pinWords b ls)
+pins-free : (b : ℕ) (ls : List Net) → 48 < b → Free 10 (pinWords b ls)
 unfolding pinWords
 pins-free b [] h = tt
 pins-free b (l ∷ ls) h =
-    (refl, (above 10 b (omega arith), (refl, free-append 10 (netName l) (pinWords (suc b) ls) (net-free 10 l (lit< tt)) (pins-free (suc b) ls (omega arith)))))
+    (refl, (above 10 b (omega arith), (refl, free-append 10 (label l) (pinWords (suc b) ls) (label-free 10 l (lit< tt)) (pins-free (suc b) ls (omega arith)))))
 
 -- what pins from letter b on, and then the output, are bound to
-unfoldable pub bindingsFrom : ℕ → List ℕ → ℕ → List Binding
-bindingsFrom b [] o = record { pin = outputName; net = netName o } ∷ []
-bindingsFrom b (l ∷ ls) o = record { pin = b ∷ []; net = netName l } ∷ bindingsFrom (suc b) ls o
+unfoldable pub bindingsFrom : ℕ → List Net → Net → List Binding
+bindingsFrom b [] o = record { pin = outputName; net = label o } ∷ []
+bindingsFrom b (l ∷ ls) o = record { pin = b ∷ []; net = label l } ∷ bindingsFrom (suc b) ls o
 
-read-binding : (b l : ℕ) → 61 < b → binding (b ∷ 61 ∷ netName l) ≡ some (record { pin = b ∷ []; net = netName l })
+read-binding : (b : ℕ) (l : Net) → 61 < b → binding (b ∷ 61 ∷ label l) ≡ some (record { pin = b ∷ []; net = label l })
 unfolding binding andThen longer
 read-binding b l h =
-    ap (λ (t : Bool). cond t (some (record { pin = []; net = 61 ∷ netName l })) (some (record { pin = b ∷ []; net = netName l }))) (above 61 b h)
+    ap (λ (t : Bool). cond t (some (record { pin = []; net = 61 ∷ label l })) (some (record { pin = b ∷ []; net = label l }))) (above 61 b h)
 
-read-bindings : (b : ℕ) → 61 < b → (ls : List ℕ) (o : ℕ) → bindingsOf (pinWs b ls o) ≡ some (bindingsFrom b ls o)
+read-bindings : (b : ℕ) → 61 < b → (ls : List Net) (o : Net) → bindingsOf (pinWs b ls o) ≡ some (bindingsFrom b ls o)
 unfolding bindingsOf pinWs andThen bindingsFrom
 read-bindings b h [] o =
     ap (λ (x : Option Binding). andThen x (λ p. some (p ∷ []))) (read-binding 79 o (lit< tt))
 read-bindings b h (l ∷ ls) o =
     ap (λ (x : Option Binding). andThen x (λ p. andThen (bindingsOf (pinWs (suc b) ls o)) (λ ps. some (p ∷ ps)))) (read-binding b l h)
-    ∙ ap (λ (x : Option (List Binding)). andThen x (λ ps. some (record { pin = b ∷ []; net = netName l } ∷ ps))) (read-bindings (suc b) (omega arith) ls o)
+    ∙ ap (λ (x : Option (List Binding)). andThen x (λ ps. some (record { pin = b ∷ []; net = label l } ∷ ps))) (read-bindings (suc b) (omega arith) ls o)
 
 -- what a gate prints, as it is read
 unfoldable pub lineOf : Gate → GateLine
@@ -153,11 +153,11 @@ unfolding bindingsFrom nameOf
 lineOf t = record { cell = nameOf (t .cell); bindings = bindingsFrom 65 (t .pins) (t .net) }
 
 -- a gate line without its line end
-unfoldable pub body : List ℕ → List ℕ → ℕ → List ℕ
+unfoldable pub body : List ℕ → List Net → Net → List ℕ
 unfolding text pinWords
 body name ls o = text ".gate " ++ (name ++ (pinWords 65 ls ++ pinWords 79 (o ∷ [])))
 
-read-gate : (name : List ℕ) → Plain name → (ls : List ℕ) (o : ℕ) → readGate (body name ls o) ≡ some (record { cell = name; bindings = bindingsFrom 65 ls o })
+read-gate : (name : List ℕ) → Plain name → (ls : List Net) (o : Net) → readGate (body name ls o) ≡ some (record { cell = name; bindings = bindingsFrom 65 ls o })
 unfolding readGate wordsAfter afterWord body text same only andThen gateOf
 read-gate name (plain {b = b} {w = w} f h) ls o =
     ap (λ (ps : List (List ℕ)). andThen (afterWord (text ".gate") ps) gateOf)
@@ -165,7 +165,7 @@ read-gate name (plain {b = b} {w = w} f h) ls o =
     ∙ ap (λ (ps : List (List ℕ)). text ".gate" ∷ ps) (pins-words b w f 65 (lit< tt) ls o))
     ∙ ap (λ (x : Option (List Binding)). andThen x (λ ps. some (record { cell = b ∷ w; bindings = ps }))) (read-bindings 65 (lit< tt) ls o)
 
-body-free : (name : List ℕ) → Plain name → (ls : List ℕ) (o : ℕ) → Free 10 (body name ls o)
+body-free : (name : List ℕ) → Plain name → (ls : List Net) (o : Net) → Free 10 (body name ls o)
 unfolding body text
 body-free name (plain f h) ls o = (
   refl,
@@ -412,7 +412,7 @@ read-back g ts f after h =
 -- ---- what a gate line says
 
 -- the pins A, B .. and the output O are bound, in this order
-pins-from : (i b : ℕ) → b ≡ 65 + i → (ls : List ℕ) (o : ℕ)
+pins-from : (i b : ℕ) → b ≡ 65 + i → (ls : List Net) (o : Net)
     → map (λ (p : Binding). p .pin) (bindingsFrom b ls o) ≡ map (λ (j : ℕ). (65 + j) ∷ []) (from i (length ls)) ++ (outputName ∷ [])
 unfolding bindingsFrom from
 pins-from i b e [] o = refl
@@ -432,32 +432,32 @@ at-later : (b c : ℕ) → ¬ (b ≡ c) → (net : List ℕ) (ps : List Binding)
 unfolding netAt same
 at-later b c d net ps = ap (λ (t : Bool). cond (t && true) net (netAt ps (c ∷ []))) (is-false (eqb b c) (no-eqb d))
 
-drives-from : (b : ℕ) (ls : List ℕ) (o : ℕ) → b + length ls ≤ 79 → netAt (bindingsFrom b ls o) outputName ≡ netName o
+drives-from : (b : ℕ) (ls : List Net) (o : Net) → b + length ls ≤ 79 → netAt (bindingsFrom b ls o) outputName ≡ label o
 unfolding bindingsFrom
-drives-from b [] o h = at-first 79 79 refl (netName o) []
+drives-from b [] o h = at-first 79 79 refl (label o) []
 drives-from b (l ∷ ls) o h =
-    at-later b 79 (let d : ¬ (b ≡ 79) = λ e. omega arith in d) (netName l) (bindingsFrom (suc b) ls o) ∙ drives-from (suc b) ls o (omega arith)
+    at-later b 79 (let d : ¬ (b ≡ 79) = λ e. omega arith in d) (label l) (bindingsFrom (suc b) ls o) ∙ drives-from (suc b) ls o (omega arith)
 
 -- a gate's line drives the gate's net
-pub line-drives : (t : Gate) → length (t .pins) ≤ 4 → drives (lineOf t) ≡ netName (t .net)
+pub line-drives : (t : Gate) → length (t .pins) ≤ 4 → drives (lineOf t) ≡ label (t .net)
 unfolding lineOf drives
 line-drives t h = drives-from 65 (t .pins) (t .net) (omega arith)
 
-fed-from : (i b : ℕ) → b ≡ 65 + i → (ls : List ℕ) (o : ℕ)
-    → map (λ (j : ℕ). netAt (bindingsFrom b ls o) ((65 + j) ∷ [])) (from i (length ls)) ≡ map netName ls
+fed-from : (i b : ℕ) → b ≡ 65 + i → (ls : List Net) (o : Net)
+    → map (λ (j : ℕ). netAt (bindingsFrom b ls o) ((65 + j) ∷ [])) (from i (length ls)) ≡ map label ls
 unfolding bindingsFrom from
 fed-from i b e [] o = refl
 fed-from i b e (l ∷ ls) o =
-    ap₂ (λ (n : List ℕ) (ns : List (List ℕ)). n ∷ ns) (at-first b (65 + i) e (netName l) (bindingsFrom (suc b) ls o))
+    ap₂ (λ (n : List ℕ) (ns : List (List ℕ)). n ∷ ns) (at-first b (65 + i) e (label l) (bindingsFrom (suc b) ls o))
     (map-same (λ (j : ℕ). netAt (bindingsFrom b (l ∷ ls) o) ((65 + j) ∷ [])) (λ (j : ℕ). netAt (bindingsFrom (suc b) ls o) ((65 + j) ∷ [])) (from (suc i) (length ls)) later
     ∙ fed-from (suc i) (suc b) (omega arith) ls o)
   where
     later : (j : ℕ) → List·Memᴰ j (from (suc i) (length ls)) → netAt (bindingsFrom b (l ∷ ls) o) ((65 + j) ∷ []) ≡ netAt (bindingsFrom (suc b) ls o) ((65 + j) ∷ [])
     later j m =
-        at-later b (65 + j) (let d : ¬ (b ≡ 65 + j) = λ q. omega (arith, from-low (length ls) (suc i) j m) in d) (netName l) (bindingsFrom (suc b) ls o)
+        at-later b (65 + j) (let d : ¬ (b ≡ 65 + j) = λ q. omega (arith, from-low (length ls) (suc i) j m) in d) (label l) (bindingsFrom (suc b) ls o)
 
 -- the nets of a gate's pins feed its line, where the library has the gate's cell by its name
-pub line-fed : (cells : List Cell) (t : Gate) → named cells (nameOf (t .cell)) ≡ t .cell → t .cell .pins ≡ length (t .pins) → fedBy cells (lineOf t) ≡ map netName (t .pins)
+pub line-fed : (cells : List Cell) (t : Gate) → named cells (nameOf (t .cell)) ≡ t .cell → t .cell .pins ≡ length (t .pins) → fedBy cells (lineOf t) ≡ map label (t .pins)
 unfolding lineOf fedBy pinNames below
 line-fed cells t e n =
     ap (λ (c : Cell). map (netAt (bindingsFrom 65 (t .pins) (t .net))) (pinNames (c .pins))) e

@@ -1,20 +1,23 @@
 -- Texts that are read give a library that fits and a graph that is in the limits, and accepted if all its ANDs can be placed. Assumes nothing.
-use Prim.Native.Nat.{_≤_}
+use Prim.Native.Nat.{ℕ, _≤_}
+use native.Mathlib.Omega.{arith}
 use mathlib.Core.Path.{_≡_, refl, sym, _∙_, ap, subst}
-use mathlib.Core.Bool.{_&&_}
+use mathlib.Core.Bool.{Bool, false, _&&_}
 use mathlib.Core.List.{List, [], List·Memᴰ}
-use lib.Dec.{T, leb}
+use lib.Dec.{T, leb, le→leb}
 use lib.ListN.{length}
 use mir.Facts.{and-yes, leb-yes}
 use Rattle.model.specs.Limits.{need}
-use Rattle.model.specs.Reading.{holds}
+use Rattle.model.specs.Reading.{Read, holds, fault, next, unless}
 use Rattle.model.specs.LibraryText.{readLibrary, isRanged, isClean, noLower}
+use Rattle.model.specs.Pairs.{cellsFor}
 use Rattle.model.specs.GraphText.{readHeader, readGraph}
 use Rattle.model.specs.ArrivalsText.{Late, readArrivals, timedBy}
 use Rattle.model.specs.Graph.{Graph, unplaced}
-use Rattle.model.specs.Mapper.{Call, Design, short, readTexts}
+use Rattle.model.specs.Mapper.{Call, Design, designOf, short, readListed, readTexts}
 use Rattle.model.specs.declared.Cell.{Cell}
 use Rattle.model.specs.declared.Header.{Header}
+use Rattle.theory_graph.proofs.Lists.{is-true}
 use Rattle.theory_graph.specs.Accepted.{Accepted, libraryFits}
 use Rattle.theory_graph.proofs.Timed.{timed-accepted, timed-unplaced}
 use Rattle.theory_text.proofs.Steps.{holds-once, unless-out, next-out}
@@ -22,13 +25,34 @@ use Rattle.theory_text.proofs.ReadLibrary.{Written, library-fits, libra
 use Rattle.theory_text.specs.Fits.{GraphFits}
 use Rattle.theory_text.proofs.ReadGraph.{graph-accepted, graph-fits}
 
+-- the listed cells were read, and with their pairs, where these are wanted, they are few enough
+pub listed-read : (paired : Bool) (s : List ℕ) (cells : List Cell) → readListed paired s ≡ holds cells → (readLibrary s ≡ holds cells) × (length (cellsFor paired cells) ≤ 256)
+unfolding readListed
+listed-read paired s cells e =
+    let a = next-out (readLibrary s) _ cells e in
+    let b = unless-out (leb (length (cellsFor paired (a .0))) 256) 30 0 (holds (a .0)) cells (a .2) in
+    subst (λ (cs : List Cell). (readLibrary s ≡ holds cs) × (length (cellsFor paired cs) ≤ 256)) (holds-once (b .1)) (a .1, leb-yes (b .0))
+
+-- where no pairs are wanted a library's text holds what it lists, which are 32 cells at most
+pub listed-plain : (s : List ℕ) → readListed false s ≡ readLibrary s
+unfolding readListed cellsFor next unless
+listed-plain s = go (readLibrary s) refl
+  where
+    go : (r : Read (List Cell)) → readLibrary s ≡ r → next r (λ cells. unless (leb (length cells) 256) 30 0 (holds cells)) ≡ r
+    go (fault n k) e = refl
+    go (holds cs) e =
+        let few : length cs ≤ 32 = library-few s cs e in
+        ap (λ (b : Bool). unless b 30 0 (holds cs)) (is-true (leb (length cs) 256) (le→leb (length cs) 256 (omega arith)))
+
 -- the texts were read: the library's, the header's, the graph's, which is the design's but for its arrivals, with words enough, and the arrivals'
 pub record Texts (c : Call) (d : Design) : Type 0 where
   pub header : Header
   pub shortLibrary : length (c .library) ≤ 65536
   pub shortGraph : length (c .graph) ≤ 65536
   pub isRange : isRanged (c .library) ≡ d .ranged
-  pub isLibrary : readLibrary (c .library) ≡ holds (d .cells)
+  pub isLibrary : readLibrary (c .library) ≡ holds (d .listed)
+  pub areCells : cellsFor (c .paired) (d .listed) ≡ d .cells
+  pub fewCells : length (d .cells) ≤ 256
   pub isHeader : readHeader (c .graph) ≡ holds header
   pub enough : need (header .size) (header .outputs) ≤ c .words
   pub meant : Graph
@@ -44,17 +68,20 @@ texts-read c d e =
     let a = unless-out (short c) 1 0 _ d e in
     let p = and-yes (leb (length (c .library)) 65536) (leb (length (c .graph)) 65536 && leb (length (c .arrivals)) 65536) (a .0) in
     let q = and-yes (leb (length (c .graph)) 65536) (leb (length (c .arrivals)) 65536) (p .1) in
-    let b = next-out (readLibrary (c .library)) _ d (a .1) in
+    let b = next-out (readListed (c .paired) (c .library)) _ d (a .1) in
+    let l = listed-read (c .paired) (c .library) (b .0) (b .1) in
     let k = next-out (readHeader (c .graph)) _ d (b .2) in
     let f = unless-out (leb (need (k .0 .size) (k .0 .outputs)) (c .words)) 10 0 _ d (k .2) in
     let g = next-out (readGraph (c .graph) (k .0)) _ d (f .1) in
-    let t = next-out (readArrivals (k .0 .inputs) (c .arrivals)) (λ es. holds (record { cells = b .0; ranged = isRanged (c .library); graph = timedBy (g .0) es })) d (g .2) in
+    let t = next-out (readArrivals (k .0 .inputs) (c .arrivals)) (λ es. holds (designOf c (b .0) (timedBy (g .0) es))) d (g .2) in
     subst (Texts c) (holds-once (t .2)) (record {
       header = k .0;
       shortLibrary = leb-yes (p .0);
       shortGraph = leb-yes (q .0);
-      isLibrary = b .1;
+      isLibrary = l .0;
       isRange = refl;
+      areCells = refl;
+      fewCells = l .1;
       isHeader = k .1;
       enough = leb-yes (f .0);
       meant = g .0;
@@ -72,18 +99,18 @@ timed-fits g es f = record { size = f .size; outputs = f .outputs; variables = f
 
 module _ (c : Call) (d : Design) (e : readTexts c ≡ holds d) where
   -- the library is free of refusals 3 to 6
-  pub design-library : T (libraryFits (d .cells))
-  design-library = library-fits (c .library) (d .cells) (texts-read c d e .isLibrary)
+  pub design-library : T (libraryFits (d .listed))
+  design-library = library-fits (c .library) (d .listed) (texts-read c d e .isLibrary)
 
-  pub design-few : length (d .cells) ≤ 32
-  design-few = library-few (c .library) (d .cells) (texts-read c d e .isLibrary)
+  pub design-few : length (d .listed) ≤ 32
+  design-few = library-few (c .library) (d .listed) (texts-read c d e .isLibrary)
 
-  pub design-written : (k : Cell) → List·Memᴰ k (d .cells) → Written k × T (isClean k)
-  design-written = library-written (c .library) (d .cells) (texts-read c d e .isLibrary)
+  pub design-written : (k : Cell) → List·Memᴰ k (d .listed) → Written k × T (isClean k)
+  design-written = library-written (c .library) (d .listed) (texts-read c d e .isLibrary)
 
   -- and of 27
-  pub design-ranged : (k : Cell) → List·Memᴰ k (d .cells) → T (noLower (k .lows) (k .delays))
-  design-ranged = library-ranged (c .library) (d .cells) (texts-read c d e .isLibrary)
+  pub design-ranged : (k : Cell) → List·Memᴰ k (d .listed) → T (noLower (k .lows) (k .delays))
+  design-ranged = library-ranged (c .library) (d .listed) (texts-read c d e .isLibrary)
 
   -- the graph is free of refusals 9 and 12
   pub design-graph : GraphFits (d .graph)

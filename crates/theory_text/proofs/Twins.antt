@@ -18,10 +18,9 @@ use Rattle.model.specs.Reading.{Read, holds, next, unless, from?}
 use Rattle.model.specs.Graph.{And, Graph, varOf}
 use Rattle.model.specs.GraphText.{closed, headerOfNumbers, headerOf, inLimits, inSequence, readHeader, Kind, anInput, anOutput, anAnd, howMany, defines, due, Item, readDue, readItems, uses, definedBy, checkUses, isKind, sameKind, graphOf, readGraph, numbersLine, asciiText}
 use Rattle.model.specs.ArrivalsText.{readArrivals, timedBy}
-use Rattle.model.specs.Mapper.{Call, Design, readTexts, mapDesign, mapTexts}
+use Rattle.model.specs.Mapper.{Call, Design, designOf, readListed, readTexts, mapDesign, mapTexts}
 use Rattle.model.specs.Demands.{Distinct, Means, onGraph}
 use Rattle.model.specs.Limits.{need}
-use Rattle.model.specs.LibraryText.{readLibrary, isRanged}
 use Rattle.model.specs.declared.Cell.{Cell}
 use Rattle.model.specs.declared.Header.{Header}
 use Rattle.theory_graph.proofs.Lists.{is-true, all-in, elem-T, map-map, map-in, map-out, each-in, keep-append}
@@ -355,19 +354,19 @@ ascii-means bytes g m short =
 
 -- what the texts hold hangs on the library's text, the arrivals' text, the lent words and the graph that is meant: M, I and O are the graph's
 reads-by-graph : (c : Call) (g : Graph) → Means (c .graph) g → readTexts c ≡ unless (leb (length (c .library)) 65536 && leb (length (c .arrivals)) 65536) 1 0
-    (next (readLibrary (c .library)) (λ cells. unless (leb (need (g .size) (length (g .outputs))) (c .words)) 10 0
-    (next (readArrivals (length (g .inputs)) (c .arrivals)) (λ es. holds (record { cells = cells; ranged = isRanged (c .library); graph = timedBy g es })))))
+    (next (readListed (c .paired) (c .library)) (λ cells. unless (leb (need (g .size) (length (g .outputs))) (c .words)) 10 0
+    (next (readArrivals (length (g .inputs)) (c .arrivals)) (λ es. holds (designOf c cells (timedBy g es))))))
 unfolding readTexts next
 reads-by-graph c g m =
-    ap (λ (b : Bool). unless b 1 0 (next (readLibrary (c .library)) read))
+    ap (λ (b : Bool). unless b 1 0 (next (readListed (c .paired) (c .library)) read))
     (ap (λ (b : Bool). leb (length (c .library)) 65536 && (b && leb (length (c .arrivals)) 65536)) (is-true (leb (length (c .graph)) 65536) (le→leb (length (c .graph)) 65536 (m .short))))
-    ∙ ap (λ (k : List Cell → Read Design). unless (leb (length (c .library)) 65536 && leb (length (c .arrivals)) 65536) 1 0 (next (readLibrary (c .library)) k)) (fun-ext meant)
+    ∙ ap (λ (k : List Cell → Read Design). unless (leb (length (c .library)) 65536 && leb (length (c .arrivals)) 65536) 1 0 (next (readListed (c .paired) (c .library)) k)) (fun-ext meant)
   where
     h : Header
     h = m .header
 
     timed : List Cell → ℕ → Graph → Read Design
-    timed cells inputs x = next (readArrivals inputs (c .arrivals)) (λ es. holds (record { cells = cells; ranged = isRanged (c .library); graph = timedBy x es }))
+    timed cells inputs x = next (readArrivals inputs (c .arrivals)) (λ es. holds (designOf c cells (timedBy x es)))
 
     behind : List Cell → Header → Read Design
     behind cells k = unless (leb (need (k .size) (k .outputs)) (c .words)) 10 0 (next (readGraph (c .graph) k) (timed cells (k .inputs)))

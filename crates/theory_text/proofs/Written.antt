@@ -255,6 +255,7 @@ same-form s t e = ap (λ (w : List ℕ). same w (text "aig")) (same-words (lines
 
 pub alike-back : (c d : Call) → AlikeTexts c d → AlikeTexts d c
 alike-back c d a = record {
+  paired = sym (a .paired);
   libraries = sym (a .libraries);
   graphs = sym (a .graphs);
   arrivals = sym (a .arrivals);

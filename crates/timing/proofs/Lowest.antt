@@ -1,10 +1,11 @@
 -- Laws of the pass that times the chosen phases with the lowest delays:
 --     after-is            a sum that has room
---     latest-held         the latest of low arrivals that are known
+--     latest-held, latest-same    the latest of low arrivals that are known, by the delays of the nets alone
 --     pins-none, pins-turn        the pins of a match, from the last to the first
 --     put-kept, turn-kept         only words of the low arrivals are written
 --     lows-phase .. lows-retimable        so what is read in the pass stays
 --     turn-positive, turn-negative, turn-other    what a turn stores is there, and every other low arrival stays
+--     four-here, four-other       the table of the lowest delays, with the four of one cell more
 -- Assumes nothing.
 use Prim.Native.Nat.{ℕ, zero, suc, _+_, _-_, _*_, _/_, _≤_, _<_, max}
 use native.Mathlib.Omega.{arith}
@@ -12,15 +13,14 @@ use mathlib.Core.Path.{_≡_, refl, sym, ap, ap₂, subst, _∙_}
 use mathlib.Core.Bool.{Bool, true, cond}
 use mathlib.Core.List.{List, [], _∷_, map, List·Memᴰ, List·Memᴰ·head, List·Memᴰ·tail}
 use lib.Dec.{leb, le→leb}
-use lib.ListN.{length, getD, drop}
-use lib.Seq.{drop-cons, drop-length}
+use lib.ListN.{length, getD, set, drop, length-set}
+use lib.Seq.{drop-cons, drop-length, getD-drop, getD-set-same, getD-set-other}
 use Rattle.model.specs.Base.{bit}
 use Rattle.model.specs.Limits.{cutLimit}
 use Rattle.model.specs.Graph.{varOf, negated}
 use Rattle.model.specs.Matching.{fedNets}
 use Rattle.model.specs.Choice.{phaseOf, latest}
 use Rattle.model.specs.declared.Cell.{Cell}
-use Rattle.model.specs.declared.Library.{Library}
 use Rattle.model.specs.declared.Phase.{Phase}
 use Rattle.theory_graph.proofs.Lists.{is-true}
 use Rattle.theory_graph.proofs.Literals.{lit-var}
@@ -34,23 +34,32 @@ use Rattle.words.proofs.Lows.{low-length, low-before, low-behind, low-put, low-
 use Rattle.words.proofs.Stored.{cut-same}
 use Rattle.cover.specs.Asked.{SlotsIn, CutsIn}
 use Rattle.cover.proofs.Keeping.{Kept, kept-same, kept-on}
-use Rattle.timing.specs.Retiming.{after, latestLow, ownLow, turnedLow, ownAt, putLow, retimedTurn, retimedUp, InverterIn, Retimable}
+use Rattle.timing.specs.Retiming.{after, latestLow, ownLow, turnedLow, ownAt, putLow, retimedTurn, retimedUp, InverterIn, Retimable, fourAt}
 
 -- ---- sums
 
-pub after-is : (t d : ℕ) → t ≤ 4294901760 → after t d ≡ t + d
-after-is t d h = ap (λ (b : Bool). cond b (t + d) t) (is-true (leb t 4294901760) (le→leb t 4294901760 h))
+pub after-is : (t d : ℕ) → t + d ≤ 4294967295 → after t d ≡ t + d
+after-is t d h = ap (λ (b : Bool). cond b (t + d) t) (is-true (leb (t + d) 4294967295) (le→leb (t + d) 4294967295 h))
 
-pub latest-held : (w : List ℕ) (m : ℕ) (f : ℕ → ℕ) (nets ds : List ℕ) → ((x : ℕ) → List·Memᴰ x nets → (lowAt w m x ≡ f x) × (f x ≤ 4294901760))
+pub latest-held : (w : List ℕ) (m : ℕ) (f : ℕ → ℕ) (nets ds : List ℕ) → ((x : ℕ) → List·Memᴰ x nets → (lowAt w m x ≡ f x) × (f x ≤ 1073741823)) → ((j : ℕ) → getD ds j 0 < 131072)
     → latestLow w m nets ds ≡ latest (map f nets) ds
 unfolding latestLow latest
-latest-held w m f [] ds h = refl
-latest-held w m f (x ∷ nets) [] h =
+latest-held w m f [] ds h s = refl
+latest-held w m f (x ∷ nets) [] h s =
     let k = h x (List·Memᴰ·head refl) in
-    ap₂ max (ap (λ (t : ℕ). after t 0) (k .0) ∙ after-is (f x) 0 (k .1) ∙ (let z : f x + 0 ≡ f x = omega arith in z)) (latest-held w m f nets [] (λ y i. h y (List·Memᴰ·tail i)))
-latest-held w m f (x ∷ nets) (d ∷ ds) h =
+    ap₂ max (ap (λ (t : ℕ). after t 0) (k .0) ∙ after-is (f x) 0 (omega (arith, k .1)) ∙ (let z : f x + 0 ≡ f x = omega arith in z)) (latest-held w m f nets [] (λ y i. h y (List·Memᴰ·tail i)) s)
+latest-held w m f (x ∷ nets) (d ∷ ds) h s =
     let k = h x (List·Memᴰ·head refl) in
-    ap₂ max (ap (λ (t : ℕ). after t d) (k .0) ∙ after-is (f x) d (k .1)) (latest-held w m f nets ds (λ y i. h y (List·Memᴰ·tail i)))
+    ap₂ max (ap (λ (t : ℕ). after t d) (k .0) ∙ after-is (f x) d (omega (arith, k .1, s 0))) (latest-held w m f nets ds (λ y i. h y (List·Memᴰ·tail i)) (λ j. s (suc j)))
+
+-- delays past the nets do not count
+pub latest-same : (w : List ℕ) (m : ℕ) (nets ds es : List ℕ) → ((j : ℕ) → j < length nets → getD ds j 0 ≡ getD es j 0) → latestLow w m nets ds ≡ latestLow w m nets es
+unfolding latestLow
+latest-same w m [] ds es h = refl
+latest-same w m (x ∷ nets) ds es h =
+    ap₂ (λ (d t : ℕ). max (after (lowAt w m x) d) t) (h 0 (omega arith))
+    (latest-same w m nets (drop 1 ds) (drop 1 es)
+    (λ j b. let z : 1 + j ≡ suc j = omega arith in getD-drop 1 ds j 0 ∙ ap (λ (i : ℕ). getD ds i 0) z ∙ h (suc j) (omega arith) ∙ ap (λ (i : ℕ). getD es i 0) (sym z) ∙ sym (getD-drop 1 es j 0)))
 
 -- ---- the pins of a match
 
@@ -153,8 +162,8 @@ module _ (m : ℕ) (v w : List ℕ) (k : LowsKept m v w) where
         subst (λ (x : List ℕ). getD x j 0 ≤ m) (sym same) (r .within u n j h c (subst (λ (x : List ℕ). j < length x) same i));
   }
 
-  pub lows-retimable : (lib : Library) → Retimable lib v m → Retimable lib w m
-  lows-retimable lib r = record {
+  pub lows-retimable : (cells : List Cell) → Retimable cells v m → Retimable cells w m
+  lows-retimable cells r = record {
     matches = record {
       usable = r .matches .usable;
       cuts = lows-cuts (r .matches .cuts);
@@ -168,7 +177,7 @@ module _ (m : ℕ) (v w : List ℕ) (k : LowsKept m v w) where
             places = rw (lows-leaves (l / 2) h (x .cut) (omega (arith, o .cut, r .matches .cuts .few (l / 2) h))) (o .places);
           };
     };
-    inverters = λ l h. subst (λ (p : Phase). InverterIn lib (p .source)) (sym (lows-phase l h)) (r .inverters l h);
+    inverters = λ l h. subst (λ (p : Phase). InverterIn cells (p .source)) (sym (lows-phase l h)) (r .inverters l h);
   }
 
 -- ---- a turn
@@ -207,3 +216,56 @@ module _ (cells : List Cell) (w : List ℕ) (m v : ℕ) (room : Room w m) (insid
   turn-other l n =
       low-apart first m (2 * v + 1) (stored (2 * v + 1) (2 * v)) first-room (omega arith) l (λ e. n (omega arith))
       ∙ low-apart w m (2 * v) (stored (2 * v) (2 * v + 1)) room (omega arith) l (λ e. n (omega arith))
+
+-- ---- the table of the lowest delays
+
+module _ (xs : List ℕ) (k : ℕ) (ds : List ℕ) where
+  abbrev one : List ℕ
+  one = set xs (4 * k) (getD ds 0 0)
+
+  abbrev two : List ℕ
+  two = set one (4 * k + 1) (getD ds 1 0)
+
+  abbrev three : List ℕ
+  three = set two (4 * k + 2) (getD ds 2 0)
+
+  pub four-length : length (fourAt xs k ds) ≡ length xs
+  unfolding fourAt
+  four-length = simp length-set
+
+  pub four-other : (i : ℕ) → i < 4 * k → getD (fourAt xs k ds) i 0 ≡ getD xs i 0
+  unfolding fourAt
+  four-other i h =
+      getD-set-other three (4 * k + 3) i (getD ds 3 0) 0 (λ e. omega arith)
+      ∙ getD-set-other two (4 * k + 2) i (getD ds 2 0) 0 (λ e. omega arith)
+      ∙ getD-set-other one (4 * k + 1) i (getD ds 1 0) 0 (λ e. omega arith)
+      ∙ getD-set-other xs (4 * k) i (getD ds 0 0) 0 (λ e. omega arith)
+
+  module _ (room : 4 * k + 3 < length xs) where
+    one-long : length one ≡ length xs
+    one-long = length-set xs (4 * k) (getD ds 0 0)
+
+    two-long : length two ≡ length xs
+    two-long = length-set one (4 * k + 1) (getD ds 1 0) ∙ one-long
+
+    three-long : length three ≡ length xs
+    three-long = length-set two (4 * k + 2) (getD ds 2 0) ∙ two-long
+
+    pub four-here : (j : ℕ) → j < 4 → getD (fourAt xs k ds) (4 * k + j) 0 ≡ getD ds j 0
+    unfolding fourAt
+    four-here zero h =
+        let z : 4 * k + 0 ≡ 4 * k = omega arith in
+        ap (λ (i : ℕ). getD (fourAt xs k ds) i 0) z
+        ∙ getD-set-other three (4 * k + 3) (4 * k) (getD ds 3 0) 0 (λ e. omega arith)
+        ∙ getD-set-other two (4 * k + 2) (4 * k) (getD ds 2 0) 0 (λ e. omega arith)
+        ∙ getD-set-other one (4 * k + 1) (4 * k) (getD ds 1 0) 0 (λ e. omega arith)
+        ∙ getD-set-same xs (4 * k) (getD ds 0 0) 0 (omega arith)
+    four-here (suc zero) h =
+        getD-set-other three (4 * k + 3) (4 * k + 1) (getD ds 3 0) 0 (λ e. omega arith)
+        ∙ getD-set-other two (4 * k + 2) (4 * k + 1) (getD ds 2 0) 0 (λ e. omega arith)
+        ∙ getD-set-same one (4 * k + 1) (getD ds 1 0) 0 (omega (arith, one-long))
+    four-here (suc (suc zero)) h =
+        getD-set-other three (4 * k + 3) (4 * k + 2) (getD ds 3 0) 0 (λ e. omega arith)
+        ∙ getD-set-same two (4 * k + 2) (getD ds 2 0) 0 (omega (arith, two-long))
+    four-here (suc (suc (suc zero))) h = getD-set-same three (4 * k + 3) (getD ds 3 0) 0 (omega (arith, three-long))
+    four-here (suc (suc (suc (suc j)))) h = absurd (omega arith)

@@ -62,6 +62,7 @@ module _ (g : Graph) (ok : Accepted g) (free : crowded g ≡ []) where
     }
 
   module _ (cells : List Cell) (few : length (placingOrder g) ≤ g .size + 1) (soon : (l : ℕ) → l ≤ 2 * g .size + 1 → chosen cells g l .arrival ≤ 1073741823)
+      (short : (c j : ℕ) → getD (cellAt cells c .lows) j 0 < 131072)
       (ranged : (l : ℕ) → Present cells g (order-once g ok) l → (j : ℕ) → getD (cellOf cells (chosen cells g l .source) .lows) j 0 ≤ getD (cellOf cells (chosen cells g l .source) .delays) j 0) where
     abbrev once : Distinct (placingOrder g)
     once = order-once g ok
@@ -88,7 +89,7 @@ module _ (g : Graph) (ok : Accepted g) (free : crowded g ≡ []) where
     small l h = let v : l / 2 ≤ g .size = order-small g ok (varOf l) (placed l h) in omega arith
 
     -- its low arrival is at most its arrival
-    low-soon : (l : ℕ) → Here l → low l ≤ 4294901760
+    low-soon : (l : ℕ) → Here l → low l ≤ 1073741823
     unfolding lowOf
     low-soon l h =
         let b : low l ≤ chosen cells g l .arrival = retimed-below cells g once (λ x. cellOf cells (chosen cells g x .source) .lows) ranged l h in
@@ -127,7 +128,7 @@ module _ (g : Graph) (ok : Accepted g) (free : crowded g ≡ []) where
               ∙ latest-held w (g .size) low (feeds cells (cutsOf g) l (Matched x)) (cellAt cells (x .cell) .lows) (λ y i.
               let i′ : List·Memᴰ y (feeds cells (cutsOf g) l (src l)) = subst (λ (s : Source). List·Memᴰ y (feeds cells (cutsOf g) l s)) (sym q) i in
               let here : Here y = chosen-fine cells g once l h .0 .fedBy y i′ in
-              (known y (before y here (straight-before cells g once pre v post e l p t y i′)) here, low-soon y here))
+              (known y (before y here (straight-before cells g once pre v post e l p t y i′)) here, low-soon y here)) (short (x .cell))
               ∙ ap (λ (s : Source). latest (map low (feeds cells (cutsOf g) l (Matched x))) (cellOf cells s .lows)) (sym q)
               ∙ sym (ap (timeBy cells g (cellOf cells (src l) .lows) low l) q)
 
@@ -151,7 +152,7 @@ module _ (g : Graph) (ok : Accepted g) (free : crowded g ≡ []) where
               let here : Here (opposite l) = chosen-fine cells g once l h .0 .fedBy (opposite l) (subst (λ (s : Source). List·Memᴰ (opposite l) (feeds cells (cutsOf g) l s)) (sym q) (List·Memᴰ·head refl)) in
               let o = own-held (opposite l) (opposite-var l ∙ p) here (chosen-fine cells g once l h .1 c q) in
               ap (λ (t : ℕ). after t (getD (cellAt cells c .lows) 0 0)) o
-              ∙ after-is (low (opposite l)) (getD (cellAt cells c .lows) 0 0) (low-soon (opposite l) here)
+              ∙ after-is (low (opposite l)) (getD (cellAt cells c .lows) 0 0) (omega (arith, low-soon (opposite l) here, short c 0))
               ∙ one (low (opposite l)) (cellAt cells c .lows)
               ∙ ap (λ (s : Source). latest (low (opposite l) ∷ []) (cellOf cells s .lows)) (sym q)
               ∙ sym (ap (timeBy cells g (cellOf cells (src l) .lows) low l) q)

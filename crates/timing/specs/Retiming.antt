@@ -1,13 +1,13 @@
 -- The low arrivals of the chosen phases, from the words and into them. Assumes nothing.
 use Prim.Native.Nat.{ℕ, zero, suc, _+_, _*_, _/_, _≤_, _<_, max}
+use mathlib.Core.Path.{_≡_}
 use mathlib.Core.Bool.{cond}
 use mathlib.Core.List.{List, [], _∷_}
 use lib.Dec.{leb}
-use lib.ListN.{length, getD, drop}
-use Rattle.model.specs.Cells.{cellAt, cellsOf}
+use lib.ListN.{length, getD, set, drop}
+use Rattle.model.specs.Cells.{cellAt}
 use Rattle.model.specs.Matching.{matchNets}
 use Rattle.model.specs.declared.Cell.{Cell}
-use Rattle.model.specs.declared.Library.{Library}
 use Rattle.model.specs.declared.Match.{Match}
 use Rattle.model.specs.declared.Source.{Source}
 use Rattle.model.specs.declared.Source.the-variants.{Input, Cell as Matched, Inverter as Inverted, Nothing}
@@ -19,7 +19,7 @@ use Rattle.cover.specs.Asked.{MatchesIn}
 
 -- a time and a delay, as long as their sum is a number of the code's
 abbrev pub after : ℕ → ℕ → ℕ
-after t d = cond (leb t 4294901760) (t + d) t
+after t d = cond (leb (t + d) 4294967295) (t + d) t
 
 -- "the largest of feeding arrival plus pin delay", of the low arrivals that the words have
 unfoldable pub latestLow : List ℕ → ℕ → List ℕ → List ℕ → ℕ
@@ -71,14 +71,25 @@ retimedUp cells w m (suc n) = retimedTurn cells (retimedUp cells w m n) m (slotA
 
 -- ---- what is asked
 
--- an inverter is one of the library
-abbrev pub InverterIn : Library → Source → Type 0
-InverterIn lib Input = Unit {0}
-InverterIn lib Nothing = Unit {0}
-InverterIn lib (Matched x) = Unit {0}
-InverterIn lib (Inverted c) = (c < length (cellsOf lib)) × (c < 32)
+-- an inverter is a cell to map with
+abbrev pub InverterIn : List Cell → Source → Type 0
+InverterIn cells Input = Unit {0}
+InverterIn cells Nothing = Unit {0}
+InverterIn cells (Matched x) = Unit {0}
+InverterIn cells (Inverted c) = (c < length cells) × (c < 256)
 
--- every source of the words is of the library and of the graph
-pub record Retimable (lib : Library) (w : List ℕ) (m : ℕ) : Type 0 where
-  pub matches : MatchesIn lib w m
-  pub inverters : (l : ℕ) → l / 2 ≤ m → InverterIn lib (phaseAt w m l .source)
+-- every source of the words is of these cells and of the graph
+pub record Retimable (cells : List Cell) (w : List ℕ) (m : ℕ) : Type 0 where
+  pub matches : MatchesIn cells w m
+  pub inverters : (l : ℕ) → l / 2 ≤ m → InverterIn cells (phaseAt w m l .source)
+
+-- ---- the table of the lowest delays, four to a cell
+
+-- the table with the four of cell k
+unfoldable pub fourAt : List ℕ → ℕ → List ℕ → List ℕ
+fourAt xs k ds =
+    set (set (set (set xs (4 * k) (getD ds 0 0)) (4 * k + 1) (getD ds 1 0)) (4 * k + 2) (getD ds 2 0)) (4 * k + 3) (getD ds 3 0)
+
+-- the lowest delays of each cell, by number
+pub record LowsOf (cells : List Cell) (lows : List ℕ) : Type 0 where
+  pub listed : (c j : ℕ) → c < length cells → j < 4 → getD lows (4 * c + j) 0 ≡ getD (cellAt cells c .lows) j 0

@@ -7,25 +7,28 @@ use model::Phase;
 use model::Source;
 ghost use mathlib.Core.Path.{_≡_};
 ghost use Prim.Native.Nat.{_+_, _*_, _/_, _≤_, _<_, max};
-ghost use lib.ListN.{length, getD};
-ghost use Rattle.model.specs.Cells.{noCell, cellsOf};
+ghost use mathlib.Core.List.{List};
+ghost use lib.ListN.{length, getD, drop};
+ghost use Rattle.model.specs.Cells.{cellsOf};
+ghost use Rattle.model.specs.declared.Cell.{Cell};
 ghost use Rattle.model.specs.Matching.{fedNets};
 ghost use Rattle.words.specs.Layout.{placedOf, Room, outputAt, lowAt};
 ghost use Rattle.words.specs.Phases.{phaseAt};
 ghost use Rattle.truth.specs.Variant.{placesOf};
 ghost use Rattle.text.specs.Writing.{Wrote};
-ghost use Rattle.matching.specs.Variants.{Usable};
-ghost use Rattle.cover.specs.Asked.{PinsIn, OutputsIn, SlotsIn, CutsIn, MatchIn, MatchesIn};
-ghost use Rattle.timing.specs.Retiming.{after, latestLow, matchLow, ownLow, turnedLow, retimedTurn, retimedUp, InverterIn, Retimable};
+ghost use Rattle.pairs.specs.Codes.{cellsBy, Coded};
+ghost use Rattle.matching.specs.Variants.{Matchable};
+ghost use Rattle.cover.specs.Asked.{PinsOf, PinsIn, OutputsIn, SlotsIn, CutsIn, MatchIn, MatchesIn};
+ghost use Rattle.timing.specs.Retiming.{after, latestLow, matchLow, ownLow, turnedLow, retimedTurn, retimedUp, InverterIn, Retimable, fourAt, LowsOf};
 ghost use Rattle.timing.specs.Lines.{timesText, lineText, linesFrom};
 
 // ---- the low arrivals
 
 // A time and a delay. None comes near the end of the numbers: a low arrival is at most the phase's own.
-fn later(t: u32, d: u16) -> u32
+fn later(t: u32, d: u32) -> u32
     ensures { λ r. ⌜ r ≡ after t d ⌝ }
 {
-    if t <= 4294901760 { t + d as u32 } else { t }
+    if d <= 4294967295 - t { t + d } else { t }
 }
 
 fn larger(a: u32, b: u32) -> u32
@@ -34,7 +37,8 @@ fn larger(a: u32, b: u32) -> u32
     if a < b { b } else { a }
 }
 
-// "the largest of feeding arrival plus pin delay", over the nets that feed a cell under an order and a mask: from the last pin to the first.
+// "the largest of feeding arrival plus pin delay", over the nets that feed a cell under an order and a mask: from the last pin to the first. The
+// cell's lowest delays stand in the table from a place on.
 fn pins_low(
     work: &[u16],
     m: usize,
@@ -42,17 +46,18 @@ fn pins_low(
     order: usize,
     mask: usize,
     pins: usize,
-    lows: [u16; 4],
+    lows: &[u32; 1024],
+    at: usize,
 ) -> u32
-    requires { ⌜ Room (now work) m × PinsIn leaves m order pins ⌝ }
-    ensures { λ r. ⌜ r ≡ latestLow (now (work .entry)) m (fedNets pins (placesOf order) mask leaves) lows ⌝ }
+    requires { ⌜ Room (now work) m × PinsIn leaves m order pins × (at ≤ 1020) ⌝ }
+    ensures { λ r. ⌜ r ≡ latestLow (now (work .entry)) m (fedNets pins (placesOf order) mask leaves) (drop at (now (lows .entry))) ⌝ }
 {
     let mut t: u32 = 0;
     let mut j = pins;
     while j > 0 {
         j -= 1;
         let net = truth::pin_net(leaves, order, mask, j);
-        t = larger(later(words::low(work, m, net), lows[j]), t);
+        t = larger(later(words::low(work, m, net), lows[at + j]), t);
     }
     t
 }
@@ -65,52 +70,55 @@ fn wide(x: u16) -> usize
 }
 
 // The low arrival of a match of v.
-fn match_low(work: &[u16], lib: Library, m: usize, v: usize, x: Match) -> u32
-    requires { ⌜ Usable lib × CutsIn (now work) m × (v ≤ m) × MatchIn (cellsOf lib) (now work) m v x ⌝ }
-    ensures { λ r. ⌜ r ≡ matchLow (cellsOf lib) (now (work .entry)) m v x ⌝ }
+fn match_low(
+    work: &[u16],
+    pins: &[u16; 256],
+    lows: &[u32; 1024],
+    m: usize,
+    v: usize,
+    x: Match,
+) -> u32
+    requires { ⌜ ((cells : List Cell) × Matchable cells × MatchIn cells (now work) m v x × PinsOf cells (now pins)) × CutsIn (now work) m × (v ≤ m) ⌝ }
+    ensures { λ r. ⌜ ((cells : List Cell) → Matchable cells → MatchIn cells (now (work .entry)) m v x → PinsOf cells (now (pins .entry)) → LowsOf cells (now (lows .entry)) → r ≡ matchLow cells (now (work .entry)) m v x) ⌝ }
 {
     let cut = words::load_cut(work, m, v, x.cut);
     let leaves = cut.leaves;
-    let cells = lib.cells;
-    let line = x.cell;
-    let c = cells[line];
-    let lows = c.lows;
-    pins_low(work, m, leaves, x.order, x.mask, wide(c.pins), lows)
+    let k = x.cell;
+    let count = wide(pins[k]);
+    pins_low(work, m, leaves, x.order, x.mask, count, lows, 4 * k)
 }
 
 // The low arrival of a phase that no inverter drives: an input's is its own.
-fn own_low(work: &[u16], lib: Library, m: usize, l: usize) -> u32
-    requires { ⌜ MatchesIn lib (now work) m × (l / 2 ≤ m) ⌝ }
-    ensures { λ r. ⌜ r ≡ ownLow (cellsOf lib) (now (work .entry)) m l (phaseAt (now (work .entry)) m l .source) ⌝ }
+fn own_low(work: &[u16], pins: &[u16; 256], lows: &[u32; 1024], m: usize, l: usize) -> u32
+    requires { ⌜ ((cells : List Cell) × MatchesIn cells (now work) m × PinsOf cells (now pins)) × (l / 2 ≤ m) ⌝ }
+    ensures { λ r. ⌜ ((cells : List Cell) → MatchesIn cells (now (work .entry)) m → PinsOf cells (now (pins .entry)) → LowsOf cells (now (lows .entry)) → r ≡ ownLow cells (now (work .entry)) m l (phaseAt (now (work .entry)) m l .source)) ⌝ }
 {
     let p = words::phase(work, m, l);
     let s = p.source;
     match s {
         Source::Input => words::late(work, m, l / 2),
-        Source::Cell(x) => match_low(work, lib, m, l / 2, x),
+        Source::Cell(x) => match_low(work, pins, lows, m, l / 2, x),
         Source::Inverter(_) => 0,
         Source::Nothing => 0,
     }
 }
 
 // The lowest delay of an inverter.
-fn inverter_low(lib: Library, line: usize) -> u16
-    requires { ⌜ line < 32 ⌝ }
-    ensures { λ r. ⌜ r ≡ getD (getD (lib .cells) line noCell .lows) 0 0 ⌝ }
+fn inverter_low(lows: &[u32; 1024], k: usize) -> u32
+    requires { ⌜ k < 256 ⌝ }
+    ensures { λ r. ⌜ r ≡ getD (now (lows .entry)) (4 * k) 0 ⌝ }
 {
-    let c = lib.cells[line];
-    let lowest = c.lows;
-    lowest[0]
+    lows[4 * k]
 }
 
 // The low arrival of a phase: an inverter's waits for the other phase's own.
-fn turned(lib: Library, p: Phase, own: u32, other: u32) -> u32
-    requires { ⌜ InverterIn lib (p .source) ⌝ }
-    ensures { λ r. ⌜ r ≡ turnedLow (cellsOf lib) own other (p .source) ⌝ }
+fn turned(lows: &[u32; 1024], p: Phase, own: u32, other: u32) -> u32
+    requires { ⌜ ((cells : List Cell) × InverterIn cells (p .source)) ⌝ }
+    ensures { λ r. ⌜ ((cells : List Cell) → InverterIn cells (p .source) → LowsOf cells (now (lows .entry)) → r ≡ turnedLow cells own other (p .source)) ⌝ }
 {
     let s = p.source;
     match s {
-        Source::Inverter(line) => later(other, inverter_low(lib, line)),
+        Source::Inverter(k) => later(other, inverter_low(lows, k)),
         Source::Input => own,
         Source::Cell(_) => own,
         Source::Nothing => own,
@@ -118,37 +126,66 @@ fn turned(lib: Library, p: Phase, own: u32, other: u32) -> u32
 }
 
 // Both phases of v.
-fn retime_variable(work: &mut [u16], lib: Library, m: usize, v: usize)
-    requires { ⌜ Retimable lib (now work) m × (v ≤ m) ⌝ }
-    ensures { λ _. ⌜ now (work .exit) ≡ retimedTurn (cellsOf lib) (now (work .entry)) m v ⌝ }
+fn retime_variable(work: &mut [u16], pins: &[u16; 256], lows: &[u32; 1024], m: usize, v: usize)
+    requires { ⌜ ((cells : List Cell) × Retimable cells (now work) m × PinsOf cells (now pins)) × (v ≤ m) ⌝ }
+    ensures { λ _. ⌜ ((cells : List Cell) → Retimable cells (now (work .entry)) m → PinsOf cells (now (pins .entry)) → LowsOf cells (now (lows .entry)) → now (work .exit) ≡ retimedTurn cells (now (work .entry)) m v) ⌝ }
 {
-    let p = own_low(work, lib, m, 2 * v);
-    let n = own_low(work, lib, m, 2 * v + 1);
-    let positive = turned(lib, words::phase(work, m, 2 * v), p, n);
-    let negative = turned(lib, words::phase(work, m, 2 * v + 1), n, p);
+    let p = own_low(work, pins, lows, m, 2 * v);
+    let n = own_low(work, pins, lows, m, 2 * v + 1);
+    let positive = turned(lows, words::phase(work, m, 2 * v), p, n);
+    let negative = turned(lows, words::phase(work, m, 2 * v + 1), n, p);
     words::set_low(work, m, 2 * v, positive);
     words::set_low(work, m, 2 * v + 1, negative);
 }
 
 // In placing order.
-fn retime_variables(work: &mut [u16], lib: Library, m: usize, n: usize)
-    requires { ⌜ Retimable lib (now work) m × SlotsIn (now work) m n ⌝ }
-    ensures { λ _. ⌜ now (work .exit) ≡ retimedUp (cellsOf lib) (now (work .entry)) m n ⌝ }
+fn retime_variables(work: &mut [u16], pins: &[u16; 256], lows: &[u32; 1024], m: usize, n: usize)
+    requires { ⌜ ((cells : List Cell) × Retimable cells (now work) m × PinsOf cells (now pins) × LowsOf cells (now lows)) × SlotsIn (now work) m n ⌝ }
+    ensures { λ _. ⌜ ((cells : List Cell) → Retimable cells (now (work .entry)) m → PinsOf cells (now (pins .entry)) → LowsOf cells (now (lows .entry)) → now (work .exit) ≡ retimedUp cells (now (work .entry)) m n) ⌝ }
 {
     let mut i: usize = 0;
     while i < n {
         let v = words::slot(work, m, i);
-        retime_variable(work, lib, m, v);
+        retime_variable(work, pins, lows, m, v);
         i += 1;
     }
 }
 
-// The low arrivals of all phases, in the words that held the cuts' functions.
-pub fn retime(work: &mut [u16], lib: Library, h: Header)
-    requires { ⌜ Retimable lib (now work) (h .size) × SlotsIn (now work) (h .size) (placedOf h) ⌝ }
-    ensures { λ _. ⌜ now (work .exit) ≡ retimedUp (cellsOf lib) (now (work .entry)) (h .size) (placedOf h) ⌝ }
+// The lowest delays of cell k, put into the table.
+fn put_lows(lows: &mut [u32; 1024], k: usize, four: [u32; 4])
+    requires { ⌜ k < 256 ⌝ }
+    ensures { λ _. ⌜ now (lows .exit) ≡ fourAt (now (lows .entry)) k four ⌝ }
 {
-    retime_variables(work, lib, h.size, words::placed(h));
+    let at = 4 * k;
+    lows[at] = four[0];
+    lows[at + 1] = four[1];
+    lows[at + 2] = four[2];
+    lows[at + 3] = four[3];
+}
+
+// The lowest delays of each cell, four to a number: made once for each call, and lent to what runs for each phase.
+fn low_table(lib: Library, codes: &[u16]) -> [u32; 1024]
+    requires { ⌜ Coded lib (now codes) ⌝ }
+    ensures { λ r. ⌜ LowsOf (cellsBy (cellsOf lib) (now (codes .entry))) r ⌝ }
+{
+    let n = lib.n + codes.len();
+    let mut lows = [0u32; 1024];
+    let mut k: usize = 0;
+    while k < n {
+        put_lows(&mut lows, k, pairs::lows_of(lib, codes, k));
+        k += 1;
+    }
+    lows
+}
+
+// The low arrivals of all phases, in the words that held the cuts' functions.
+pub fn retime(work: &mut [u16], lib: Library, codes: &[u16], h: Header)
+    requires { ⌜ Coded lib (now codes) × Retimable (cellsBy (cellsOf lib) (now codes)) (now work) (h .size) × SlotsIn (now work) (h .size) (placedOf h) ⌝ }
+    ensures { λ _. ⌜ now (work .exit) ≡ retimedUp (cellsBy (cellsOf lib) (now (codes .entry))) (now (work .entry)) (h .size) (placedOf h) ⌝ }
+{
+    let pins = cover::pin_counts(lib, codes);
+    let lows = low_table(lib, codes);
+    retime_variables(work, &pins, &lows, h.size, words::placed(h));
 }
 
 // ---- the timing lines

@@ -1,2 +1,3 @@
--- `Variant`: the table of a cell under an order and a mask, and of a leaf; the net of a pin.
+-- `Variant`: the table of a cell under an order and a mask, and of a leaf; the net of a pin. `Pair`: a row of a pair of cells.
 pub mod Variant
+pub mod Pair

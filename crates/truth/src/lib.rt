@@ -1,6 +1,7 @@
 // Truth tables of up to four inputs, 16 rows each: "bit r is the cell's value in row r, where bit j of r is pin j".
+use model::Cell;
 ghost use mathlib.Core.Path.{_≡_};
-ghost use Prim.Native.Nat.{_+_, _*_, _%_, _^_, _<_, _≤_};
+ghost use Prim.Native.Nat.{_+_, _*_, _/_, _%_, _^_, _<_, _≤_};
 ghost use mathlib.Core.List.{map};
 ghost use lib.Bits.{bitXor};
 ghost use mathlib.Core.Bool.{true};
@@ -9,6 +10,8 @@ ghost use Rattle.model.specs.Base.{bit, one, below};
 ghost use Rattle.model.specs.Graph.{literal, opposite};
 ghost use Rattle.model.specs.Table.{value, rowMap};
 ghost use Rattle.model.specs.Matching.{phaseTable};
+ghost use Rattle.model.specs.Pairs.{pairTable};
+ghost use Rattle.truth.specs.Pair.{rootBit, rootRow};
 ghost use Rattle.truth.specs.Variant.{placesOf, variantTable, leafTable, pinNet};
 
 // "A fixed table of 384 rows gives, for each order and row r, the row whose bit j is the bit of r at the order's place j".
@@ -139,6 +142,62 @@ pub fn variant_table(pins: u16, table: u16, order: usize, mask: usize) -> u16
     }
     t
 }
+
+// ---- pairs of cells
+
+// Bit j of the root's row in row r of a pair's: the root's own pins below the fed pin, the inner's value at it, and the root's own above it, behind the
+// inner's.
+fn root_bit(r: u16, pin: usize, pins: usize, b: bool, j: usize) -> bool
+    requires { ⌜ (pins ≤ 4) × (1 ≤ pins) × (j < 4) ⌝ }
+    ensures { λ x. ⌜ x ≡ rootBit r pin pins b j ⌝ }
+{
+    if j < pin {
+        return bit(r, j);
+    }
+    if j == pin {
+        return b;
+    }
+    bit(r, j + pins - 1)
+}
+
+// The root's row.
+fn root_row(r: u16, pin: usize, pins: usize, b: bool) -> u16
+    requires { ⌜ (pins ≤ 4) × (1 ≤ pins) ⌝ }
+    ensures { λ x. ⌜ (x ≡ rootRow r pin pins b) × (x < 16) ⌝ }
+{
+    let d = with_row(root_bit(r, pin, pins, b, 3), 0);
+    let c = with_row(root_bit(r, pin, pins, b, 2), d);
+    let e = with_row(root_bit(r, pin, pins, b, 1), c);
+    with_row(root_bit(r, pin, pins, b, 0), e)
+}
+
+// The value of a pair in row r: the root's where the fed pin has the inner's.
+fn pair_value(root: Cell, pin: usize, inner: Cell, r: u16) -> bool
+    requires { ⌜ (pin < 4) × (1 ≤ inner .pins) × (inner .pins ≤ 4) × (r < 16) ⌝ }
+    ensures { λ x. ⌜ x ≡ value (root .table) (rootRow r pin (inner .pins) (value (inner .table) (r / 2 ^ pin % 2 ^ inner .pins))) ⌝ }
+{
+    let n = inner.pins;
+    let row = r as usize;
+    let b = value_at(n, inner.table, row >> pin, 0);
+    let q = root_row(r, pin, n as usize, b);
+    bit(root.table, q as usize)
+}
+
+// The table of a pair, from its last row down.
+pub fn pair_table(root: Cell, pin: usize, inner: Cell) -> u16
+    requires { ⌜ (pin < root .pins) × (1 ≤ inner .pins) × (root .pins + inner .pins ≤ 5) ⌝ }
+    ensures { λ x. ⌜ x ≡ pairTable root pin inner ⌝ }
+{
+    let mut r: u16 = 1 << (root.pins + inner.pins - 1);
+    let mut t: u16 = 0;
+    while r > 0 {
+        r -= 1;
+        t = with_row(pair_value(root, pin, inner, r), t);
+    }
+    t
+}
+
+// ---- phases and leaves
 
 // "For the negative phase the cut's function is complemented."
 pub fn complement(t: u16) -> u16

@@ -5,7 +5,7 @@ use mapper::shell::{
     files::{same, write_all, Output, Source},
     genlib::{genlib, verilog},
     library::Library,
-    message::message,
+    message::{message, Texts},
     say,
 };
 use std::{env, ffi::OsString, process::ExitCode};
@@ -59,9 +59,10 @@ fn run() -> Result<(), Failure> {
     let file = |what: String| (2, format!("cells2genlib: {what}\n"));
     let (library, read) = Library::read(Source::read(&path).map_err(file)?);
     let graph = Source { name: String::new(), text: EMPTY.into() };
-    let none = Source { name: String::new(), text: Vec::new() };
+    let none = Source::none();
     let judged = read.and_then(|()| mapper::map(library.text(), &graph.text, &none.text));
-    judged.map_err(|refusal| (1, message(refusal, &library, &graph, &none)))?;
+    let texts = Texts { cells: &library, graph: &graph, arrivals: &none, netlist: &none };
+    judged.map_err(|refusal| (1, message(refusal, &texts)))?;
     let cells = cells::read(library.text());
     let text = if modules { verilog(&cells) } else { genlib(&cells, thousandths, wire) };
     write_all(&[Output { path: to.as_deref(), text: &text }]).map_err(file)

@@ -43,6 +43,12 @@ pub fn read(text: &[u8]) -> Vec<Cell> {
     text.lines().skip(1).map_while(cell).collect()
 }
 
+/// How many pairs the cells form: a root, one of its pins, and an inner cell with a pin, where that leaves four pins at most.
+pub fn pairs(cells: &[Cell]) -> usize {
+    let inner = |root: &Cell| cells.iter().filter(|inner| (1..=5 - root.pins()).contains(&inner.pins())).count();
+    cells.iter().map(|root| root.pins() * inner(root)).sum()
+}
+
 /// The line above `before` whose cell has that name.
 pub fn line_of(text: &[u8], name: &[u8], before: usize) -> Option<usize> {
     (2..before).find(|&k| {

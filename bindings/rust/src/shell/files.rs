@@ -16,6 +16,11 @@ pub struct Source {
 }
 
 impl Source {
+    /// A text that is not given.
+    pub fn none() -> Source {
+        Source { name: String::new(), text: Vec::new() }
+    }
+
     /// The file's first bytes, at most one more than a text may have: a longer file is refused as the longer text that it is, and a device that
     /// never ends is not read for ever.
     pub fn read(path: &OsStr) -> Result<Source, String> {

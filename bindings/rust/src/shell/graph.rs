@@ -166,6 +166,30 @@ impl Graph {
         }
     }
 
+    /// The value of a literal in a setting: input k has bit k.
+    pub fn value(&self, literal: usize, setting: usize) -> Option<bool> {
+        let mut known = vec![None; self.header[0] + 1];
+        known[0] = Some(false);
+        for (k, input) in self.inputs.iter().enumerate() {
+            *known.get_mut(input / 2)? = Some(setting >> k & 1 == 1);
+        }
+        let of = |known: &[Option<bool>], literal: usize| Some((*known.get(literal / 2)?)? ^ (literal % 2 == 1));
+        // AND lines stand in any order: over them again until nothing is left to learn.
+        let mut left: Vec<&And> = self.ands.iter().collect();
+        loop {
+            let before = left.len();
+            left.retain(|and| {
+                let [one, other] = and.operands.map(|operand| of(&known, operand));
+                let value = one.zip(other).map(|(one, other)| one & other);
+                known[and.variable()] = value;
+                value.is_none()
+            });
+            if left.len() == before {
+                return of(&known, literal);
+            }
+        }
+    }
+
     /// The line that defines the variable, above the one with number `before`.
     pub fn defined_on(&self, variable: usize, before: usize) -> Option<usize> {
         let input = self.inputs.iter().position(|literal| literal / 2 == variable).map(|k| k + 2);

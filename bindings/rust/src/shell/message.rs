@@ -1,7 +1,7 @@
 //! A refusal in the way of compilers: file and line, what is wrong, the line itself, and what to do.
 
 use super::{
-    arrivals, cells,
+    arrivals, cells, edited,
     files::Source,
     graph::{Difference, Due, Graph},
     library::{fault, Library},
@@ -19,8 +19,26 @@ struct Told {
     help: String,
 }
 
+impl Told {
+    fn message(self, verdict: &str) -> String {
+        let Told { at, what, line, help } = self;
+        let line = line.map(|line| format!("    {line}\n")).unwrap_or_default();
+        let help = if help.is_empty() { help } else { format!("help: {}\n", help.replace('\n', "\n      ")) };
+        format!("{at}: {verdict}: {what}\n{line}{help}")
+    }
+}
+
+/// The texts of a call; those that it is not given are empty.
+pub struct Texts<'a> {
+    pub cells: &'a Library,
+    pub graph: &'a Source,
+    pub arrivals: &'a Source,
+    pub netlist: &'a Source,
+}
+
 /// The message for a refusal of these texts.
-pub fn message(refusal: Refusal, cells: &Library, graph: &Source, arrivals: &Source) -> String {
+pub fn message(refusal: Refusal, texts: &Texts) -> String {
+    let &Texts { cells, graph, arrivals, .. } = texts;
     let told = match refusal.place() {
         Place::Cells(byte) if cells.is_written() => in_written(refusal, cells, byte),
         Place::Cells(byte) => in_cells(refusal, &cells.file.name, cells.text(), byte),
@@ -29,32 +47,85 @@ pub fn message(refusal: Refusal, cells: &Library, graph: &Source, arrivals: &Sou
         Place::Arrivals(byte) => in_arrivals(refusal, graph, arrivals, byte),
         Place::Variable(variable) => at_variable(refusal, graph, variable),
         Place::Output(output) => at_output(refusal, graph, output),
-        Place::Whole | Place::Length(_) | Place::Netlist(_) => whole(refusal, &cells.file, graph, arrivals),
+        Place::Netlist(byte) => in_netlist(refusal, texts, byte),
+        Place::Whole | Place::Length(_) => match refusal.number {
+            1 => too_long(texts),
+            30 => too_many_pairs(cells),
+            _ => Told { at: graph.name.clone(), what: refusal.what().into(), line: None, help: String::new() },
+        },
     };
-    let Told { at, what, line, help } = told;
-    let line = line.map(|line| format!("    {line}\n")).unwrap_or_default();
-    let help = if help.is_empty() { help } else { format!("help: {}\n", help.replace('\n', "\n      ")) };
-    format!("{at}: refused {}: {what}\n{line}{help}", refusal.number)
+    told.message(&format!("refused {}", refusal.number))
 }
 
-fn whole(refusal: Refusal, cells: &Source, graph: &Source, arrivals: &Source) -> Told {
-    let mut told = Told { at: graph.name.clone(), what: refusal.what().into(), line: None, help: String::new() };
-    if refusal.number == 1 {
-        told.what = "longer than 65,536 bytes".into();
-        if cells.text.len() > TEXT_LIMIT {
-            told.at.clone_from(&cells.name);
-            told.help = "a cell library has up to 32 cells".into();
-        } else if graph.text.len() <= TEXT_LIMIT && arrivals.text.len() > TEXT_LIMIT {
-            told.at.clone_from(&arrivals.name);
-            told.help = "the arrivals have a line for each late input: a graph has 4,095 inputs at most".into();
-        } else if graph.text.starts_with(b"aag ") {
-            told.help =
-                "write the graph in the binary form, a third as long or less (yosys `write_aiger` without `-ascii`,\n\
-                         `aigtoaig graph.aag graph.aig`), or split it"
-                    .into();
-        } else {
-            told.help = "split the graph: M is at most 4,095".into();
+/// The message for a netlist that differs from its graph in that setting, at that output.
+pub fn difference(setting: usize, output: usize, graph: &Source, netlist: &Source) -> String {
+    let (line, net) = edited::joined(&netlist.text, output).unwrap_or_default();
+    let read = Graph::read(&graph.text);
+    let name = read.as_ref().and_then(|read| read.output_name(output));
+    let name = name.map(|name| format!(" (`{}`)", shown(name.as_bytes()))).unwrap_or_default();
+    let literal = read.as_ref().and_then(|read| read.outputs.get(output).copied());
+    let value = read.as_ref().zip(literal).and_then(|(read, literal)| read.value(literal, setting));
+    let values = value.map(|value| format!(": the netlist gives {}, the graph {}", u8::from(!value), u8::from(value)));
+    Told {
+        at: format!("{}:{line}", netlist.name),
+        what: format!("output o{output}{name}{}", values.unwrap_or_default()),
+        line: read.map(|read| edited::inputs_in(setting, &read)),
+        help: format!(
+            "that is setting {setting}, the lowest in which an output is wrong, and o{output} is its first wrong output:\n\
+             look at the gates behind net `{}`",
+            shown(net)
+        ),
+    }
+    .message("differs")
+}
+
+fn too_long(texts: &Texts) -> Told {
+    let &Texts { cells, graph, arrivals, netlist } = texts;
+    let files = [&cells.file, graph, arrivals, netlist];
+    let long = files.iter().position(|file| file.text.len() > TEXT_LIMIT).unwrap_or_default();
+    let help = match long {
+        0 => "a cell library has up to 32 cells",
+        1 if graph.text.starts_with(b"aag ") => {
+            "write the graph in the binary form, a third as long or less (yosys `write_aiger` without `-ascii`,\n\
+             `aigtoaig graph.aag graph.aig`), or split it"
         }
+        1 => "split the graph: M is at most 4,095",
+        2 => "the arrivals have a line for each late input: a graph has 4,095 inputs at most",
+        _ => "cut off what follows `.end`, or split the graph",
+    };
+    Told { at: files[long].name.clone(), what: "longer than 65,536 bytes".into(), line: None, help: help.into() }
+}
+
+fn too_many_pairs(cells: &Library) -> Told {
+    let listed = cells::read(cells.text());
+    let pairs = cells::pairs(&listed);
+    let (cell, pair) = (counted(listed.len(), "cell", "cells"), counted(pairs, "pair", "pairs"));
+    Told {
+        at: cells.file.name.clone(),
+        what: format!("{cell} form {pair}, together {}: more than 256", listed.len() + pairs),
+        line: None,
+        help: "leave out cells, first those that a pair makes, as a NAND and an inverter behind it make an AND;\n\
+               or map without -p"
+            .into(),
+    }
+}
+
+/// A line of an edited netlist (32, 33).
+fn in_netlist(refusal: Refusal, texts: &Texts, byte: usize) -> Told {
+    let text = &texts.netlist.text;
+    let line = line_at(text, byte);
+    let mut told = Told {
+        at: format!("{}:{}", texts.netlist.name, line.number),
+        what: refusal.what().into(),
+        line: (byte < text.len() && !line.bytes.is_empty()).then(|| shown(line.bytes)),
+        help: String::new(),
+    };
+    let Some(graph) = Graph::read(&texts.graph.text) else { return told };
+    if refusal.number == 32 {
+        let (what, help) = edited::fault(text, byte, &cells::read(texts.cells.text()), &graph);
+        (told.what, told.help) = (what, help.into());
+    } else if let Some(found) = edited::conflict(text, byte, &graph) {
+        (told.what, told.help) = found;
     }
     told
 }
@@ -228,6 +299,12 @@ fn in_graph(refusal: Refusal, source: &Source, byte: usize) -> Told {
             let [m, inputs, _, _, ands] = graph.header;
             told.what = format!("M is {m}, and I + A is {}: in the binary form they are equal", inputs + ands);
             told.help = "have the tool that wrote it number the variables in turn, or write the ASCII form".into();
+        }
+        (31, Some(graph)) => {
+            told.what = format!("the graph has {} inputs, and a netlist is checked over 12 at most", graph.header[1]);
+            told.help = "split the graph and check its parts; or have ABC compare the netlist with the graph\n\
+                         (docs/GUIDE.md, \"From Verilog to the netlist\")"
+                .into();
         }
         (20 | 21, Some(graph)) => differences(&mut told, refusal, source, &graph, byte),
         (_, Some(graph)) => due_line(&mut told, refusal, text, &graph, &line, byte),

@@ -4,6 +4,7 @@
 pub mod arrivals;
 pub mod cells;
 pub mod dot;
+pub mod edited;
 pub mod files;
 pub mod genlib;
 pub mod graph;

@@ -20,7 +20,7 @@ map-second-requires : tie.Need-map-second-requires
 map-second-requires c κs =
     let at-h = c .before .before .before .before in
     let at-header = at-h .before .before in
-    let start = at-header .before .before .before .before .before .before .before .before in
+    let start = at-header .before .before .before .before .before .before .before .before .before in
     (start .pre, header-read _ _ (sym (at-header .header .ensures .0) ∙ at-h .h1 .given .1))
 
 enum-known-number : tie.Need-enum-known-number
@@ -43,7 +43,7 @@ returns c =
     let at-map-second = c .before .before .before .before .before .before in
     let at-h = at-map-second .before .before .before .before .before in
     let at-header = at-h .before .before in
-    let s = at-header .before .before .before .before .before .before .before .before .args in
+    let s = at-header .before .before .before .before .before .before .before .before .before .args in
     let a = channelOf (s .graph1 .now) (s .arrivals1 .now) (s .text1 .now) in
     let b = channelOf (s .graph2 .now) (s .arrivals2 .now) (s .text2 .now) in
     pair-as (first-goes (length (s .work .now)) a b _ (header-read _ _ (sym (at-header .header .ensures .0) ∙ at-h .h1 .given .1))) (at-map-second .map-second .ensures)
@@ -52,10 +52,10 @@ returns-2 : tie.Need-returns-2
 returns-2 c =
     let at-number = c .before .before in
     let at-header = at-number .before .before in
-    let s = at-header .before .before .before .before .before .before .before .before .args in
+    let s = at-header .before .before .before .before .before .before .before .before .before .args in
     let a = channelOf (s .graph1 .now) (s .arrivals1 .now) (s .text1 .now) in
     let b = channelOf (s .graph2 .now) (s .arrivals2 .now) (s .text2 .now) in
-    pair-early (s .ranged) (s .lib) a b _ _ _ (first-stops (length (s .work .now)) a b _ _ (header-fault (readHeader (s .graph1 .now)) _ _ (sym (at-header .header .ensures .0) ∙ at-number .number .given .1))) (s .work .now) (s .text1 .now) (s .text2 .now) (c .both .result) (c .both .ensures)
+    pair-early (s .ranged) (s .lib) (s .codes .now) a b _ _ _ (first-stops (length (s .work .now)) a b _ _ (header-fault (readHeader (s .graph1 .now)) _ _ (sym (at-header .header .ensures .0) ∙ at-number .number .given .1))) (s .work .now) (s .text1 .now) (s .text2 .now) (c .both .result) (c .both .ensures)
 
 pub map-first-spec : {M : Type 1} → statement M
 map-first-spec =

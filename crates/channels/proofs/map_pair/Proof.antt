@@ -10,19 +10,19 @@ use Rattle.channels.proofs.map_pair.Tie as tie
 
 need-words-requires : tie.Need-need-words-requires
 need-words-requires c κs =
-    let start = c .before .before .before .before .before .before .before in
+    let start = c .before .before .before .before .before .before .before .before in
     let f = header-fits (start .args .graph1 .now) (start .args .h1) (start .pre .1) in
     omega (arith, f .size, f .outputs)
 
 need-words-requires-2 : tie.Need-need-words-requires-2
 need-words-requires-2 c κs =
-    let start = c .before .before .before .before .before .before .before .before in
+    let start = c .before .before .before .before .before .before .before .before .before in
     let f = header-fits (start .args .graph2 .now) (start .args .h2) (start .pre .2) in
     omega (arith, f .size, f .outputs)
 
 add-if1 : tie.Need-add-if1
 add-if1 c =
-    let start = c .before .before .before .before .before .before .before .before .before in
+    let start = c .before .before .before .before .before .before .before .before .before .before in
     let f = header-fits (start .args .graph1 .now) (start .args .h1) (start .pre .1) in
     let g = header-fits (start .args .graph2 .now) (start .args .h2) (start .pre .2) in
     omega (arith, c .before .need-words .ensures, c .need-words2 .ensures, need-small (start .args .h1 .size) (start .args .h1 .outputs) (f .size) (f .outputs), need-small (start .args .h2 .size) (start .args .h2 .outputs) (g .size) (g .outputs))
@@ -33,10 +33,10 @@ both-requires c κs = search needs
 returns : tie.Need-returns
 returns c =
     let at-need = c .before .before in
-    let s = at-need .before .before .before .before .before .before .before .before .before .args in
+    let s = at-need .before .before .before .before .before .before .before .before .before .before .args in
     let a = channelOf (s .graph1 .now) (s .arrivals1 .now) (s .text1 .now) in
     let b = channelOf (s .graph2 .now) (s .arrivals2 .now) (s .text2 .now) in
-    pair-early (s .ranged) (s .lib) a b _ 10 0 (sum-short (length (s .work .now)) (s .h1) (s .h2) (omega (arith, at-need .before .need-words .ensures, at-need .need-words2 .ensures))) (s .work .now) (s .text1 .now) (s .text2 .now) (c .both .result) (c .both .ensures)
+    pair-early (s .ranged) (s .lib) (s .codes .now) a b _ 10 0 (sum-short (length (s .work .now)) (s .h1) (s .h2) (omega (arith, at-need .before .need-words .ensures, at-need .need-words2 .ensures))) (s .work .now) (s .text1 .now) (s .text2 .now) (c .both .result) (c .both .ensures)
 
 map-both-requires : tie.Need-map-both-requires
 map-both-requires c κs = search needs
@@ -53,7 +53,7 @@ same-length-3 c = search needs
 returns-2 : tie.Need-returns-2
 returns-2 c =
     let at-map-both = c .before .before .before .before .before .before in
-    let s = at-map-both .before .before .before .before .before .before .before .before .before .before .before .before .before .before .args in
+    let s = at-map-both .before .before .before .before .before .before .before .before .before .before .before .before .before .before .before .args in
     let at-need = at-map-both .before .before .before .before .before in
     pair-as (sum-enough (length (s .work .now)) (s .h1) (s .h2) (omega (arith, at-need .before .need-words .ensures, at-need .need-words2 .ensures))) (at-map-both .map-both .ensures)
 

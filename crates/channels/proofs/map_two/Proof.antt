@@ -10,19 +10,19 @@ use Rattle.model.specs.TwoDemands.{TwoMemory, TogetherRefused, Independent, Eac
 use Rattle.model.specs.declared.Two.{Two}
 use Rattle.theory.proofs.Channels.{together-refused, independent, demand-each, demand-twin-channels, demand-ends-two}
 use Rattle.mapper.specs.Stages.{Fits}
-use Rattle.channels.specs.Pairs.{firstFor, PairLeft}
-use Rattle.channels.proofs.Whole.{memory-fits, long-text, library-stops, library-read}
+use Rattle.channels.specs.Pairs.{TwoLeft}
+use Rattle.channels.proofs.Whole.{memory-fits, long-text, library-stops, library-heard}
 use borrow.Author.Needs.{needs}
 use Rattle.channels.proofs.map_two.Statement.{statement}
 use Rattle.channels.proofs.map_two.Tie as tie
 
 -- the clauses behind demand 1, which hold of every call
-demanded : (library : List ℕ) (a b : Channel) (work first second : List ℕ) (answer : Two) (y u w : List ℕ) → TwoMemory (twoCallOf library a b work) work first second answer y u w
-    → TwoMemory (twoCallOf library a b work) work first second answer y u w
-    × (TogetherRefused (twoCallOf library a b work) × (Independent (twoCallOf library a b work) × (Each (twoCallOf library a b work) × (TwinChannels (twoCallOf library a b work)
-    × (EitherEndTwo (twoCallOf library a b work) × (Fits (answer .first) (a .bytes) × Fits (answer .second) (b .bytes)))))))
-demanded library a b work first second answer y u w m =
-    let c = twoCallOf library a b work in
+demanded : (paired : Bool) (library : List ℕ) (a b : Channel) (work first second : List ℕ) (answer : Two) (y u w : List ℕ) → TwoMemory (twoCallOf paired library a b work) work first second answer y u w
+    → TwoMemory (twoCallOf paired library a b work) work first second answer y u w
+    × (TogetherRefused (twoCallOf paired library a b work) × (Independent (twoCallOf paired library a b work) × (Each (twoCallOf paired library a b work) × (TwinChannels (twoCallOf paired library a b work)
+    × (EitherEndTwo (twoCallOf paired library a b work) × (Fits (answer .first) (a .bytes) × Fits (answer .second) (b .bytes)))))))
+demanded paired library a b work first second answer y u w m =
+    let c = twoCallOf paired library a b work in
     (m, (together-refused c, (independent c, (demand-each c, (demand-twin-channels c, (demand-ends-two c, memory-fits c work first second answer y u w m))))))
 
 both-requires : tie.Need-both-requires
@@ -33,8 +33,8 @@ returns c =
     let s = c .before .before .before .before .before .before .before .before .before .before .args in
     let a = channelOf (s .graph1 .now) (s .arrivals1 .now) (s .text1 .now) in
     let b = channelOf (s .graph2 .now) (s .arrivals2 .now) (s .text2 .now) in
-    let m = long-text (s .cells .now) a b (s .work .now) (s .text1 .now) (s .text2 .now) (λ x y z. omega arith) (c .both .result) (c .both .ensures) in
-    demanded (s .cells .now) a b (s .work .now) (s .text1 .now) (s .text2 .now) _ _ _ _ m
+    let m = long-text (s .paired) (s .cells .now) a b (s .work .now) (s .text1 .now) (s .text2 .now) (λ x y z. omega arith) (c .both .result) (c .both .ensures) in
+    demanded (s .paired) (s .cells .now) a b (s .work .now) (s .text1 .now) (s .text2 .now) _ _ _ _ m
 
 both-requires-2 : tie.Need-both-requires-2
 both-requires-2 c κs = search needs
@@ -44,8 +44,8 @@ returns-2 c =
     let s = c .before .before .before .before .before .before .before .before .before .before .before .args in
     let a = channelOf (s .graph1 .now) (s .arrivals1 .now) (s .text1 .now) in
     let b = channelOf (s .graph2 .now) (s .arrivals2 .now) (s .text2 .now) in
-    let m = long-text (s .cells .now) a b (s .work .now) (s .text1 .now) (s .text2 .now) (λ x y z. omega arith) (c .both2 .result) (c .both2 .ensures) in
-    demanded (s .cells .now) a b (s .work .now) (s .text1 .now) (s .text2 .now) _ _ _ _ m
+    let m = long-text (s .paired) (s .cells .now) a b (s .work .now) (s .text1 .now) (s .text2 .now) (λ x y z. omega arith) (c .both2 .result) (c .both2 .ensures) in
+    demanded (s .paired) (s .cells .now) a b (s .work .now) (s .text1 .now) (s .text2 .now) _ _ _ _ m
 
 both-requires-3 : tie.Need-both-requires-3
 both-requires-3 c κs = search needs
@@ -55,8 +55,8 @@ returns-3 c =
     let s = c .before .before .before .before .before .before .before .before .before .before .before .before .args in
     let a = channelOf (s .graph1 .now) (s .arrivals1 .now) (s .text1 .now) in
     let b = channelOf (s .graph2 .now) (s .arrivals2 .now) (s .text2 .now) in
-    let m = long-text (s .cells .now) a b (s .work .now) (s .text1 .now) (s .text2 .now) (λ x y z. omega arith) (c .both3 .result) (c .both3 .ensures) in
-    demanded (s .cells .now) a b (s .work .now) (s .text1 .now) (s .text2 .now) _ _ _ _ m
+    let m = long-text (s .paired) (s .cells .now) a b (s .work .now) (s .text1 .now) (s .text2 .now) (λ x y z. omega arith) (c .both3 .result) (c .both3 .ensures) in
+    demanded (s .paired) (s .cells .now) a b (s .work .now) (s .text1 .now) (s .text2 .now) _ _ _ _ m
 
 read-requires : tie.Need-read-requires
 read-requires c κs = search needs
@@ -67,14 +67,14 @@ enum-told c = search needs
 is-ranged-requires : tie.Need-is-ranged-requires
 is-ranged-requires c κs = search needs
 
-map-first-requires : tie.Need-map-first-requires
-map-first-requires c κs =
+map-cells-requires : tie.Need-map-cells-requires
+map-cells-requires c κs =
     let t = c .before .before .before .before .before in
     let l = t .before .before .read in
     let s = t .before .before .before .before .before .before .before .before .before .before .before .before .before .before .args in
     let a = channelOf (s .graph1 .now) (s .arrivals1 .now) (s .text1 .now) in
     let b = channelOf (s .graph2 .now) (s .arrivals2 .now) (s .text2 .now) in
-    library-read (s .cells .now) a b (s .work .now) (s .text1 .now) (s .text2 .now) (omega arith) (omega arith) (omega arith) (l .result) (l .ensures .0) (t .enum-told .given .1) .ok
+    library-heard (s .paired) (s .cells .now) a b (s .work .now) (s .text1 .now) (s .text2 .now) (omega arith) (omega arith) (omega arith) (l .result) (l .ensures .0) (t .enum-told .given .1) .ok
 
 enum-known-v : tie.Need-enum-known-v
 enum-known-v c = search needs
@@ -93,15 +93,15 @@ same-length-3 c = search needs
 
 returns-4 : tie.Need-returns-4
 returns-4 c =
-    let h = c .before .before .before .before .before .before .map-first in
+    let h = c .before .before .before .before .before .before .map-cells in
     let t = c .before .before .before .before .before .before .before .before .before .before .before .before in
     let l = t .before .before .read in
     let s = t .before .before .before .before .before .before .before .before .before .before .before .before .before .before .args in
     let a = channelOf (s .graph1 .now) (s .arrivals1 .now) (s .text1 .now) in
     let b = channelOf (s .graph2 .now) (s .arrivals2 .now) (s .text2 .now) in
-    let r = library-read (s .cells .now) a b (s .work .now) (s .text1 .now) (s .text2 .now) (omega arith) (omega arith) (omega arith) (l .result) (l .ensures .0) (t .enum-told .given .1) in
-    demanded (s .cells .now) a b (s .work .now) (s .text1 .now) (s .text2 .now) _ _ _ _
-    (r .goes (h .result) (h .last .1 .1 .1 .1 .1 .1 .0) (h .last .1 .1 .1 .1 .1 .1 .1 .0) (h .last .1 .1 .1 .1 .1 .1 .1 .1 .0) (subst (λ (x : Bool). PairLeft x (l .result .library) a b (firstFor (length (s .work .now)) a b) (s .work .now) (s .text1 .now) (s .text2 .now) (h .result) (h .last .1 .1 .1 .1 .1 .1 .0) (h .last .1 .1 .1 .1 .1 .1 .1 .0) (h .last .1 .1 .1 .1 .1 .1 .1 .1 .0)) (c .before .before .before .before .before .before .before .before .before .before .is-ranged .ensures) (h .ensures)))
+    let r = library-heard (s .paired) (s .cells .now) a b (s .work .now) (s .text1 .now) (s .text2 .now) (omega arith) (omega arith) (omega arith) (l .result) (l .ensures .0) (t .enum-told .given .1) in
+    demanded (s .paired) (s .cells .now) a b (s .work .now) (s .text1 .now) (s .text2 .now) _ _ _ _
+    (r .goes (h .result) (h .last .1 .1 .1 .1 .1 .1 .1 .0) (h .last .1 .1 .1 .1 .1 .1 .1 .1 .0) (h .last .1 .1 .1 .1 .1 .1 .1 .1 .1 .0) (subst (λ (x : Bool). TwoLeft (s .paired) x (l .result .library) a b (s .work .now) (s .text1 .now) (s .text2 .now) (h .result) (h .last .1 .1 .1 .1 .1 .1 .1 .0) (h .last .1 .1 .1 .1 .1 .1 .1 .1 .0) (h .last .1 .1 .1 .1 .1 .1 .1 .1 .1 .0)) (c .before .before .before .before .before .before .before .before .before .before .is-ranged .ensures) (h .ensures)))
 
 returns-5 : tie.Need-returns-5
 returns-5 c =
@@ -110,8 +110,8 @@ returns-5 c =
     let s = at-v .before .before .before .before .before .before .before .before .before .before .before .before .before .before .args in
     let a = channelOf (s .graph1 .now) (s .arrivals1 .now) (s .text1 .now) in
     let b = channelOf (s .graph2 .now) (s .arrivals2 .now) (s .text2 .now) in
-    demanded (s .cells .now) a b (s .work .now) (s .text1 .now) (s .text2 .now) _ _ _ _
-    (library-stops (s .cells .now) a b (s .work .now) (s .text1 .now) (s .text2 .now) (omega arith) (omega arith) (omega arith) (l .result) (l .ensures .0) _ _ (at-v .v .given .1) (c .both4 .result) (c .both4 .ensures))
+    demanded (s .paired) (s .cells .now) a b (s .work .now) (s .text1 .now) (s .text2 .now) _ _ _ _
+    (library-stops (s .paired) (s .cells .now) a b (s .work .now) (s .text1 .now) (s .text2 .now) (omega arith) (omega arith) (omega arith) (l .result) (l .ensures .0) _ _ (at-v .v .given .1) (c .both4 .result) (c .both4 .ensures))
 
 pub map-two-spec : {M : Type 1} → statement M
 map-two-spec =
@@ -126,7 +126,7 @@ map-two-spec =
     read-requires
     enum-told
     is-ranged-requires
-    map-first-requires
+    map-cells-requires
     enum-known-v
     both-requires-4
     same-length

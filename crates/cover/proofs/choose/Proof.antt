@@ -1,38 +1,45 @@
--- `cover::choose` meets its contract: the sheet and the inverter are the library's. Assumes nothing.
+-- `cover::choose` meets its contract: the sheet is that of the cells to map with, and the listed cells' inverter is theirs. Assumes nothing.
 use mathlib.Core.Path.{sym, ap, subst, _∙_}
-use native.Mathlib.Omega.{arith}
 use Rattle.model.specs.Cells.{cellsOf}
-use Rattle.cover.specs.Choosing.{chosenUp, Unchosen}
+use Rattle.pairs.specs.Codes.{cellsBy}
+use Rattle.matching.proofs.Pairing.{inverter-by}
+use Rattle.cover.specs.Choosing.{chosenUp, ToolsIn, Unchosen}
 use borrow.Author.Needs.{needs}
 use Rattle.cover.proofs.choose.Statement.{statement}
 use Rattle.cover.proofs.choose.Tie as tie
 
 inverter-of-requires : tie.Need-inverter-of-requires
-inverter-of-requires c κs = c .before .pre .0 .usable
+inverter-of-requires c κs = search needs
+
+-- the sheet and the inverter
+tools : (c : tie.After-inverter-of) →
+    let a = c .before .before .before .before .args in
+    ToolsIn (cellsBy (cellsOf (a .lib)) (a .codes .now)) (a .sheet .now) (c .inverter-of .result)
+tools c =
+    let s = c .before .before .before .before in
+    record { built = s .pre .1; inverter = c .inverter-of .ensures ∙ sym (inverter-by (cellsOf (s .args .lib)) (s .args .codes .now)) }
 
 placed-requires : tie.Need-placed-requires
-placed-requires c κs = let s = c .before .before .before in omega (arith, s .pre .1 .slots .few, s .pre .1 .slots .room .small)
+placed-requires c κs = search needs
 
 choose-variables-requires : tie.Need-choose-variables-requires
 choose-variables-requires c κs =
-    let s = c .before .before .before .before in
-    ((s .args .lib, record { built = s .pre .0; inverter = c .before .before .inverter-of .ensures }), subst (Unchosen (s .args .work .now) (s .args .h .size)) (sym (c .placed .ensures)) (s .pre .1))
+    let i = c .before .before in
+    let s = i .before .before .before .before in
+    let a = s .args in
+    ((cellsBy (cellsOf (a .lib)) (a .codes .now), tools i), subst (Unchosen (a .work .now) (a .h .size)) (sym (c .placed .ensures)) (s .pre .2))
 
 same-length : tie.Need-same-length
 same-length c = search needs
 
 returns : tie.Need-returns
 returns c =
-    let s = c .before .before .before .before .before .before .before in
-    c .before .before .choose-variables .ensures (s .args .lib) (record { built = s .pre .0; inverter = c .before .before .before .before .before .inverter-of .ensures })
-    ∙ ap (chosenUp (cellsOf (s .args .lib)) (s .args .work .now) (s .args .h .size)) (c .before .before .before .placed .ensures)
+    let i = c .before .before .before .before .before in
+    let a = i .before .before .before .before .args in
+    c .before .before .choose-variables .ensures (cellsBy (cellsOf (a .lib)) (a .codes .now)) (tools i)
+    ∙ ap (chosenUp (cellsBy (cellsOf (a .lib)) (a .codes .now)) (a .work .now) (a .h .size)) (c .before .before .before .placed .ensures)
 
 pub choose-spec : {M : Type 1} → statement M
 choose-spec =
     tie.close
-    (tie.spec
-    inverter-of-requires
-    placed-requires
-    choose-variables-requires
-    same-length
-    returns)
+    (tie.spec inverter-of-requires placed-requires choose-variables-requires same-length returns)

@@ -4,9 +4,7 @@ use mathlib.Core.List.{List}
 use Prim.Native.Nat.{ℕ, suc, _+_, _-_, _≤_}
 use native.Mathlib.Omega.{arith}
 use lib.ListN.{length}
-use Rattle.model.specs.Cells.{cellsOf}
 use Rattle.model.specs.declared.Cell.{Cell}
-use Rattle.model.specs.declared.Library.{Library}
 use Rattle.words.specs.Layout.{slotAt}
 use Rattle.cover.specs.Choosing.{chosenTurn, chosenUp, Choosable, ToolsIn}
 use Rattle.cover.proofs.Turning.{up-after, up-choosable, after-slot}
@@ -22,33 +20,33 @@ unfolding chosenUp
 begin cells w m = refl
 
 abbrev Inv-loop : tie.InvT-loop
-Inv-loop work₀ m n inv sheet i₀ work i = (i ≤ n) × ((lib : Library) → ToolsIn lib sheet inv → work ≡ chosenUp (cellsOf lib) work₀ m i)
+Inv-loop work₀ m n inv sheet i₀ work i = (i ≤ n) × ((cells : List Cell) → ToolsIn cells sheet inv → work ≡ chosenUp cells work₀ m i)
 
 abbrev μ-loop : tie.MeasureT-loop
 μ-loop work₀ m n inv sheet i₀ work i = n - i
 
 loop-holds : tie.Need-loop-holds Inv-loop μ-loop
-loop-holds c = let a = c .before .args in (omega arith, λ lib tools. begin (cellsOf lib) (a .work .now) (a .m))
+loop-holds c = let a = c .before .before .args in (omega arith, λ cells tools. begin cells (a .work .now) (a .m))
 
 slot-requires : tie.Need-slot-requires Inv-loop μ-loop
 slot-requires c κs =
-    let s = c .before .before .before .before in
+    let s = c .before .before .before .before .before in
     let a = s .args in
     let l = c .before .before in
     let r : Choosable (l .loop .work) (a .m) =
-    subst (λ (x : List ℕ). Choosable x (a .m)) (sym (l .loop .inv .1 (s .pre .0 .0) (s .pre .0 .1))) (up-choosable (s .pre .0 .0) (s .pre .0 .1 .built .usable) (a .work .now) (a .m) (a .n) (s .pre .1) (l .loop .i) (l .loop .inv .0)) in
+    subst (λ (x : List ℕ). Choosable x (a .m)) (sym (l .loop .inv .1 (s .pre .0 .0) (s .pre .0 .1))) (up-choosable (s .pre .0 .0) (s .pre .0 .1 .built .matchable) (a .work .now) (a .m) (a .n) (s .pre .1) (l .loop .i) (l .loop .inv .0)) in
     (r .cuts .room, omega (arith, s .pre .1 .slots .few, c .before .loop-test .taken))
 
 choose-variable-requires : tie.Need-choose-variable-requires Inv-loop μ-loop
 choose-variable-requires c κs =
-    let s = c .before .before .before .before .before .before in
+    let s = c .before .before .before .before .before .before .before in
     let a = s .args in
     let l = c .before .before .before .before in
-    let u = up-after (s .pre .0 .0) (s .pre .0 .1 .built .usable) (a .work .now) (a .m) (a .n) (s .pre .1) (l .loop .i) (l .loop .inv .0) in (
+    let u = up-after (s .pre .0 .0) (s .pre .0 .1 .built .matchable) (a .work .now) (a .m) (a .n) (s .pre .1) (l .loop .i) (l .loop .inv .0) in (
       s .pre .0,
-      subst (λ (x : List ℕ). Choosable x (a .m)) (sym (l .loop .inv .1 (s .pre .0 .0) (s .pre .0 .1))) (up-choosable (s .pre .0 .0) (s .pre .0 .1 .built .usable) (a .work .now) (a .m) (a .n) (s .pre .1) (l .loop .i) (l .loop .inv .0)),
+      subst (λ (x : List ℕ). Choosable x (a .m)) (sym (l .loop .inv .1 (s .pre .0 .0) (s .pre .0 .1))) (up-choosable (s .pre .0 .0) (s .pre .0 .1 .built .matchable) (a .work .now) (a .m) (a .n) (s .pre .1) (l .loop .i) (l .loop .inv .0)),
       subst (λ (x : ℕ). x ≤ a .m) (sym (c .before .slot .ensures ∙ ap (λ (x : List ℕ). slotAt x (a .m) (l .loop .i)) (l .loop .inv .1 (s .pre .0 .0) (s .pre .0 .1))))
-          (after-slot (s .pre .0 .0) (s .pre .0 .1 .built .usable) (a .work .now) (a .m) (a .n) (s .pre .1) (l .loop .i) (c .before .before .before .loop-test .taken) (u .kept)),
+          (after-slot (s .pre .0 .0) (s .pre .0 .1 .built .matchable) (a .work .now) (a .m) (a .n) (s .pre .1) (l .loop .i) (c .before .before .before .loop-test .taken) (u .kept)),
     )
 
 add-i : tie.Need-add-i Inv-loop μ-loop
@@ -59,31 +57,31 @@ loop-less c = omega arith
 
 loop-again : tie.Need-loop-again Inv-loop μ-loop
 loop-again c =
-    let s = c .before .before .before .before .before .before .before .before .before in
+    let s = c .before .before .before .before .before .before .before .before .before .before in
     let a = s .args in
     let l = c .before .before .before .before .before .before .before in
     let t = c .before .before in
     let i : ℕ = l .loop .i in (
       omega (arith, c .before .before .before .before .before .before .loop-test .taken),
-      λ lib tools. t .choose-variable .ensures lib tools
-          ∙ ap (chosenTurn (cellsOf lib) (l .loop .work) (a .m)) (t .before .before .slot .ensures)
-          ∙ ap (λ (x : List ℕ). chosenTurn (cellsOf lib) x (a .m) (slotAt x (a .m) i)) (l .loop .inv .1 lib tools)
-          ∙ turn (cellsOf lib) (a .work .now) (a .m) i,
+      λ cells tools. t .choose-variable .ensures cells tools
+          ∙ ap (chosenTurn cells (l .loop .work) (a .m)) (t .before .before .slot .ensures)
+          ∙ ap (λ (x : List ℕ). chosenTurn cells x (a .m) (slotAt x (a .m) i)) (l .loop .inv .1 cells tools)
+          ∙ turn cells (a .work .now) (a .m) i,
     )
 
 same-length : tie.Need-same-length Inv-loop μ-loop
 same-length c =
-    let s = c .before .before .before in
+    let s = c .before .before .before .before in
     let a = s .args in
     let l = c .before in
-    ap length (l .loop .inv .1 (s .pre .0 .0) (s .pre .0 .1)) ∙ up-after (s .pre .0 .0) (s .pre .0 .1 .built .usable) (a .work .now) (a .m) (a .n) (s .pre .1) (l .loop .i) (l .loop .inv .0) .kept .size
+    ap length (l .loop .inv .1 (s .pre .0 .0) (s .pre .0 .1)) ∙ up-after (s .pre .0 .0) (s .pre .0 .1 .built .matchable) (a .work .now) (a .m) (a .n) (s .pre .1) (l .loop .i) (l .loop .inv .0) .kept .size
 
 returns : tie.Need-returns Inv-loop μ-loop
 returns c =
-    let a = c .before .before .before .args in
+    let a = c .before .before .before .before .args in
     let l = c .before in
     let e : l .loop .i ≡ a .n = omega (arith, l .loop .inv .0, c .loop-test .left) in
-    λ lib tools. l .loop .inv .1 lib tools ∙ ap (chosenUp (cellsOf lib) (a .work .now) (a .m)) e
+    λ cells tools. l .loop .inv .1 cells tools ∙ ap (chosenUp cells (a .work .now) (a .m)) e
 
 pub choose-variables-spec : {M : Type 1} → statement M
 choose-variables-spec =

@@ -4,7 +4,6 @@ use mathlib.Core.Bool.{true, false}
 use mathlib.Core.List.{List}
 use Prim.Native.Nat.{ℕ, _<_}
 use native.Mathlib.Omega.{arith}
-use Rattle.model.specs.Cells.{cellsOf}
 use Rattle.model.specs.Choice.{choose}
 use Rattle.model.specs.Matching.{phaseTable}
 use Rattle.words.specs.Record.{leavesAt}
@@ -18,7 +17,7 @@ use Rattle.cover.proofs.cut_phases.Tie as tie
 
 alone-requires : tie.Need-alone-requires
 alone-requires c κs =
-    let s = c .before in
+    let s = c .before .before in
     (s .pre .1 .cuts .room, s .pre .2, omega (arith, s .pre .3, s .pre .1 .cuts .few (s .args .v) (s .pre .2)))
 
 neither-requires : tie.Need-neither-requires
@@ -27,20 +26,20 @@ neither-requires c κs = search needs
 returns : tie.Need-returns
 returns c =
     let tested = c .before .before in
-    let a = tested .before .before .args in
+    let a = tested .before .before .before .args in
     let e = sym (tested .alone .ensures) ∙ c .before .if1 .taken in
-    λ lib sheet. (
-      c .neither .ensures .0 ∙ at-alone (cellsOf lib) (a .work .now) (a .m) (a .v) false (a .k) e,
-      c .neither .ensures .1 ∙ at-alone (cellsOf lib) (a .work .now) (a .m) (a .v) true (a .k) e,
+    λ cells sheet. (
+      c .neither .ensures .0 ∙ at-alone cells (a .work .now) (a .m) (a .v) false (a .k) e,
+      c .neither .ensures .1 ∙ at-alone cells (a .work .now) (a .m) (a .v) true (a .k) e,
     )
 
 table-requires : tie.Need-table-requires
 table-requires c κs =
-    let s = c .before .before .before in
+    let s = c .before .before .before .before in
     (s .pre .1 .cuts .room, s .pre .2, omega (arith, s .pre .3, s .pre .1 .cuts .few (s .args .v) (s .pre .2)))
 
 is-matched-requires : tie.Need-is-matched-requires
-is-matched-requires c κs = search needs
+is-matched-requires c κs = let s = c .before .before .before .before .before in omega (arith, s .pre .0 .1 .long)
 
 neither-requires-2 : tie.Need-neither-requires-2
 neither-requires-2 c κs = search needs
@@ -50,24 +49,24 @@ returns-2 c =
     let asked = c .before .before in
     let read = asked .before in
     let tested = read .before .before in
-    let s = tested .before .before in
+    let s = tested .before .before .before in
     let a = s .args in
     let w : List ℕ = a .work .now in
     let few = few-leaves w (a .m) (a .v) (a .k) in
     let e = sym (tested .alone .ensures) ∙ read .before .if1 .left in
-    let fits : read .table .result < 65536 = omega (arith, read .table .ensures, function-fits w (a .m) (a .v) (a .k) 65536 (λ i. omega (arith, tested .before .shared-slice-known .given i))) in
+    let fits : read .table .result < 65536 = omega (arith, read .table .ensures, function-fits w (a .m) (a .v) (a .k) 65536 (λ i. omega (arith, tested .before .before .shared-slice-known .given i))) in
     let none = asked .is-matched .ensures (not-true _ (c .before .if2 .taken)) in
-    λ lib sheet. (
+    λ cells sheet. (
       c .neither2 .ensures .0
-          ∙ on-none lib (a .sheet .now) sheet w (a .m) 1073741823 (s .pre .1 .early) (omega arith) (leavesAt w (a .m) (a .v) (a .k)) few
+          ∙ on-none cells (a .sheet .now) sheet w (a .m) 1073741823 (s .pre .1 .early) (omega arith) (leavesAt w (a .m) (a .v) (a .k)) few
           (λ j i. s .pre .1 .cuts .within (a .v) (a .k) j (s .pre .2) (s .pre .3) i) (a .k) (read .table .result) fits (none .0)
-          ∙ ap (λ (f : ℕ). choose (foundOn (cellsOf lib) w (a .m) (a .k) (leavesAt w (a .m) (a .v) (a .k)) f)) (read .table .ensures ∙ sym (table-straight _))
-          ∙ at-cut (cellsOf lib) w (a .m) (a .v) false (a .k) e,
+          ∙ ap (λ (f : ℕ). choose (foundOn cells w (a .m) (a .k) (leavesAt w (a .m) (a .v) (a .k)) f)) (read .table .ensures ∙ sym (table-straight _))
+          ∙ at-cut cells w (a .m) (a .v) false (a .k) e,
       c .neither2 .ensures .1
-          ∙ on-none lib (a .sheet .now) sheet w (a .m) 1073741823 (s .pre .1 .early) (omega arith) (leavesAt w (a .m) (a .v) (a .k)) few
+          ∙ on-none cells (a .sheet .now) sheet w (a .m) 1073741823 (s .pre .1 .early) (omega arith) (leavesAt w (a .m) (a .v) (a .k)) few
           (λ j i. s .pre .1 .cuts .within (a .v) (a .k) j (s .pre .2) (s .pre .3) i) (a .k) (phaseTable true (read .table .result)) (table-small (read .table .result)) (none .1)
-          ∙ ap (λ (f : ℕ). choose (foundOn (cellsOf lib) w (a .m) (a .k) (leavesAt w (a .m) (a .v) (a .k)) (phaseTable true f))) (read .table .ensures)
-          ∙ at-cut (cellsOf lib) w (a .m) (a .v) true (a .k) e,
+          ∙ ap (λ (f : ℕ). choose (foundOn cells w (a .m) (a .k) (leavesAt w (a .m) (a .v) (a .k)) (phaseTable true f))) (read .table .ensures)
+          ∙ at-cut cells w (a .m) (a .v) true (a .k) e,
     )
 
 match-cut-requires : tie.Need-match-cut-requires
@@ -77,16 +76,16 @@ returns-3 : tie.Need-returns-3
 returns-3 c =
     let read = c .before .before .before in
     let tested = read .before .before in
-    let a = tested .before .before .args in
+    let a = tested .before .before .before .args in
     let w : List ℕ = a .work .now in
     let e = sym (tested .alone .ensures) ∙ read .before .if1 .left in
-    λ lib sheet. (
-      c .match-cut .ensures lib sheet .0
-          ∙ ap (λ (f : ℕ). choose (foundOn (cellsOf lib) w (a .m) (a .k) (leavesAt w (a .m) (a .v) (a .k)) f)) (read .table .ensures ∙ sym (table-straight _))
-          ∙ at-cut (cellsOf lib) w (a .m) (a .v) false (a .k) e,
-      c .match-cut .ensures lib sheet .1
-          ∙ ap (λ (f : ℕ). choose (foundOn (cellsOf lib) w (a .m) (a .k) (leavesAt w (a .m) (a .v) (a .k)) (phaseTable true f))) (read .table .ensures)
-          ∙ at-cut (cellsOf lib) w (a .m) (a .v) true (a .k) e,
+    λ cells sheet. (
+      c .match-cut .ensures cells sheet .0
+          ∙ ap (λ (f : ℕ). choose (foundOn cells w (a .m) (a .k) (leavesAt w (a .m) (a .v) (a .k)) f)) (read .table .ensures ∙ sym (table-straight _))
+          ∙ at-cut cells w (a .m) (a .v) false (a .k) e,
+      c .match-cut .ensures cells sheet .1
+          ∙ ap (λ (f : ℕ). choose (foundOn cells w (a .m) (a .k) (leavesAt w (a .m) (a .v) (a .k)) (phaseTable true f))) (read .table .ensures)
+          ∙ at-cut cells w (a .m) (a .v) true (a .k) e,
     )
 
 pub cut-phases-spec : {M : Type 1} → statement M

@@ -5,7 +5,6 @@ use mathlib.Core.List.{List}
 use mathlib.Core.Logic.{⊎-elim, inl, inr}
 use Prim.Native.Nat.{ℕ}
 use borrow.Author.Tests.{ne-eqb}
-use Rattle.model.specs.Cells.{cellsOf}
 use Rattle.model.specs.Choice.{noPhase}
 use Rattle.model.specs.declared.Cell.{Cell}
 use Rattle.words.specs.Layout.{constantKind, inputKind, andKind, kindAt, leftAt, rightAt}
@@ -39,39 +38,39 @@ best-phases-requires : tie.Need-best-phases-requires
 best-phases-requires c κs = search needs
 
 own-requires : tie.Need-own-requires
-own-requires c κs = let s = c .before .before .before in (s .pre .1 .cuts .room, s .pre .2)
+own-requires c κs = let s = c .before .before .before .before in (s .pre .1 .cuts .room, s .pre .2)
 
 neither-requires : tie.Need-neither-requires
 neither-requires c κs = search needs
 
 returns : tie.Need-returns
 returns c =
-    let a = c .before .before .before .before .args in
+    let a = c .before .before .before .before .before .args in
     let k = sym (c .before .before .kind .ensures) in
-    λ lib sheet. (
-      c .best-phases .ensures lib sheet .0
-          ∙ ⊎-elim (λ e. of-constant (cellsOf lib) (a .work .now) (a .m) (a .v) false (k ∙ e)) (λ e. of-and (cellsOf lib) (a .work .now) (a .m) (a .v) false (k ∙ e)) (c .before .match .keys1),
-      c .best-phases .ensures lib sheet .1
-          ∙ ⊎-elim (λ e. of-constant (cellsOf lib) (a .work .now) (a .m) (a .v) true (k ∙ e)) (λ e. of-and (cellsOf lib) (a .work .now) (a .m) (a .v) true (k ∙ e)) (c .before .match .keys1),
+    λ cells sheet. (
+      c .best-phases .ensures cells sheet .0
+          ∙ ⊎-elim (λ e. of-constant cells (a .work .now) (a .m) (a .v) false (k ∙ e)) (λ e. of-and cells (a .work .now) (a .m) (a .v) false (k ∙ e)) (c .before .match .keys1),
+      c .best-phases .ensures cells sheet .1
+          ∙ ⊎-elim (λ e. of-constant cells (a .work .now) (a .m) (a .v) true (k ∙ e)) (λ e. of-and cells (a .work .now) (a .m) (a .v) true (k ∙ e)) (c .before .match .keys1),
     )
 
 returns-2 : tie.Need-returns-2
 returns-2 c =
-    let a = c .before .before .before .before .args in
+    let a = c .before .before .before .before .before .args in
     let k = sym (c .before .before .kind .ensures) ∙ c .before .match .keys2 in
-    λ lib sheet. (
-      c .own .ensures .0 ∙ of-input (cellsOf lib) (a .work .now) (a .m) (a .v) false k,
-      c .own .ensures .1 ∙ of-input (cellsOf lib) (a .work .now) (a .m) (a .v) true k,
+    λ cells sheet. (
+      c .own .ensures .0 ∙ of-input cells (a .work .now) (a .m) (a .v) false k,
+      c .own .ensures .1 ∙ of-input cells (a .work .now) (a .m) (a .v) true k,
     )
 
 returns-3 : tie.Need-returns-3
 returns-3 c =
-    let a = c .before .before .before .before .args in
+    let a = c .before .before .before .before .before .args in
     let k = c .before .before .kind .ensures in
     let r = c .before .match .rest in
-    λ lib sheet. (
-      c .neither .ensures .0 ∙ of-undefined (cellsOf lib) (a .work .now) (a .m) (a .v) false (λ e. r .0 .1 (inl (k ∙ e))) (λ e. r .1 (k ∙ e)) (λ e. r .0 .1 (inr (k ∙ e))),
-      c .neither .ensures .1 ∙ of-undefined (cellsOf lib) (a .work .now) (a .m) (a .v) true (λ e. r .0 .1 (inl (k ∙ e))) (λ e. r .1 (k ∙ e)) (λ e. r .0 .1 (inr (k ∙ e))),
+    λ cells sheet. (
+      c .neither .ensures .0 ∙ of-undefined cells (a .work .now) (a .m) (a .v) false (λ e. r .0 .1 (inl (k ∙ e))) (λ e. r .1 (k ∙ e)) (λ e. r .0 .1 (inr (k ∙ e))),
+      c .neither .ensures .1 ∙ of-undefined cells (a .work .now) (a .m) (a .v) true (λ e. r .0 .1 (inl (k ∙ e))) (λ e. r .1 (k ∙ e)) (λ e. r .0 .1 (inr (k ∙ e))),
     )
 
 pub direct-spec : {M : Type 1} → statement M

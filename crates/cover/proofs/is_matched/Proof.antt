@@ -23,7 +23,7 @@ returns-2 : tie.Need-returns-2
 returns-2 c =
     let turned = c .before in
     let tested = turned .before .before in
-    let a = tested .before .args in
+    let a = tested .before .before .args in
     λ e. (sym (tested .is-listed .ensures) ∙ turned .before .if1 .left, ap (λ (x : ℕ). isListed (a .sheet .now) x) (sym (turned .in-phase .ensures)) ∙ sym (c .is-listed2 .ensures) ∙ e)
 
 pub is-matched-spec : {M : Type 1} → statement M

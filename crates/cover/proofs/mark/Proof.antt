@@ -1,12 +1,13 @@
 -- `cover::mark` meets its contract: marking the outputs leaves what marking the variables reads. Assumes nothing.
-use mathlib.Core.Path.{_≡_, sym, ap, subst, _∙_}
+use mathlib.Core.Path.{sym, ap, subst, _∙_}
 use mathlib.Core.List.{List}
 use Prim.Native.Nat.{ℕ}
 use native.Mathlib.Omega.{arith}
 use Rattle.model.specs.Cells.{cellsOf}
 use Rattle.words.specs.Layout.{placedOf}
+use Rattle.pairs.specs.Codes.{cellsBy}
 use Rattle.cover.specs.Asked.{MatchesIn, SlotsIn}
-use Rattle.cover.specs.Marking.{putOutputs, fedDown, marked}
+use Rattle.cover.specs.Marking.{fedDown, marked}
 use Rattle.cover.proofs.Keeping.{NeedsKept}
 use Rattle.cover.proofs.Marks.{outputs-kept, needs-matches, needs-slots}
 use borrow.Author.Needs.{needs}
@@ -14,29 +15,35 @@ use Rattle.cover.proofs.mark.Statement.{statement}
 use Rattle.cover.proofs.mark.Tie as tie
 
 pin-counts-requires : tie.Need-pin-counts-requires
-pin-counts-requires c κs = c .before .pre .0 .usable
+pin-counts-requires c κs = search needs
 
 mark-outputs-requires : tie.Need-mark-outputs-requires
 mark-outputs-requires c κs = search needs
 
 placed-requires : tie.Need-placed-requires
-placed-requires c κs = let s = c .before .before .before .before .before .before .before in omega (arith, s .pre .2 .few, s .pre .2 .room .small)
+placed-requires c κs = search needs
 
-mark-variables-requires : tie.Need-mark-variables-requires
-mark-variables-requires c κs =
-    let s = c .before .before .before .before .before .before .before .before in
+-- what marking the outputs leaves
+after : (c : tie.After-mark-outputs) →
+    let s = c .before .before .before .before .before in
+    let a = s .args in
+    MatchesIn (cellsBy (cellsOf (a .lib)) (a .codes .now)) (c .mark-outputs .last .0) (a .h .size) × SlotsIn (c .mark-outputs .last .0) (a .h .size) (placedOf (a .h))
+after c =
+    let s = c .before .before .before .before .before in
     let a = s .args in
     let w : List ℕ = a .work .now in
     let m : ℕ = a .h .size in
-    let o : ℕ = a .h .outputs in
-    let p = c .placed in
-    let n : ℕ = p .result in
-    let w′ : List ℕ = putOutputs w m 0 o in
-    let k : NeedsKept m w w′ = outputs-kept m o 0 o w (s .pre .1) (omega arith) in
-    let e : c .before .before .before .before .mark-outputs .last .0 ≡ w′ = c .before .before .before .before .mark-outputs .ensures in (
-      subst (λ (x : List ℕ). MatchesIn (a .lib) x m) (sym e) (needs-matches m (a .lib) w w′ k (s .pre .0)),
-      subst (λ (x : List ℕ). SlotsIn x m n) (sym e) (needs-slots m n w w′ k (subst (SlotsIn w m) (sym (p .ensures)) (s .pre .2))),
-      c .before .before .before .before .before .before .pin-counts .ensures,
+    let k : NeedsKept m w (c .mark-outputs .last .0) =
+    subst (NeedsKept m w) (sym (c .mark-outputs .ensures)) (outputs-kept m (a .h .outputs) 0 (a .h .outputs) w (s .pre .2) (omega arith)) in
+    (needs-matches m (cellsBy (cellsOf (a .lib)) (a .codes .now)) w _ k (s .pre .1), needs-slots m (placedOf (a .h)) w _ k (s .pre .3))
+
+mark-variables-requires : tie.Need-mark-variables-requires
+mark-variables-requires c κs =
+    let o = c .before .before .before .before .before in
+    let p = o .before .before in
+    let a = p .before .before .before .args in (
+      (cellsBy (cellsOf (a .lib)) (a .codes .now), after o .0, p .pin-counts .ensures),
+      subst (SlotsIn (o .mark-outputs .last .0) (a .h .size)) (sym (c .placed .ensures)) (after o .1),
     )
 
 same-length : tie.Need-same-length
@@ -45,10 +52,13 @@ same-length c = search needs
 returns : tie.Need-returns
 unfolding marked
 returns c =
-    let a = c .before .before .before .before .before .before .before .before .before .before .before .args in
-    c .before .before .mark-variables .ensures
-    ∙ ap (fedDown (cellsOf (a .lib)) _ (a .h .size)) (c .before .before .before .placed .ensures)
-    ∙ ap (λ (x : List ℕ). fedDown (cellsOf (a .lib)) x (a .h .size) (placedOf (a .h))) (c .before .before .before .before .before .before .before .mark-outputs .ensures)
+    let v = c .before .before in
+    let o = v .before .before .before .before .before .before in
+    let p = o .before .before in
+    let a = p .before .before .before .args in
+    v .mark-variables .ensures (cellsBy (cellsOf (a .lib)) (a .codes .now)) (after o .0) (p .pin-counts .ensures)
+    ∙ ap (fedDown (cellsBy (cellsOf (a .lib)) (a .codes .now)) _ (a .h .size)) (v .before .placed .ensures)
+    ∙ ap (λ (x : List ℕ). fedDown (cellsBy (cellsOf (a .lib)) (a .codes .now)) x (a .h .size) (placedOf (a .h))) (o .mark-outputs .ensures)
 
 pub mark-spec : {M : Type 1} → statement M
 mark-spec =

@@ -2,7 +2,6 @@
 use mathlib.Core.Path.{sym, ap, _∙_}
 use Prim.Native.Nat.{ℕ, _/_}
 use native.Mathlib.Omega.{arith}
-use Rattle.model.specs.Cells.{cellsOf}
 use Rattle.model.specs.Graph.{varOf}
 use Rattle.model.specs.declared.Phase.{Phase}
 use Rattle.theory_graph.proofs.Literals.{opposite-var}
@@ -25,7 +24,8 @@ mark-match-requires c κs =
     let a = s .args in
     let p = c .before .before .before .before .phase in
     let e = ap (λ (x : Phase). x .source) (sym (p .ensures)) ∙ c .before .before .s .given .1 in
-    (s .pre .0 .usable, s .pre .0 .cuts, s .pre .1, s .pre .0 .matches (a .l) (s .pre .1) (c .before .before .s .given .0 .0) e, s .pre .2)
+    let r = s .pre .0 .1 in
+    ((s .pre .0 .0, r .usable, r .matches (a .l) (s .pre .1) (c .before .before .s .given .0 .0) e, s .pre .0 .2), r .cuts, s .pre .1)
 
 enum-told : tie.Need-enum-told
 enum-told c = search needs
@@ -37,7 +37,7 @@ mark-needed-requires : tie.Need-mark-needed-requires
 unfolding varOf
 mark-needed-requires c κs =
     let s = c .before .before .before .before .before .before .before in
-    (s .pre .0 .cuts .room, omega (arith, ap (λ (y : ℕ). y / 2) (c .opposite .ensures .0), opposite-var (s .args .l), s .pre .1))
+    (s .pre .0 .1 .cuts .room, omega (arith, ap (λ (y : ℕ). y / 2) (c .opposite .ensures .0), opposite-var (s .args .l), s .pre .1))
 
 enum-told-2 : tie.Need-enum-told-2
 enum-told-2 c = search needs
@@ -49,46 +49,47 @@ same-length : tie.Need-same-length
 same-length c = search needs
 
 returns : tie.Need-returns
-returns c =
+returns c cells r pins =
     let s = c .before .before .before .before .before .before .before .before .before .before in
     let a = s .args in
     let x = c .before .before .before .before .before .s .given .0 .0 in
     let e = ap (λ (p : Phase). p .source) (sym (c .before .before .before .before .before .before .before .phase .ensures)) ∙ c .before .before .before .before .before .s .given .1 in
-    c .before .before .mark-match .ensures
-    ∙ ap (putAll (a .work .now) (a .m)) (sym (feeds-matched (cellsOf (a .lib)) (a .work .now) (a .m) (a .l) x (s .pre .0 .matches (a .l) (s .pre .1) x e) e))
+    let i = r .matches (a .l) (s .pre .1) x e in
+    c .before .before .mark-match .ensures cells (r .usable) i pins
+    ∙ ap (putAll (a .work .now) (a .m)) (sym (feeds-matched cells (a .work .now) (a .m) (a .l) x i e))
 
 same-length-2 : tie.Need-same-length-2
 same-length-2 c = search needs
 
 returns-2 : tie.Need-returns-2
 unfolding putAll
-returns-2 c =
+returns-2 c cells r pins =
     let a = c .before .before .before .before .before .before .before .before .before .before .args in
     let x = c .before .before .before .before .before .enum-told .given .0 .0 in
     let e = ap (λ (p : Phase). p .source) (sym (c .before .before .before .before .before .before .before .phase .ensures)) ∙ c .before .before .before .before .before .enum-told .given .1 in
     c .before .before .mark-needed .ensures
     ∙ ap (putNeeded (a .work .now) (a .m)) (c .before .before .before .opposite .ensures .0)
-    ∙ ap (putAll (a .work .now) (a .m)) (sym (feeds-inverted (cellsOf (a .lib)) (a .work .now) (a .m) (a .l) x e))
+    ∙ ap (putAll (a .work .now) (a .m)) (sym (feeds-inverted cells (a .work .now) (a .m) (a .l) x e))
 
 same-length-3 : tie.Need-same-length-3
 same-length-3 c = search needs
 
 returns-3 : tie.Need-returns-3
 unfolding putAll
-returns-3 c =
+returns-3 c cells r pins =
     let a = c .before .before .before .before .before .args in
     let e = ap (λ (p : Phase). p .source) (sym (c .before .before .phase .ensures)) ∙ c .enum-told2 .given .1 in
-    ap (putAll (a .work .now) (a .m)) (sym (feeds-input (cellsOf (a .lib)) (a .work .now) (a .m) (a .l) e))
+    ap (putAll (a .work .now) (a .m)) (sym (feeds-input cells (a .work .now) (a .m) (a .l) e))
 
 same-length-4 : tie.Need-same-length-4
 same-length-4 c = search needs
 
 returns-4 : tie.Need-returns-4
 unfolding putAll
-returns-4 c =
+returns-4 c cells r pins =
     let a = c .before .before .before .before .before .args in
     let e = ap (λ (p : Phase). p .source) (sym (c .before .before .phase .ensures)) ∙ c .enum-told3 .given .1 in
-    ap (putAll (a .work .now) (a .m)) (sym (feeds-nothing (cellsOf (a .lib)) (a .work .now) (a .m) (a .l) e))
+    ap (putAll (a .work .now) (a .m)) (sym (feeds-nothing cells (a .work .now) (a .m) (a .l) e))
 
 pub mark-feeds-spec : {M : Type 1} → statement M
 mark-feeds-spec =

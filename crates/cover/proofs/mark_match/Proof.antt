@@ -2,7 +2,7 @@
 use mathlib.Core.Path.{_≡_, sym, ap, subst, _∙_}
 use Prim.Native.Nat.{ℕ}
 use native.Mathlib.Omega.{arith}
-use Rattle.model.specs.Cells.{cellAt, cellsOf}
+use Rattle.model.specs.Cells.{cellAt}
 use Rattle.model.specs.Matching.{fedNets}
 use Rattle.model.specs.declared.Cut.{Cut}
 use Rattle.truth.specs.Variant.{placesOf}
@@ -16,45 +16,46 @@ use Rattle.cover.proofs.mark_match.Tie as tie
 load-cut-requires : tie.Need-load-cut-requires
 load-cut-requires c κs =
     let s = c .before .before in
-    (s .pre .1 .room, s .pre .2, omega (arith, s .pre .3 .cut, s .pre .1 .few (s .args .v) (s .pre .2)))
+    (s .pre .1 .room, s .pre .2, omega (arith, s .pre .0 .2 .cut, s .pre .1 .few (s .args .v) (s .pre .2)))
 
 mul-count : tie.Need-mul-count
-mul-count c = let s = c .before .before .before .before in omega (arith, s .pre .3 .cell, s .pre .0 .whole, s .pre .0 .few)
+mul-count c = search needs
 
-array-read-count : tie.Need-array-read-count
-array-read-count c = let s = c .before .before .before .before in omega (arith, s .pre .3 .cell, s .pre .0 .whole, s .pre .0 .few, s .pre .4 .long)
+element-copy-out-count : tie.Need-element-copy-out-count
+element-copy-out-count c = search needs
 
 wide-requires : tie.Need-wide-requires
 wide-requires c κs = search needs
 
 mark-pins-requires : tie.Need-mark-pins-requires
 mark-pins-requires c κs =
-    let s = c .before .before .before .before .before .before in
+    let s = c .before .before .before .before .before .before .before in
     let a = s .args in
-    let cut = c .before .before .before .load-cut in
-    let e : c .wide .result ≡ cellAt (cellsOf (a .lib)) (a .x .cell) .pins =
-    c .wide .ensures .0 ∙ s .pre .4 .listed (a .x .cell) (s .pre .3 .cell) in (
+    let cells = s .pre .0 .0 in
+    let cut = c .before .before .before .before .load-cut in
+    let e : c .wide .result ≡ cellAt cells (a .x .cell) .pins =
+    c .wide .ensures .0 ∙ s .pre .0 .3 .listed (a .x .cell) (s .pre .0 .2 .cell) in (
       s .pre .1 .room,
       subst (λ (n : ℕ). PinsIn (cut .result .leaves) (a .m) (a .x .order) n) (sym e)
-          (subst (λ (y : Cut). PinsIn (y .leaves) (a .m) (a .x .order) (cellAt (cellsOf (a .lib)) (a .x .cell) .pins)) (sym (cut .ensures))
-          (match-pins (a .lib) (a .work .now) (a .m) (a .v) (a .x) (s .pre .0) (s .pre .1) (s .pre .2) (s .pre .3))),
+          (subst (λ (y : Cut). PinsIn (y .leaves) (a .m) (a .x .order) (cellAt cells (a .x .cell) .pins)) (sym (cut .ensures))
+          (match-pins cells (a .work .now) (a .m) (a .v) (a .x) (s .pre .0 .1) (s .pre .1) (s .pre .2) (s .pre .0 .2))),
     )
 
 same-length : tie.Need-same-length
 same-length c = search needs
 
 returns : tie.Need-returns
-returns c =
+returns c cells ok i pins =
     let t = c .before .before .before in
-    let s = c .before .before .before .before .before .before .before .before .before in
+    let s = c .before .before .before .before .before .before .before .before .before .before in
     let a = s .args in
-    let cut = t .before .before .before .load-cut in
-    let e : t .wide .result ≡ cellAt (cellsOf (a .lib)) (a .x .cell) .pins =
-    t .wide .ensures .0 ∙ s .pre .4 .listed (a .x .cell) (s .pre .3 .cell) in
+    let cut = t .before .before .before .before .load-cut in
+    let e : t .wide .result ≡ cellAt cells (a .x .cell) .pins =
+    t .wide .ensures .0 ∙ pins .listed (a .x .cell) (i .cell) in
     c .before .before .mark-pins .ensures
     ∙ ap (λ (n : ℕ). putAll (a .work .now) (a .m) (fedNets n (placesOf (a .x .order)) (a .x .mask) (cut .result .leaves))) e
-    ∙ ap (λ (y : Cut). putAll (a .work .now) (a .m) (fedNets (cellAt (cellsOf (a .lib)) (a .x .cell) .pins) (placesOf (a .x .order)) (a .x .mask) (y .leaves))) (cut .ensures)
-    ∙ ap (putAll (a .work .now) (a .m)) (sym (match-nets (a .lib) (a .work .now) (a .m) (a .v) (a .x) (s .pre .0) (s .pre .1) (s .pre .2) (s .pre .3)))
+    ∙ ap (λ (y : Cut). putAll (a .work .now) (a .m) (fedNets (cellAt cells (a .x .cell) .pins) (placesOf (a .x .order)) (a .x .mask) (y .leaves))) (cut .ensures)
+    ∙ ap (putAll (a .work .now) (a .m)) (sym (match-nets cells (a .work .now) (a .m) (a .v) (a .x) ok (s .pre .1) (s .pre .2) i))
 
 pub mark-match-spec : {M : Type 1} → statement M
 mark-match-spec =
@@ -62,7 +63,7 @@ mark-match-spec =
     (tie.spec
     load-cut-requires
     mul-count
-    array-read-count
+    element-copy-out-count
     wide-requires
     mark-pins-requires
     same-length

@@ -3,7 +3,6 @@ use mathlib.Core.Path.{sym, ap, _∙_}
 use mathlib.Core.List.{List}
 use mathlib.Core.Bool.{Bool, cond}
 use Prim.Native.Nat.{ℕ}
-use Rattle.model.specs.Cells.{cellsOf}
 use Rattle.cover.specs.Marking.{fedOnce, feedsAt, putAll}
 use borrow.Author.Needs.{needs}
 use Rattle.cover.proofs.mark_phase.Statement.{statement}
@@ -20,23 +19,23 @@ same-length c = search needs
 
 returns : tie.Need-returns
 unfolding fedOnce
-returns c =
+returns c cells r pins =
     let s = c .before .before .before .before .before .before .before .before in
     let a = s .args in
     let w : List ℕ = a .work .now in
     let e = sym (c .before .before .before .before .before .is-needed .ensures) ∙ c .before .before .before .before .if1 .taken in
-    c .before .before .mark-feeds .ensures ∙ sym (ap (λ (b : Bool). cond b (putAll w (a .m) (feedsAt (cellsOf (a .lib)) w (a .m) (a .l))) w) e)
+    c .before .before .mark-feeds .ensures cells r pins ∙ sym (ap (λ (b : Bool). cond b (putAll w (a .m) (feedsAt cells w (a .m) (a .l))) w) e)
 
 same-length-2 : tie.Need-same-length-2
 same-length-2 c = search needs
 
 returns-2 : tie.Need-returns-2
 unfolding fedOnce
-returns-2 c =
+returns-2 c cells r pins =
     let a = c .before .before .before .before .args in
     let w : List ℕ = a .work .now in
     let e = sym (c .before .is-needed .ensures) ∙ c .if1 .left in
-    sym (ap (λ (b : Bool). cond b (putAll w (a .m) (feedsAt (cellsOf (a .lib)) w (a .m) (a .l))) w) e)
+    sym (ap (λ (b : Bool). cond b (putAll w (a .m) (feedsAt cells w (a .m) (a .l))) w) e)
 
 pub mark-phase-spec : {M : Type 1} → statement M
 mark-phase-spec =

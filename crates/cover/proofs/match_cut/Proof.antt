@@ -4,7 +4,6 @@ use mathlib.Core.Bool.{true}
 use mathlib.Core.List.{List}
 use Prim.Native.Nat.{ℕ, _≤_, _<_}
 use native.Mathlib.Omega.{arith}
-use Rattle.model.specs.Cells.{cellsOf}
 use Rattle.model.specs.Matching.{phaseTable}
 use Rattle.model.specs.declared.Cut.{Cut}
 use Rattle.words.specs.Layout.{countAt}
@@ -25,15 +24,15 @@ loaded w m v k r inside low = record { room = r .room; four = four-leaves w m v 
 
 -- the arrivals of its leaves
 are : (c : tie.After-times) →
-    let a = c .before .before .before .args in
+    let a = c .before .before .before .before .args in
     c .times .result ≡ timesAt (a .work .now) (a .m) (leavesAt (a .work .now) (a .m) (a .v) (a .k))
 are c =
-    let a = c .before .before .before .args in
+    let a = c .before .before .before .before .args in
     c .times .ensures ∙ ap (λ (x : Cut). timesAt (a .work .now) (a .m) (leavesOf x)) (c .before .load-cut .ensures)
 
 timely : (c : tie.After-times) → Timely (c .times .result)
 timely c =
-    let s = c .before .before .before in
+    let s = c .before .before .before .before in
     let a = s .args in
     subst Timely (sym (are c))
     (times-timely (a .work .now) (a .m) (leavesAt (a .work .now) (a .m) (a .v) (a .k)) 1073741823 (s .pre .1 .early) (omega arith)
@@ -41,41 +40,41 @@ timely c =
 
 load-cut-requires : tie.Need-load-cut-requires
 load-cut-requires c κs =
-    let s = c .before in
+    let s = c .before .before in
     (s .pre .1 .cuts .room, s .pre .2, omega (arith, s .pre .3, s .pre .1 .cuts .few (s .args .v) (s .pre .2)))
 
 times-requires : tie.Need-times-requires
 times-requires c κs =
-    let s = c .before .before in
+    let s = c .before .before .before in
     let a = s .args in
     subst (LeavesIn (a .work .now) (a .m)) (sym (c .load-cut .ensures)) (loaded (a .work .now) (a .m) (a .v) (a .k) (s .pre .1 .cuts) (s .pre .2) (s .pre .3))
 
 match-phase-requires : tie.Need-match-phase-requires
-match-phase-requires c κs = (c .before .before .before .before .pre .0, timely (c .before))
+match-phase-requires c κs = (c .before .before .before .before .before .pre .0, timely (c .before))
 
 in-phase-requires : tie.Need-in-phase-requires
 in-phase-requires c κs = search needs
 
 match-phase-requires-2 : tie.Need-match-phase-requires-2
-match-phase-requires-2 c κs = (c .before .before .before .before .before .before .before .pre .0, timely (c .before .before .before .before))
+match-phase-requires-2 c κs = (c .before .before .before .before .before .before .before .before .pre .0, timely (c .before .before .before .before))
 
 returns : tie.Need-returns
 returns c =
     let turned = c .before .before in
     let first = turned .before in
     let t = first .before .before in
-    let s = t .before .before .before in
+    let s = t .before .before .before .before in
     let a = s .args in
     let w : List ℕ = a .work .now in
     let few = few-leaves w (a .m) (a .v) (a .k) in
-    λ lib sheet. (
-      first .match-phase .ensures lib sheet
-          ∙ ap (λ (x : List ℕ). phaseAs (a .k) (bestOf (cellsOf lib) (a .f) x)) (are t)
-          ∙ on-best lib (a .sheet .now) sheet w (a .m) 1073741823 (s .pre .1 .early) (omega arith) (leavesAt w (a .m) (a .v) (a .k)) few
+    λ cells sheet. (
+      first .match-phase .ensures cells sheet
+          ∙ ap (λ (x : List ℕ). phaseAs (a .k) (bestOf cells (a .f) x)) (are t)
+          ∙ on-best cells (a .sheet .now) sheet w (a .m) 1073741823 (s .pre .1 .early) (omega arith) (leavesAt w (a .m) (a .v) (a .k)) few
           (λ j i. s .pre .1 .cuts .within (a .v) (a .k) j (s .pre .2) (s .pre .3) i) (a .k) (a .f) (omega (arith, s .fits .f)),
-      c .match-phase2 .ensures lib sheet
-          ∙ (λ i. phaseAs (a .k) (bestOf (cellsOf lib) (turned .in-phase .ensures i) (are t i)))
-          ∙ on-best lib (a .sheet .now) sheet w (a .m) 1073741823 (s .pre .1 .early) (omega arith) (leavesAt w (a .m) (a .v) (a .k)) few
+      c .match-phase2 .ensures cells sheet
+          ∙ (λ i. phaseAs (a .k) (bestOf cells (turned .in-phase .ensures i) (are t i)))
+          ∙ on-best cells (a .sheet .now) sheet w (a .m) 1073741823 (s .pre .1 .early) (omega arith) (leavesAt w (a .m) (a .v) (a .k)) few
           (λ j i. s .pre .1 .cuts .within (a .v) (a .k) j (s .pre .2) (s .pre .3) i) (a .k) (phaseTable true (a .f)) (table-small (a .f)),
     )
 

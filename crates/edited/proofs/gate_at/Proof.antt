@@ -9,7 +9,8 @@ use Rattle.model.specs.Cells.{cellsOf}
 use Rattle.model.specs.Check.{gateOfFields}
 use Rattle.text.specs.Lines.{lineAt}
 use Rattle.netnames.specs.Bound.{gateOf}
-use Rattle.edited.proofs.Gathering.{ten-not, ten-is, stop-from, stop-fits, stop-next, line-bytes}
+use Rattle.framing.proofs.Seen.{stop-from, stop-fits, stop-next, line-bytes}
+use Rattle.edited.proofs.Gathering.{ten-not, ten-is}
 use Rattle.edited.proofs.gate_at.Statement.{statement}
 use Rattle.edited.proofs.gate_at.Tie as tie
 

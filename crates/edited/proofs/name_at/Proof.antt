@@ -7,7 +7,8 @@ use native.Mathlib.Omega.{arith}
 use Rattle.model.specs.Check.{nameDriver}
 use Rattle.text.specs.Lines.{lineAt}
 use Rattle.netnames.specs.Bound.{nameCode}
-use Rattle.edited.proofs.Gathering.{name-not, name-is, stop-from, stop-fits, stop-next, line-bytes}
+use Rattle.framing.proofs.Seen.{stop-from, stop-fits, stop-next, line-bytes}
+use Rattle.edited.proofs.Gathering.{name-not, name-is}
 use Rattle.edited.proofs.name_at.Statement.{statement}
 use Rattle.edited.proofs.name_at.Tie as tie
 

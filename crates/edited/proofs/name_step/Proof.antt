@@ -13,16 +13,18 @@ use Rattle.model.specs.Check.{Driver, isLine, readNames}
 use Rattle.words.specs.Put.{putAt}
 use Rattle.words.proofs.Putting.{length-put}
 use Rattle.text.specs.Lines.{lineAt, pastLine}
-use Rattle.edited.specs.Store.{gateWords, linesAt}
-use Rattle.edited.proofs.Gathering.{gate-eight, stop-from, stop-next, line-next}
-use Rattle.edited.proofs.Naming.{name-none, name-some, names-missing, names-broken, names-rowless, row-broken, row-fine}
+use Rattle.edited.specs.Store.{gateWords}
+use Rattle.framing.specs.Frame.{linesAt}
+use Rattle.framing.proofs.Seen.{stop-from, stop-next, line-next, line-long}
+use Rattle.edited.proofs.Gathering.{gate-eight}
+use Rattle.edited.proofs.Naming.{name-none, name-some, name-long, names-missing, names-broken, names-rowless, row-broken, row-fine}
 use Rattle.edited.proofs.name_step.Statement.{statement}
 use Rattle.edited.proofs.name_step.Tie as tie
 
 returns : tie.Need-returns
 returns c =
     let a = c .before .before .before .args in
-    record { size = refl; refused = λ _ left. names-missing (a .s .now) (a .k) (a .at) (c .if1 .taken) left; due = λ q. absurd (true≢false q) }
+    record { size = refl; refused = λ _. (refl, (λ left. names-missing (a .s .now) (a .k) (a .at) (c .if1 .taken) left)); within = λ q. absurd (true≢false q); due = λ q. absurd (true≢false q) }
 
 line-requires : tie.Need-line-requires
 line-requires c κs = search needs
@@ -37,7 +39,8 @@ returns-2 c =
     let a = e .before .before .before .args in
     record {
       size = refl;
-      refused = λ _ left. names-broken (a .s .now) (a .k) (a .at) (e .if1 .left) (name-none (a .k) (lineAt (a .s .now) (a .at)) (sym (n .name-at .ensures) ∙ c .if2 .taken)) left;
+      refused = λ _. (refl, (λ left. names-broken (a .s .now) (a .k) (a .at) (e .if1 .left) (name-none (a .k) (lineAt (a .s .now) (a .at)) (sym (n .name-at .ensures) ∙ c .if2 .taken)) left));
+      within = λ q. absurd (true≢false q);
       due = λ q. absurd (true≢false q);
     }
 
@@ -54,7 +57,8 @@ returns-3 c =
     let behind = line-next s (a .at) (m .line .result) (m .line .ensures) in
     record {
       size = refl;
-      refused = λ _ left. names-rowless s (a .k) (a .at) (e .if1 .left) (d .0) (d .1) (d .2) (subst (λ (x : ℕ). length s ≤ x) behind (c .if3 .taken)) left;
+      refused = λ _. (refl, (λ left. names-rowless s (a .k) (a .at) (e .if1 .left) (d .0) (d .1) (d .2) (subst (λ (x : ℕ). length s ≤ x) behind (c .if3 .taken)) left));
+      within = λ q. absurd (true≢false q);
       due = λ q. absurd (true≢false q);
     }
 
@@ -80,10 +84,14 @@ returns-4 c =
     let behind = line-next s (a .at) (m .line .result) (m .line .ensures) in
     record {
       size = refl;
-      refused = λ _ left.
-          row-broken s (a .k) (a .at) (e .if1 .left) (d .0) (d .1) (d .2) (subst (λ (x : ℕ). x < length s) behind (t .if3 .left))
-          (sym (ap (λ (x : ℕ). isLine (text "1 1") (lineAt s x)) behind) ∙ sym (i .is-line .ensures) ∙ not-true _ (c .if4 .taken)) left
-          ∙ ap (λ (x : ℕ). fault 32 x) (sym behind);
+      refused = λ _. (
+        refl,
+        (λ left.
+            row-broken s (a .k) (a .at) (e .if1 .left) (d .0) (d .1) (d .2) (subst (λ (x : ℕ). x < length s) behind (t .if3 .left))
+            (sym (ap (λ (x : ℕ). isLine (text "1 1") (lineAt s x)) behind) ∙ sym (i .is-line .ensures) ∙ not-true _ (c .if4 .taken)) left
+            ∙ ap (λ (x : ℕ). fault 32 x) (sym behind)),
+      );
+      within = λ q. absurd (true≢false q);
       due = λ q. absurd (true≢false q);
     }
 
@@ -91,7 +99,11 @@ wire-requires : tie.Need-wire-requires
 wire-requires c κs = let t = c .before .before .before .before in let b = t .before .before .before .before .before .before .before in b .pre .0
 
 store-requires : tie.Need-store-requires
-store-requires c κs = let t = c .before .before .before .before .before in let b = t .before .before .before .before .before .before .before in b .pre .1
+store-requires c κs =
+    let t = c .before .before .before .before .before in
+    let e = t .before .before .before .before in
+    let b = e .before .before .before in
+    omega (arith, b .pre .1, b .pre .2, b .pre .3, e .if1 .left)
 
 add-t10 : tie.Need-add-t10
 add-t10 c = search needs
@@ -121,14 +133,16 @@ returns-5 c =
     let behind = line-next s (a .at) (m .line .result) (m .line .ensures) in
     let puts : st .store .last .0 ≡ putAt (a .nets .now) (8 * a .i) (gateWords (a .at) (w .wire .result)) = st .store .ensures in
     record {
-      size = ap length puts ∙ length-put (a .nets .now) (8 * a .i) (gateWords (a .at) (w .wire .result)) (omega (arith, b .pre .1, gate-eight (a .at) (w .wire .result)));
+      size = ap length puts ∙ length-put (a .nets .now) (8 * a .i) (gateWords (a .at) (w .wire .result)) (omega (arith, b .pre .1, b .pre .2, b .pre .3, e .if1 .left, gate-eight (a .at) (w .wire .result)));
       refused = λ q. absurd (true≢false (sym q));
+      within = λ _. e .if1 .left;
       due = λ _. (
         d .0,
         puts ∙ ap (putAt (a .nets .now) (8 * a .i)) (ap (gateWords (a .at)) (w .wire .ensures) ∙ d .3),
         refl,
         (let y : m .line .result .next ≡ m .line .result .stop + lineAt s (a .at) .ending = stop-next s (a .at) (m .line .result) (m .line .ensures) in
-            let z : lineAt s (a .at) .ending ≡ 1 = d .2 in omega (arith, stop-from s (a .at) (m .line .result) (m .line .ensures))),
+            let z : lineAt s (a .at) .ending ≡ 1 = d .2 in
+            omega (arith, stop-from s (a .at) (m .line .result) (m .line .ensures), name-long (a .k) (lineAt s (a .at)) (d .0) (d .1), line-long s (a .at) (m .line .result) (m .line .ensures))),
         (λ left.
             row-fine s (a .k) (a .at) (e .if1 .left) (d .0) (d .1) (d .2) (subst (λ (v : ℕ). v < length s) behind (t .if3 .left))
             (sym (ap (λ (v : ℕ). isLine (text "1 1") (lineAt s v)) behind) ∙ sym (i .is-line .ensures) ∙ not-false _ (x .if4 .left)) left

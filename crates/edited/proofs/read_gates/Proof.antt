@@ -17,7 +17,8 @@ use mathlib.Core.Bool.{true}
 use Rattle.words.specs.Put.{putAt}
 use Rattle.words.proofs.Putting.{length-put}
 use Rattle.edited.specs.Store.{gateWords}
-use Rattle.edited.proofs.Gathering.{gate-eight, Sofar, so-start, so-end, so-names, so-broken, so-step, drives-none, drives-some, stop-from, stop-fits, stop-next, line-bytes, line-next, line-long}
+use Rattle.framing.proofs.Seen.{stop-from, stop-fits, stop-next, line-bytes, line-next, line-long}
+use Rattle.edited.proofs.Gathering.{gate-eight, Sofar, so-start, so-end, so-names, so-broken, so-step, drives-none, drives-some}
 use Rattle.edited.proofs.read_gates.Statement.{statement}
 use Rattle.edited.proofs.read_gates.Tie as tie
 
@@ -55,7 +56,7 @@ returns c =
     let n = i .before .before in
     let l = n .before .before in
     let a = l .before .before .before .args in
-    so-names (a .s .now) (a .lib) (a .from) (l .loop .at) (l .loop .count) (a .nets .now) (l .loop .nets) (l .loop .inv .2) (n .before .loop-test .taken)
+    so-names (a .s .now) (a .lib) (a .from) (l .loop .at) (l .loop .count) (a .nets .now) (l .loop .nets) (l .loop .inv .2) (l .loop .inv .0) (n .before .loop-test .taken)
     (sym (ap (λ (w : List ℕ). same (getD (fields w) 0 []) (text ".gate")) (line-bytes (a .s .now) (l .loop .at) (n .line .result) (n .line .ensures))) ∙ sym (i .is-gate .ensures) ∙ not-true _ (c .if1 .taken))
 
 gate-at-requires : tie.Need-gate-at-requires Inv-loop μ-loop
@@ -77,7 +78,7 @@ returns-2 c =
     let n = i .before .before in
     let l = n .before .before in
     let a = l .before .before .before .args in
-    so-broken (a .s .now) (a .lib) (a .from) (l .loop .at) (l .loop .count) (a .nets .now) (l .loop .nets) (l .loop .inv .2) (n .before .loop-test .taken)
+    so-broken (a .s .now) (a .lib) (a .from) (l .loop .at) (l .loop .count) (a .nets .now) (l .loop .nets) (l .loop .inv .2) (l .loop .inv .0) (n .before .loop-test .taken)
     (sym (ap (λ (w : List ℕ). same (getD (fields w) 0 []) (text ".gate")) (line-bytes (a .s .now) (l .loop .at) (n .line .result) (n .line .ensures))) ∙ sym (i .is-gate .ensures) ∙ not-false _ (e .if1 .left))
     (drives-none (cellsOf (a .lib)) (lineAt (a .s .now) (l .loop .at)) (q .gate-at .result) (q .gate-at .ensures) (c .if2 .taken))
 
@@ -147,7 +148,7 @@ loop-again c =
       omega arith,
       ap length puts ∙ length-put (l .loop .nets) (8 * l .loop .count) (gateWords (l .loop .at) (q .gate-at .result)) (omega (arith, gate-eight (l .loop .at) (q .gate-at .result))) ∙ same-size,
       subst (λ (k : ℕ). Sofar (a .s .now) (a .lib) (a .from) k (l .loop .count + 1) (a .nets .now) (t .store .last .0)) (sym (line-next (a .s .now) (l .loop .at) (n .line .result) (n .line .ensures)))
-          (so-step (a .s .now) (a .lib) (a .from) (l .loop .at) (l .loop .count) (a .nets .now) (l .loop .nets) (l .loop .inv .2) (n .before .loop-test .taken) gate (d .0) (d .1) ten (t .store .last .0)
+          (so-step (a .s .now) (a .lib) (a .from) (l .loop .at) (l .loop .count) (a .nets .now) (l .loop .nets) (l .loop .inv .2) (l .loop .inv .0) (n .before .loop-test .taken) gate (d .0) (d .1) ten (t .store .last .0)
           (puts ∙ ap (putAt (l .loop .nets) (8 * l .loop .count)) (d .3)) room),
     )
 
@@ -158,7 +159,7 @@ returns-3 : tie.Need-returns-3 Inv-loop μ-loop
 returns-3 c =
     let l = c .before in
     let a = l .before .before .before .args in
-    so-end (a .s .now) (a .lib) (a .from) (l .loop .at) (l .loop .count) (a .nets .now) (l .loop .nets) (l .loop .inv .2) (c .loop-test .left)
+    so-end (a .s .now) (a .lib) (a .from) (l .loop .at) (l .loop .count) (a .nets .now) (l .loop .nets) (l .loop .inv .2) (l .loop .inv .0) (c .loop-test .left)
 
 pub read-gates-spec : {M : Type 1} → statement M
 read-gates-spec =

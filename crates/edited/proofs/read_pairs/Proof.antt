@@ -10,37 +10,37 @@ use Rattle.edited.proofs.read_pairs.Statement.{statement}
 use Rattle.edited.proofs.read_pairs.Tie as tie
 
 abbrev Inv-loop : tie.InvT-loop
-Inv-loop s from outs nets₀ first at₀ k₀ nets at k = (k ≤ outs) × Pairs s outs from first at k nets₀ nets
+Inv-loop s from outs nets₀ first at₀ k₀ nets at k = (k ≤ outs) × (6 * (first + k) ≤ at) × Pairs s outs from first at k nets₀ nets
 
 abbrev μ-loop : tie.MeasureT-loop
 μ-loop s from outs nets₀ first at₀ k₀ nets at k = outs - k
 
 loop-holds : tie.Need-loop-holds Inv-loop μ-loop
-loop-holds c = let a = c .before .before .args in (omega arith, pairs-start (a .s .now) (a .outs) (a .from) (a .first) (a .nets .now))
+loop-holds c = let a = c .before .before .args in (omega arith, omega (arith, c .before .before .pre .2), pairs-start (a .s .now) (a .outs) (a .from) (a .first) (a .nets .now) (c .before .before .pre .4))
 
 add-name-step : tie.Need-add-name-step Inv-loop μ-loop
-add-name-step c = let l = c .before .before in let b = l .before .before .before in let size : length (l .loop .nets) ≡ length (b .args .nets .now) = l .loop .inv .1 .size in omega (arith, b .pre .2, c .before .loop-test .taken)
+add-name-step c = let l = c .before .before in let b = l .before .before .before in let size : length (l .loop .nets) ≡ length (b .args .nets .now) = l .loop .inv .2 .size in omega (arith, l .loop .inv .1)
 
 name-step-requires : tie.Need-name-step-requires Inv-loop μ-loop
 name-step-requires c κs =
     let l = c .before .before in
     let b = l .before .before .before in
-    let size : length (l .loop .nets) ≡ length (b .args .nets .now) = l .loop .inv .1 .size in
-    (omega (arith, b .pre .0, c .before .loop-test .taken), omega (arith, b .pre .2, c .before .loop-test .taken), b .pre .1)
+    let size : length (l .loop .nets) ≡ length (b .args .nets .now) = l .loop .inv .2 .size in
+    (omega (arith, b .pre .0, c .before .loop-test .taken), l .loop .inv .1, omega (arith, b .pre .3), b .pre .1)
 
 add-t14 : tie.Need-add-t14 Inv-loop μ-loop
 add-t14 c =
     let t = c .before .before .before in
     let l = t .before .before .before in
     let b = l .before .before .before in
-    let size : length (l .loop .nets) ≡ length (b .args .nets .now) = l .loop .inv .1 .size in
-    omega (arith, b .pre .2, t .before .before .loop-test .taken)
+    let size : length (l .loop .nets) ≡ length (b .args .nets .now) = l .loop .inv .2 .size in
+    omega (arith, l .loop .inv .1)
 
 same-length : tie.Need-same-length Inv-loop μ-loop
 same-length c =
     let t = c .before .before .before in
     let l = t .before .before .before in
-    t .name-step .ensures .size ∙ l .loop .inv .1 .size
+    t .name-step .ensures .size ∙ l .loop .inv .2 .size
 
 returns : tie.Need-returns Inv-loop μ-loop
 returns c =
@@ -48,7 +48,7 @@ returns c =
     let l = t .before .before .before in
     let b = l .before .before .before in
     let a = b .args in
-    pairs-broken (a .s .now) (a .outs) (a .from) (a .first) (l .loop .at) (l .loop .k) (a .nets .now) (l .loop .nets) (l .loop .inv .1) (t .before .before .loop-test .taken)
+    pairs-broken (a .s .now) (a .outs) (a .from) (a .first) (l .loop .at) (l .loop .k) (a .nets .now) (l .loop .nets) (l .loop .inv .2) (t .before .before .loop-test .taken)
     (t .name-step .result) _ (t .name-step .ensures) (c .if1 .taken)
 
 add-k : tie.Need-add-k Inv-loop μ-loop
@@ -74,25 +74,25 @@ loop-again c =
     let b = l .before .before .before in
     let a = b .args in (
       omega (arith, t .before .before .loop-test .taken),
-      pairs-step (a .s .now) (a .outs) (a .from) (a .first) (l .loop .at) (l .loop .k) (a .nets .now) (l .loop .nets) (l .loop .inv .1) (t .before .before .loop-test .taken)
-          (t .name-step .result) _ (t .name-step .ensures) (b .pre .2) (c .if1 .left),
+      (let further : l .loop .at + 6 ≤ t .name-step .result .at = t .name-step .ensures .due (c .if1 .left) .3 in omega (arith, l .loop .inv .1)),
+      pairs-step (a .s .now) (a .outs) (a .from) (a .first) (l .loop .at) (l .loop .k) (a .nets .now) (l .loop .nets) (l .loop .inv .2) (t .before .before .loop-test .taken)
+          (t .name-step .result) _ (t .name-step .ensures) (omega (arith, b .pre .1, b .pre .3, l .loop .inv .1, t .name-step .ensures .within (c .if1 .left))) (c .if1 .left),
     )
 
 add-t15 : tie.Need-add-t15 Inv-loop μ-loop
 add-t15 c =
     let l = c .before in
     let b = l .before .before .before in
-    let size : length (l .loop .nets) ≡ length (b .args .nets .now) = l .loop .inv .1 .size in
-    omega (arith, b .pre .2)
+    omega (arith, l .loop .inv .1, c .loop-test .left)
 
 same-length-2 : tie.Need-same-length-2 Inv-loop μ-loop
-same-length-2 c = c .before .loop .inv .1 .size
+same-length-2 c = c .before .loop .inv .2 .size
 
 returns-2 : tie.Need-returns-2 Inv-loop μ-loop
 returns-2 c =
     let l = c .before in
     let a = l .before .before .before .args in
-    pairs-end (a .s .now) (a .outs) (a .from) (a .first) (l .loop .at) (l .loop .k) (a .nets .now) (l .loop .nets) (l .loop .inv .1) (omega arith)
+    pairs-end (a .s .now) (a .outs) (a .from) (a .first) (l .loop .at) (l .loop .k) (a .nets .now) (l .loop .nets) (l .loop .inv .2) (omega arith) (l .loop .inv .1)
 
 pub read-pairs-spec : {M : Type 1} → statement M
 read-pairs-spec =

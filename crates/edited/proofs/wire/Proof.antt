@@ -1,16 +1,18 @@
 -- `edited::wire` meets its contract. Assumes nothing.
 use borrow.Author.Needs.{needs}
-use mathlib.Core.Path.{ap}
+use mathlib.Core.Path.{sym, _∙_, ap}
 use Prim.Native.Nat.{ℕ}
 use mathlib.Core.List.{[], _∷_}
+use Rattle.netnames.specs.Codes.{code}
+use Rattle.framing.proofs.Names.{out-is}
 use Rattle.edited.proofs.wire.Statement.{statement}
 use Rattle.edited.proofs.wire.Tie as tie
 
-out-code-requires : tie.Need-out-code-requires
-out-code-requires c κs = search needs
+label-code-requires : tie.Need-label-code-requires
+label-code-requires c κs = search needs
 
 returns : tie.Need-returns
-returns c = ap (λ (x : ℕ). record { table = 2; count = 1; codes = c .before .args .net ∷ 0 ∷ 0 ∷ 0 ∷ []; net = x }) (c .out-code .ensures)
+returns c = ap (λ (x : ℕ). record { table = 2; count = 1; codes = c .before .args .net ∷ 0 ∷ 0 ∷ 0 ∷ []; net = x }) (c .label-code .ensures ∙ ap code (sym (out-is (c .before .args .k))))
 
 pub wire-spec : {M : Type 1} → statement M
-wire-spec = tie.close (tie.spec out-code-requires returns)
+wire-spec = tie.close (tie.spec label-code-requires returns)

@@ -1,7 +1,7 @@
--- `lines::is_gate_net` meets its contract: a net of a gate line is a phase's.
+-- `lines::is_gate_net` meets its contract: a phase's net, or one inside a pair.
 -- Assumes nothing.
-use Rattle.lines.proofs.Digits.{gate-net}
-use mathlib.Core.Path.{_∙_}
+use Rattle.lines.proofs.Digits.{gate-first, gate-second}
+use mathlib.Core.Path.{sym, _∙_}
 use borrow.Author.Needs.{needs}
 use Rattle.lines.proofs.is_gate_net.Statement.{statement}
 use Rattle.lines.proofs.is_gate_net.Tie as tie
@@ -10,7 +10,13 @@ is-phase-net-requires : tie.Need-is-phase-net-requires
 is-phase-net-requires c κs = search needs
 
 returns : tie.Need-returns
-returns c = c .is-phase-net .ensures ∙ gate-net _
+returns c = gate-first _ (sym (c .before .is-phase-net .ensures) ∙ c .if1 .taken)
+
+is-inner-net-requires : tie.Need-is-inner-net-requires
+is-inner-net-requires c κs = search needs
+
+returns-2 : tie.Need-returns-2
+returns-2 c = c .is-inner-net .ensures ∙ gate-second _ (sym (c .before .before .is-phase-net .ensures) ∙ c .before .if1 .left)
 
 pub is-gate-net-spec : {M : Type 1} → statement M
-is-gate-net-spec = tie.close (tie.spec is-phase-net-requires returns)
+is-gate-net-spec = tie.close (tie.spec is-phase-net-requires returns is-inner-net-requires returns-2)

@@ -1,5 +1,6 @@
 -- `mapper::cover_graph` meets its contract: the choice, 17, and the marking, each from what the one before left. Assumes nothing.
 use Rattle.cover.proofs.Choices.{choose-asked}
+use Rattle.mapper.specs.Stages.{allOf}
 use Rattle.mapper.proofs.Turns.{told-as, chosen-outputs, chosen-asks, cover-mapped, cover-timeable, cover-goes, cover-stops}
 use borrow.Author.Needs.{needs}
 use Rattle.mapper.proofs.cover_graph.Statement.{statement}
@@ -7,34 +8,35 @@ use Rattle.mapper.proofs.cover_graph.Tie as tie
 
 choose-requires : tie.Need-choose-requires
 choose-requires c κs =
-    let s = c .before .before .before in
+    let s = c .before .before .before .before .before in
     let p = s .pre in
-    choose-asked (s .args .work .now) (s .args .lib) (s .args .h) (p .0 .0) (p .0 .1 .given .header) (p .0 .1 .held) (s .args .sheet .now) (p .1) (p .0 .1 .unchosen)
+    let k = choose-asked (s .args .work .now) (allOf (s .args .lib) (s .args .codes .now)) (s .args .h) (p .0 .0) (p .0 .1 .given .header) (p .0 .1 .held) (s .args .sheet .now) (p .1) (p .0 .1 .unchosen) in
+    (p .0 .1 .given .library .read .usable, k .0, k .1)
 
 uncovered-requires : tie.Need-uncovered-requires
 uncovered-requires c κs =
-    let s = c .before .before .before .before .before .before .before in
+    let s = c .before .before .before .before .before .before .before .before .before in
     let y = c .before .before .before .choose in
-    chosen-outputs (s .args .ranged) (s .args .work .now) (s .args .lib) (s .args .h) (s .pre .0 .0) (s .pre .0 .1) (y .last .0) (y .ensures)
+    chosen-outputs (s .args .ranged) (s .args .work .now) (s .args .lib) (s .args .codes .now) (s .args .h) (s .pre .0 .0) (s .pre .0 .1) (y .last .0) (y .ensures)
 
 enum-told : tie.Need-enum-told
 enum-told c = search needs
 
 mark-requires : tie.Need-mark-requires
 mark-requires c κs =
-    let s = c .before .before .before .before .before .before .before .before .before .before .before in
+    let s = c .before .before .before .before .before .before .before .before .before .before .before .before .before in
     let y = c .before .before .before .before .before .before .before .choose in
-    chosen-asks (s .args .ranged) (s .args .work .now) (s .args .lib) (s .args .h) (s .pre .0 .0) (s .pre .0 .1) (y .last .0) (y .ensures)
+    chosen-asks (s .args .ranged) (s .args .work .now) (s .args .lib) (s .args .codes .now) (s .args .h) (s .pre .0 .0) (s .pre .0 .1) (y .last .0) (y .ensures)
 
 print-as-requires : tie.Need-print-as-requires
 print-as-requires c κs =
-    let s = c .before .before .before .before .before .before .before .before .before .before .before .before .before .before .before .before in
+    let s = c .before .before .before .before .before .before .before .before .before .before .before .before .before .before .before .before .before .before in
     let y = c .before .before .before .before .before .before .before .before .before .before .before .before .choose in
     let r = c .before .before .before .before .before .before .before .before .uncovered in
     let z = c .before .before .before .before .mark in (
       s .pre .0 .0,
-      cover-mapped (s .args .ranged) (s .args .work .now) (s .args .lib) (s .args .h) (s .pre .0 .0) (s .pre .0 .1) (y .last .0) (y .ensures) (r .result) (r .ensures) (c .before .before .before .before .before .before .enum-told .given .1) (z .last .0) (z .ensures),
-      cover-timeable (s .args .ranged) (s .args .work .now) (s .args .lib) (s .args .h) (s .pre .0 .0) (s .pre .0 .1) (y .last .0) (y .ensures) (r .result) (r .ensures) (z .last .0) (z .ensures),
+      cover-mapped (s .args .ranged) (s .args .work .now) (s .args .lib) (s .args .codes .now) (s .args .h) (s .pre .0 .0) (s .pre .0 .1) (y .last .0) (y .ensures) (r .result) (r .ensures) (c .before .before .before .before .before .before .enum-told .given .1) (z .last .0) (z .ensures),
+      cover-timeable (s .args .ranged) (s .args .work .now) (s .args .lib) (s .args .codes .now) (s .args .h) (s .pre .0 .0) (s .pre .0 .1) (y .last .0) (y .ensures) (r .result) (r .ensures) (z .last .0) (z .ensures),
     )
 
 enum-known-number : tie.Need-enum-known-number
@@ -49,25 +51,25 @@ same-length-2 c = search needs
 returns : tie.Need-returns
 returns c =
     let at-print = c .before .before .before .before .before in
-    let s = at-print .before .before .before .before .before .before .before .before .before .before .before .before .before .before .before .before in
+    let s = at-print .before .before .before .before .before .before .before .before .before .before .before .before .before .before .before .before .before .before in
     let y = at-print .before .before .before .before .before .before .before .before .before .before .before .before .choose in
     let r = at-print .before .before .before .before .before .before .before .before .uncovered in
     let z = at-print .before .before .before .before .mark in
     let a = at-print .before .before .before .before .before .before .enum-told .given .1 in
     λ g p.
-    told-as (cover-goes (s .args .ranged) (s .args .work .now) (s .args .lib) (s .args .h) g p (y .last .0) (y .ensures) (r .result) (r .ensures) a _)
-    (c .before .before .before .before .print-as .ensures g (cover-mapped (s .args .ranged) (s .args .work .now) (s .args .lib) (s .args .h) g p (y .last .0) (y .ensures) (r .result) (r .ensures) a (z .last .0) (z .ensures))
-    (cover-timeable (s .args .ranged) (s .args .work .now) (s .args .lib) (s .args .h) g p (y .last .0) (y .ensures) (r .result) (r .ensures) (z .last .0) (z .ensures)))
+    told-as (cover-goes (s .args .ranged) (s .args .work .now) (s .args .lib) (s .args .codes .now) (s .args .h) g p (y .last .0) (y .ensures) (r .result) (r .ensures) a _)
+    (c .before .before .before .before .print-as .ensures g (cover-mapped (s .args .ranged) (s .args .work .now) (s .args .lib) (s .args .codes .now) (s .args .h) g p (y .last .0) (y .ensures) (r .result) (r .ensures) a (z .last .0) (z .ensures))
+    (cover-timeable (s .args .ranged) (s .args .work .now) (s .args .lib) (s .args .codes .now) (s .args .h) g p (y .last .0) (y .ensures) (r .result) (r .ensures) (z .last .0) (z .ensures)))
 
 same-length-3 : tie.Need-same-length-3
 same-length-3 c = search needs
 
 returns-2 : tie.Need-returns-2
 returns-2 c =
-    let s = c .before .before .before .before .before .before .before .before .before .before .before in
+    let s = c .before .before .before .before .before .before .before .before .before .before .before .before .before in
     let y = c .before .before .before .before .before .before .before .choose in
     let r = c .before .before .before .uncovered in
-    λ g p. cover-stops (s .args .ranged) (s .args .work .now) (s .args .lib) (s .args .h) g p (y .last .0) (y .ensures) (r .result) (r .ensures) _ _ (c .before .number .given .1) (s .args .text .now)
+    λ g p. cover-stops (s .args .ranged) (s .args .work .now) (s .args .lib) (s .args .codes .now) (s .args .h) g p (y .last .0) (y .ensures) (r .result) (r .ensures) _ _ (c .before .number .given .1) (s .args .text .now)
 
 pub cover-graph-spec : {M : Type 1} → statement M
 cover-graph-spec =

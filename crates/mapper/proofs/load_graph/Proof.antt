@@ -15,11 +15,11 @@ place-graph-requires : tie.Need-place-graph-requires
 place-graph-requires c κs =
     let at-enum-told = c .before .before in
     let at-load = at-enum-told .before .before .before .before in
-    let start = at-load .before .before .before .before .before .before in
+    let start = at-load .before .before .before .before .before .before .before .before in
     let args = start .args in
     let r = at-load .load in
     let fit = header-fit (args .graph .now) (args .h) (args .work .now) (start .pre .1) (start .pre .2) in
-    let d = reading-loaded (args .ranged) (args .lib) (start .pre .0) (args .graph .now) (args .arrivals .now) (args .h) (args .work .now) fit (start .pre .1) (r .result) (r .ensures .0) (at-enum-told .enum-told .given .1) _ (r .ensures .1 .0) in
+    let d = reading-loaded (args .ranged) (args .lib) (args .codes .now) (start .pre .0) (args .graph .now) (args .arrivals .now) (args .h) (args .work .now) fit (start .pre .1) (r .result) (r .ensures .0) (at-enum-told .enum-told .given .1) _ (r .ensures .1 .0) in
     ((d .graph, d .loaded), start .pre .3)
 
 enum-known-number : tie.Need-enum-known-number
@@ -36,11 +36,11 @@ returns c =
     let at-place-graph = c .before .before .before .before in
     let at-enum-told = at-place-graph .before .before .before in
     let at-load = at-enum-told .before .before .before .before in
-    let start = at-load .before .before .before .before .before .before in
+    let start = at-load .before .before .before .before .before .before .before .before in
     let args = start .args in
     let r = at-load .load in
     let fit = header-fit (args .graph .now) (args .h) (args .work .now) (start .pre .1) (start .pre .2) in
-    let d = reading-loaded (args .ranged) (args .lib) (start .pre .0) (args .graph .now) (args .arrivals .now) (args .h) (args .work .now) fit (start .pre .1) (r .result) (r .ensures .0) (at-enum-told .enum-told .given .1) _ (r .ensures .1 .0) in
+    let d = reading-loaded (args .ranged) (args .lib) (args .codes .now) (start .pre .0) (args .graph .now) (args .arrivals .now) (args .h) (args .work .now) fit (start .pre .1) (r .result) (r .ensures .0) (at-enum-told .enum-told .given .1) _ (r .ensures .1 .0) in
     told-as (d .outcome _) (at-place-graph .place-graph .ensures (d .graph) (d .loaded))
 
 same-length-3 : tie.Need-same-length-3
@@ -50,10 +50,10 @@ returns-2 : tie.Need-returns-2
 returns-2 c =
     let at-number = c .before in
     let at-load = at-number .before .before .before .before in
-    let start = at-load .before .before .before .before .before .before in
+    let start = at-load .before .before .before .before .before .before .before .before in
     let args = start .args in
     let fit = header-fit (args .graph .now) (args .h) (args .work .now) (start .pre .1) (start .pre .2) in
-    reading-stops (args .ranged) (args .lib) (start .pre .0) (args .graph .now) (args .arrivals .now) (args .h) (args .work .now) fit (start .pre .1) (at-load .load .result) (at-load .load .ensures .0) _ _ (at-number .number .given .1) (args .text .now)
+    reading-stops (args .ranged) (args .lib) (args .codes .now) (start .pre .0) (args .graph .now) (args .arrivals .now) (args .h) (args .work .now) fit (start .pre .1) (at-load .load .result) (at-load .load .ensures .0) _ _ (at-number .number .given .1) (args .text .now)
 
 pub load-graph-spec : {M : Type 1} → statement M
 load-graph-spec =

@@ -7,15 +7,15 @@ use Rattle.mapper.proofs.place_graph.Tie as tie
 
 place-requires : tie.Need-place-requires
 place-requires c κs =
-    let start = c .before .before .before .before in
-    loaded-asks (start .args .work .now) (start .args .lib) (start .args .h) (start .pre .0 .0) (start .pre .0 .1)
+    let start = c .before .before .before .before .before .before in
+    loaded-asks (start .args .work .now) (start .args .lib) (start .args .codes .now) (start .args .h) (start .pre .0 .0) (start .pre .0 .1)
 
 read-requires : tie.Need-read-requires
 read-requires c κs =
     let at-place = c .before .before .before in
-    let start = at-place .before .before .before .before .before in
+    let start = at-place .before .before .before .before .before .before .before in
     let r = at-place .place in
-    placing-lists (start .args .ranged) (start .args .work .now) (start .args .lib) (start .args .h) (start .pre .0 .0) (start .pre .0 .1) (r .result) (r .ensures .0) (r .last .0) (r .ensures .1)
+    placing-lists (start .args .ranged) (start .args .work .now) (start .args .lib) (start .args .codes .now) (start .args .h) (start .pre .0 .0) (start .pre .0 .1) (r .result) (r .ensures .0) (r .last .0) (r .ensures .1)
 
 enum-told : tie.Need-enum-told
 enum-told c = search needs
@@ -27,11 +27,11 @@ cut-graph-requires : tie.Need-cut-graph-requires
 cut-graph-requires c κs =
     let at-read = c .before .before .before .before .before .before .before .before in
     let at-place = at-read .before .before .before .before in
-    let start = at-place .before .before .before .before .before in
+    let start = at-place .before .before .before .before .before .before .before in
     let args = start .args in
     let r = at-place .place in
     let u = at-read .read in
-    let d = placing-timed (args .ranged) (args .work .now) (args .lib) (args .h) (start .pre .0 .0) (start .pre .0 .1) (r .result) (r .ensures .0) (r .last .0) (r .ensures .1) (args .arrivals .now) (u .result) (u .ensures .0) (c .before .before .before .before .enum-told .given .1) (c .before .before .enum-told2 .given .1) (u .last .1 .1 .0) (u .ensures .1 .1) in
+    let d = placing-timed (args .ranged) (args .work .now) (args .lib) (args .codes .now) (args .h) (start .pre .0 .0) (start .pre .0 .1) (r .result) (r .ensures .0) (r .last .0) (r .ensures .1) (args .arrivals .now) (u .result) (u .ensures .0) (c .before .before .before .before .enum-told .given .1) (c .before .before .enum-told2 .given .1) (u .last .1 .1 .0) (u .ensures .1 .1) in
     ((d .graph, d .timed), start .pre .1)
 
 enum-known-placed : tie.Need-enum-known-placed
@@ -51,11 +51,11 @@ returns c =
     let at-cut = c .before .before .before .before in
     let at-read = at-cut .before .before .before .before .before .before .before .before .before in
     let at-place = at-read .before .before .before .before in
-    let args = at-place .before .before .before .before .before .args in
+    let args = at-place .before .before .before .before .before .before .before .args in
     let r = at-place .place in
     let u = at-read .read in
     λ g l.
-    let d = placing-timed (args .ranged) (args .work .now) (args .lib) (args .h) g l (r .result) (r .ensures .0) (r .last .0) (r .ensures .1) (args .arrivals .now) (u .result) (u .ensures .0) (at-cut .before .before .before .before .before .enum-told .given .1) (at-cut .before .before .before .enum-told2 .given .1) (u .last .1 .1 .0) (u .ensures .1 .1) in
+    let d = placing-timed (args .ranged) (args .work .now) (args .lib) (args .codes .now) (args .h) g l (r .result) (r .ensures .0) (r .last .0) (r .ensures .1) (args .arrivals .now) (u .result) (u .ensures .0) (at-cut .before .before .before .before .before .enum-told .given .1) (at-cut .before .before .before .enum-told2 .given .1) (u .last .1 .1 .0) (u .ensures .1 .1) in
     told-as (d .outcome _) (at-cut .cut-graph .ensures (d .graph) (d .timed))
 
 same-length-3 : tie.Need-same-length-3
@@ -65,10 +65,10 @@ returns-2 : tie.Need-returns-2
 returns-2 c =
     let at-read = c .before .before .before .before .before .before .before in
     let at-place = at-read .before .before .before .before in
-    let args = at-place .before .before .before .before .before .args in
+    let args = at-place .before .before .before .before .before .before .before .args in
     let r = at-place .place in
     let u = at-read .read in
-    λ g l. placing-stops (args .ranged) (args .work .now) (args .lib) (args .h) g l (r .result) (r .ensures .0) (r .last .0) (r .ensures .1) (args .arrivals .now) (u .result) (u .ensures .0) (c .before .before .before .enum-told .given .1) _ _ (c .before .placed .given .1) (args .text .now)
+    λ g l. placing-stops (args .ranged) (args .work .now) (args .lib) (args .codes .now) (args .h) g l (r .result) (r .ensures .0) (r .last .0) (r .ensures .1) (args .arrivals .now) (u .result) (u .ensures .0) (c .before .before .before .enum-told .given .1) _ _ (c .before .placed .given .1) (args .text .now)
 
 same-length-4 : tie.Need-same-length-4
 same-length-4 c = search needs
@@ -77,10 +77,10 @@ returns-3 : tie.Need-returns-3
 returns-3 c =
     let at-read = c .before .before .before .before .before in
     let at-place = at-read .before .before .before .before in
-    let args = at-place .before .before .before .before .before .args in
+    let args = at-place .before .before .before .before .before .before .before .args in
     let r = at-place .place in
     let u = at-read .read in
-    λ g l. times-stop (args .ranged) (args .work .now) (args .lib) (args .h) g l (r .result) (r .ensures .0) (r .last .0) (r .ensures .1) (args .arrivals .now) (u .result) (u .ensures .0) _ _ (c .before .number .given .1) (args .text .now)
+    λ g l. times-stop (args .ranged) (args .work .now) (args .lib) (args .codes .now) (args .h) g l (r .result) (r .ensures .0) (r .last .0) (r .ensures .1) (args .arrivals .now) (u .result) (u .ensures .0) _ _ (c .before .number .given .1) (args .text .now)
 
 pub place-graph-spec : {M : Type 1} → statement M
 place-graph-spec =

@@ -11,14 +11,14 @@ measure-requires c κs = search needs
 returns : tie.Need-returns
 returns c =
     let m = c .before .before .measure in
-    let t = c .before .before .before .before .before .args .text .now in
-    λ g p. print-short _ g t (m .result) (m .ensures .0 g p) (omega arith)
+    let t = c .before .before .before .before .before .before .args .text .now in
+    λ g p. print-short _ _ g t (m .result) (m .ensures .0 g p) (omega arith)
 
 write-requires : tie.Need-write-requires
 write-requires c κs =
     let m = c .before .before .before .measure in
-    let p = c .before .before .before .before .before .before .pre in
-    (p .0, p .1, print-room _ (p .0) (c .before .before .before .before .before .before .args .text .now) (m .result) (m .ensures .0 (p .0) (p .1)) (omega arith))
+    let p = c .before .before .before .before .before .before .before .pre in
+    (p .0, p .1, print-room _ _ (p .0) (c .before .before .before .before .before .before .before .args .text .now) (m .result) (m .ensures .0 (p .0) (p .1)) (omega arith))
 
 same-length : tie.Need-same-length
 same-length c = search needs
@@ -27,7 +27,7 @@ returns-2 : tie.Need-returns-2
 returns-2 c =
     let m = c .before .before .before .before .before .before .measure in
     let w = c .before .before .write in
-    λ g p. print-done _ g (c .before .before .before .before .before .before .before .before .before .args .text .now) (m .result) (m .ensures .0 g p) (omega arith) _ (w .ensures g p .1)
+    λ g p. print-done _ _ g (c .before .before .before .before .before .before .before .before .before .before .args .text .now) (m .result) (m .ensures .0 g p) (omega arith) _ (w .ensures g p .1)
 
 pub print-spec : {M : Type 1} → statement M
 print-spec = tie.close (tie.spec measure-requires returns write-requires same-length returns-2)

@@ -10,14 +10,14 @@ use Rattle.mapper.proofs.print_as.Statement.{statement}
 use Rattle.mapper.proofs.print_as.Tie as tie
 
 retime-requires : tie.Need-retime-requires
-retime-requires c κs = let t = c .before .before .before .before .pre .2 in (t .retimable, t .slots)
+retime-requires c κs = let t = c .before .before .before .before .before .pre .2 in (t .library .coded, t .retimable, t .slots)
 
 print-timed-requires : tie.Need-print-timed-requires
 print-timed-requires c κs =
     let r = c .before .before .before .before .retime in
-    let s = c .before .before .before .before .before .before .before .before .before in
+    let s = c .before .before .before .before .before .before .before .before .before .before in
     let p = s .pre in
-    (p .0, lowered-mapped (s .args .work .now) (s .args .lib) (s .args .h) (p .0) (p .1) (p .2) _ (r .ensures), lowered-lows (s .args .work .now) (s .args .lib) (s .args .h) (p .0) (p .1) (p .2) _ (r .ensures))
+    (p .0, lowered-mapped (s .args .work .now) (s .args .lib) (s .args .codes .now) (s .args .h) (p .0) (p .1) (p .2) _ (r .ensures), lowered-lows (s .args .work .now) (s .args .lib) (s .args .codes .now) (s .args .h) (p .0) (p .1) (p .2) _ (r .ensures))
 
 same-length : tie.Need-same-length
 same-length c = search needs
@@ -30,13 +30,13 @@ returns c =
     let at-print = c .before .before in
     let r = at-print .before .before .before .before .before .retime in
     let at-if = at-print .before .before .before .before .before .before .before in
-    let s = at-if .before .before .before .args in
+    let s = at-if .before .before .before .before .args in
     λ g p t.
-    told-as (ap (λ (ranged : Bool). printedFor ranged (s .lib) g (length (s .text .now))) (at-if .if1 .taken))
-    (at-print .print-timed .ensures g (lowered-mapped (s .work .now) (s .lib) (s .h) g p t _ (r .ensures)) (lowered-lows (s .work .now) (s .lib) (s .h) g p t _ (r .ensures)))
+    told-as (ap (λ (ranged : Bool). printedFor ranged (s .lib) (s .codes .now) g (length (s .text .now))) (at-if .if1 .taken))
+    (at-print .print-timed .ensures g (lowered-mapped (s .work .now) (s .lib) (s .codes .now) (s .h) g p t _ (r .ensures)) (lowered-lows (s .work .now) (s .lib) (s .codes .now) (s .h) g p t _ (r .ensures)))
 
 print-requires : tie.Need-print-requires
-print-requires c κs = let p = c .before .before .before .before .before .pre in (p .0, p .1)
+print-requires c κs = let p = c .before .before .before .before .before .before .pre in (p .0, p .1)
 
 same-length-3 : tie.Need-same-length-3
 same-length-3 c = search needs
@@ -48,8 +48,8 @@ returns-2 : tie.Need-returns-2
 returns-2 c =
     let at-print = c .before .before in
     let at-if = at-print .before .before .before in
-    let s = at-if .before .before .before .args in
-    λ g p t. told-as (ap (λ (ranged : Bool). printedFor ranged (s .lib) g (length (s .text .now))) (at-if .if1 .left)) (at-print .print .ensures g p)
+    let s = at-if .before .before .before .before .args in
+    λ g p t. told-as (ap (λ (ranged : Bool). printedFor ranged (s .lib) (s .codes .now) g (length (s .text .now))) (at-if .if1 .left)) (at-print .print .ensures g p)
 
 pub print-as-spec : {M : Type 1} → statement M
 print-as-spec =

@@ -1,15 +1,13 @@
 -- `matching::best_match` meets its contract. The invariant: what is left of the chain leads from b to the answer, of whichever cells the sheet is.
 -- The measure is how far h is from the end.
 -- Assumes nothing.
-use mathlib.Core.List.{List}
-use mathlib.Core.Path.{_≡_, sym, ap, subst, _∙_}
+use mathlib.Core.Path.{sym, subst}
 use Prim.Native.Nat.{ℕ, _<_, _-_}
 use native.Mathlib.Omega.{arith}
 use lib.ListN.{getD}
-use Rattle.model.specs.declared.Cell.{Cell}
 use Rattle.matching.specs.declared.Best.{Best}
-use Rattle.matching.specs.Sheet.{linkAddr, SheetOf}
-use Rattle.matching.specs.Best.{better, swiftAt, unmatched, bestOf}
+use Rattle.matching.specs.Sheet.{linkAddr}
+use Rattle.matching.specs.Best.{unmatched, bestOf}
 use Rattle.matching.proofs.Walking.{Walking, Walks, togo, walking-within, walking-falls, walking-next, walking-end, walking-first}
 use Rattle.matching.proofs.best_match.Statement.{statement}
 use Rattle.matching.proofs.best_match.Tie as tie
@@ -21,19 +19,19 @@ abbrev μ-loop : tie.MeasureT-loop
 μ-loop sheet f times b₀ h₀ b h = togo h
 
 mul-wide : tie.Need-mul-wide Inv-loop μ-loop
-mul-wide c = omega (arith, c .fits .f)
+mul-wide c = omega (arith, c .before .fits .f)
 
-element-copy-out-wide : tie.Need-element-copy-out-wide Inv-loop μ-loop
-element-copy-out-wide c = omega (arith, c .fits .f)
+shared-slice-read-wide : tie.Need-shared-slice-read-wide Inv-loop μ-loop
+shared-slice-read-wide c = let s = c .before .before in omega (arith, s .fits .f, s .pre .0 .1 .long)
 
 wide-requires : tie.Need-wide-requires Inv-loop μ-loop
 wide-requires c κs = tt
 
 loop-holds : tie.Need-loop-holds Inv-loop μ-loop
 loop-holds c =
-    let s = c .before .before in
+    let s = c .before .before .before in
     let a = s .args in
-    λ cells sheet. subst (λ (h : ℕ). Walking cells (a .times .now) (bestOf cells (a .f) (a .times .now)) (a .sheet .now) h unmatched) (sym (c .wide .ensures .0))
+    λ cells sheet. subst (λ (h : ℕ). Walking cells (a .times .now) (bestOf cells (a .f) (a .times .now)) (a .sheet .now) h unmatched) (sym (c .wide .ensures))
     (walking-first cells (a .sheet .now) (a .f) (a .times .now) sheet (omega (arith, s .fits .f)))
 
 sub-x : tie.Need-sub-x Inv-loop μ-loop
@@ -41,60 +39,72 @@ sub-x c = omega arith
 
 try-variant-requires : tie.Need-try-variant-requires Inv-loop μ-loop
 try-variant-requires c κs =
-    let s = c .before .before .before .before in
+    let s = c .before .before .before .before .before in
     let a = s .args in
     let l = c .before .loop in
     let k = s .pre .0 in
     (walking-within (k .0) (a .times .now) (bestOf (k .0) (a .f) (a .times .now)) (a .sheet .now) (k .1) (l .h) (l .b) (l .inv (k .0) (k .1)) (c .loop-test .taken), s .pre .1)
 
-add-wide : tie.Need-add-wide Inv-loop μ-loop
-add-wide c =
-    let s = c .before .before .before .before .before in
-    let a = s .args in
-    let l = c .before .before .loop in
-    let k = s .pre .0 in
-    omega (arith, walking-within (k .0) (a .times .now) (bestOf (k .0) (a .f) (a .times .now)) (a .sheet .now) (k .1) (l .h) (l .b) (l .inv (k .0) (k .1)) (c .before .loop-test .taken))
-
 mul-wide-2 : tie.Need-mul-wide-2 Inv-loop μ-loop
 mul-wide-2 c =
-    let s = c .before .before .before .before .before in
+    let s = c .before .before .before .before .before .before in
     let a = s .args in
     let l = c .before .before .loop in
     let k = s .pre .0 in
-    omega (arith, walking-within (k .0) (a .times .now) (bestOf (k .0) (a .f) (a .times .now)) (a .sheet .now) (k .1) (l .h) (l .b) (l .inv (k .0) (k .1)) (c .before .loop-test .taken))
+    let w = walking-within (k .0) (a .times .now) (bestOf (k .0) (a .f) (a .times .now)) (a .sheet .now) (k .1) (l .h) (l .b) (l .inv (k .0) (k .1)) (c .before .loop-test .taken) in
+    omega (arith, w .within, w .there)
 
-element-copy-out-wide-2 : tie.Need-element-copy-out-wide-2 Inv-loop μ-loop
-element-copy-out-wide-2 c =
-    let s = c .before .before .before .before .before in
+add-wide : tie.Need-add-wide Inv-loop μ-loop
+add-wide c =
+    let s = c .before .before .before .before .before .before in
     let a = s .args in
     let l = c .before .before .loop in
     let k = s .pre .0 in
-    omega (arith, walking-within (k .0) (a .times .now) (bestOf (k .0) (a .f) (a .times .now)) (a .sheet .now) (k .1) (l .h) (l .b) (l .inv (k .0) (k .1)) (c .before .loop-test .taken))
+    let w = walking-within (k .0) (a .times .now) (bestOf (k .0) (a .f) (a .times .now)) (a .sheet .now) (k .1) (l .h) (l .b) (l .inv (k .0) (k .1)) (c .before .loop-test .taken) in
+    omega (arith, w .within, w .there)
+
+mul-wide-3 : tie.Need-mul-wide-3 Inv-loop μ-loop
+mul-wide-3 c =
+    let s = c .before .before .before .before .before .before in
+    let a = s .args in
+    let l = c .before .before .loop in
+    let k = s .pre .0 in
+    let w = walking-within (k .0) (a .times .now) (bestOf (k .0) (a .f) (a .times .now)) (a .sheet .now) (k .1) (l .h) (l .b) (l .inv (k .0) (k .1)) (c .before .loop-test .taken) in
+    omega (arith, w .within, w .there)
+
+shared-slice-read-wide-2 : tie.Need-shared-slice-read-wide-2 Inv-loop μ-loop
+shared-slice-read-wide-2 c =
+    let s = c .before .before .before .before .before .before .before in
+    let a = s .args in
+    let l = c .before .before .before .loop in
+    let k = s .pre .0 in
+    let w = walking-within (k .0) (a .times .now) (bestOf (k .0) (a .f) (a .times .now)) (a .sheet .now) (k .1) (l .h) (l .b) (l .inv (k .0) (k .1)) (c .before .before .loop-test .taken) in
+    omega (arith, w .within, w .there)
 
 wide-requires-2 : tie.Need-wide-requires-2 Inv-loop μ-loop
 wide-requires-2 c κs = tt
 
 loop-less : tie.Need-loop-less Inv-loop μ-loop
 loop-less c =
-    let s = c .before .before .before .before .before .before .before in
+    let s = c .before .before .before .before .before .before .before .before in
     let a = s .args in
     let l = c .before .before .before .before .loop in
     let k = s .pre .0 in
-    subst (λ (g : ℕ). togo g < togo (l .h)) (sym (c .wide2 .ensures .0)) (walking-falls (k .0) (a .times .now) (bestOf (k .0) (a .f) (a .times .now)) (a .sheet .now) (k .1) (l .h) (l .b) (l .inv (k .0) (k .1)) (c .before .before .before .loop-test .taken))
+    subst (λ (g : ℕ). togo g < togo (l .h)) (sym (c .wide2 .ensures)) (walking-falls (k .0) (a .times .now) (bestOf (k .0) (a .f) (a .times .now)) (a .sheet .now) (k .1) (l .h) (l .b) (l .inv (k .0) (k .1)) (c .before .before .before .loop-test .taken))
 
 loop-again : tie.Need-loop-again Inv-loop μ-loop
 loop-again c =
-    let s = c .before .before .before .before .before .before .before in
+    let s = c .before .before .before .before .before .before .before .before in
     let a = s .args in
     let l = c .before .before .before .before .loop in
     let k = s .pre .0 in
-    λ cells sheet. subst (λ (g : ℕ). Walking cells (a .times .now) (bestOf cells (a .f) (a .times .now)) (a .sheet .now) g (c .before .before .try-variant .result)) (sym (c .wide2 .ensures .0))
+    λ cells sheet. subst (λ (g : ℕ). Walking cells (a .times .now) (bestOf cells (a .f) (a .times .now)) (a .sheet .now) g (c .before .before .try-variant .result)) (sym (c .wide2 .ensures))
     (subst (λ (x : Best). Walking cells (a .times .now) (bestOf cells (a .f) (a .times .now)) (a .sheet .now) (getD (a .sheet .now) (linkAddr (l .h - 1)) 0) x) (sym (c .before .before .try-variant .ensures))
     (walking-next cells (a .times .now) (bestOf cells (a .f) (a .times .now)) (a .sheet .now) sheet (s .pre .1) (l .h) (l .b) (l .inv cells sheet) (c .before .before .before .loop-test .taken)))
 
 returns : tie.Need-returns Inv-loop μ-loop
 returns c =
-    let a = c .before .before .before .before .args in
+    let a = c .before .before .before .before .before .args in
     let l = c .before .loop in
     λ cells sheet. walking-end cells (a .times .now) (bestOf cells (a .f) (a .times .now)) (a .sheet .now) sheet (l .h) (l .b) (l .inv cells sheet) (c .loop-test .left)
 
@@ -105,14 +115,15 @@ best-match-spec =
     Inv-loop
     μ-loop
     mul-wide
-    element-copy-out-wide
+    shared-slice-read-wide
     wide-requires
     loop-holds
     sub-x
     try-variant-requires
-    add-wide
     mul-wide-2
-    element-copy-out-wide-2
+    add-wide
+    mul-wide-3
+    shared-slice-read-wide-2
     wide-requires-2
     loop-less
     loop-again

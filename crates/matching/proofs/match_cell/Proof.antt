@@ -1,21 +1,29 @@
--- `matching::match_cell` meets its contract, by those of `put_delays` and `put_variants`.
+-- `matching::match_cell` meets its contract, by that of `match_parts`: its delays are as wide as a pair's.
 -- Assumes nothing.
 use mathlib.Core.Path.{ap, _∙_}
-use Prim.Native.Nat.{_*_}
-use Rattle.matching.specs.Sheet.{passed, cellMatched}
+use mathlib.Core.List.{List}
+use Prim.Native.Nat.{ℕ, _*_}
 use borrow.Author.Needs.{needs}
+use Rattle.matching.specs.Sheet.{passed, timed, cellMatched}
 use Rattle.matching.proofs.match_cell.Statement.{statement}
 use Rattle.matching.proofs.match_cell.Tie as tie
 
-put-delays-requires : tie.Need-put-delays-requires
-put-delays-requires c κs = search needs
+widened-requires : tie.Need-widened-requires
+widened-requires c κs = search needs
 
-put-variants-requires : tie.Need-put-variants-requires
-put-variants-requires c κs = search needs
+match-parts-requires : tie.Need-match-parts-requires
+match-parts-requires c κs = search needs
+
+same-length : tie.Need-same-length
+same-length c = search needs
 
 returns : tie.Need-returns
 unfolding cellMatched
-returns c = let a = c .before .before .before .before .before .args in c .put-variants .ensures ∙ ap (passed (a .c .pins) (a .c .table) (384 * a .line) 384) (c .before .before .put-delays .ensures)
+returns c =
+    let a = c .before .before .before .before .before .before .before .args in
+    c .before .before .match-parts .ensures
+    ∙ ap (λ (ds : List ℕ). passed (a .c .pins) (a .c .table) (384 * a .line) 384 (timed (a .c .pins) ds (a .line) (a .sheet .now))) (c .before .before .before .before .widened .ensures)
 
 pub match-cell-spec : {M : Type 1} → statement M
-match-cell-spec = tie.close (tie.spec put-delays-requires put-variants-requires returns)
+match-cell-spec =
+    tie.close (tie.spec widened-requires match-parts-requires same-length returns)

@@ -13,11 +13,11 @@ element-copy-out-add-delay c = search needs
 mul-add-delay-2 : tie.Need-mul-add-delay-2
 mul-add-delay-2 c = search needs
 
-element-copy-out-add-delay-2 : tie.Need-element-copy-out-add-delay-2
-element-copy-out-add-delay-2 c = search needs
+shared-slice-read-add-delay : tie.Need-shared-slice-read-add-delay
+shared-slice-read-add-delay c = search needs
 
 add-delay-requires : tie.Need-add-delay-requires
-add-delay-requires c κs = c .before .before .pre .2 .bounded (c .before .before .args .select)
+add-delay-requires c κs = let s = c .before .before .before in (s .pre .3 .bounded (s .args .select), s .pre .2)
 
 returns : tie.Need-returns
 returns c = search needs
@@ -29,6 +29,6 @@ pin-time-spec =
     mul-add-delay
     element-copy-out-add-delay
     mul-add-delay-2
-    element-copy-out-add-delay-2
+    shared-slice-read-add-delay
     add-delay-requires
     returns)

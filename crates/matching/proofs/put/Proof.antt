@@ -20,18 +20,30 @@ pick-requires c κs = search needs
 push-requires : tie.Need-push-requires
 push-requires c κs = search needs
 
+same-length : tie.Need-same-length
+same-length c = search needs
+
 returns : tie.Need-returns
 returns c =
-    let s = c .before .before .before .before .before in
+    let s = c .before .before .before .before .before .before .before .before in
     let a = s .args in
-    c .push .ensures
-    ∙ sym (placed-mask (a .pins) (a .table) (a .x) (c .before .before .before .variant-table .result) (c .before .before .pick .result) (a .sheet .now)
-    (omega (arith, power (a .pins) (s .pre .0), c .before .before .before .before .if1 .taken)) (c .before .before .before .variant-table .ensures) (c .before .before .pick .ensures))
+    let v = c .before .before .before .before .before in
+    let p = c .before .before .before .before in
+    c .before .before .push .ensures
+    ∙ sym (placed-mask (a .pins) (a .table) (a .x) (v .variant-table .result) (p .pick .result) (a .sheet .now)
+    (omega (arith, power (a .pins) (s .pre .0), v .before .if1 .taken)) (v .variant-table .ensures) (p .pick .ensures))
 
 returns-2 : tie.Need-returns-2
-returns-2 c = let s = c .before in let a = s .args in sym (placed-none (a .pins) (a .table) (a .x) (a .sheet .now) (omega (arith, power (a .pins) (s .pre .0), c .if1 .left)))
+returns-2 c = let s = c .before .before in let a = s .args in sym (placed-none (a .pins) (a .table) (a .x) (a .sheet .now) (omega (arith, power (a .pins) (s .pre .0), c .if1 .left)))
 
 pub put-spec : {M : Type 1} → statement M
 put-spec =
     tie.close
-    (tie.spec shl-if1 variant-table-requires pick-requires push-requires returns returns-2)
+    (tie.spec
+    shl-if1
+    variant-table-requires
+    pick-requires
+    push-requires
+    same-length
+    returns
+    returns-2)

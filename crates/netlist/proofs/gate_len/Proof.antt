@@ -18,8 +18,8 @@ pins-len-requires c κs = search needs
 add-result : tie.Need-add-result
 add-result c = search needs
 
-net-len-requires : tie.Need-net-len-requires
-net-len-requires c κs = search needs
+label-len-requires : tie.Need-label-len-requires
+label-len-requires c κs = search needs
 
 add-result-2 : tie.Need-add-result-2
 add-result-2 c = search needs
@@ -35,7 +35,7 @@ returns c =
     let p = c .before .pins-len in
     let eight : length (x .name) ≡ 8 = search needs in
     let named : length (take (x .len) (x .name)) ≡ n .result = ap length (sym (n .ensures .1 (x .name) eight)) ∙ length-take-le (n .result) (x .name) (omega (arith, n .ensures .0)) in
-    (omega (arith, line-length x (take (s .args .count) (s .args .nets)) (s .args .net), named, p .ensures .0, c .net-len .ensures .0), omega (arith, n .ensures .0, p .ensures .1, c .net-len .ensures .1))
+    (omega (arith, line-length x (take (s .args .count) (s .args .nets)) (s .args .net), named, p .ensures .0, c .label-len .ensures .0), omega (arith, n .ensures .0, p .ensures .1, c .label-len .ensures .1))
 
 pub gate-len-spec : {M : Type 1} → statement M
 gate-len-spec =
@@ -44,7 +44,7 @@ gate-len-spec =
     name-len-requires
     pins-len-requires
     add-result
-    net-len-requires
+    label-len-requires
     add-result-2
     add-result-3
     returns)

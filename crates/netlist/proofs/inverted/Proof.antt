@@ -1,35 +1,41 @@
 -- `netlist::inverted` meets its contract.
 -- Assumes nothing.
-use mathlib.Core.Path.{ap}
-use mathlib.Core.List.{_∷_, []}
-use Prim.Native.Nat.{ℕ}
-use native.Mathlib.Omega.{arith}
-use Rattle.netlist.specs.Lines.{lineCell, gatesOf, invertedGate}
+use mathlib.Core.List.{List, _∷_, []}
+use mathlib.Core.Path.{sym, subst, _∙_}
+use Prim.Native.Nat.{_*_}
+use Rattle.model.specs.Graph.{opposite}
+use Rattle.book.specs.Bytes.{lineCell}
+use Rattle.drivers.specs.Gates.{oneDriver, Drives}
+use Rattle.netlist.specs.Lines.{invertedGates}
+use Rattle.drivers.specs.declared.Driver.{Driver}
+use Rattle.drivers.proofs.Feeding.{drives-inverted}
 use borrow.Author.Needs.{needs}
 use Rattle.netlist.proofs.inverted.Statement.{statement}
 use Rattle.netlist.proofs.inverted.Tie as tie
 
-mul-cell : tie.Need-mul-cell
-mul-cell c = search needs
-
-element-copy-out-cell : tie.Need-element-copy-out-cell
-element-copy-out-cell c = search needs
+cell-at-requires : tie.Need-cell-at-requires
+cell-at-requires c κs = search needs
 
 opposite-requires : tie.Need-opposite-requires
 opposite-requires c κs = search needs
 
-cast-t11 : tie.Need-cast-t11
-cast-t11 c = search needs
+cast-t7 : tie.Need-cast-t7
+cast-t7 c = search needs
 
-cast-t13 : tie.Need-cast-t13
-cast-t13 c = search needs
+mul-t8 : tie.Need-mul-t8
+mul-t8 c = search needs
+
+one-gate-requires : tie.Need-one-gate-requires
+one-gate-requires c κs = search needs
 
 returns : tie.Need-returns
-unfolding gatesOf invertedGate
+unfolding invertedGates
 returns c =
-    let a = c .before .before .args in
-    record { isGate = ap (λ (x : ℕ). record { cell = lineCell (a .t1) (a .i); pins = x ∷ []; net = a .l } ∷ []) (c .opposite .ensures .0); few = omega arith }
+    let a = c .before .before .before .before .args in
+    let made = c .one-gate .ensures ∙ (λ i. oneDriver (c .before .before .cell-at .ensures i) (2 * c .before .opposite .ensures .0 i ∷ 0 ∷ 0 ∷ 0 ∷ []) 1 (a .l)) in
+    subst (λ (d : Driver). Drives d (invertedGates (a .book .now) (a .l) (a .i))) (sym made) (drives-inverted (lineCell (a .book .now) (a .i)) (opposite (a .l)) (a .l))
 
 pub inverted-spec : {M : Type 1} → statement M
 inverted-spec =
-    tie.close (tie.spec mul-cell element-copy-out-cell opposite-requires cast-t11 cast-t13 returns)
+    tie.close
+    (tie.spec cell-at-requires opposite-requires cast-t7 mul-t8 one-gate-requires returns)

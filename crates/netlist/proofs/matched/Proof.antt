@@ -1,23 +1,21 @@
 -- `netlist::matched` meets its contract: the leaves at the order's places, in the mask's phases.
 -- Assumes nothing.
-use mathlib.Core.Path.{ap, _∙_}
-use mathlib.Core.List.{List, _∷_, []}
+use mathlib.Core.List.{List, map}
+use mathlib.Core.Path.{refl, sym, ap, subst, _∙_}
 use Prim.Native.Nat.{ℕ}
 use lib.ListN.{take}
 use Rattle.model.specs.Graph.{varOf}
+use Rattle.model.specs.Netlist.{Gate}
 use Rattle.model.specs.declared.Cut.{Cut}
 use Rattle.truth.specs.Variant.{placesOf}
-use Rattle.netlist.specs.Lines.{lineCell, fourNets, gatesOf, matchedGate}
-use Rattle.netlist.proofs.Feeding.{four-taken}
+use Rattle.words.specs.Record.{cutOf}
+use Rattle.drivers.specs.Gates.{phaseNet, fourNets, driverBy, pinsBy, gatesUnder, Drives}
+use Rattle.netlist.specs.Lines.{matchedGates}
+use Rattle.drivers.specs.declared.Driver.{Driver}
+use Rattle.drivers.proofs.Feeding.{four-taken, drives-by, number-pins}
 use borrow.Author.Needs.{needs}
 use Rattle.netlist.proofs.matched.Statement.{statement}
 use Rattle.netlist.proofs.matched.Tie as tie
-
-mul-cell : tie.Need-mul-cell
-mul-cell c = search needs
-
-element-copy-out-cell : tie.Need-element-copy-out-cell
-element-copy-out-cell c = search needs
 
 load-cut-requires : tie.Need-load-cut-requires
 load-cut-requires c κs = search needs
@@ -25,28 +23,23 @@ load-cut-requires c κs = search needs
 four-nets-requires : tie.Need-four-nets-requires
 four-nets-requires c κs = search needs
 
-cast-t12 : tie.Need-cast-t12
-cast-t12 c = search needs
-
-cast-t16 : tie.Need-cast-t16
-cast-t16 c = search needs
+gates-by-requires : tie.Need-gates-by-requires
+gates-by-requires c κs = search needs
 
 returns : tie.Need-returns
-unfolding gatesOf matchedGate varOf
+unfolding matchedGates varOf
 returns c =
-    let a = c .before .before .before .before .before .before .args in
-    let cell = lineCell (a .t2) (a .x .cell) in
-    let nets = ap (take (cell .pins)) (c .before .four-nets .ensures ∙ ap (λ (k : Cut). fourNets (placesOf (a .x .order)) (a .x .mask) (k .leaves)) (c .before .before .before .load-cut .ensures)) ∙ four-taken (a .x .order) (c .before .before .before .before .before .before .pre .2 .order) (a .x .mask) _ (cell .pins) (c .before .before .before .before .before .before .pre .2 .pins) in
-    record { isGate = ap (λ (ns : List ℕ). record { cell = cell; pins = ns; net = a .l } ∷ []) nets; few = c .before .before .before .before .before .before .pre .2 .pins }
+    let s = c .before .before .before .before .before .before in
+    let a = s .args in
+    let x = a .x in
+    let ready = s .pre .2 in
+    let leaves = cutOf (a .work .now) (a .m) (varOf (a .l)) (x .cut) .leaves in
+    let ps = fourNets (placesOf (x .order)) (x .mask) leaves in
+    let nets = c .before .four-nets .ensures ∙ ap (λ (k : Cut). map phaseNet (fourNets (placesOf (x .order)) (x .mask) (k .leaves))) (c .before .before .before .load-cut .ensures) in
+    let made = c .gates-by .ensures ∙ ap (λ (ns : List ℕ). driverBy (a .book .now) (x .cell) ns (a .l)) nets in
+    let taken = four-taken (x .order) (ready .order) (x .mask) leaves (pinsBy (a .book .now) (x .cell)) (number-pins (a .book .now) (x .cell) (ready .number)) in
+    subst (λ (d : Driver). Drives d (matchedGates (a .work .now) (a .book .now) (a .m) (a .l) x)) (sym made)
+    (subst (λ (fed : List ℕ). Drives (driverBy (a .book .now) (x .cell) (map phaseNet ps) (a .l)) (gatesUnder (a .book .now) (x .cell) fed (a .l))) taken (drives-by ps refl (a .l) (a .book .now) (x .cell) (ready .number)))
 
 pub matched-spec : {M : Type 1} → statement M
-matched-spec =
-    tie.close
-    (tie.spec
-    mul-cell
-    element-copy-out-cell
-    load-cut-requires
-    four-nets-requires
-    cast-t12
-    cast-t16
-    returns)
+matched-spec = tie.close (tie.spec load-cut-requires four-nets-requires gates-by-requires returns)

@@ -1,18 +1,54 @@
 -- `netlist::measure` meets its contract: what the words hold is what `model` defines.
 -- Assumes nothing.
-use mathlib.Core.Path.{_∙_}
-use Rattle.netlist.proofs.Held.{gated, named, measured-held}
+use mathlib.Core.List.{List}
+use mathlib.Core.Path.{sym, ap, subst, _∙_}
+use Prim.Native.Nat.{ℕ}
+use lib.ListN.{length, drop, replicate}
+use Rattle.model.specs.Cells.{cellsOf}
+use Rattle.book.specs.Bytes.{bookOf}
+use Rattle.netlist.specs.Lines.{Gated, measuredIn}
+use Rattle.netlist.proofs.Held.{book-is, gated, named, measured-held}
+use borrow.Author.Needs.{needs}
 use Rattle.netlist.proofs.measure.Statement.{statement}
 use Rattle.netlist.proofs.measure.Tie as tie
 
+slice-aggregate-put-book : tie.Need-slice-aggregate-put-book
+slice-aggregate-put-book c = search needs
+
+put-book-requires : tie.Need-put-book-requires
+put-book-requires c κs = search needs
+
+slice-aggregate-measure-words : tie.Need-slice-aggregate-measure-words
+slice-aggregate-measure-words c = search needs
+
 measure-words-requires : tie.Need-measure-words-requires
 measure-words-requires c κs =
-    let a = c .before .args in
-    let p = c .before .pre in
-    (gated (a .work .now) (a .lib) (a .h) (p .0) (p .1), named (a .work .now) (a .lib) (a .h) (p .0) (p .1))
+    let s = c .before .before .before .before .before .before in
+    let a = s .args in
+    let p = s .pre in
+    let made = c .before .before .put-book in
+    let rest : List ℕ = drop (length (bookOf (cellsOf (a .lib)) (a .codes .now))) (replicate 833 0) in
+    let is = book-is (a .lib) (a .codes .now) (replicate 833 0) (made .last .0) (made .result) (made .ensures) in (
+      subst (λ (b : List ℕ). Gated (a .work .now) b (a .h .size)) (sym is) (gated (a .work .now) (a .lib) (a .codes .now) (a .h) (p .0) (p .1) rest),
+      named (a .work .now) (a .lib) (a .codes .now) (a .h) (p .0) (p .1) rest,
+    )
 
 returns : tie.Need-returns
-returns c = (λ g k. c .measure-words .ensures .0 ∙ measured-held (c .before .before .args .work .now) (c .before .before .args .lib) (c .before .before .args .h) g k, c .measure-words .ensures .1)
+returns c =
+    let a = c .before .before .before .before .before .before .before .args in
+    let made = c .before .before .before .put-book in
+    let rest : List ℕ = drop (length (bookOf (cellsOf (a .lib)) (a .codes .now))) (replicate 833 0) in
+    let is = book-is (a .lib) (a .codes .now) (replicate 833 0) (made .last .0) (made .result) (made .ensures) in (
+      (λ g k. c .measure-words .ensures .0 ∙ ap (λ (b : List ℕ). measuredIn (a .work .now) b (a .h)) is ∙ measured-held (a .work .now) (a .lib) (a .codes .now) (a .h) g k rest),
+      c .measure-words .ensures .1,
+    )
 
 pub measure-spec : {M : Type 1} → statement M
-measure-spec = tie.close (tie.spec measure-words-requires returns)
+measure-spec =
+    tie.close
+    (tie.spec
+    slice-aggregate-put-book
+    put-book-requires
+    slice-aggregate-measure-words
+    measure-words-requires
+    returns)

@@ -17,31 +17,31 @@ frame-len-requires : tie.Need-frame-len-requires
 frame-len-requires c κs = search needs
 
 wires-len-requires : tie.Need-wires-len-requires
-wires-len-requires c κs = (c .before .before .before .before .pre .1 .room, c .before .before .before .before .pre .1 .fewOutputs)
+wires-len-requires c κs = (c .before .before .before .before .before .pre .1 .room, c .before .before .before .before .before .pre .1 .fewOutputs)
 
 add-length : tie.Need-add-length
 add-length c = omega (arith, c .before .before .before .before .count-gates .ensures .1 .length, c .before .before .frame-len .ensures .1)
 
 add-length-2 : tie.Need-add-length-2
-add-length-2 c = omega (arith, c .before .before .before .before .count-gates .ensures .1 .length, c .before .before .frame-len .ensures .1, c .before .wires-len .ensures .1, c .before .before .before .before .before .before .pre .1 .fewOutputs)
+add-length-2 c = omega (arith, c .before .before .before .before .count-gates .ensures .1 .length, c .before .before .frame-len .ensures .1, c .before .wires-len .ensures .1, c .before .before .before .before .before .before .before .pre .1 .fewOutputs)
 
 figures-len-requires : tie.Need-figures-len-requires
 figures-len-requires c κs = search needs
 
 add-length-3 : tie.Need-add-length-3
-add-length-3 c = omega (arith, c .before .before .before .before .before .count-gates .ensures .1 .length, c .before .before .before .frame-len .ensures .1, c .before .before .wires-len .ensures .1, c .before .before .before .before .before .before .before .pre .1 .fewOutputs, c .figures-len .ensures .1)
+add-length-3 c = omega (arith, c .before .before .before .before .before .count-gates .ensures .1 .length, c .before .before .before .frame-len .ensures .1, c .before .before .wires-len .ensures .1, c .before .before .before .before .before .before .before .before .pre .1 .fewOutputs, c .figures-len .ensures .1)
 
 returns : tie.Need-returns
 returns c =
-    let s = c .before .before .before .before .before .before .before in
+    let s = c .before .before .before .before .before .before .before .before in
     let a = s .args in
     let t = c .before .before .before .before .before .count-gates in
     let arrival = c .before .before .before .before .latest in
     let frame = c .before .before .before .frame-len in
     let wires = c .before .before .wires-len in
     let f : Figures = record { gates = t .result .gates; area = t .result .area; arrival = arrival .result } in (
-      measured-in (a .work .now) (a .lib) (a .h) (t .result) (t .ensures .0) f (frame .result) (wires .result) (c .figures-len .result)
-          (figures-in (a .work .now) (a .lib) (a .h) (t .result) (t .ensures .0) (arrival .result) (arrival .ensures)) (frame .ensures .0) (wires .ensures .0) (c .figures-len .ensures .0),
+      measured-in (a .work .now) (a .book .now) (a .h) (t .result) (t .ensures .0) f (frame .result) (wires .result) (c .figures-len .result)
+          (figures-in (a .work .now) (a .book .now) (a .h) (t .result) (t .ensures .0) (arrival .result) (arrival .ensures)) (frame .ensures .0) (wires .ensures .0) (c .figures-len .ensures .0),
       record { length = omega (arith, t .ensures .1 .length, frame .ensures .1, wires .ensures .1, s .pre .1 .fewOutputs, c .figures-len .ensures .1); gates = t .ensures .1 .gates; area = omega (arith, t .ensures .1 .area) },
     )
 

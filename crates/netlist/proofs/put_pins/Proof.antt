@@ -6,14 +6,14 @@ use Prim.Native.Nat.{_+_, _-_, _≤_}
 use native.Mathlib.Omega.{arith}
 use borrow.Author.Needs.{needs}
 use lib.ListN.{length, take, drop, getD}
-use Rattle.model.specs.Netlist.{pinWords}
+use Rattle.netlist.specs.Lines.{netWords}
 use Rattle.netlist.proofs.Counting.{pins-next, pins-none}
 use Rattle.text.proofs.Progress.{Partly, begin, step, room, kept, end}
 use Rattle.netlist.proofs.put_pins.Statement.{statement}
 use Rattle.netlist.proofs.put_pins.Tie as tie
 
 abbrev Inv-loop : tie.InvT-loop
-Inv-loop out₀ at count nets next₀ j₀ out next j = (j ≤ count) × Partly out₀ out at next (pinWords 65 (take count nets)) (pinWords (65 + j) (drop j (take count nets)))
+Inv-loop out₀ at count nets next₀ j₀ out next j = (j ≤ count) × Partly out₀ out at next (netWords 65 (take count nets)) (netWords (65 + j) (drop j (take count nets)))
 
 abbrev μ-loop : tie.MeasureT-loop
 μ-loop out₀ at count nets next₀ j₀ out next j = count - j
@@ -38,7 +38,7 @@ put-pin-requires c κs =
     let s = c .before .before .before .before in
     let l = c .before .before .loop in
     let four : length (s .args .t3) ≡ 4 = search needs in
-    room (s .pre .1) (l .inv .1) (pinWords (65 + l .j) (getD (s .args .t3) (l .j) 0 ∷ [])) (pinWords (65 + (l .j + 1)) (drop (l .j + 1) (take (s .args .count) (s .args .t3))))
+    room (s .pre .1) (l .inv .1) (netWords (65 + l .j) (getD (s .args .t3) (l .j) 0 ∷ [])) (netWords (65 + (l .j + 1)) (drop (l .j + 1) (take (s .args .count) (s .args .t3))))
     (pins-next (s .args .t3) (s .args .count) four (s .pre .0) (l .j) (c .before .loop-test .taken))
 
 add-j : tie.Need-add-j Inv-loop μ-loop
@@ -54,7 +54,7 @@ loop-again c =
     let p = c .before .before .put-pin in
     let four : length (s .args .t3) ≡ 4 = search needs in (
       omega arith,
-      step (s .pre .1) (l .inv .1) (p .last .0) (p .result) (pinWords (65 + l .j) (getD (s .args .t3) (l .j) 0 ∷ [])) (pinWords (65 + (l .j + 1)) (drop (l .j + 1) (take (s .args .count) (s .args .t3))))
+      step (s .pre .1) (l .inv .1) (p .last .0) (p .result) (netWords (65 + l .j) (getD (s .args .t3) (l .j) 0 ∷ [])) (netWords (65 + (l .j + 1)) (drop (l .j + 1) (take (s .args .count) (s .args .t3))))
           (pins-next (s .args .t3) (s .args .count) four (s .pre .0) (l .j) (c .before .before .before .before .loop-test .taken)) (p .ensures),
     )
 

@@ -1,35 +1,64 @@
 -- `netlist::write` meets its contract: what the words hold is what `model` defines.
 -- Assumes nothing.
-use mathlib.Core.Path.{_≡_, ap, _∙_}
+use mathlib.Core.Path.{_≡_, sym, ap, subst, _∙_}
 use mathlib.Core.List.{List, _++_}
 use Prim.Native.Nat.{ℕ, _+_}
 use native.Mathlib.Omega.{arith}
-use lib.ListN.{length, drop}
-use Rattle.netlist.specs.Lines.{textIn}
+use lib.ListN.{length, drop, replicate}
+use Rattle.model.specs.Cells.{cellsOf}
 use Rattle.text.proofs.Progress.{put-front}
-use Rattle.netlist.proofs.Held.{gated, named, text-held}
+use Rattle.book.specs.Bytes.{bookOf}
+use Rattle.netlist.specs.Lines.{Gated, textIn}
+use Rattle.netlist.proofs.Held.{book-is, gated, named, text-held}
 use borrow.Author.Needs.{needs}
 use Rattle.netlist.proofs.write.Statement.{statement}
 use Rattle.netlist.proofs.write.Tie as tie
 
+slice-aggregate-put-book : tie.Need-slice-aggregate-put-book
+slice-aggregate-put-book c = search needs
+
+put-book-requires : tie.Need-put-book-requires
+put-book-requires c κs = search needs
+
+slice-aggregate-write-words : tie.Need-slice-aggregate-write-words
+slice-aggregate-write-words c = search needs
+
 write-words-requires : tie.Need-write-words-requires
 write-words-requires c κs =
-    let a = c .before .before .before .args in
-    let p = c .before .before .before .pre in
-    (gated (a .work .now) (a .lib) (a .h) (p .0) (p .1), named (a .work .now) (a .lib) (a .h) (p .0) (p .1), omega (arith, p .2, ap length (text-held (a .work .now) (a .lib) (a .h) (p .0) (p .1) (a .f))))
+    let s = c .before .before .before .before .before .before .before .before in
+    let a = s .args in
+    let p = s .pre in
+    let made = c .before .before .before .put-book in
+    let rest : List ℕ = drop (length (bookOf (cellsOf (a .lib)) (a .codes .now))) (replicate 833 0) in
+    let is = book-is (a .lib) (a .codes .now) (replicate 833 0) (made .last .0) (made .result) (made .ensures) in (
+      subst (λ (b : List ℕ). Gated (a .work .now) b (a .h .size)) (sym is) (gated (a .work .now) (a .lib) (a .codes .now) (a .h) (p .0) (p .1) rest),
+      named (a .work .now) (a .lib) (a .codes .now) (a .h) (p .0) (p .1) rest,
+      omega (arith, p .2, ap length (ap (λ (b : List ℕ). textIn (a .work .now) b (a .h) (a .f)) is ∙ text-held (a .work .now) (a .lib) (a .codes .now) (a .h) (p .0) (p .1) rest (a .f))),
+    )
 
 same-length : tie.Need-same-length
 same-length c = search needs
 
 returns : tie.Need-returns
 returns c =
-    let a = c .before .before .before .before .before .before .args in
+    let a = c .before .before .before .before .before .before .before .before .before .before .before .args in
+    let made = c .before .before .before .before .before .before .put-book in
+    let rest : List ℕ = drop (length (bookOf (cellsOf (a .lib)) (a .codes .now))) (replicate 833 0) in
+    let is = book-is (a .lib) (a .codes .now) (replicate 833 0) (made .last .0) (made .result) (made .ensures) in
     let r = c .before .before .write-words in
-    let t = textIn (a .work .now) (a .lib) (a .h) (a .f) in
+    let t = textIn (a .work .now) (made .last .0) (a .h) (a .f) in
     λ g k.
-    let e = text-held (a .work .now) (a .lib) (a .h) g k (a .f) in
+    let e = ap (λ (b : List ℕ). textIn (a .work .now) b (a .h) (a .f)) is ∙ text-held (a .work .now) (a .lib) (a .codes .now) (a .h) g k rest (a .f) in
     let z : 0 + length t ≡ length t = omega arith in
     (r .ensures .ends ∙ z ∙ ap length e, r .ensures .leaves ∙ put-front (a .out .now) t ∙ ap (λ (bs : List ℕ). bs ++ drop (length bs) (a .out .now)) e)
 
 pub write-spec : {M : Type 1} → statement M
-write-spec = tie.close (tie.spec write-words-requires same-length returns)
+write-spec =
+    tie.close
+    (tie.spec
+    slice-aggregate-put-book
+    put-book-requires
+    slice-aggregate-write-words
+    write-words-requires
+    same-length
+    returns)

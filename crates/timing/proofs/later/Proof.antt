@@ -1,18 +1,23 @@
 -- `timing::later` meets its contract.
 -- Assumes nothing.
+use Prim.Native.Nat.{_+_}
+use native.Mathlib.Omega.{arith}
 use borrow.Author.Tests.{le-leb, lt-leb}
 use borrow.Author.Needs.{needs}
 use Rattle.timing.proofs.later.Statement.{statement}
 use Rattle.timing.proofs.later.Tie as tie
 
+sub-if1 : tie.Need-sub-if1
+sub-if1 c = search needs
+
 add-result : tie.Need-add-result
 add-result c = search needs
 
 returns : tie.Need-returns
-returns c = rw (le-leb _ _ (c .if1 .taken))
+returns c = let a = c .before .args in rw (le-leb (a .t + a .d) 4294967295 (omega (arith, c .before .fits .t, c .if1 .taken)))
 
 returns-2 : tie.Need-returns-2
-returns-2 c = rw (lt-leb _ _ (c .if1 .left))
+returns-2 c = let a = c .before .args in rw (lt-leb (a .t + a .d) 4294967295 (omega (arith, c .before .fits .t, c .if1 .left)))
 
 pub later-spec : {M : Type 1} → statement M
-later-spec = tie.close (tie.spec add-result returns returns-2)
+later-spec = tie.close (tie.spec sub-if1 add-result returns returns-2)

@@ -1,7 +1,6 @@
 -- `timing::own_low` meets its contract, by what the source is.
 -- Assumes nothing.
 use mathlib.Core.Path.{_≡_, sym, ap, _∙_}
-use Rattle.model.specs.Cells.{cellsOf}
 use Rattle.model.specs.declared.Phase.{Phase}
 use Rattle.timing.specs.Retiming.{ownLow}
 use borrow.Author.Needs.{needs}
@@ -24,7 +23,9 @@ match-low-requires : tie.Need-match-low-requires
 match-low-requires c κs =
     let p = c .before .before .before in
     let s = p .before .before in
-    (s .pre .0 .usable, s .pre .0 .cuts, s .pre .1, s .pre .0 .matches (s .args .l) (s .pre .1) _ (ap (λ (q : Phase). q .source) (sym (p .phase .ensures)) ∙ c .before .s .given .1))
+    let r = s .pre .0 .1 in
+    let i = r .matches (s .args .l) (s .pre .1) _ (ap (λ (q : Phase). q .source) (sym (p .phase .ensures)) ∙ c .before .s .given .1) in
+    ((s .pre .0 .0, r .usable, i, s .pre .0 .2), r .cuts, s .pre .1)
 
 enum-told-2 : tie.Need-enum-told-2
 enum-told-2 c = search needs
@@ -34,31 +35,34 @@ enum-told-3 c = search needs
 
 returns : tie.Need-returns
 unfolding ownLow
-returns c =
+returns c cells r pins lows =
     let p = c .before .before .before in
     let a = p .before .before .args in
-    c .late .ensures ∙ sym (ap (ownLow (cellsOf (a .lib)) (a .work .now) (a .m) (a .l)) (ap (λ (q : Phase). q .source) (sym (p .phase .ensures)) ∙ c .before .enum-told .given .1))
+    c .late .ensures ∙ sym (ap (ownLow cells (a .work .now) (a .m) (a .l)) (ap (λ (q : Phase). q .source) (sym (p .phase .ensures)) ∙ c .before .enum-told .given .1))
 
 returns-2 : tie.Need-returns-2
 unfolding ownLow
-returns-2 c =
+returns-2 c cells r pins lows =
     let p = c .before .before .before .before in
-    let a = p .before .before .args in
-    c .match-low .ensures ∙ sym (ap (ownLow (cellsOf (a .lib)) (a .work .now) (a .m) (a .l)) (ap (λ (q : Phase). q .source) (sym (p .phase .ensures)) ∙ c .before .before .s .given .1))
+    let s = p .before .before in
+    let a = s .args in
+    let e = ap (λ (q : Phase). q .source) (sym (p .phase .ensures)) ∙ c .before .before .s .given .1 in
+    c .match-low .ensures cells (r .usable) (r .matches (a .l) (s .pre .1) _ e) pins lows
+    ∙ sym (ap (ownLow cells (a .work .now) (a .m) (a .l)) e)
 
 returns-3 : tie.Need-returns-3
 unfolding ownLow
-returns-3 c =
+returns-3 c cells r pins lows =
     let p = c .before .before in
     let a = p .before .before .args in
-    sym (ap (ownLow (cellsOf (a .lib)) (a .work .now) (a .m) (a .l)) (ap (λ (q : Phase). q .source) (sym (p .phase .ensures)) ∙ c .enum-told2 .given .1))
+    sym (ap (ownLow cells (a .work .now) (a .m) (a .l)) (ap (λ (q : Phase). q .source) (sym (p .phase .ensures)) ∙ c .enum-told2 .given .1))
 
 returns-4 : tie.Need-returns-4
 unfolding ownLow
-returns-4 c =
+returns-4 c cells r pins lows =
     let p = c .before .before in
     let a = p .before .before .args in
-    sym (ap (ownLow (cellsOf (a .lib)) (a .work .now) (a .m) (a .l)) (ap (λ (q : Phase). q .source) (sym (p .phase .ensures)) ∙ c .enum-told3 .given .1))
+    sym (ap (ownLow cells (a .work .now) (a .m) (a .l)) (ap (λ (q : Phase). q .source) (sym (p .phase .ensures)) ∙ c .enum-told3 .given .1))
 
 pub own-low-spec : {M : Type 1} → statement M
 own-low-spec =

@@ -1,11 +1,12 @@
 -- `timing::pins_low` meets its contract. The invariant: the latest of the pins from here on; the measure is what is left of them.
 -- Assumes nothing.
 use borrow.Author.Needs.{needs}
-use mathlib.Core.Path.{_≡_, sym, ap, subst, _∙_}
+use mathlib.Core.Path.{_≡_, sym, ap, ap₂, subst, _∙_}
 use mathlib.Core.List.{List}
 use Prim.Native.Nat.{ℕ, _-_, _/_, _≤_, max}
 use native.Mathlib.Omega.{arith}
 use lib.ListN.{drop, getD}
+use lib.Seq.{getD-drop}
 use Rattle.model.specs.Matching.{fedNets}
 use Rattle.truth.specs.Variant.{placesOf, pinNet}
 use Rattle.words.specs.Layout.{lowAt}
@@ -15,16 +16,16 @@ use Rattle.timing.proofs.pins_low.Statement.{statement}
 use Rattle.timing.proofs.pins_low.Tie as tie
 
 abbrev Inv-loop : tie.InvT-loop
-Inv-loop work m leaves order mask pins lows t₀ j₀ t j = (j ≤ pins) × (t ≡ latestLow work m (drop j (fedNets pins (placesOf order) mask leaves)) (drop j lows))
+Inv-loop work m leaves order mask pins lows at t₀ j₀ t j = (j ≤ pins) × (t ≡ latestLow work m (drop j (fedNets pins (placesOf order) mask leaves)) (drop j (drop at lows)))
 
 abbrev μ-loop : tie.MeasureT-loop
-μ-loop work m leaves order mask pins lows t₀ j₀ t j = j
+μ-loop work m leaves order mask pins lows at t₀ j₀ t j = j
 
 loop-holds : tie.Need-loop-holds Inv-loop μ-loop
 loop-holds c =
     let s = c .before in
     let a = s .args in
-    (omega arith, sym (pins-none (a .work .now) (a .m) (a .leaves) (a .order) (a .mask) (a .pins) (a .t7) (s .pre .1 .known) (s .pre .1 .four)))
+    (omega arith, sym (pins-none (a .work .now) (a .m) (a .leaves) (a .order) (a .mask) (a .pins) (drop (a .at) (a .lows .now)) (s .pre .1 .known) (s .pre .1 .four)))
 
 sub-j : tie.Need-sub-j Inv-loop μ-loop
 sub-j c = omega arith
@@ -42,11 +43,15 @@ low-requires c κs =
           (net-var (a .leaves) (a .order) (a .mask) (l .loop .j - 1) (a .m) (s .pre .1 .within (l .loop .j - 1) (omega (arith, l .loop .inv .0, c .before .loop-test .taken)))),
     )
 
-mul-later : tie.Need-mul-later Inv-loop μ-loop
-mul-later c = omega (arith, c .before .before .before .loop .inv .0, c .before .before .before .before .before .pre .1 .four)
+add-later : tie.Need-add-later Inv-loop μ-loop
+add-later c = omega (arith, c .before .before .before .loop .inv .0, c .before .before .before .before .before .pre .1 .four, c .before .before .before .before .before .pre .2)
 
-array-read-later : tie.Need-array-read-later Inv-loop μ-loop
-array-read-later c = omega (arith, c .before .before .before .loop .inv .0, c .before .before .loop-test .taken, c .before .before .before .before .before .pre .1 .four)
+mul-later : tie.Need-mul-later Inv-loop μ-loop
+mul-later c = omega (arith, c .before .before .before .loop .inv .0, c .before .before .before .before .before .pre .1 .four, c .before .before .before .before .before .pre .2)
+
+element-copy-out-later : tie.Need-element-copy-out-later Inv-loop μ-loop
+element-copy-out-later c =
+    omega (arith, c .before .before .before .loop .inv .0, c .before .before .loop-test .taken, c .before .before .before .before .before .pre .1 .four, c .before .before .before .before .before .pre .2)
 
 later-requires : tie.Need-later-requires Inv-loop μ-loop
 later-requires c κs = search needs
@@ -55,20 +60,24 @@ larger-requires : tie.Need-larger-requires Inv-loop μ-loop
 larger-requires c κs = search needs
 
 loop-less : tie.Need-loop-less Inv-loop μ-loop
-loop-less c = omega (arith, c .before .before .before .before .loop-test .taken)
+loop-less c = omega (arith, c .before .before .before .before .before .loop-test .taken)
 
 loop-again : tie.Need-loop-again Inv-loop μ-loop
 loop-again c =
-    let n = c .before .before .before in
+    let read = c .before .before .before in
+    let n = read .before in
     let l = n .before .before in
     let s = l .before .before in
     let a = s .args in
-    let k = l .loop .j in (
+    let k : ℕ = l .loop .j in
+    let ds : List ℕ = drop (a .at) (a .lows .now) in (
       omega (arith, l .loop .inv .0),
       c .larger .ensures
-          ∙ ap (λ (x : ℕ). max x (l .loop .t)) (c .before .later .ensures ∙ ap (λ (x : ℕ). after x (getD (a .t7) (k - 1) 0)) (c .before .before .low .ensures ∙ ap (lowAt (a .work .now) (a .m)) (n .pin-net .ensures .0)))
-          ∙ ap (max (after (lowAt (a .work .now) (a .m) (pinNet (placesOf (a .order)) (a .mask) (a .leaves) (k - 1))) (getD (a .t7) (k - 1) 0))) (l .loop .inv .1)
-          ∙ pins-turn (a .work .now) (a .m) (a .leaves) (a .order) (a .mask) (a .pins) (a .t7) (s .pre .1 .known) (s .pre .1 .four) k (n .before .loop-test .taken) (l .loop .inv .0),
+          ∙ ap (λ (x : ℕ). max x (l .loop .t))
+          (c .before .later .ensures
+          ∙ ap₂ after (read .low .ensures ∙ ap (lowAt (a .work .now) (a .m)) (n .pin-net .ensures .0)) (sym (getD-drop (a .at) (a .lows .now) (k - 1) 0)))
+          ∙ ap (max (after (lowAt (a .work .now) (a .m) (pinNet (placesOf (a .order)) (a .mask) (a .leaves) (k - 1))) (getD ds (k - 1) 0))) (l .loop .inv .1)
+          ∙ pins-turn (a .work .now) (a .m) (a .leaves) (a .order) (a .mask) (a .pins) ds (s .pre .1 .known) (s .pre .1 .four) k (n .before .loop-test .taken) (l .loop .inv .0),
     )
 
 returns : tie.Need-returns Inv-loop μ-loop
@@ -76,7 +85,7 @@ returns c =
     let l = c .before in
     let a = l .before .before .args in
     let e : l .loop .j ≡ 0 = omega (arith, c .loop-test .left) in
-    l .loop .inv .1 ∙ ap (λ (i : ℕ). latestLow (a .work .now) (a .m) (drop i (fedNets (a .pins) (placesOf (a .order)) (a .mask) (a .leaves))) (drop i (a .t7))) e
+    l .loop .inv .1 ∙ ap (λ (i : ℕ). latestLow (a .work .now) (a .m) (drop i (fedNets (a .pins) (placesOf (a .order)) (a .mask) (a .leaves))) (drop i (drop (a .at) (a .lows .now)))) e
 
 pub pins-low-spec : {M : Type 1} → statement M
 pins-low-spec =
@@ -88,8 +97,9 @@ pins-low-spec =
     sub-j
     pin-net-requires
     low-requires
+    add-later
     mul-later
-    array-read-later
+    element-copy-out-later
     later-requires
     larger-requires
     loop-less

@@ -1,30 +1,51 @@
--- `timing::retime` meets its contract: all placed variables.
--- Assumes nothing.
+-- `timing::retime` meets its contract: both tables are of the cells to map with. Assumes nothing.
 use mathlib.Core.Path.{sym, ap, subst, _∙_}
-use native.Mathlib.Omega.{arith}
+use borrow.Author.Needs.{needs}
 use Rattle.model.specs.Cells.{cellsOf}
+use Rattle.pairs.specs.Codes.{cellsBy}
 use Rattle.cover.specs.Asked.{SlotsIn}
 use Rattle.timing.specs.Retiming.{retimedUp}
-use borrow.Author.Needs.{needs}
 use Rattle.timing.proofs.retime.Statement.{statement}
 use Rattle.timing.proofs.retime.Tie as tie
 
+pin-counts-requires : tie.Need-pin-counts-requires
+pin-counts-requires c κs = search needs
+
+low-table-requires : tie.Need-low-table-requires
+low-table-requires c κs = search needs
+
 placed-requires : tie.Need-placed-requires
-placed-requires c κs = let s = c .before .before in omega (arith, s .pre .1 .few, s .pre .1 .room .small)
+placed-requires c κs = search needs
 
 retime-variables-requires : tie.Need-retime-variables-requires
 retime-variables-requires c κs =
-    let s = c .before .before .before in
-    (s .pre .0, subst (SlotsIn (s .args .work .now) (s .args .h .size)) (sym (c .placed .ensures)) (s .pre .1))
+    let t = c .before .before .before .before in
+    let s = t .before .before .before .before in
+    let a = s .args in (
+      (cellsBy (cellsOf (a .lib)) (a .codes .now), s .pre .1, t .before .pin-counts .ensures, t .low-table .ensures),
+      subst (SlotsIn (a .work .now) (a .h .size)) (sym (c .placed .ensures)) (s .pre .2),
+    )
 
 same-length : tie.Need-same-length
 same-length c = search needs
 
 returns : tie.Need-returns
 returns c =
-    let p = c .before .before .before in
-    let s = p .before .before .before in
-    c .before .before .retime-variables .ensures ∙ ap (retimedUp (cellsOf (s .args .lib)) (s .args .work .now) (s .args .h .size)) (p .placed .ensures)
+    let v = c .before .before in
+    let p = v .before in
+    let t = p .before .before .before .before in
+    let s = t .before .before .before .before in
+    let a = s .args in
+    v .retime-variables .ensures (cellsBy (cellsOf (a .lib)) (a .codes .now)) (s .pre .1) (t .before .pin-counts .ensures) (t .low-table .ensures)
+    ∙ ap (retimedUp (cellsBy (cellsOf (a .lib)) (a .codes .now)) (a .work .now) (a .h .size)) (p .placed .ensures)
 
 pub retime-spec : {M : Type 1} → statement M
-retime-spec = tie.close (tie.spec placed-requires retime-variables-requires same-length returns)
+retime-spec =
+    tie.close
+    (tie.spec
+    pin-counts-requires
+    low-table-requires
+    placed-requires
+    retime-variables-requires
+    same-length
+    returns)

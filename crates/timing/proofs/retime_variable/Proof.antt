@@ -2,11 +2,11 @@
 -- Assumes nothing.
 use mathlib.Core.Path.{_≡_, sym, ap, subst, _∙_}
 use mathlib.Core.List.{List}
-use Prim.Native.Nat.{ℕ, _+_, _*_}
+use Prim.Native.Nat.{ℕ, _+_, _*_, _/_, _≤_}
 use native.Mathlib.Omega.{arith}
-use Rattle.model.specs.Cells.{cellsOf}
 use Rattle.model.specs.declared.Phase.{Phase}
 use Rattle.words.specs.Layout.{Room}
+use Rattle.words.specs.Phases.{phaseAt}
 use Rattle.timing.specs.Retiming.{turnedLow, putLow, retimedTurn, InverterIn}
 use Rattle.timing.proofs.Lowest.{kept-room, put-kept}
 use borrow.Author.Needs.{needs}
@@ -17,7 +17,7 @@ mul-own-low : tie.Need-mul-own-low
 mul-own-low c = search needs
 
 own-low-requires : tie.Need-own-low-requires
-own-low-requires c κs = search needs
+own-low-requires c κs = let s = c .before .before in ((s .pre .0 .0, s .pre .0 .1 .matches, s .pre .0 .2), omega (arith, s .pre .1))
 
 mul-own-low-2 : tie.Need-mul-own-low-2
 mul-own-low-2 c = search needs
@@ -26,7 +26,7 @@ add-own-low : tie.Need-add-own-low
 add-own-low c = search needs
 
 own-low-requires-2 : tie.Need-own-low-requires-2
-own-low-requires-2 c κs = search needs
+own-low-requires-2 c κs = let s = c .before .before .before .before in ((s .pre .0 .0, s .pre .0 .1 .matches, s .pre .0 .2), omega (arith, s .pre .1))
 
 mul-phase : tie.Need-mul-phase
 mul-phase c = search needs
@@ -37,7 +37,7 @@ phase-requires c κs = search needs
 turned-requires : tie.Need-turned-requires
 turned-requires c κs =
     let s = c .before .before .before .before .before .before .before in
-    subst (λ (p : Phase). InverterIn (s .args .lib) (p .source)) (sym (c .phase .ensures)) (s .pre .0 .inverters (2 * s .args .v) (omega (arith, s .pre .1)))
+    (s .pre .0 .0, subst (λ (p : Phase). InverterIn (s .pre .0 .0) (p .source)) (sym (c .phase .ensures)) (s .pre .0 .1 .inverters (2 * s .args .v) (omega (arith, s .pre .1))))
 
 mul-phase-2 : tie.Need-mul-phase-2
 mul-phase-2 c = search needs
@@ -51,32 +51,32 @@ phase-requires-2 c κs = search needs
 turned-requires-2 : tie.Need-turned-requires-2
 turned-requires-2 c κs =
     let s = c .before .before .before .before .before .before .before .before .before .before in
-    subst (λ (p : Phase). InverterIn (s .args .lib) (p .source)) (sym (c .phase2 .ensures)) (s .pre .0 .inverters (2 * s .args .v + 1) (omega (arith, s .pre .1)))
+    (s .pre .0 .0, subst (λ (p : Phase). InverterIn (s .pre .0 .0) (p .source)) (sym (c .phase2 .ensures)) (s .pre .0 .1 .inverters (2 * s .args .v + 1) (omega (arith, s .pre .1))))
 
 mul-set-low : tie.Need-mul-set-low
-mul-set-low c = search needs
+mul-set-low c = let s = c .before .before .before .before .before .before .before .before .before .before .before .before in omega (arith, s .pre .1, s .pre .0 .1 .matches .cuts .room .small)
 
 set-low-requires : tie.Need-set-low-requires
-set-low-requires c κs = search needs
+set-low-requires c κs = let s = c .before .before .before .before .before .before .before .before .before .before .before .before in (s .pre .0 .1 .matches .cuts .room, omega (arith, s .pre .1))
 
 mul-set-low-2 : tie.Need-mul-set-low-2
 mul-set-low-2 c =
     let z = c .before .before .before in
     let s = z .before .before .before .before .before .before .before .before .before .before .before .before .before in
-    omega (arith, s .pre .1, s .pre .0 .matches .cuts .room .small)
+    omega (arith, s .pre .1, s .pre .0 .1 .matches .cuts .room .small)
 
 add-set-low : tie.Need-add-set-low
 add-set-low c =
     let z = c .before .before .before in
     let s = z .before .before .before .before .before .before .before .before .before .before .before .before .before in
-    omega (arith, s .pre .1, s .pre .0 .matches .cuts .room .small)
+    omega (arith, s .pre .1, s .pre .0 .1 .matches .cuts .room .small)
 
 set-low-requires-2 : tie.Need-set-low-requires-2
 set-low-requires-2 c κs =
     let z = c .before .before .before in
     let s = z .before .before .before .before .before .before .before .before .before .before .before .before .before in
     let a = s .args in
-    let r = s .pre .0 .matches .cuts .room in (
+    let r = s .pre .0 .1 .matches .cuts .room in (
       subst (λ (x : List ℕ). Room x (a .m)) (sym (z .set-low .ensures))
           (kept-room (a .m) (a .work .now) _ (put-kept (a .work .now) (a .m) (2 * a .v) _ r (omega (arith, s .pre .1))) r),
       omega (arith, s .pre .1),
@@ -87,7 +87,7 @@ same-length c = search needs
 
 returns : tie.Need-returns
 unfolding retimedTurn
-returns c =
+returns c cells r pins lows =
     let z = c .before .before in
     let y = z .before .before .before .before in
     let t = y .before .before in
@@ -96,10 +96,16 @@ returns c =
     let p = u .before in
     let n = p .before .before in
     let o = n .before .before in
-    let a = o .before .before .before .args in
-    let cells = cellsOf (a .lib) in
-    let positive : u .turned .result ≡ _ = u .turned .ensures ∙ (λ i. turnedLow cells (o .own-low .ensures i) (n .own-low2 .ensures i) (p .phase .ensures i .source)) in
-    let negative : t .turned2 .result ≡ _ = t .turned2 .ensures ∙ (λ i. turnedLow cells (n .own-low2 .ensures i) (o .own-low .ensures i) (q .phase2 .ensures i .source)) in
+    let s = o .before .before .before in
+    let a = s .args in
+    let w : List ℕ = a .work .now in
+    let mine : (l : ℕ) → l / 2 ≤ a .m → InverterIn cells (phaseAt w (a .m) l .source) = r .inverters in
+    let first : InverterIn cells (p .phase .result .source) = subst (λ (x : Phase). InverterIn cells (x .source)) (sym (p .phase .ensures)) (mine (2 * a .v) (omega (arith, s .pre .1))) in
+    let second : InverterIn cells (q .phase2 .result .source) = subst (λ (x : Phase). InverterIn cells (x .source)) (sym (q .phase2 .ensures)) (mine (2 * a .v + 1) (omega (arith, s .pre .1))) in
+    let own = o .own-low .ensures cells (r .matches) pins lows in
+    let other = n .own-low2 .ensures cells (r .matches) pins lows in
+    let positive : u .turned .result ≡ _ = u .turned .ensures cells first lows ∙ (λ i. turnedLow cells (own i) (other i) (p .phase .ensures i .source)) in
+    let negative : t .turned2 .result ≡ _ = t .turned2 .ensures cells second lows ∙ (λ i. turnedLow cells (other i) (own i) (q .phase2 .ensures i .source)) in
     z .set-low2 .ensures
     ∙ ap (λ (x : List ℕ). putLow x (a .m) (2 * a .v + 1) (t .turned2 .result)) (y .set-low .ensures)
     ∙ (λ i. putLow (putLow (a .work .now) (a .m) (2 * a .v) (positive i)) (a .m) (2 * a .v + 1) (negative i))

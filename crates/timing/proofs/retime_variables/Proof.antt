@@ -5,11 +5,10 @@ use mathlib.Core.List.{List}
 use Prim.Native.Nat.{ℕ, suc, _+_, _-_, _≤_}
 use native.Mathlib.Omega.{arith}
 use lib.ListN.{length}
-use Rattle.model.specs.Cells.{cellsOf}
 use Rattle.model.specs.declared.Cell.{Cell}
 use Rattle.words.specs.Layout.{slotAt}
-use Rattle.cover.specs.Asked.{SlotsIn}
-use Rattle.timing.specs.Retiming.{retimedTurn, retimedUp, Retimable}
+use Rattle.cover.specs.Asked.{PinsOf, SlotsIn}
+use Rattle.timing.specs.Retiming.{retimedTurn, retimedUp, Retimable, LowsOf}
 use Rattle.timing.proofs.Lowest.{LowsKept, turn-kept, lows-slots, lows-retimable}
 use Rattle.timing.proofs.retime_variables.Statement.{statement}
 use Rattle.timing.proofs.retime_variables.Tie as tie
@@ -23,24 +22,29 @@ unfolding retimedUp
 begin cells w m = refl
 
 abbrev Inv-loop : tie.InvT-loop
-Inv-loop work₀ lib m n i₀ work i = (i ≤ n) × Retimable lib work m × SlotsIn work m n × (length work ≡ length work₀) × (work ≡ retimedUp (cellsOf lib) work₀ m i)
+Inv-loop work₀ pins lows m n i₀ work i =
+    (i ≤ n) × SlotsIn work m n × (length work ≡ length work₀)
+    × ((cells : List Cell) → Retimable cells work₀ m → PinsOf cells pins → LowsOf cells lows → Retimable cells work m × (work ≡ retimedUp cells work₀ m i))
 
 abbrev μ-loop : tie.MeasureT-loop
-μ-loop work₀ lib m n i₀ work i = n - i
+μ-loop work₀ pins lows m n i₀ work i = n - i
 
 loop-holds : tie.Need-loop-holds Inv-loop μ-loop
-loop-holds c = (omega arith, c .before .pre .0, c .before .pre .1, refl, begin (cellsOf (c .before .args .lib)) (c .before .args .work .now) (c .before .args .m))
+loop-holds c = (omega arith, c .before .pre .1, refl, λ cells r p q. (r, begin cells (c .before .args .work .now) (c .before .args .m)))
 
 slot-requires : tie.Need-slot-requires Inv-loop μ-loop
 slot-requires c κs =
     let l = c .before .before in
-    (l .loop .inv .1 .matches .cuts .room, omega (arith, l .loop .inv .2 .few, c .before .loop-test .taken))
+    (l .loop .inv .1 .room, omega (arith, l .loop .inv .1 .few, c .before .loop-test .taken))
 
 retime-variable-requires : tie.Need-retime-variable-requires Inv-loop μ-loop
 retime-variable-requires c κs =
     let l = c .before .before .before .before in
-    let a = l .before .before .args in
-    (l .loop .inv .1, subst (λ (x : ℕ). x ≤ a .m) (sym (c .before .slot .ensures)) (l .loop .inv .2 .within (l .loop .i) (c .before .before .before .loop-test .taken)))
+    let s = l .before .before in
+    let a = s .args in (
+      (s .pre .0 .0, l .loop .inv .3 (s .pre .0 .0) (s .pre .0 .1) (s .pre .0 .2) (s .pre .0 .3) .0, s .pre .0 .2),
+      subst (λ (x : ℕ). x ≤ a .m) (sym (c .before .slot .ensures)) (l .loop .inv .1 .within (l .loop .i) (c .before .before .before .loop-test .taken)),
+    )
 
 add-i : tie.Need-add-i Inv-loop μ-loop
 add-i c = omega arith
@@ -53,31 +57,38 @@ loop-again c =
     let t = c .before .before in
     let v = t .before .before in
     let l = v .before .before .before in
-    let a = l .before .before .args in
-    let w = l .loop .work in
+    let s = l .before .before in
+    let a = s .args in
+    let w : List ℕ = l .loop .work in
     let i : ℕ = l .loop .i in
-    let b = subst (λ (x : ℕ). x ≤ a .m) (sym (v .slot .ensures)) (l .loop .inv .2 .within i (v .before .before .loop-test .taken)) in
+    let b : v .slot .result ≤ a .m = subst (λ (x : ℕ). x ≤ a .m) (sym (v .slot .ensures)) (l .loop .inv .1 .within i (v .before .before .loop-test .taken)) in
+    let known : (cells : List Cell) → Retimable cells w (a .m) → PinsOf cells (a .pins .now) → LowsOf cells (a .lows .now) → t .retime-variable .last .0 ≡ retimedTurn cells w (a .m) (v .slot .result) =
+    λ cells r p q. t .retime-variable .ensures cells r p q in
+    let first = l .loop .inv .3 (s .pre .0 .0) (s .pre .0 .1) (s .pre .0 .2) (s .pre .0 .3) .0 in
     let k : LowsKept (a .m) w (t .retime-variable .last .0) =
-    subst (LowsKept (a .m) w) (sym (t .retime-variable .ensures)) (turn-kept (cellsOf (a .lib)) w (a .m) (v .slot .result) (l .loop .inv .1 .matches .cuts .room) b) in (
+    subst (LowsKept (a .m) w) (sym (known (s .pre .0 .0) first (s .pre .0 .2) (s .pre .0 .3))) (turn-kept (s .pre .0 .0) w (a .m) (v .slot .result) (l .loop .inv .1 .room) b) in (
       omega (arith, v .before .before .loop-test .taken),
-      lows-retimable (a .m) w _ k (a .lib) (l .loop .inv .1),
-      lows-slots (a .m) w _ k (a .n) (l .loop .inv .2),
-      k .size ∙ l .loop .inv .3,
-      t .retime-variable .ensures
-          ∙ ap (retimedTurn (cellsOf (a .lib)) w (a .m)) (v .slot .ensures)
-          ∙ ap (λ (x : List ℕ). retimedTurn (cellsOf (a .lib)) x (a .m) (slotAt x (a .m) i)) (l .loop .inv .4)
-          ∙ turn (cellsOf (a .lib)) (a .work .now) (a .m) i,
+      lows-slots (a .m) w _ k (a .n) (l .loop .inv .1),
+      k .size ∙ l .loop .inv .2,
+      (λ cells r₀ p q.
+          let r = l .loop .inv .3 cells r₀ p q in (
+            lows-retimable (a .m) w _ k cells (r .0),
+            known cells (r .0) p q
+                ∙ ap (retimedTurn cells w (a .m)) (v .slot .ensures)
+                ∙ ap (λ (x : List ℕ). retimedTurn cells x (a .m) (slotAt x (a .m) i)) (r .1)
+                ∙ turn cells (a .work .now) (a .m) i,
+          )),
     )
 
 same-length : tie.Need-same-length Inv-loop μ-loop
-same-length c = c .before .loop .inv .3
+same-length c = c .before .loop .inv .2
 
 returns : tie.Need-returns Inv-loop μ-loop
-returns c =
+returns c cells r p q =
     let l = c .before in
     let a = l .before .before .args in
     let e : l .loop .i ≡ a .n = omega (arith, l .loop .inv .0, c .loop-test .left) in
-    l .loop .inv .4 ∙ ap (retimedUp (cellsOf (a .lib)) (a .work .now) (a .m)) e
+    l .loop .inv .3 cells r p q .1 ∙ ap (retimedUp cells (a .work .now) (a .m)) e
 
 pub retime-variables-spec : {M : Type 1} → statement M
 retime-variables-spec =

@@ -13,38 +13,10 @@ use Rattle.model.specs.Base.{one, from, below}
 use Rattle.model.specs.Table.{value, rowMap, pinRow}
 use Rattle.model.specs.Cuts.{tabulate}
 use Rattle.truth.specs.Variant.{placesOf, variantTable}
-use Rattle.truth.proofs.Tables.{tabulate-small, tabulate-same}
+use Rattle.truth.proofs.Downward.{rowsFrom, down, rows-small, rows-whole}
 use Rattle.truth.proofs.Variants.{pin-row, places-four}
 use Rattle.truth.proofs.variant_table.Statement.{statement}
 use Rattle.truth.proofs.variant_table.Tie as tie
-
--- the rows of f from r on
-rowsFrom : (ℕ → Bool) → ℕ → ℕ
-rowsFrom f r = tabulate (λ k. f (r + k)) (16 - r)
-
-more : (f : ℕ → Bool) (r n : ℕ) → tabulate (λ k. f (r + k)) (suc n) ≡ one (f r) + 2 * tabulate (λ k. f (suc r + k)) n
-unfolding tabulate
-more f r n =
-    let rest : tabulate (λ k. f (r + suc k)) n ≡ tabulate (λ k. f (suc r + k)) n =
-    tabulate-same n (λ k. f (r + suc k)) (λ k. f (suc r + k)) (λ k h. ap f (add-suc r k ∙ sym (suc-add r k))) in
-    λ i. one (f (add-zero r i)) + 2 * rest i
-
--- the row below
-down : (f : ℕ → Bool) (r t : ℕ) → 0 < r → r ≤ 16 → t ≡ rowsFrom f r → one (f (r - 1)) + 2 * t ≡ rowsFrom f (r - 1)
-unfolding rowsFrom
-down f zero t h l e = absurd (omega arith)
-down f (suc q) t h l e =
-    let p : suc q - 1 ≡ q = omega arith in
-    let n : 16 - q ≡ suc (16 - suc q) = omega arith in
-    rw (p, n, e) (sym (more f q (16 - suc q)))
-
-rows-small : (f : ℕ → Bool) (r : ℕ) → 0 < r → rowsFrom f r < 32768
-unfolding rowsFrom
-rows-small f r h = omega (arith, tabulate-small (16 - r) (λ k. f (r + k)), pow-mono {i = 16 - r} {j = 15} (omega arith))
-
-whole : (f : ℕ → Bool) → rowsFrom f 0 ≡ tabulate f 16
-unfolding rowsFrom
-whole f = tabulate-same 16 (λ k. f (0 + k)) f (λ k h. ap f (zero-add k))
 
 cell : ℕ → ℕ → ℕ → ℕ → ℕ → Bool
 cell pins table order mask r = value table (pinRow pins (placesOf order) mask r)
@@ -64,7 +36,7 @@ row-of pins order mask r rs four o h e =
     ∙ sym (pin-row pins 4 (placesOf order) mask r four (omega (arith, places-four order o)))
 
 abbrev Inv-loop : tie.InvT-loop
-Inv-loop pins table order mask rs t₀ r₀ t r = (r ≤ 16) × (t ≡ rowsFrom (cell pins table order mask) r)
+Inv-loop pins table order mask rs t₀ r₀ t r = (r ≤ 16) × (t ≡ rowsFrom 16 (cell pins table order mask) r)
 
 abbrev μ-loop : tie.MeasureT-loop
 μ-loop pins table order mask rs t₀ r₀ t r = r
@@ -92,7 +64,7 @@ with-row-requires : tie.Need-with-row-requires Inv-loop μ-loop
 with-row-requires c κs =
     let a = c .before .before .before .before .before .args in
     let l = c .before .before .before .loop in
-    omega (arith, rows-small (cell (a .pins) (a .table) (a .order) (a .mask)) (l .r) (omega arith), l .inv .1)
+    omega (arith, rows-small 16 (cell (a .pins) (a .table) (a .order) (a .mask)) (l .r) (omega arith) (omega arith), l .inv .1)
 
 loop-less : tie.Need-loop-less Inv-loop μ-loop
 loop-less c = omega arith
@@ -108,7 +80,7 @@ loop-again c =
     ap (λ (q : ℕ). bitXor q (a .mask) % 2 ^ a .pins) (c .before .before .wide .ensures) ∙ row-of (a .pins) (a .order) (a .mask) (l .r - 1) (c .before .before .before .before .before .rows .result) (s .pre .0) (s .pre .1) (omega (arith, l .inv .0, c .before .before .before .loop-test .taken)) (c .before .before .before .before .before .rows .ensures) in
     let now : c .with-row .result ≡ one (f (l .r - 1)) + 2 * l .t =
     c .with-row .ensures ∙ ap (λ (q : Bool). one q + 2 * l .t) (c .before .value-at .ensures ∙ ap (value (a .table)) here) in
-    (omega (arith, l .inv .0), now ∙ down f (l .r) (l .t) (omega arith) (l .inv .0) (l .inv .1))
+    (omega (arith, l .inv .0), now ∙ down 16 f (l .r) (l .t) (omega arith) (l .inv .0) (l .inv .1))
 
 returns : tie.Need-returns Inv-loop μ-loop
 unfolding variantTable cell
@@ -116,7 +88,7 @@ returns c =
     let a = c .before .before .before .args in
     let f : ℕ → Bool = cell (a .pins) (a .table) (a .order) (a .mask) in
     let none : c .before .loop .r ≡ 0 = omega (arith, c .loop-test .left) in
-    c .before .loop .inv .1 ∙ ap (rowsFrom f) none ∙ whole f
+    c .before .loop .inv .1 ∙ ap (rowsFrom 16 f) none ∙ rows-whole 16 f
 
 pub variant-table-spec : {M : Type 1} → statement M
 variant-table-spec =

@@ -1,0 +1,2 @@
+-- `Looking`: what stands where in a book.
+pub mod Looking

@@ -1,0 +1,73 @@
+-- `book::put_codes` meets its contract. The invariant: the numbers before number i are written. The measure is how many are left.
+-- Assumes nothing.
+use mathlib.Core.Path.{_≡_, refl}
+use mathlib.Core.List.{_++_}
+use Prim.Native.Nat.{ℕ, _+_, _-_, _≤_, _<_}
+use native.Mathlib.Omega.{arith}
+use borrow.Author.Needs.{needs}
+use lib.ListN.{length, drop, getD}
+use Rattle.model.specs.Base.{each}
+use Rattle.text.proofs.Progress.{Partly, begin, step, room, kept, end}
+use Rattle.book.specs.Bytes.{codeBytes}
+use Rattle.book.proofs.Looking.{next-code, no-code}
+use Rattle.book.proofs.put_codes.Statement.{statement}
+use Rattle.book.proofs.put_codes.Tie as tie
+
+abbrev Inv-loop : tie.InvT-loop
+Inv-loop book₀ at codes next₀ i₀ book next i = (i ≤ length codes) × Partly book₀ book at next (each codeBytes codes) (each codeBytes (drop i codes))
+
+abbrev μ-loop : tie.MeasureT-loop
+μ-loop book₀ at codes next₀ i₀ book next i = length codes - i
+
+loop-holds : tie.Need-loop-holds Inv-loop μ-loop
+loop-holds c = (omega arith, begin (c .before .before .args .book .now) (c .before .before .args .at) refl)
+
+mul-k : tie.Need-mul-k Inv-loop μ-loop
+mul-k c = search needs
+
+shared-slice-read-k : tie.Need-shared-slice-read-k Inv-loop μ-loop
+shared-slice-read-k c = search needs
+
+put-code-requires : tie.Need-put-code-requires Inv-loop μ-loop
+put-code-requires c κs =
+    let s = c .before .before .before .before .before .before in
+    let l = c .before .before .before .loop in
+    room (s .pre) (l .inv .1) (codeBytes (getD (s .args .codes .now) (l .i) 0)) (each codeBytes (drop (l .i + 1) (s .args .codes .now))) (next-code (s .args .codes .now) (l .i) (c .before .before .loop-test .taken))
+
+add-i : tie.Need-add-i Inv-loop μ-loop
+add-i c = search needs
+
+loop-less : tie.Need-loop-less Inv-loop μ-loop
+loop-less c = omega arith
+
+loop-again : tie.Need-loop-again Inv-loop μ-loop
+loop-again c =
+    let s = c .before .before .before .before .before .before .before .before .before in
+    let l = c .before .before .before .before .before .before .loop in
+    let h : l .i < length (s .args .codes .now) = c .before .before .before .before .before .loop-test .taken in
+    let q = c .before .before .put-code in (
+      omega arith,
+      step (s .pre) (l .inv .1) (q .last .0) (q .result) (codeBytes (getD (s .args .codes .now) (l .i) 0)) (each codeBytes (drop (l .i + 1) (s .args .codes .now))) (next-code (s .args .codes .now) (l .i) h) (q .ensures),
+    )
+
+same-length : tie.Need-same-length Inv-loop μ-loop
+same-length c = kept (c .before .before .before .before .pre) (c .before .loop .inv .1)
+
+returns : tie.Need-returns Inv-loop μ-loop
+returns c = end (c .before .before .before .before .pre) (c .before .loop .inv .1) (no-code (c .before .before .before .before .args .codes .now) (c .before .loop .i) (c .loop-test .left))
+
+pub put-codes-spec : {M : Type 1} → statement M
+put-codes-spec =
+    tie.close
+    (tie.spec
+    Inv-loop
+    μ-loop
+    loop-holds
+    mul-k
+    shared-slice-read-k
+    put-code-requires
+    add-i
+    loop-less
+    loop-again
+    same-length
+    returns)

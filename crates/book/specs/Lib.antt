@@ -1,0 +1,2 @@
+-- `Bytes`: a book's bytes, and what stands in them.
+pub mod Bytes

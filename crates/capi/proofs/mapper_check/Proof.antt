@@ -1,0 +1,26 @@
+-- `capi::mapper_check` meets its contract, thin over `checking::check_texts`. Assumes nothing.
+use mathlib.Core.Path.{ap, _∙_}
+use Rattle.model.specs.Check.{toldOf}
+use Rattle.model.specs.declared.Checked.{Checked}
+use Rattle.capi.specs.Answers.{checkedAnswer}
+use borrow.Author.Needs.{needs}
+use Rattle.capi.proofs.mapper_check.Statement.{statement}
+use Rattle.capi.proofs.mapper_check.Tie as tie
+
+check-texts-requires : tie.Need-check-texts-requires
+check-texts-requires c κs = search needs
+
+checked-answer-requires : tie.Need-checked-answer-requires
+checked-answer-requires c κs = search needs
+
+same-length : tie.Need-same-length
+same-length c = search needs
+
+returns : tie.Need-returns
+returns c =
+    let e = c .before .before .before .check-texts .ensures in
+    (c .checked-answer .ensures ∙ ap (λ (x : Checked). checkedAnswer (toldOf x)) (e .0 .answers), (e .0 .words, e .1))
+
+pub mapper-check-spec : {M : Type 1} → statement M
+mapper-check-spec =
+    tie.close (tie.spec check-texts-requires checked-answer-requires same-length returns)

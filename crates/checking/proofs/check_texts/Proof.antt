@@ -1,0 +1,77 @@
+-- `checking::check_texts` meets its contract: demand 1 from the functions below it, what the answer means from the definitions' law. Assumes nothing.
+use borrow.Author.Needs.{needs}
+use mathlib.Core.Path.{_≡_}
+use native.Mathlib.Omega.{arith}
+use lib.ListN.{length}
+use Rattle.theory_check.proofs.Whole.{edited-compared}
+use Rattle.checking.proofs.Steps.{long-text, library-stops, library-read}
+use Rattle.checking.proofs.check_texts.Statement.{statement}
+use Rattle.checking.proofs.check_texts.Tie as tie
+
+returns : tie.Need-returns
+returns c =
+    let a = c .before .before .before .before .before .args in
+    (long-text (a .cells .now) (a .graph .now) (a .netlist .now) (a .work .now) (λ x y z. omega arith), edited-compared (a .cells .now) (a .graph .now) (a .netlist .now) (length (a .work .now)))
+
+returns-2 : tie.Need-returns-2
+returns-2 c =
+    let a = c .before .before .before .before .before .before .args in
+    (long-text (a .cells .now) (a .graph .now) (a .netlist .now) (a .work .now) (λ x y z. omega arith), edited-compared (a .cells .now) (a .graph .now) (a .netlist .now) (length (a .work .now)))
+
+returns-3 : tie.Need-returns-3
+returns-3 c =
+    let a = c .before .before .before .before .before .before .before .args in
+    (long-text (a .cells .now) (a .graph .now) (a .netlist .now) (a .work .now) (λ x y z. omega arith), edited-compared (a .cells .now) (a .graph .now) (a .netlist .now) (length (a .work .now)))
+
+read-requires : tie.Need-read-requires
+read-requires c κs = search needs
+
+enum-told : tie.Need-enum-told
+enum-told c = search needs
+
+check-header-requires : tie.Need-check-header-requires
+check-header-requires c κs =
+    let t = c .before .before in
+    let l = t .before .before in
+    let a = l .before .before .before .before .before .before .before .before .args in
+    (library-read (a .cells .now) (a .graph .now) (a .netlist .now) (a .work .now) (omega arith) (omega arith) (omega arith) (l .read .result) (l .read .ensures .0) (t .enum-told .given .1) .fitting, omega arith)
+
+enum-known-v : tie.Need-enum-known-v
+enum-known-v c = search needs
+
+same-length : tie.Need-same-length
+same-length c = search needs
+
+returns-4 : tie.Need-returns-4
+returns-4 c =
+    let h = c .before .before in
+    let t = h .before .before .before in
+    let l = t .before .before in
+    let a = l .before .before .before .before .before .before .before .before .args in (
+      library-read (a .cells .now) (a .graph .now) (a .netlist .now) (a .work .now) (omega arith) (omega arith) (omega arith) (l .read .result) (l .read .ensures .0) (t .enum-told .given .1) .goes _ _ (h .check-header .ensures),
+      edited-compared (a .cells .now) (a .graph .now) (a .netlist .now) (length (a .work .now)),
+    )
+
+returns-5 : tie.Need-returns-5
+returns-5 c =
+    let k = c .before in
+    let l = k .before .before in
+    let a = l .before .before .before .before .before .before .before .before .args in (
+      library-stops (a .cells .now) (a .graph .now) (a .netlist .now) (a .work .now) (omega arith) (omega arith) (omega arith) (l .read .result) (l .read .ensures .0) _ _ (k .v .given .1),
+      edited-compared (a .cells .now) (a .graph .now) (a .netlist .now) (length (a .work .now)),
+    )
+
+pub check-texts-spec : {M : Type 1} → statement M
+check-texts-spec =
+    tie.close
+    (tie.spec
+    returns
+    returns-2
+    returns-3
+    read-requires
+    enum-told
+    check-header-requires
+    enum-known-v
+    same-length
+    returns-4
+    returns-5)

@@ -1,0 +1,83 @@
+-- `checking::input_codes` meets its contract. The invariant: the numbers of the first i inputs' nets are stored; the measure is how many are left. Assumes nothing.
+use mathlib.Core.Path.{_≡_, refl, sym, _∙_, ap}
+use mathlib.Core.List.{List, _∷_, map}
+use Prim.Native.Nat.{ℕ, _+_, _-_, _≤_}
+use native.Mathlib.Omega.{arith}
+use lib.ListN.{length, length-replicate}
+use Rattle.model.specs.Base.{from}
+use Rattle.model.specs.Text.{decimal}
+use Rattle.words.specs.Put.{putAt, zeros}
+use Rattle.words.specs.Layout.{slotAddr}
+use Rattle.words.proofs.Putting.{length-put}
+use Rattle.netnames.specs.Codes.{code}
+use Rattle.checking.specs.Stages.{inputCode}
+use Rattle.checking.proofs.Inputs.{map-long, codes-none, codes-more, code-is}
+use Rattle.checking.proofs.input_codes.Statement.{statement}
+use Rattle.checking.proofs.input_codes.Tie as tie
+
+abbrev Inv-loop : tie.InvT-loop
+Inv-loop work m n codes₀ i₀ codes i = (i ≤ n) × (codes ≡ putAt (zeros 12) 0 (map (inputCode work m) (from 0 i)))
+
+abbrev μ-loop : tie.MeasureT-loop
+μ-loop work m n codes₀ i₀ codes i = n - i
+
+loop-holds : tie.Need-loop-holds Inv-loop μ-loop
+loop-holds c = let a = c .before .args in (omega arith, codes-none (inputCode (a .work .now) (a .m)))
+
+add-slot : tie.Need-add-slot Inv-loop μ-loop
+add-slot c = omega arith
+
+slot-requires : tie.Need-slot-requires Inv-loop μ-loop
+slot-requires c κs = let s = c .before .before .before in (s .pre .0, omega (arith, s .pre .1, c .loop-test .taken))
+
+label-code-requires : tie.Need-label-code-requires Inv-loop μ-loop
+label-code-requires c κs =
+    let l = c .before .before in
+    let k = l .before in
+    omega (arith, k .shared-slice-known .given (slotAddr (k .before .args .m) (l .loop .i + 1)), c .slot .ensures)
+
+mul-codes : tie.Need-mul-codes Inv-loop μ-loop
+mul-codes c = let t = c .before .before in omega (arith, t .before .before .before .pre .2, t .loop-test .taken)
+
+array-write-codes : tie.Need-array-write-codes Inv-loop μ-loop
+array-write-codes c = let t = c .before .before in omega (arith, t .before .before .before .pre .2, t .loop-test .taken)
+
+add-i : tie.Need-add-i Inv-loop μ-loop
+add-i c = omega arith
+
+loop-less : tie.Need-loop-less Inv-loop μ-loop
+loop-less c = omega arith
+
+loop-again : tie.Need-loop-again Inv-loop μ-loop
+loop-again c =
+    let t = c .before .before in
+    let l = t .before in
+    let s = l .before .before in
+    let a = s .args in (
+      omega arith,
+      codes-more (inputCode (a .work .now) (a .m)) (l .loop .codes) (l .loop .i) (c .label-code .result) (l .loop .inv .1) (omega (arith, s .pre .2, t .loop-test .taken))
+          (c .label-code .ensures ∙ ap (λ (v : ℕ). code (112 ∷ decimal v)) (c .before .slot .ensures) ∙ sym (code-is (a .work .now) (a .m) (l .loop .i))),
+    )
+
+returns : tie.Need-returns Inv-loop μ-loop
+returns c =
+    let l = c .before in
+    let a = l .before .before .args in
+    l .loop .inv .1 ∙ ap (λ (n : ℕ). putAt (zeros 12) 0 (map (inputCode (a .work .now) (a .m)) (from 0 n))) (let z : l .loop .i ≡ a .n = omega arith in z)
+
+pub input-codes-spec : {M : Type 1} → statement M
+input-codes-spec =
+    tie.close
+    (tie.spec
+    Inv-loop
+    μ-loop
+    loop-holds
+    add-slot
+    slot-requires
+    label-code-requires
+    mul-codes
+    array-write-codes
+    add-i
+    loop-less
+    loop-again
+    returns)

@@ -1,0 +1,67 @@
+-- `checking::line_ends` meets its contract. The invariant: the number is that of the bytes passed, from the last on; the measure is how many are left.
+-- Assumes nothing.
+use mathlib.Core.Path.{_≡_, _∙_, ap}
+use Prim.Native.Nat.{ℕ, _+_, _-_, _≤_}
+use native.Mathlib.Omega.{arith}
+use lib.ListN.{length, drop}
+use Rattle.model.specs.Check.{lineEnds}
+use Rattle.checking.proofs.Ends.{ends-none, ends-one, ends-other}
+use Rattle.checking.proofs.line_ends.Statement.{statement}
+use Rattle.checking.proofs.line_ends.Tie as tie
+
+abbrev Inv-loop : tie.InvT-loop
+Inv-loop s n₀ i₀ n i = (i ≤ length s) × (n + i ≤ length s) × (n ≡ lineEnds (drop i s))
+
+abbrev μ-loop : tie.MeasureT-loop
+μ-loop s n₀ i₀ n i = i
+
+loop-holds : tie.Need-loop-holds Inv-loop μ-loop
+loop-holds c = (omega arith, omega arith, ends-none (c .args .s .now))
+
+sub-i : tie.Need-sub-i Inv-loop μ-loop
+sub-i c = omega arith
+
+shared-slice-read-if1 : tie.Need-shared-slice-read-if1 Inv-loop μ-loop
+shared-slice-read-if1 c = omega arith
+
+add-n : tie.Need-add-n Inv-loop μ-loop
+add-n c = omega arith
+
+loop-less : tie.Need-loop-less Inv-loop μ-loop
+loop-less c = omega arith
+
+loop-again : tie.Need-loop-again Inv-loop μ-loop
+loop-again c =
+    let t = c .before .before in
+    let l = t .before in
+    (omega arith, omega arith, ends-one (l .before .args .s .now) (l .loop .i) (l .loop .n) (l .loop .inv .0) (l .loop .inv .2) (t .loop-test .taken) (c .if1 .taken))
+
+loop-less-2 : tie.Need-loop-less-2 Inv-loop μ-loop
+loop-less-2 c = omega arith
+
+loop-again-2 : tie.Need-loop-again-2 Inv-loop μ-loop
+loop-again-2 c =
+    let t = c .before .before in
+    let l = t .before in
+    (omega arith, omega arith, ends-other (l .before .args .s .now) (l .loop .i) (l .loop .n) (l .loop .inv .0) (l .loop .inv .2) (t .loop-test .taken) (c .if1 .left))
+
+returns : tie.Need-returns Inv-loop μ-loop
+returns c =
+    let l = c .before in
+    (l .loop .inv .2 ∙ ap (λ (i : ℕ). lineEnds (drop i (l .before .args .s .now))) (let z : l .loop .i ≡ 0 = omega arith in z), omega arith)
+
+pub line-ends-spec : {M : Type 1} → statement M
+line-ends-spec =
+    tie.close
+    (tie.spec
+    Inv-loop
+    μ-loop
+    loop-holds
+    sub-i
+    shared-slice-read-if1
+    add-n
+    loop-less
+    loop-again
+    loop-less-2
+    loop-again-2
+    returns)

@@ -1,0 +1,17 @@
+-- `comparing::settings_of` meets its contract: the shift loses nothing.
+-- Assumes nothing.
+use mathlib.Core.Path.{_∙_}
+use native.Mathlib.Omega.{arith}
+use lib.Pow.{shl-exact}
+use borrow.Author.Needs.{needs}
+use Rattle.comparing.proofs.settings_of.Statement.{statement}
+use Rattle.comparing.proofs.settings_of.Tie as tie
+
+shl-result : tie.Need-shl-result
+shl-result c = search needs
+
+returns : tie.Need-returns
+returns c = shl-exact 1 (c .args .inputs) 64 (omega arith) (omega arith) ∙ omega arith
+
+pub settings-of-spec : {M : Type 1} → statement M
+settings-of-spec = tie.close (tie.spec shl-result returns)

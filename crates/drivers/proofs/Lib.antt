@@ -1,0 +1,2 @@
+-- `Feeding`: the nets of a match, and its gates.
+pub mod Feeding

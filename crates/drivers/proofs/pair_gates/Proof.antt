@@ -1,0 +1,30 @@
+-- `drivers::pair_gates` meets its contract.
+-- Assumes nothing.
+use mathlib.Core.Path.{ap, _∙_}
+use Prim.Native.Nat.{_/_, _%_}
+use native.Mathlib.Omega.{arith}
+use Rattle.model.specs.declared.Cell.{Cell}
+use Rattle.drivers.specs.Gates.{twoDriver}
+use borrow.Author.Needs.{needs}
+use Rattle.drivers.proofs.pair_gates.Statement.{statement}
+use Rattle.drivers.proofs.pair_gates.Tie as tie
+
+cell-at-requires : tie.Need-cell-at-requires
+cell-at-requires c κs = search needs
+
+cell-at-requires-2 : tie.Need-cell-at-requires-2
+cell-at-requires-2 c κs = search needs
+
+two-gates-requires : tie.Need-two-gates-requires
+two-gates-requires c κs =
+    let s = c .before .before .before in
+    (omega arith, omega (arith, ap (λ (x : Cell). x .pins) (c .cell-at2 .ensures), s .pre .0 .inner .pins), s .pre .1)
+
+returns : tie.Need-returns
+returns c =
+    let a = c .before .before .before .before .args in
+    c .two-gates .ensures ∙ (λ i. twoDriver (c .before .before .cell-at .ensures i) (a .code / 32 % 4) (c .before .cell-at2 .ensures i) (a .nets) (a .l))
+
+pub pair-gates-spec : {M : Type 1} → statement M
+pair-gates-spec =
+    tie.close (tie.spec cell-at-requires cell-at-requires-2 two-gates-requires returns)

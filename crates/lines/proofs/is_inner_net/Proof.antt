@@ -1,0 +1,48 @@
+-- `lines::is_inner_net` meets its contract: each return knows what was met in the field.
+-- Assumes nothing.
+use Rattle.model.specs.NetlistLines.{isPhaseNet}
+use native.Mathlib.Omega.{arith}
+use Rattle.lines.proofs.Digits.{inner-none, inner-other, inner-is, rest-part}
+use mathlib.Core.Path.{sym, ap, _∙_}
+use borrow.Author.Needs.{needs}
+use Rattle.lines.proofs.is_inner_net.Statement.{statement}
+use Rattle.lines.proofs.is_inner_net.Tie as tie
+
+returns : tie.Need-returns
+returns c = inner-none _ (c .if1 .taken)
+
+shared-slice-read-if2 : tie.Need-shared-slice-read-if2
+shared-slice-read-if2 c = search needs
+
+returns-2 : tie.Need-returns-2
+returns-2 c = inner-other _ (c .if2 .taken)
+
+sub-is-phase-net : tie.Need-sub-is-phase-net
+sub-is-phase-net c = search needs
+
+part-is-phase-net-start : tie.Need-part-is-phase-net-start
+part-is-phase-net-start c = search needs
+
+part-is-phase-net-end : tie.Need-part-is-phase-net-end
+part-is-phase-net-end c = search needs
+
+is-phase-net-requires : tie.Need-is-phase-net-requires
+is-phase-net-requires c κs = search needs
+
+returns-3 : tie.Need-returns-3
+returns-3 c =
+    let a = c .before .before .before .before .before .before .args in
+    c .is-phase-net .ensures ∙ ap isPhaseNet (rest-part (a .w .now) 1) ∙ inner-is (a .w .now) (omega arith)
+
+pub is-inner-net-spec : {M : Type 1} → statement M
+is-inner-net-spec =
+    tie.close
+    (tie.spec
+    returns
+    shared-slice-read-if2
+    returns-2
+    sub-is-phase-net
+    part-is-phase-net-start
+    part-is-phase-net-end
+    is-phase-net-requires
+    returns-3)

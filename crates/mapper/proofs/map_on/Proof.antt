@@ -1,0 +1,61 @@
+-- `mapper::map_on` meets its contract: the sheet is that of the cells to map with, and the words are cleared whatever the passes left. Assumes nothing.
+use native.Mathlib.Omega.{arith}
+use Prim.Native.Nat.{ℕ, _+_}
+use mathlib.Core.Path.{_≡_, _∙_, ap, sym, subst}
+use mathlib.Core.List.{List}
+use lib.ListN.{length, replicate}
+use Rattle.model.specs.Cells.{cellsOf}
+use Rattle.pairs.proofs.Cells.{by-length}
+use Rattle.matching.specs.Sheet.{SheetOf, Blank}
+use Rattle.matching.proofs.Pairing.{sheet-by}
+use Rattle.mapper.specs.Stages.{allOf}
+use borrow.Author.Needs.{needs}
+use Rattle.mapper.proofs.map_on.Statement.{statement}
+use Rattle.mapper.proofs.map_on.Tie as tie
+
+match-library-requires : tie.Need-match-library-requires
+match-library-requires c κs =
+    let s = c .before .before .before .before .before .before .before in
+    let a = s .args in
+    (s .pre .0 .coded, omega (arith, s .pre .3 .long, by-length (cellsOf (a .lib)) (a .codes .now), s .pre .0 .read .usable .whole))
+
+load-graph-requires : tie.Need-load-graph-requires
+load-graph-requires c κs =
+    let m = c .before .before .before .before .before in
+    let s = m .before .before .before .before .before .before .before .before in
+    let a = s .args in
+    let blank : Blank (a .lib .n + length (a .codes .now)) (a .sheet .now) = record { long = omega (arith, s .pre .3 .long, by-length (cellsOf (a .lib)) (a .codes .now), s .pre .0 .read .usable .whole); empty = s .pre .3 .empty } in
+    let sheet = subst (SheetOf (allOf (a .lib) (a .codes .now))) (sym (m .match-library .ensures)) (sheet-by (a .lib) (a .codes .now) (a .sheet .now) (s .pre .0 .read .usable) (s .pre .0 .coded) blank) in
+    (s .pre .0, s .pre .1, s .pre .2, sheet)
+
+clear-all-requires : tie.Need-clear-all-requires
+clear-all-requires c κs = search needs
+
+same-length : tie.Need-same-length
+same-length c = search needs
+
+same-length-2 : tie.Need-same-length-2
+same-length-2 c = search needs
+
+same-length-3 : tie.Need-same-length-3
+same-length-3 c = search needs
+
+returns : tie.Need-returns
+returns c =
+    let at-clear-all = c .before .before in
+    let at-load-graph = at-clear-all .before .before .before .before .before .before in
+    let args = at-load-graph .before .before .before .before .before .before .before .before .before .before .before .before .before .before .args in
+    let long : length (at-load-graph .load-graph .last .1 .1 .1 .1 .1 .1 .1 .0) ≡ length (args .work .now) = omega arith in
+    (at-load-graph .load-graph .ensures, at-clear-all .clear-all .ensures ∙ ap (λ (n : ℕ). replicate n 0) long)
+
+pub map-on-spec : {M : Type 1} → statement M
+map-on-spec =
+    tie.close
+    (tie.spec
+    match-library-requires
+    load-graph-requires
+    clear-all-requires
+    same-length
+    same-length-2
+    same-length-3
+    returns)

@@ -1,0 +1,90 @@
+-- `mapper::map_pairs` meets its contract: the numbers written are those of all pairs, or 30 comes. Assumes nothing.
+use native.Mathlib.Omega.{arith}
+use Prim.Native.Nat.{ℕ, _<_, _≤_, _+_}
+use mathlib.Core.Path.{_≡_, sym, ap, subst, _∙_}
+use mathlib.Core.Bool.{true}
+use mathlib.Core.List.{List}
+use lib.ListN.{length, take}
+use Rattle.model.specs.Cells.{cellsOf}
+use Rattle.pairs.specs.Codes.{pairCodes}
+use Rattle.pairs.proofs.Cells.{by-length}
+use Rattle.pairs.proofs.Forming.{with-all, codes-few}
+use Rattle.mapper.specs.Stages.{LibraryOk, headerFor}
+use Rattle.mapper.proofs.Ends.{left-as, pairs-stop, cells-go}
+use Rattle.mapper.proofs.Libraries.{joinable-of, all-few, joined-ok, formed-are}
+use borrow.Author.Needs.{needs}
+use Rattle.mapper.proofs.map_pairs.Statement.{statement}
+use Rattle.mapper.proofs.map_pairs.Tie as tie
+
+-- the numbers written first in the array
+codes-are : (f : tie.After-form) → let a = f .before .before .before .before .before .before .args in take (f .form .result) (f .form .last .0) ≡ pairCodes (cellsOf (a .lib))
+codes-are f = let a = f .before .before .before .before .before .before .args in ap (take (f .form .result)) (f .form .ensures .leaves) ∙ formed-are _ (pairCodes (cellsOf (a .lib))) (f .form .result) (f .form .ensures .ends)
+
+slice-aggregate-form : tie.Need-slice-aggregate-form
+slice-aggregate-form c = search needs
+
+form-requires : tie.Need-form-requires
+form-requires c κs = let s = c .before .before .before .before .before in (joinable-of (s .args .lib) (s .pre), codes-few (s .args .lib) (joinable-of (s .args .lib) (s .pre)))
+
+add-if1 : tie.Need-add-if1
+add-if1 c =
+    let f = c .before .before in
+    let s = f .before .before .before .before .before .before in
+    omega (arith, f .form .ensures .ends, codes-few (s .args .lib) (joinable-of (s .args .lib) (s .pre)), s .pre .usable .few)
+
+returns : tie.Need-returns
+returns c =
+    let f = c .before .before .before in
+    let s = f .before .before .before .before .before .before in
+    let a = s .args in
+    let all = ap length (with-all (a .lib) (joinable-of (a .lib) (s .pre))) in
+    let many = by-length (cellsOf (a .lib)) (pairCodes (cellsOf (a .lib))) in
+    pairs-stop (a .ranged) (a .lib) (a .graph .now) (a .arrivals .now) (a .work .now) (a .text .now) (omega (arith, all, many, f .form .ensures .ends, s .pre .usable .whole, c .if1 .taken))
+
+array-share-prefix-codes : tie.Need-array-share-prefix-codes
+array-share-prefix-codes c = search needs
+
+slice-aggregate-map-header : tie.Need-slice-aggregate-map-header
+slice-aggregate-map-header c =
+    let f = c .before .before .before .before in
+    let z = ap length (codes-are f) in
+    omega (arith, z, f .form .ensures .ends)
+
+map-header-requires : tie.Need-map-header-requires
+map-header-requires c κs =
+    let f = c .before .before .before .before .before .before in
+    let s = f .before .before .before .before .before .before in
+    subst (LibraryOk (s .args .lib)) (sym (codes-are f)) (joined-ok (s .args .lib) (s .pre) (omega (arith, f .form .ensures .ends, c .before .before .before .if1 .left)))
+
+same-length : tie.Need-same-length
+same-length c = search needs
+
+same-length-2 : tie.Need-same-length-2
+same-length-2 c = search needs
+
+returns-2 : tie.Need-returns-2
+returns-2 c =
+    let h = c .before .before .before .before in
+    let e = h .before .before .before .before in
+    let f = e .before .before .before in
+    let s = f .before .before .before .before .before .before in
+    let a = s .args in
+    let ok = joined-ok (a .lib) (s .pre) (omega (arith, f .form .ensures .ends, e .if1 .left)) in
+    left-as (cells-go (a .ranged) (a .lib) (a .graph .now) (a .arrivals .now) (a .work .now) (a .text .now) true (pairCodes (cellsOf (a .lib))) (with-all (a .lib) (joinable-of (a .lib) (s .pre))) (all-few (a .lib) (pairCodes (cellsOf (a .lib))) ok)
+    ∙ ap (λ (ks : List ℕ). headerFor (a .ranged) (a .lib) ks (a .graph .now) (a .arrivals .now) (length (a .work .now)) (length (a .text .now))) (sym (codes-are f)))
+    (h .map-header .ensures)
+
+pub map-pairs-spec : {M : Type 1} → statement M
+map-pairs-spec =
+    tie.close
+    (tie.spec
+    slice-aggregate-form
+    form-requires
+    add-if1
+    returns
+    array-share-prefix-codes
+    slice-aggregate-map-header
+    map-header-requires
+    same-length
+    same-length-2
+    returns-2)

@@ -1,0 +1,26 @@
+-- `matching::match_parts` meets its contract, by those of `put_delays` and `put_variants`.
+-- Assumes nothing.
+use mathlib.Core.Path.{ap, _∙_}
+use Prim.Native.Nat.{_*_}
+use borrow.Author.Needs.{needs}
+use Rattle.matching.specs.Sheet.{passed}
+use Rattle.matching.proofs.match_parts.Statement.{statement}
+use Rattle.matching.proofs.match_parts.Tie as tie
+
+put-delays-requires : tie.Need-put-delays-requires
+put-delays-requires c κs = search needs
+
+put-variants-requires : tie.Need-put-variants-requires
+put-variants-requires c κs = search needs
+
+same-length : tie.Need-same-length
+same-length c = search needs
+
+returns : tie.Need-returns
+returns c =
+    let a = c .before .before .before .before .before .before .before .before .before .args in
+    c .before .before .put-variants .ensures ∙ ap (passed (a .pins) (a .table) (384 * a .line) 384) (c .before .before .before .before .before .before .put-delays .ensures)
+
+pub match-parts-spec : {M : Type 1} → statement M
+match-parts-spec =
+    tie.close (tie.spec put-delays-requires put-variants-requires same-length returns)

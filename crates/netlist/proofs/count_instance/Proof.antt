@@ -1,0 +1,38 @@
+-- `netlist::count_instance` meets its contract: one gate more.
+-- Assumes nothing.
+use mathlib.Core.Path.{sym, _∙_}
+use Prim.Native.Nat.{_+_}
+use native.Mathlib.Omega.{arith}
+use Rattle.drivers.specs.Gates.{gateOf}
+use Rattle.netlist.proofs.Counting.{tally-one}
+use borrow.Author.Needs.{needs}
+use Rattle.netlist.proofs.count_instance.Statement.{statement}
+use Rattle.netlist.proofs.count_instance.Tie as tie
+
+gate-len-requires : tie.Need-gate-len-requires
+gate-len-requires c κs = search needs
+
+add-t6 : tie.Need-add-t6
+add-t6 c = search needs
+
+add-t7 : tie.Need-add-t7
+add-t7 c = search needs
+
+cast-t8 : tie.Need-cast-t8
+cast-t8 c = search needs
+
+add-t9 : tie.Need-add-t9
+add-t9 c = search needs
+
+returns : tie.Need-returns
+unfolding gateOf
+returns c =
+    let s = c .before .before .before .before .before .before .before in
+    let t = s .args .t in
+    let n = c .before .before .before .before .gate-len in (
+      (λ i. record { length = t .length + n .ensures .0 i; gates = t .gates + 1; area = t .area + s .args .g .cell .area }) ∙ sym (tally-one t (gateOf (s .args .g))),
+      record { length = omega (arith, n .ensures .1); gates = omega arith; area = omega arith },
+    )
+
+pub count-instance-spec : {M : Type 1} → statement M
+count-instance-spec = tie.close (tie.spec gate-len-requires add-t6 add-t7 cast-t8 add-t9 returns)

@@ -1,0 +1,36 @@
+-- `netlist::label_len` meets its contract: a letter more inside a pair.
+-- Assumes nothing.
+use mathlib.Core.Path.{_≡_, ap}
+use Prim.Native.Nat.{_+_, _/_}
+use native.Mathlib.Omega.{arith}
+use lib.ListN.{length}
+use Rattle.model.specs.Netlist.{netName, label}
+use Rattle.drivers.specs.Gates.{netOf}
+use Rattle.netlist.proofs.Counting.{label-inside, label-phase}
+use borrow.Author.Needs.{needs}
+use Rattle.netlist.proofs.label_len.Statement.{statement}
+use Rattle.netlist.proofs.label_len.Tie as tie
+
+net-len-requires : tie.Need-net-len-requires
+net-len-requires c κs = search needs
+
+add-result : tie.Need-add-result
+add-result c = search needs
+
+net-len-requires-2 : tie.Need-net-len-requires-2
+net-len-requires-2 c κs = search needs
+
+returns : tie.Need-returns
+returns c =
+    let n = c .before .before .args .n in
+    let long : length (label (netOf n)) ≡ length (netName (n / 2)) + 1 = omega (arith, ap length (label-inside n (c .before .if1 .taken))) in
+    (omega (arith, long, c .net-len .ensures .0), omega (arith, c .net-len .ensures .1))
+
+returns-2 : tie.Need-returns-2
+returns-2 c =
+    let n = c .before .before .args .n in
+    (omega (arith, ap length (label-phase n (c .before .if1 .left)), c .net-len2 .ensures .0), omega (arith, c .net-len2 .ensures .1))
+
+pub label-len-spec : {M : Type 1} → statement M
+label-len-spec =
+    tie.close (tie.spec net-len-requires add-result net-len-requires-2 returns returns-2)

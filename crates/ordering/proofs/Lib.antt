@@ -1,0 +1,4 @@
+-- `Listing`: a driver more on a list. `Placing`: an order grown, and swept. `Reaching`: the walk back from a driver.
+pub mod Listing
+pub mod Placing
+pub mod Reaching

@@ -1,0 +1,48 @@
+-- `ordering::is_fed` meets its contract. Assumes nothing.
+use borrow.Author.Needs.{needs}
+use Prim.Native.Nat.{_+_, _*_}
+use native.Mathlib.Omega.{arith}
+use Rattle.ordering.proofs.Placing.{fed-input, fed-marked, fed-waits}
+use borrow.Author.Needs.{needs}
+use Rattle.ordering.proofs.is_fed.Statement.{statement}
+use Rattle.ordering.proofs.is_fed.Tie as tie
+
+mul-pin : tie.Need-mul-pin
+mul-pin c = search needs
+
+add-pin : tie.Need-add-pin
+add-pin c = search needs
+
+pin-requires : tie.Need-pin-requires
+pin-requires c κs = search needs
+
+returns : tie.Need-returns
+returns c =
+    let p = c .before in
+    let a = p .before .args in
+    fed-input (a .refs .now) (a .marks .now) (a .i) (a .j) (p .pin .result) (p .before .pre .2) (p .pin .ensures) (c .if1 .taken)
+
+element-copy-out-if2 : tie.Need-element-copy-out-if2
+element-copy-out-if2 c =
+    let p = c .before in
+    let s = p .before in
+    omega (arith, p .pin .ensures, s .pre .0 .few, s .pre .0 .most (4 * s .args .i + s .args .j) (omega (arith, s .pre .1, s .pre .2)))
+
+returns-2 : tie.Need-returns-2
+returns-2 c =
+    let e = c .before .before in
+    let p = e .before in
+    let a = p .before .args in
+    fed-waits (a .refs .now) (a .marks .now) (a .i) (a .j) (p .pin .result) (p .before .pre .2) (p .pin .ensures) (e .if1 .left) (c .if2 .taken)
+
+returns-3 : tie.Need-returns-3
+returns-3 c =
+    let e = c .before .before in
+    let p = e .before in
+    let a = p .before .args in
+    fed-marked (a .refs .now) (a .marks .now) (a .i) (a .j) (p .pin .result) (p .before .pre .2) (p .pin .ensures) (e .if1 .left) (c .if2 .left)
+
+pub is-fed-spec : {M : Type 1} → statement M
+is-fed-spec =
+    tie.close
+    (tie.spec mul-pin add-pin pin-requires returns element-copy-out-if2 returns-2 returns-3)

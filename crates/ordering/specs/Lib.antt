@@ -1,0 +1,2 @@
+-- `Lists`: drivers listed one by one.
+pub mod Lists

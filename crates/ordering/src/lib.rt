@@ -1,0 +1,384 @@
+// The drivers of an edited netlist in an order, each behind those that feed it, and the first on a circle where there is none. A sweep lists each driver whose pins are fed by
+// inputs and listed drivers alone, so that what is listed is in order whatever was tried first; a walk from each driver down to what feeds it tries them so
+// that without a circle all are listed at once. Where a sweep lists none, what is left is stuck behind a circle.
+use edited::DRIVERS;
+use wires::PINS;
+ghost use mathlib.Core.Path.{_≡_};
+ghost use Prim.Native.Nat.{_*_, _≤_, _<_};
+ghost use lib.ListN.{getD, set};
+ghost use Rattle.ordering.specs.Lists.{Pinned, Fed, Tried, Arranged, Placed, Swept, Settled, Walking, Behind, Reached, Stepped, Spread, Turns, Judged, Circled};
+
+// How deep the walk down is, and how many drivers are listed.
+pub struct Walk {
+    pub depth: usize,
+    pub count: usize,
+}
+
+// A word as an index.
+fn wide(x: u16) -> usize
+    ensures { λ r. ⌜ r ≡ x ⌝ }
+{
+    x as usize
+}
+
+// What stands at a pin.
+fn pin(refs: &[u16; PINS], at: usize) -> usize
+    requires { ⌜ at < 43692 ⌝ }
+    ensures { λ r. ⌜ r ≡ getD (now (refs .entry)) at 0 ⌝ }
+{
+    wide(refs[at])
+}
+
+// A driver at a place of a list.
+fn listed(list: &[u16; DRIVERS], p: usize) -> usize
+    requires { ⌜ p < 10923 ⌝ }
+    ensures { λ r. ⌜ r ≡ getD (now (list .entry)) p 0 ⌝ }
+{
+    wide(list[p])
+}
+
+// A driver listed at place m, and marked.
+fn append(marks: &mut [u8; DRIVERS], list: &mut [u16; DRIVERS], m: usize, i: usize)
+    requires { ⌜ (m < 10923) × (i < 10923) ⌝ }
+    ensures { λ _. ⌜ (now (marks .exit) ≡ set (now (marks .entry)) i 1) × (now (list .exit) ≡ set (now (list .entry)) m i) ⌝ }
+{
+    list[m] = i as u16;
+    marks[i] = 1;
+}
+
+// ---- the order
+
+// Pin j of driver i is fed by an input or a listed driver.
+fn is_fed(refs: &[u16; PINS], n: usize, marks: &[u8; DRIVERS], i: usize, j: usize) -> bool
+    requires { ⌜ Pinned (now refs) n × (i < n) × (j < 4) ⌝ }
+    ensures { λ r. ⌜ Fed (now (refs .entry)) (now (marks .entry)) i j r ⌝ }
+{
+    let x = pin(refs, 4 * i + j);
+    if x < 12 {
+        return true;
+    }
+    if marks[x - 12] == 0 {
+        return false;
+    }
+    true
+}
+
+// All four are.
+fn is_ready(refs: &[u16; PINS], n: usize, marks: &[u8; DRIVERS], i: usize) -> bool
+    requires { ⌜ Pinned (now refs) n × (i < n) ⌝ }
+    ensures { λ r. ⌜ Tried (now (refs .entry)) (now (marks .entry)) i r ⌝ }
+{
+    let mut j = 0;
+    while j < 4 {
+        if !is_fed(refs, n, marks, i, j) {
+            return false;
+        }
+        j += 1;
+    }
+    true
+}
+
+// Driver i listed, if it can be and is not yet.
+fn place(
+    refs: &[u16; PINS],
+    n: usize,
+    marks: &mut [u8; DRIVERS],
+    order: &mut [u16; DRIVERS],
+    m: usize,
+    i: usize,
+) -> usize
+    requires { ⌜ Pinned (now refs) n × (i < n) × Arranged (now refs) n (now marks) (now order) m ⌝ }
+    ensures { λ r. ⌜ Placed (now (refs .entry)) n i m (now (marks .entry)) r (now (marks .exit)) (now (order .exit)) ⌝ }
+{
+    if marks[i] != 0 {
+        return m;
+    }
+    if !is_ready(refs, n, marks, i) {
+        return m;
+    }
+    append(marks, order, m, i);
+    m + 1
+}
+
+// All drivers tried, as the lines stand.
+fn sweep(
+    refs: &[u16; PINS],
+    n: usize,
+    marks: &mut [u8; DRIVERS],
+    order: &mut [u16; DRIVERS],
+    m: usize,
+) -> usize
+    requires { ⌜ Pinned (now refs) n × Arranged (now refs) n (now marks) (now order) m ⌝ }
+    ensures { λ r. ⌜ Swept (now (refs .entry)) n n m (now (marks .entry)) r (now (marks .exit)) (now (order .exit)) ⌝ }
+{
+    let mut r = m;
+    let mut i = 0;
+    while i < n {
+        r = place(refs, n, marks, order, r, i);
+        i += 1;
+    }
+    r
+}
+
+// Sweeps until one lists none.
+fn settle(
+    refs: &[u16; PINS],
+    n: usize,
+    marks: &mut [u8; DRIVERS],
+    order: &mut [u16; DRIVERS],
+    m: usize,
+) -> usize
+    requires { ⌜ Pinned (now refs) n × Arranged (now refs) n (now marks) (now order) m ⌝ }
+    ensures { λ r. ⌜ Settled (now (refs .entry)) n r (now (marks .exit)) (now (order .exit)) ⌝ }
+{
+    let mut from = m;
+    let mut r = sweep(refs, n, marks, order, from);
+    while r > from {
+        from = r;
+        r = sweep(refs, n, marks, order, from);
+    }
+    r
+}
+
+// What feeds the pin at `at` put on the stack, if it is a driver that the walk has not come to.
+fn descend(
+    refs: &[u16; PINS],
+    n: usize,
+    passed: &[u8; DRIVERS],
+    stack: &mut [u16; DRIVERS],
+    depth: usize,
+    at: usize,
+) -> usize
+    requires { ⌜ Pinned (now refs) n × (at < 4 * n) × (depth ≤ n) ⌝ }
+    ensures { λ r. ⌜ r ≤ n ⌝ }
+{
+    let x = pin(refs, at);
+    if x < 12 {
+        return depth;
+    }
+    if passed[x - 12] != 0 {
+        return depth;
+    }
+    if depth >= n {
+        return depth;
+    }
+    stack[depth] = (x - 12) as u16;
+    depth + 1
+}
+
+// A step at the driver on top: down at its next pin, or, with all its pins passed, it is tried and the walk goes up. Nothing is to be known of the stack, so
+// that a number that is no driver's ends the walk.
+fn step(
+    refs: &[u16; PINS],
+    n: usize,
+    marks: &mut [u8; DRIVERS],
+    order: &mut [u16; DRIVERS],
+    w: Walk,
+    stack: &mut [u16; DRIVERS],
+    passed: &mut [u8; DRIVERS],
+) -> Walk
+    requires { ⌜ Pinned (now refs) n × Walking (now refs) n w (now marks) (now order) × (0 < w .depth) ⌝ }
+    ensures { λ r. ⌜ Walking (now (refs .entry)) n r (now (marks .exit)) (now (order .exit)) ⌝ }
+{
+    let depth = w.depth;
+    let count = w.count;
+    let top = listed(stack, depth - 1);
+    if top >= n {
+        return Walk { depth: 0, count };
+    }
+    let j = passed[top];
+    if j < 4 {
+        passed[top] = j + 1;
+        let next = descend(refs, n, passed, stack, depth, 4 * top + j as usize);
+        return Walk { depth: next, count };
+    }
+    let next = place(refs, n, marks, order, count, top);
+    Walk {
+        depth: depth - 1,
+        count: next,
+    }
+}
+
+// The walk down from a driver that none came to: five steps for each driver that it comes to.
+fn dive(
+    refs: &[u16; PINS],
+    n: usize,
+    marks: &mut [u8; DRIVERS],
+    order: &mut [u16; DRIVERS],
+    m: usize,
+    i: usize,
+    passed: &mut [u8; DRIVERS],
+    stack: &mut [u16; DRIVERS],
+) -> usize
+    requires { ⌜ Pinned (now refs) n × (i < n) × Arranged (now refs) n (now marks) (now order) m ⌝ }
+    ensures { λ r. ⌜ Arranged (now (refs .entry)) n (now (marks .exit)) (now (order .exit)) r ⌝ }
+{
+    if passed[i] != 0 {
+        return m;
+    }
+    stack[0] = i as u16;
+    let mut w = Walk { depth: 1, count: m };
+    let mut steps = 5 * n;
+    while steps > 0 {
+        if w.depth == 0 {
+            return w.count;
+        }
+        w = step(refs, n, marks, order, w, stack, passed);
+        steps -= 1;
+    }
+    w.count
+}
+
+// Walks from each driver.
+fn dive_all(
+    refs: &[u16; PINS],
+    n: usize,
+    marks: &mut [u8; DRIVERS],
+    order: &mut [u16; DRIVERS],
+    passed: &mut [u8; DRIVERS],
+    stack: &mut [u16; DRIVERS],
+) -> usize
+    requires { ⌜ Pinned (now refs) n × Arranged (now refs) n (now marks) (now order) 0 ⌝ }
+    ensures { λ r. ⌜ Arranged (now (refs .entry)) n (now (marks .exit)) (now (order .exit)) r ⌝ }
+{
+    let mut m = 0;
+    let mut i = 0;
+    while i < n {
+        m = dive(refs, n, marks, order, m, i, passed, stack);
+        i += 1;
+    }
+    m
+}
+
+// The order, as far as it goes.
+pub fn arrange(
+    refs: &[u16; PINS],
+    n: usize,
+    marks: &mut [u8; DRIVERS],
+    order: &mut [u16; DRIVERS],
+) -> usize
+    requires { ⌜ Pinned (now refs) n × Arranged (now refs) n (now marks) (now order) 0 ⌝ }
+    ensures { λ r. ⌜ Settled (now (refs .entry)) n r (now (marks .exit)) (now (order .exit)) ⌝ }
+{
+    let mut passed = [0u8; DRIVERS];
+    let mut stack = [0u16; DRIVERS];
+    let m = dive_all(refs, n, marks, order, &mut passed, &mut stack);
+    settle(refs, n, marks, order, m)
+}
+
+// ---- circles
+
+// What feeds pin j of driver k listed, if it is not yet; 0 where it is driver i.
+fn reach_pin(
+    refs: &[u16; PINS],
+    n: usize,
+    i: usize,
+    seen: &mut [u8; DRIVERS],
+    queue: &mut [u16; DRIVERS],
+    m: usize,
+    k: usize,
+    j: usize,
+) -> usize
+    requires { ⌜ Pinned (now refs) n × Reached (now refs) n i (now seen) (now queue) m × (0 < m) × (k < n) × (j < 4) × Behind (now refs) i k ⌝ }
+    ensures { λ r. ⌜ Stepped (now (refs .entry)) n i k j m (now (seen .entry)) (now (queue .entry)) r (now (seen .exit)) (now (queue .exit)) ⌝ }
+{
+    let x = pin(refs, 4 * k + j);
+    if x < 12 {
+        return m;
+    }
+    let y = x - 12;
+    if y == i {
+        return 0;
+    }
+    if seen[y] != 0 {
+        return m;
+    }
+    append(seen, queue, m, y);
+    m + 1
+}
+
+// The four pins of driver k.
+fn reach(
+    refs: &[u16; PINS],
+    n: usize,
+    i: usize,
+    seen: &mut [u8; DRIVERS],
+    queue: &mut [u16; DRIVERS],
+    m: usize,
+    k: usize,
+) -> usize
+    requires { ⌜ Pinned (now refs) n × Reached (now refs) n i (now seen) (now queue) m × (0 < m) × (k < n) × Behind (now refs) i k ⌝ }
+    ensures { λ r. ⌜ Spread (now (refs .entry)) n i k 4 m (now (seen .entry)) (now (queue .entry)) r (now (seen .exit)) (now (queue .exit)) ⌝ }
+{
+    let mut r = m;
+    let mut j = 0;
+    while j < 4 {
+        r = reach_pin(refs, n, i, seen, queue, r, k, j);
+        if r == 0 {
+            return 0;
+        }
+        j += 1;
+    }
+    r
+}
+
+// The walk back from driver i, which stands first in the queue.
+fn walk_back(
+    refs: &[u16; PINS],
+    n: usize,
+    i: usize,
+    seen: &mut [u8; DRIVERS],
+    queue: &mut [u16; DRIVERS],
+) -> bool
+    requires { ⌜ Pinned (now refs) n × (i < n) × Reached (now refs) n i (now seen) (now queue) 1 × (getD (now seen) i 0 ≡ 1) ⌝ }
+    ensures { λ r. ⌜ Turns (now (refs .entry)) i r ⌝ }
+{
+    let mut m = 1;
+    let mut p = 0;
+    while p < m {
+        let k = listed(queue, p);
+        m = reach(refs, n, i, seen, queue, m, k);
+        if m == 0 {
+            return true;
+        }
+        p += 1;
+    }
+    false
+}
+
+// "a net on a circle": driver i feeds itself.
+fn turns(refs: &[u16; PINS], n: usize, i: usize) -> bool
+    requires { ⌜ Pinned (now refs) n × (i < n) ⌝ }
+    ensures { λ r. ⌜ Turns (now (refs .entry)) i r ⌝ }
+{
+    let mut seen = [0u8; DRIVERS];
+    let mut queue = [0u16; DRIVERS];
+    append(&mut seen, &mut queue, 0, i);
+    walk_back(refs, n, i, &mut seen, &mut queue)
+}
+
+// Whether driver i is on a circle; one that is listed is on none.
+fn on_circle(refs: &[u16; PINS], n: usize, marks: &[u8; DRIVERS], i: usize) -> bool
+    requires { ⌜ Pinned (now refs) n × (i < n) ⌝ }
+    ensures { λ r. ⌜ Judged (now (refs .entry)) (now (marks .entry)) i r ⌝ }
+{
+    if marks[i] != 0 {
+        return false;
+    }
+    turns(refs, n, i)
+}
+
+// The first driver on a circle. A walk for each driver that is not listed: at worst the square of their number, in netlists that are refused alone.
+pub fn first_circle(refs: &[u16; PINS], n: usize, marks: &[u8; DRIVERS]) -> usize
+    requires { ⌜ Pinned (now refs) n ⌝ }
+    ensures { λ r. ⌜ Circled (now (refs .entry)) n (now (marks .entry)) r ⌝ }
+{
+    let mut i = 0;
+    while i < n {
+        if on_circle(refs, n, marks, i) {
+            return i;
+        }
+        i += 1;
+    }
+    i
+}

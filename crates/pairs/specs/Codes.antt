@@ -1,0 +1,66 @@
+-- A pair of cells as a number of twelve bits: the root's line, the fed pin, the inner's line. Assumes nothing.
+use Prim.Native.Nat.{ℕ, _+_, _*_, _/_, _%_, _<_, _≤_}
+use mathlib.Core.Path.{_≡_}
+use mathlib.Core.Bool.{true, cond}
+use mathlib.Core.List.{List, [], _∷_, _++_, map}
+use lib.ListN.{length, getD}
+use Rattle.model.specs.Base.{below, keep, each}
+use Rattle.model.specs.Cells.{cellAt, cellsOf}
+use Rattle.model.specs.Pairs.{Pair, joins, cellOfPair}
+use Rattle.model.specs.declared.Cell.{Cell}
+use Rattle.model.specs.declared.Library.{Library}
+
+abbrev pub codeOf : ℕ → ℕ → ℕ → ℕ
+codeOf root pin inner = root * 128 + pin * 32 + inner
+
+abbrev pub codeOfPair : Pair → ℕ
+codeOfPair p = codeOf (p .root) (p .pin) (p .inner)
+
+-- the pair of a number
+abbrev pub pairOfCode : ℕ → Pair
+pairOfCode k = record { root = k / 128; pin = k / 32 % 4; inner = k % 32 }
+
+-- one pair's number, or none
+unfoldable pub codeFor : Cell → Cell → ℕ → List ℕ
+unfolding joins
+codeFor root inner k = cond (joins root inner) (k ∷ []) []
+
+-- those of a root and its fed pin, by the inner's lines
+unfoldable pub innerCodes : List Cell → ℕ → ℕ → List ℕ → List ℕ
+unfolding each codeFor
+innerCodes cells i p = each (λ (j : ℕ). codeFor (cellAt cells i) (cellAt cells j) (codeOf i p j))
+
+-- of a root, by its pins
+unfoldable pub pinCodes : List Cell → ℕ → List ℕ → List ℕ
+unfolding each below innerCodes
+pinCodes cells i = each (λ (p : ℕ). innerCodes cells i p (below (length cells)))
+
+-- by the root's lines
+unfoldable pub rootCodes : List Cell → List ℕ → List ℕ
+unfolding each below pinCodes
+rootCodes cells = each (λ (i : ℕ). pinCodes cells i (below (cellAt cells i .pins)))
+
+-- of all pairs
+unfoldable pub pairCodes : List Cell → List ℕ
+unfolding below rootCodes
+pairCodes cells = rootCodes cells (below (length cells))
+
+-- The first n cells are there, "Pins: 0 to 4".
+pub record Joinable (l : Library) : Type 0 where
+  pub whole : length (cellsOf l) ≡ l .n
+  pub few : l .n ≤ 32
+  pub pins : (c : ℕ) → cellAt (cellsOf l) c .pins ≤ 4
+
+-- The cells to map with: the listed ones and, behind them, those of the pairs' numbers.
+unfoldable pub cellsBy : List Cell → List ℕ → List Cell
+unfolding cellOfPair
+cellsBy cells codes = cells ++ map (λ (k : ℕ). cellOfPair cells (pairOfCode k)) codes
+
+-- The numbers are those of pairs of a library, at most 256 with its cells.
+pub record Coded (l : Library) (codes : List ℕ) : Type 0 where
+  pub joinable : Joinable l
+  pub few : l .n + length codes ≤ 256
+  pub root : (i : ℕ) → i < length codes → getD codes i 0 / 128 < l .n
+  pub inner : (i : ℕ) → i < length codes → getD codes i 0 % 32 < l .n
+  pub pin : (i : ℕ) → i < length codes → getD codes i 0 / 32 % 4 < cellAt (cellsOf l) (getD codes i 0 / 128) .pins
+  pub joined : (i : ℕ) → i < length codes → joins (cellAt (cellsOf l) (getD codes i 0 / 128)) (cellAt (cellsOf l) (getD codes i 0 % 32)) ≡ true

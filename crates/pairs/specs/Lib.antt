@@ -1,0 +1,2 @@
+-- `Codes`: pairs as numbers, and all of a library's in their order.
+pub mod Codes

@@ -1,0 +1,20 @@
+-- `settings::differing` meets its contract, bit by bit.
+-- Assumes nothing.
+use mathlib.Core.Path.{_∙_}
+use native.Mathlib.Omega.{arith}
+use Rattle.settings.proofs.Gates.{differ-bits}
+use borrow.Author.Needs.{needs}
+use Rattle.settings.proofs.differing.Statement.{statement}
+use Rattle.settings.proofs.differing.Tie as tie
+
+sub-select : tie.Need-sub-select
+sub-select c = search needs
+
+select-requires : tie.Need-select-requires
+select-requires c κs = search needs
+
+returns : tie.Need-returns
+returns c = c .select .ensures ∙ differ-bits (c .before .args .x) (c .before .args .y) (omega arith)
+
+pub differing-spec : {M : Type 1} → statement M
+differing-spec = tie.close (tie.spec sub-select select-requires returns)

@@ -1,0 +1,16 @@
+-- `settings::select` meets its contract, bit by bit.
+-- Assumes nothing.
+use Rattle.settings.proofs.Gates.{select-bits}
+use native.Mathlib.Omega.{arith}
+use borrow.Author.Needs.{needs}
+use Rattle.settings.proofs.select.Statement.{statement}
+use Rattle.settings.proofs.select.Tie as tie
+
+sub-result : tie.Need-sub-result
+sub-result c = search needs
+
+returns : tie.Need-returns
+returns c = select-bits (c .args .s) (c .args .x) (c .args .y) (omega arith) (omega arith) (omega arith)
+
+pub select-spec : {M : Type 1} → statement M
+select-spec = tie.close (tie.spec sub-result returns)

@@ -1,0 +1,84 @@
+-- Libraries of the same cells form the same pairs: "Where pairs are formed, both libraries form theirs." Assumes nothing.
+use Prim.Native.Nat.{ℕ, _<_}
+use mathlib.Core.Path.{_≡_, refl, sym, _∙_, ap, ap₂, subst}
+use mathlib.Core.Logic.{_⊎_, inl, inr, _↔_}
+use mathlib.Core.Bool.{Bool, true, false}
+use mathlib.Core.List.{List, [], _∷_, _++_, map, List·Memᴰ, List·Memᴰ·append-cases, Memᴰ·append-left, Memᴰ·append-right}
+use lib.Dec.{T}
+use lib.ListN.{length, getD}
+use Rattle.model.specs.Base.{each, keep, below}
+use Rattle.model.specs.Cells.{cellAt, noCell}
+use Rattle.model.specs.Pairs.{pairOf, Pair, joins, pairsOf, cellOfPair, withPairs, cellsFor}
+use Rattle.model.specs.ShuffleDemands.{SameCells}
+use Rattle.model.specs.declared.Cell.{Cell}
+use Rattle.theory_graph.proofs.Lists.{map-in, map-out, each-in, each-out, keep-in, keep-out, below-in, below-out, getD-in}
+use Rattle.theory_cover.proofs.Shuffled.{LineOf, line-of, swapped}
+
+-- what a pair is, with no word of lines
+record IsPair (cells : List Cell) (c : Cell) : Type 0 where
+  root : Cell
+  inner : Cell
+  pin : ℕ
+  hasRoot : List·Memᴰ root cells
+  hasInner : List·Memᴰ inner cells
+  hasPin : pin < root .pins
+  fits : T (joins root inner)
+  is : c ≡ pairOf root pin inner
+
+pair-out : (cells : List Cell) (c : Cell) → List·Memᴰ c (map (cellOfPair cells) (pairsOf cells)) → IsPair cells c
+unfolding pairsOf cellOfPair cellAt
+pair-out cells c m =
+    let n = length cells in
+    let a = map-out (cellOfPair cells) (pairsOf cells) m in
+    let b = each-out _ (below n) (a .1) in
+    let d = each-out _ (below (getD cells (b .0) noCell .pins)) (b .2) in
+    let e = map-out _ (keep (λ (j : ℕ). joins (getD cells (b .0) noCell) (getD cells j noCell)) (below n)) (d .2) in
+    let k = keep-out (λ (j : ℕ). joins (getD cells (b .0) noCell) (getD cells j noCell)) (below n) (e .1) in
+    record {
+      root = getD cells (b .0) noCell;
+      inner = getD cells (e .0) noCell;
+      pin = d .0;
+      hasRoot = getD-in cells (b .0) noCell (below-out n (b .0) (b .1));
+      hasInner = getD-in cells (e .0) noCell (below-out n (e .0) (k .0));
+      hasPin = below-out (getD cells (b .0) noCell .pins) (d .0) (d .1);
+      fits = k .1;
+      is = a .2 ∙ ap (cellOfPair cells) (e .2);
+    }
+
+pair-in : (cells : List Cell) (c : Cell) → IsPair cells c → List·Memᴰ c (map (cellOfPair cells) (pairsOf cells))
+unfolding pairsOf cellOfPair cellAt
+pair-in cells c p =
+    let r = line-of (p .root) cells (p .hasRoot) in
+    let i = line-of (p .inner) cells (p .hasInner) in
+    let e : c ≡ cellOfPair cells (record { root = r .line; pin = p .pin; inner = i .line }) =
+    p .is ∙ ap₂ (λ (a b : Cell). pairOf a (p .pin) b) (sym (r .is)) (sym (i .is)) in
+    subst (λ (x : Cell). List·Memᴰ x (map (cellOfPair cells) (pairsOf cells))) (sym e)
+    (map-in (cellOfPair cells)
+    (each-in _ (below-in (length cells) (r .line) (r .here))
+    (each-in _ (below-in (getD cells (r .line) noCell .pins) (p .pin) (subst (λ (x : Cell). p .pin < x .pins) (sym (r .is)) (p .hasPin)))
+    (map-in _ (keep-in (λ (j : ℕ). joins (getD cells (r .line) noCell) (getD cells j noCell)) (below-in (length cells) (i .line) (i .here))
+    (subst (λ (x : Cell). T (joins x (getD cells (i .line) noCell))) (sym (r .is)) (subst (λ (x : Cell). T (joins (p .root) x)) (sym (i .is)) (p .fits))))))))
+
+pairs-on : (cells cells′ : List Cell) → SameCells cells cells′ → (c : Cell) → List·Memᴰ c (withPairs cells) → List·Memᴰ c (withPairs cells′)
+unfolding withPairs
+pairs-on cells cells′ s c m = go (List·Memᴰ·append-cases cells m)
+  where
+    go : List·Memᴰ c cells ⊎ List·Memᴰ c (map (cellOfPair cells) (pairsOf cells)) → List·Memᴰ c (cells′ ++ map (cellOfPair cells′) (pairsOf cells′))
+    go (inl i) = Memᴰ·append-left (map (cellOfPair cells′) (pairsOf cells′)) (s c .0 i)
+    go (inr i) =
+        let p = pair-out cells c i in
+        Memᴰ·append-right cells′ (pair-in cells′ c (record {
+          root = p .root;
+          inner = p .inner;
+          pin = p .pin;
+          hasRoot = s (p .root) .0 (p .hasRoot);
+          hasInner = s (p .inner) .0 (p .hasInner);
+          hasPin = p .hasPin;
+          fits = p .fits;
+          is = p .is;
+        }))
+
+pub pairs-same : (paired : Bool) (cells cells′ : List Cell) → SameCells cells cells′ → SameCells (cellsFor paired cells) (cellsFor paired cells′)
+unfolding cellsFor
+pairs-same true cells cells′ s c = (pairs-on cells cells′ s c, pairs-on cells′ cells (swapped cells cells′ s) c)
+pairs-same false cells cells′ s c = s c

@@ -1,0 +1,3 @@
+-- `Chaining`: walks along chains, and a driver put on one.
+pub mod Chaining
+pub mod Pinning

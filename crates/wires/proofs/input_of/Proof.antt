@@ -1,0 +1,57 @@
+-- `wires::input_of` meets its contract. The invariant: none of the inputs passed has the number. The measure is how many are left. Assumes nothing.
+use Prim.Native.Nat.{ℕ, _-_, _≤_, _<_}
+use native.Mathlib.Omega.{arith}
+use mathlib.Core.Path.{_≡_}
+use lib.ListN.{getD}
+use borrow.Author.Count.{below-more}
+use Rattle.wires.proofs.input_of.Statement.{statement}
+use Rattle.wires.proofs.input_of.Tie as tie
+
+abbrev Inv-loop : tie.InvT-loop
+Inv-loop inputs count x k₀ k = (k ≤ count) × ((m : ℕ) → m < k → getD inputs m 0 ≡ x → ⊥)
+
+abbrev μ-loop : tie.MeasureT-loop
+μ-loop inputs count x k₀ k = count - k
+
+loop-holds : tie.Need-loop-holds Inv-loop μ-loop
+loop-holds c = (omega arith, λ m h e. omega arith)
+
+mul-if1 : tie.Need-mul-if1 Inv-loop μ-loop
+mul-if1 c = omega arith
+
+element-copy-out-if1 : tie.Need-element-copy-out-if1 Inv-loop μ-loop
+element-copy-out-if1 c = omega arith
+
+returns : tie.Need-returns Inv-loop μ-loop
+returns c =
+    let l = c .before .before .before .loop in
+    record { most = omega arith; is = λ h. (c .before .before .loop-test .taken, c .if1 .taken); none = λ e. absurd (omega arith) }
+
+add-k : tie.Need-add-k Inv-loop μ-loop
+add-k c = omega arith
+
+loop-less : tie.Need-loop-less Inv-loop μ-loop
+loop-less c = omega arith
+
+loop-again : tie.Need-loop-again Inv-loop μ-loop
+loop-again c = (omega arith, below-more _ _ (c .before .before .before .loop .inv .1) (c .if1 .left))
+
+returns-2 : tie.Need-returns-2 Inv-loop μ-loop
+returns-2 c =
+    let l = c .before in
+    record { most = omega arith; is = λ h. absurd (omega arith); none = λ e m h. l .loop .inv .1 m (omega arith) }
+
+pub input-of-spec : {M : Type 1} → statement M
+input-of-spec =
+    tie.close
+    (tie.spec
+    Inv-loop
+    μ-loop
+    loop-holds
+    mul-if1
+    element-copy-out-if1
+    returns
+    add-k
+    loop-less
+    loop-again
+    returns-2)

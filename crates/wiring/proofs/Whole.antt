@@ -1,0 +1,63 @@
+-- The three parts of 33 together, by the numbers that the passes leave. Assumes nothing.
+use Prim.Native.Nat.{ℕ, _*_, _≤_, _<_}
+use native.Mathlib.Omega.{arith}
+use mathlib.Core.Path.{_≡_, sym, ap, subst, _∙_}
+use mathlib.Core.List.{List}
+use lib.ListN.{length, getD}
+use Rattle.model.specs.Reading.{Read, fault}
+use Rattle.model.specs.Check.{Driver, judgeNets}
+use Rattle.model.specs.declared.Verdict.the-variants.{Accepted, Refused}
+use Rattle.wires.specs.Pins.{Once, Rows, Referred, twice, once}
+use Rattle.ordering.specs.Lists.{Pinned, Settled, Circled}
+use Rattle.wiring.specs.Wired.{noDriver}
+use Rattle.wiring.specs.Judged.{Stored, Judged}
+use Rattle.wiring.proofs.Codes.{stored-long, stored-offset}
+use Rattle.wiring.proofs.Lines.{judged-twice, judged-loose, judged-circle, judged-holds}
+use Rattle.wiring.proofs.Nets.{twice-at, twice-nowhere, loose-at, loose-nowhere, wired}
+use Rattle.wiring.proofs.Turning.{pinned, circle-at, circle-nowhere, apart, all-apart, ordered, circle-there}
+
+module _ (inputs : List (List ℕ)) (ds : List Driver) (nets ins : List ℕ) (n count : ℕ) (st : Stored inputs ds nets ins n count) where
+  -- a line's place is its first number
+  placed : (r : ℕ) → r < n → judgeNets inputs ds ≡ fault 33 (getD ds r noDriver .offset) → judgeNets inputs ds ≡ fault 33 (getD nets (8 * r) 0)
+  placed r h e = e ∙ ap (λ (k : ℕ). let r : Read (List Driver) = fault 33 k in r) (sym (stored-offset ds nets n (st .drivers) (st .first) r h))
+
+  pub line-inside : (r : ℕ) → r < n → 8 * r < length nets
+  line-inside r h = omega (arith, stored-long ds nets n (st .drivers) (st .first))
+
+  module _ (f : ℕ) (refs : List ℕ) where
+    pub refused : Referred nets ins count n f refs → f < n → (refs′ order : List ℕ) → Judged inputs ds (Refused 33 (getD nets (8 * f) 0)) refs′ order
+    unfolding Judged
+    refused (twice lt o) h refs′ order = placed f h (judged-twice inputs ds (getD ds f noDriver .offset) (twice-at inputs ds nets ins n count st f h o))
+    refused (once o rows) h refs′ order =
+        placed f h (judged-loose inputs ds (getD ds f noDriver .offset) (twice-nowhere inputs ds nets ins n count st o) (loose-at inputs ds nets ins n count st refs f h rows))
+
+    passed : Referred nets ins count n f refs → n ≤ f → Once nets ins count n n × Rows nets ins count n n refs
+    passed (twice lt o) le = absurd (omega arith)
+    passed (once o rows) le = (o, subst (λ (x : ℕ). Rows nets ins count n x refs) (let e : f ≡ n = omega (arith, rows .most) in e) rows)
+
+    module _ (g : Referred nets ins count n f refs) (le : n ≤ f) where
+      pub pinned-all : Pinned refs n
+      pinned-all = let p = passed g le in pinned inputs ds nets ins n count st refs (p .0) (p .1)
+
+      module _ (r : ℕ) (marks order : List ℕ) (s : Settled refs n r marks order) where
+        pub accepted : r ≡ n → Judged inputs ds Accepted refs order
+        unfolding Judged
+        accepted e =
+            let p = passed g le in (
+              judged-holds inputs ds (twice-nowhere inputs ds nets ins n count st (p .0)) (loose-nowhere inputs ds nets ins n count st refs (p .1))
+                  (circle-nowhere inputs ds nets ins n count st refs (p .0) (p .1) (all-apart inputs ds nets ins n count st refs (p .0) (p .1) r marks order s e)),
+              wired inputs ds nets ins n count st refs (p .1),
+              ordered inputs ds nets ins n count st refs (p .0) (p .1) r marks order s e,
+            )
+
+        module _ (ne : r ≡ n → ⊥) (c : ℕ) (k : Circled refs n marks c) where
+          pub circle-inside : c < n
+          circle-inside = let p = passed g le in circle-there inputs ds nets ins n count st refs (p .0) (p .1) r marks order s ne c k
+
+          pub circled : (order′ : List ℕ) → Judged inputs ds (Refused 33 (getD nets (8 * c) 0)) refs order′
+          unfolding Judged
+          circled order′ =
+              let p = passed g le in
+              placed c circle-inside
+              (judged-circle inputs ds (getD ds c noDriver .offset) (twice-nowhere inputs ds nets ins n count st (p .0)) (loose-nowhere inputs ds nets ins n count st refs (p .1))
+              (circle-at inputs ds nets ins n count st refs (p .0) (p .1) c circle-inside (apart inputs ds nets ins n count st refs (p .0) (p .1) r marks order s c k) (k .circle circle-inside)))

@@ -1,0 +1,115 @@
+-- `wiring::wire` meets its contract. Assumes nothing.
+use borrow.Author.Needs.{needs}
+use mathlib.Core.Path.{refl}
+use Rattle.ordering.proofs.Placing.{arranged-none}
+use Rattle.wiring.proofs.Nets.{drivers-are}
+use Rattle.wiring.proofs.Whole.{line-inside, refused, pinned-all, accepted, circle-inside, circled}
+use borrow.Author.Needs.{needs}
+use Rattle.wiring.proofs.wire.Statement.{statement}
+use Rattle.wiring.proofs.wire.Tie as tie
+
+refer-requires : tie.Need-refer-requires
+refer-requires c κs =
+    let s = c .before .before in
+    let a = s .args in
+    let g = s .pre .0 in
+    (drivers-are (g .0) (g .1) (a .nets .now) (a .inputs .now) (a .n) (a .count) (g .2), s .pre .1)
+
+mul-t12 : tie.Need-mul-t12
+mul-t12 c = search needs
+
+mul-t13 : tie.Need-mul-t13
+mul-t13 c = search needs
+
+shared-slice-read-t15 : tie.Need-shared-slice-read-t15
+shared-slice-read-t15 c =
+    let t = c .before in
+    let f = t .before in
+    let s = f .before .before .before in
+    let a = s .args in
+    let g = s .pre .0 in
+    line-inside (g .0) (g .1) (a .nets .now) (a .inputs .now) (a .n) (a .count) (g .2) (f .refer .result) (t .if1 .taken)
+
+returns : tie.Need-returns
+returns c =
+    let t = c .before in
+    let f = t .before in
+    let a = f .before .before .before .args in
+    λ names ds st. refused names ds (a .nets .now) (a .inputs .now) (a .n) (a .count) st (f .refer .result) (f .refer .last .1 .1 .1 .1 .0) (f .refer .ensures) (t .if1 .taken) _ _
+
+arrange-requires : tie.Need-arrange-requires
+arrange-requires c κs =
+    let e = c .before .before .before in
+    let f = e .before in
+    let s = f .before .before .before in
+    let a = s .args in
+    let g = s .pre .0 in
+    let p = pinned-all (g .0) (g .1) (a .nets .now) (a .inputs .now) (a .n) (a .count) (g .2) (f .refer .result) (f .refer .last .1 .1 .1 .1 .0) (f .refer .ensures) (e .if1 .left) in
+    (p, arranged-none (f .refer .last .1 .1 .1 .1 .0) (a .n) p 10923 (a .order .now) refl (s .pre .2))
+
+returns-2 : tie.Need-returns-2
+returns-2 c =
+    let r = c .before in
+    let e = r .before .before .before .before in
+    let f = e .before in
+    let a = f .before .before .before .args in
+    λ names ds st. accepted names ds (a .nets .now) (a .inputs .now) (a .n) (a .count) st (f .refer .result) (f .refer .last .1 .1 .1 .1 .0) (f .refer .ensures) (e .if1 .left) (r .arrange .result) _ _ (r .arrange .ensures) (c .if2 .taken)
+
+first-circle-requires : tie.Need-first-circle-requires
+first-circle-requires c κs =
+    let r = c .before .before .before in
+    let e = r .before .before .before .before in
+    let f = e .before in
+    let s = f .before .before .before in
+    let a = s .args in
+    let g = s .pre .0 in
+    pinned-all (g .0) (g .1) (a .nets .now) (a .inputs .now) (a .n) (a .count) (g .2) (f .refer .result) (f .refer .last .1 .1 .1 .1 .0) (f .refer .ensures) (e .if1 .left)
+
+mul-t17 : tie.Need-mul-t17
+mul-t17 c = search needs
+
+mul-t23 : tie.Need-mul-t23
+mul-t23 c = search needs
+
+shared-slice-read-t25 : tie.Need-shared-slice-read-t25
+shared-slice-read-t25 c =
+    let k = c .before in
+    let d = k .before .before .before in
+    let r = d .before in
+    let e = r .before .before .before .before in
+    let f = e .before in
+    let s = f .before .before .before in
+    let a = s .args in
+    let g = s .pre .0 in
+    line-inside (g .0) (g .1) (a .nets .now) (a .inputs .now) (a .n) (a .count) (g .2) (k .first-circle .result)
+    (circle-inside (g .0) (g .1) (a .nets .now) (a .inputs .now) (a .n) (a .count) (g .2) (f .refer .result) (f .refer .last .1 .1 .1 .1 .0) (f .refer .ensures) (e .if1 .left) (r .arrange .result) _ _ (r .arrange .ensures) (d .if2 .left)
+    (k .first-circle .result) (k .first-circle .ensures))
+
+returns-3 : tie.Need-returns-3
+returns-3 c =
+    let k = c .before in
+    let d = k .before .before .before in
+    let r = d .before in
+    let e = r .before .before .before .before in
+    let f = e .before in
+    let a = f .before .before .before .args in
+    λ names ds st.
+    circled names ds (a .nets .now) (a .inputs .now) (a .n) (a .count) st (f .refer .result) (f .refer .last .1 .1 .1 .1 .0) (f .refer .ensures) (e .if1 .left) (r .arrange .result) _ _ (r .arrange .ensures) (d .if2 .left)
+    (k .first-circle .result) (k .first-circle .ensures) _
+
+pub wire-spec : {M : Type 1} → statement M
+wire-spec =
+    tie.close
+    (tie.spec
+    refer-requires
+    mul-t12
+    mul-t13
+    shared-slice-read-t15
+    returns
+    arrange-requires
+    returns-2
+    first-circle-requires
+    mul-t17
+    mul-t23
+    shared-slice-read-t25
+    returns-3)
