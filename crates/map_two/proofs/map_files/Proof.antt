@@ -15,7 +15,7 @@ show-requires c κs =
     let at-map-two = c .before .before .before .before .before .before .before in
     let start = at-map-two .before .before .before .before .before .before .before .before .before .before .before .before in
     let m = at-map-two .map-two in
-    let long : length (start .args .text1 .now) ≡ length (m .last .1 .1 .1 .1 .1 .1 .0) = omega (arith, m .kept .1 .1 .1 .1 .1 .1 .0) in
+    let long : length (start .args .text1 .now) ≡ length (m .last .1 .1 .1 .1 .1 .1 .1 .0) = omega (arith, m .kept .1 .1 .1 .1 .1 .1 .1 .0) in
     subst (Fits (m .result .first)) long (m .ensures .1 .1 .1 .1 .1 .1 .0)
 
 show-requires-2 : tie.Need-show-requires-2
@@ -23,7 +23,7 @@ show-requires-2 c κs =
     let at-map-two = c .before .before .before .before .before .before .before .before .before in
     let start = at-map-two .before .before .before .before .before .before .before .before .before .before .before .before in
     let m = at-map-two .map-two in
-    let long : length (start .args .text2 .now) ≡ length (m .last .1 .1 .1 .1 .1 .1 .1 .0) = omega (arith, m .kept .1 .1 .1 .1 .1 .1 .1 .0) in
+    let long : length (start .args .text2 .now) ≡ length (m .last .1 .1 .1 .1 .1 .1 .1 .1 .0) = omega (arith, m .kept .1 .1 .1 .1 .1 .1 .1 .1 .0) in
     subst (Fits (m .result .second)) long (m .ensures .1 .1 .1 .1 .1 .1 .1)
 
 same-length : tie.Need-same-length
