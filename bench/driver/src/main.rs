@@ -1,11 +1,12 @@
 //! Maps graph files with one library file, through the static library or,
-//! with `--other`, through the reference mapper, and prints a line for each.
+//! with `--other`, through the reference mapper, with `--pairs` with pairs of
+//! cells too, and prints a line for each.
 
-use mapper::{bytes_enough, call, words_needed, Answer};
+use mapper::{bytes_enough_pairs, call, call_pairs, words_needed, Answer};
 use other::reference;
 use std::{env, fs, process::exit};
 
-const USAGE: &str = "usage: driver [--other] [--time] [--calls N] CELLS GRAPH...";
+const USAGE: &str = "usage: driver [--other] [--pairs] [--time] [--calls N] CELLS GRAPH...";
 
 /// CPU time of this process in seconds. The standard library has wall time
 /// alone, which counts what other processes do.
@@ -41,12 +42,13 @@ fn read(path: &str) -> Vec<u8> {
 }
 
 fn main() {
-    let (mut through_other, mut timed, mut calls) = (false, false, 1);
+    let (mut through_other, mut pairs, mut timed, mut calls) = (false, false, false, 1);
     let mut files = Vec::new();
     let mut words = env::args().skip(1);
     while let Some(word) = words.next() {
         match word.as_str() {
             "--other" => through_other = true,
+            "--pairs" => pairs = true,
             "--time" => timed = true,
             "--calls" => calls = words.next().and_then(|n| n.parse().ok()).unwrap_or(0),
             _ => files.push(word),
@@ -60,16 +62,18 @@ fn main() {
     for file in &files[1..] {
         let graph = read(file);
         let mut work = vec![0; words_needed(&graph)];
-        let mut text = vec![0; bytes_enough(&graph)];
+        let mut text = vec![0; bytes_enough_pairs(&graph)];
         let mut figures = [0; 4];
         let mut least = f64::INFINITY;
         for _ in 0..calls {
             let start = cpu_seconds();
             figures = if through_other {
-                let answer = reference::map_without_arrivals(&cells, &graph, work.len(), text.len()).0;
+                let map = if pairs { reference::map_pairs } else { reference::map };
+                let answer = map(&cells, &graph, &[], work.len(), text.len()).0;
                 [answer.number, answer.gates, answer.area, answer.arrival]
             } else {
-                let Answer { number, gates, area, arrival, .. } = call(&cells, &graph, &[], &mut work, &mut text);
+                let map = if pairs { call_pairs } else { call };
+                let Answer { number, gates, area, arrival, .. } = map(&cells, &graph, &[], &mut work, &mut text);
                 [number as u32, gates, area, arrival]
             };
             least = least.min(cpu_seconds() - start);
