@@ -1,7 +1,7 @@
--- The sheet of a library: the chain of each table lists the variants that have it, ascending, with what feeds them; the delays are the cells'.
+-- The sheet of a library: the chain of each table lists the variants that have it and are tried, ascending, with what feeds them; the delays are the cells'.
 --     linked-lower        the lower bound of a chain may be lowered
 --     linked-same         what else is on the sheet is no part of a chain
---     passed-down, listed-down        the code goes from the highest down
+--     passed-down, listed-down        the code goes from the highest down; `passed-append`, `passed-stale`: over those that are not tried
 --     pushed-long, .. list-long       the sheet stays as long as it is
 --     list-sheet          after all cells the sheet is theirs
 --     usable-library      a library of cells with few pins and small delays may be asked
@@ -22,8 +22,8 @@ use Rattle.model.specs.declared.Cell.{Cell}
 use Rattle.model.specs.Table.{value, pinRow}
 use Rattle.truth.specs.Variant.{placesOf, variantTable}
 use Rattle.truth.proofs.Tables.{table-small}
-use Rattle.matching.specs.Variants.{Usable, Matchable, lineOf, orderOf, maskOf, isVariant, tableAt, hasTable, variants}
-use Rattle.matching.specs.Sheet.{linkAddr, pickAddr, delayAddr, sheetLong, pickOf, pickAt, delayOf, pushed, placed, passed, timed, cellMatched, listMatched, Linked, SheetOf, Blank}
+use Rattle.matching.specs.Variants.{Usable, Matchable, lineOf, orderOf, maskOf, tableAt, fresh, isFresh, freshWith, freshOnes}
+use Rattle.matching.specs.Sheet.{linkAddr, pickAddr, delayAddr, sheetLong, wordOf, pickAt, delayOf, pushed, placed, passed, timed, cellMatched, listMatched, Linked, SheetOf, Blank}
 use Rattle.matching.proofs.Choosing.{by-bool}
 
 pub linked-lower : (cells : List Cell) (s : List ℕ) (low lower h : ℕ) (xs : List ℕ) → lower ≤ low → Linked cells s low h xs → Linked cells s lower h xs
@@ -49,14 +49,14 @@ linked-same cells s s′ low h (x ∷ xs) same k = (
 
 -- ---- one variant
 
-pub placed-mask : (pins table x t p : ℕ) (s : List ℕ) → maskOf x < 2 ^ pins → t ≡ variantTable pins table (placesOf (orderOf x)) (maskOf x)
-    → p ≡ pickOf pins (placesOf (orderOf x)) (maskOf x) → placed pins table x s ≡ pushed t x p s
+pub placed-fresh : (pins table x t p : ℕ) (s : List ℕ) → fresh pins x ≡ true → t ≡ variantTable pins table (placesOf (orderOf x)) (maskOf x)
+    → p ≡ wordOf pins x → placed pins table x s ≡ pushed t x p s
 unfolding placed
-placed-mask pins table x t p s h e q = rw (lt-ltb (maskOf x) (2 ^ pins) h, e, q)
+placed-fresh pins table x t p s h e q = rw (h, e, q)
 
-pub placed-none : (pins table x : ℕ) (s : List ℕ) → 2 ^ pins ≤ maskOf x → placed pins table x s ≡ s
+pub placed-none : (pins table x : ℕ) (s : List ℕ) → fresh pins x ≡ false → placed pins table x s ≡ s
 unfolding placed
-placed-none pins table x s h = rw (le-ltb (maskOf x) (2 ^ pins) h)
+placed-none pins table x s h = rw h
 
 -- ---- from the highest down
 
@@ -70,15 +70,24 @@ passed-down pins table base (suc q) n s l h =
     let b : base + suc q ≡ suc (base + q) = omega arith in
     rw (p, e, b)
 
-pub passed-none : (pins table base n : ℕ) (s : List ℕ) → s ≡ passed pins table (base + n) (n - n) s
+pub passed-none : (pins table x : ℕ) (s : List ℕ) → s ≡ passed pins table x 0 s
 unfolding passed
-passed-none pins table base n s = rw (sub-self n)
+passed-none pins table x s = refl
 
-pub passed-all : (pins table base k n : ℕ) (s : List ℕ) → k ≤ 0 → passed pins table (base + k) (n - k) s ≡ passed pins table base n s
-passed-all pins table base k n s h =
-    let z : k ≡ 0 = omega arith in
-    let e : n - 0 ≡ n = omega arith in
-    rw (z, e, add-zero base)
+-- some, and above them those that are not tried
+pub passed-stale : (pins table x k : ℕ) (s : List ℕ) → ((i : ℕ) → i < k → fresh pins (x + i) ≡ false) → passed pins table x k s ≡ s
+unfolding passed
+passed-stale pins table x zero s h = refl
+passed-stale pins table x (suc k) s h =
+    placed-none pins table x (passed pins table (suc x) k s) (rw add-zero at (h 0 (omega arith)))
+    ∙ passed-stale pins table (suc x) k s (λ i l. subst (λ (y : ℕ). fresh pins y ≡ false) (add-suc x i ∙ sym (suc-add x i)) (h (suc i) (omega arith)))
+
+pub passed-append : (pins table x a b : ℕ) (s : List ℕ) → passed pins table x (a + b) s ≡ passed pins table x a (passed pins table (x + a) b s)
+unfolding passed
+passed-append pins table x zero b s = ap₂ (λ (y n : ℕ). passed pins table y n s) (sym (add-zero x)) (zero-add b)
+passed-append pins table x (suc a) b s =
+    let e : x + suc a ≡ suc x + a = add-suc x a ∙ sym (suc-add x a) in
+    rw (suc-add a b, e) (ap (placed pins table x) (passed-append pins table (suc x) a b s))
 
 pub listed-down : (cells : List Cell) (i : ℕ) (s : List ℕ) → 0 < i → i ≤ length cells
     → cellMatched (cellAt cells (i - 1)) (i - 1) (listMatched (drop i cells) i s) ≡ listMatched (drop (i - 1) cells) (i - 1) s
@@ -106,13 +115,13 @@ pushed-long t x p s =
 
 pub placed-long : (pins table x : ℕ) (s : List ℕ) → length (placed pins table x s) ≡ length s
 unfolding placed
-placed-long pins table x s = go (ltb (maskOf x) (2 ^ pins))
+placed-long pins table x s = go (fresh pins x)
   where
     there : List ℕ
-    there = pushed (variantTable pins table (placesOf (orderOf x)) (maskOf x)) x (pickOf pins (placesOf (orderOf x)) (maskOf x)) s
+    there = pushed (variantTable pins table (placesOf (orderOf x)) (maskOf x)) x (wordOf pins x) s
 
     go : (b : Bool) → length (cond b there s) ≡ length s
-    go true = pushed-long (variantTable pins table (placesOf (orderOf x)) (maskOf x)) x (pickOf pins (placesOf (orderOf x)) (maskOf x)) s
+    go true = pushed-long (variantTable pins table (placesOf (orderOf x)) (maskOf x)) x (wordOf pins x) s
     go false = refl
 
 pub passed-long : (pins table x k : ℕ) (s : List ℕ) → length (passed pins table x k s) ≡ length s
@@ -171,30 +180,30 @@ module _ (t x p : ℕ) (s : List ℕ) (table : t < 65536) (there : pickAddr x < 
 -- what holds after the variants from x on, k of them, and the delays of the lines from `done` on
 record After (cells : List Cell) (done x k : ℕ) (s : List ℕ) : Type 0 where
   long : sheetLong (length cells) ≤ length s
-  listed : (t : ℕ) → t < 65536 → Linked cells s x (getD s t 0) (keep (hasTable cells t) (from x k))
+  listed : (t : ℕ) → t < 65536 → Linked cells s x (getD s t 0) (keep (freshWith cells t) (from x k))
   delayed : (line j : ℕ) → done ≤ line → line < length cells → j < 4 → getD s (delayAddr line j) 0 ≡ delayOf (cellAt cells line .pins) (cellAt cells line .delays) j
 
 module _ (cells : List Cell) (done x k : ℕ) (few : x < 384 * length cells) (fits : length cells ≤ 256) (s : List ℕ) (after : After cells done (suc x) k s) where
-  kept-none : isVariant cells x ≡ false → (t : ℕ) → keep (hasTable cells t) (from x (suc k)) ≡ keep (hasTable cells t) (from (suc x) k)
-  unfolding keep from hasTable
+  kept-none : isFresh cells x ≡ false → (t : ℕ) → keep (freshWith cells t) (from x (suc k)) ≡ keep (freshWith cells t) (from (suc x) k)
+  unfolding keep from freshWith
   kept-none e t =
-      ap (λ (a : Bool). cond (a && eqb t (tableAt cells x)) (x ∷ keep (hasTable cells t) (from (suc x) k)) (keep (hasTable cells t) (from (suc x) k))) e
+      ap (λ (a : Bool). cond (a && eqb t (tableAt cells x)) (x ∷ keep (freshWith cells t) (from (suc x) k)) (keep (freshWith cells t) (from (suc x) k))) e
 
-  kept-other : isVariant cells x ≡ true → (t : ℕ) → eqb t (tableAt cells x) ≡ false → keep (hasTable cells t) (from x (suc k)) ≡ keep (hasTable cells t) (from (suc x) k)
-  unfolding keep from hasTable
+  kept-other : isFresh cells x ≡ true → (t : ℕ) → eqb t (tableAt cells x) ≡ false → keep (freshWith cells t) (from x (suc k)) ≡ keep (freshWith cells t) (from (suc x) k)
+  unfolding keep from freshWith
   kept-other e t q =
-      ap₂ (λ (a b : Bool). cond (a && b) (x ∷ keep (hasTable cells t) (from (suc x) k)) (keep (hasTable cells t) (from (suc x) k))) e q
+      ap₂ (λ (a b : Bool). cond (a && b) (x ∷ keep (freshWith cells t) (from (suc x) k)) (keep (freshWith cells t) (from (suc x) k))) e q
 
-  kept-own : isVariant cells x ≡ true → (t : ℕ) → eqb t (tableAt cells x) ≡ true → keep (hasTable cells t) (from x (suc k)) ≡ x ∷ keep (hasTable cells t) (from (suc x) k)
-  unfolding keep from hasTable
+  kept-own : isFresh cells x ≡ true → (t : ℕ) → eqb t (tableAt cells x) ≡ true → keep (freshWith cells t) (from x (suc k)) ≡ x ∷ keep (freshWith cells t) (from (suc x) k)
+  unfolding keep from freshWith
   kept-own e t q =
-      ap₂ (λ (a b : Bool). cond (a && b) (x ∷ keep (hasTable cells t) (from (suc x) k)) (keep (hasTable cells t) (from (suc x) k))) e q
+      ap₂ (λ (a b : Bool). cond (a && b) (x ∷ keep (freshWith cells t) (from (suc x) k)) (keep (freshWith cells t) (from (suc x) k))) e q
 
-  -- a mask that the cell does not have
-  skipped : isVariant cells x ≡ false → After cells done x (suc k) s
+  -- one that is not tried
+  skipped : isFresh cells x ≡ false → After cells done x (suc k) s
   skipped e = record {
     long = after .long;
-    listed = λ t h. rw (kept-none e t) (linked-lower cells s (suc x) x (getD s t 0) (keep (hasTable cells t) (from (suc x) k)) (omega arith) (after .listed t h));
+    listed = λ t h. rw (kept-none e t) (linked-lower cells s (suc x) x (getD s t 0) (keep (freshWith cells t) (from (suc x) k)) (omega arith) (after .listed t h));
     delayed = after .delayed;
   }
 
@@ -216,15 +225,15 @@ module _ (cells : List Cell) (done x k : ℕ) (few : x < 384 * length cells) (fi
   )
 
   -- another table
-  other : (t : ℕ) → t < 65536 → ¬ (t ≡ tableAt cells x) → Linked cells next x (getD next t 0) (keep (hasTable cells t) (from (suc x) k))
+  other : (t : ℕ) → t < 65536 → ¬ (t ≡ tableAt cells x) → Linked cells next x (getD next t 0) (keep (freshWith cells t) (from (suc x) k))
   unfolding next
   other t h apart =
       rw (pushed-other (tableAt cells x) x (pickAt cells x) s small there t (λ e. omega (arith, e)) apart (λ e. omega (arith, e)))
-      (linked-lower cells (pushed (tableAt cells x) x (pickAt cells x) s) (suc x) x (getD s t 0) (keep (hasTable cells t) (from (suc x) k)) (omega arith)
-      (linked-same cells s (pushed (tableAt cells x) x (pickAt cells x) s) (suc x) (getD s t 0) (keep (hasTable cells t) (from (suc x) k)) alike (after .listed t h)))
+      (linked-lower cells (pushed (tableAt cells x) x (pickAt cells x) s) (suc x) x (getD s t 0) (keep (freshWith cells t) (from (suc x) k)) (omega arith)
+      (linked-same cells s (pushed (tableAt cells x) x (pickAt cells x) s) (suc x) (getD s t 0) (keep (freshWith cells t) (from (suc x) k)) alike (after .listed t h)))
 
   -- the variant's own table
-  own : (t : ℕ) → t ≡ tableAt cells x → Linked cells next x (getD next t 0) (x ∷ keep (hasTable cells t) (from (suc x) k))
+  own : (t : ℕ) → t ≡ tableAt cells x → Linked cells next x (getD next t 0) (x ∷ keep (freshWith cells t) (from (suc x) k))
   unfolding next Linked
   own t e =
       rw e (
@@ -233,10 +242,10 @@ module _ (cells : List Cell) (done x k : ℕ) (few : x < 384 * length cells) (fi
         few,
         pushed-pick (tableAt cells x) x (pickAt cells x) s small there,
         rw (pushed-link (tableAt cells x) x (pickAt cells x) s small there)
-            (linked-same cells s (pushed (tableAt cells x) x (pickAt cells x) s) (suc x) (getD s (tableAt cells x) 0) (keep (hasTable cells (tableAt cells x)) (from (suc x) k)) alike (after .listed (tableAt cells x) small)),
+            (linked-same cells s (pushed (tableAt cells x) x (pickAt cells x) s) (suc x) (getD s (tableAt cells x) 0) (keep (freshWith cells (tableAt cells x)) (from (suc x) k)) alike (after .listed (tableAt cells x) small)),
       )
 
-  put-first : isVariant cells x ≡ true → After cells done x (suc k) next
+  put-first : isFresh cells x ≡ true → After cells done x (suc k) next
   unfolding next
   put-first e = record {
     long = omega (arith, after .long, pushed-long (tableAt cells x) x (pickAt cells x) s);
@@ -248,20 +257,18 @@ module _ (cells : List Cell) (done x k : ℕ) (few : x < 384 * length cells) (fi
         ∙ after .delayed line j d l f;
   }
 
-  masked : isVariant cells x ≡ true → placed (cellAt cells (lineOf x) .pins) (cellAt cells (lineOf x) .table) x s ≡ next
-  unfolding isVariant tableAt pickAt next
-  masked e = placed-mask (cellAt cells (lineOf x) .pins) (cellAt cells (lineOf x) .table) x (tableAt cells x) (pickAt cells x) s
-      (ltb-true (maskOf x) (2 ^ cellAt cells (lineOf x) .pins) e) refl refl
+  tried : isFresh cells x ≡ true → placed (cellAt cells (lineOf x) .pins) (cellAt cells (lineOf x) .table) x s ≡ next
+  unfolding isFresh tableAt pickAt next
+  tried e = placed-fresh (cellAt cells (lineOf x) .pins) (cellAt cells (lineOf x) .table) x (tableAt cells x) (pickAt cells x) s e refl refl
 
-  unmasked : isVariant cells x ≡ false → placed (cellAt cells (lineOf x) .pins) (cellAt cells (lineOf x) .table) x s ≡ s
-  unfolding isVariant
-  unmasked e = placed-none (cellAt cells (lineOf x) .pins) (cellAt cells (lineOf x) .table) x s
-      (ltb-false (maskOf x) (2 ^ cellAt cells (lineOf x) .pins) e)
+  untried : isFresh cells x ≡ false → placed (cellAt cells (lineOf x) .pins) (cellAt cells (lineOf x) .table) x s ≡ s
+  unfolding isFresh
+  untried e = placed-none (cellAt cells (lineOf x) .pins) (cellAt cells (lineOf x) .table) x s e
 
   one-more : After cells done x (suc k) (placed (cellAt cells (lineOf x) .pins) (cellAt cells (lineOf x) .table) x s)
-  one-more = by-bool (isVariant cells x)
-      (λ e. rw (masked e) (put-first e))
-      (λ e. rw (unmasked e) (skipped e))
+  one-more = by-bool (isFresh cells x)
+      (λ e. rw (tried e) (put-first e))
+      (λ e. rw (untried e) (skipped e))
 
 -- ---- the delays
 
@@ -320,7 +327,7 @@ module _ (cells : List Cell) (fits : length cells ≤ 256) where
     long = omega (arith, after .long, timed-long pins delays line s);
     listed = λ t small.
         rw (timed-other pins delays line s within there t (λ j l e. omega (arith, e)))
-        (linked-same cells s (timed pins delays line s) (384 * suc line) (getD s t 0) (keep (hasTable cells t) (from (384 * suc line) k)) alike (after .listed t small));
+        (linked-same cells s (timed pins delays line s) (384 * suc line) (getD s t 0) (keep (freshWith cells t) (from (384 * suc line) k)) alike (after .listed t small));
     delayed = λ l j d i f. by-bool (eqb l line)
         (λ q. rw (eqb-true l line q) (timed-own pins delays line s within there j f))
         (λ q. let apart : ¬ (l ≡ line) = eqb-false l line q in
@@ -354,7 +361,8 @@ module _ (cells : List Cell) (fits : length cells ≤ 256) where
       let o : (384 * line + i) / 384 ≡ line = omega arith in
       let more : After cells line (suc (384 * line + i)) (n + k) (passed (cellAt cells line .pins) (cellAt cells line .table) (suc (384 * line + i)) n s) = rw b (celled line k s h after n (suc i) (omega arith)) in
       rw (suc-add n k)
-      (rw o at (one-more cells line (384 * line + i) (n + k) (omega arith) (omega arith) (passed (cellAt cells line .pins) (cellAt cells line .table) (suc (384 * line + i)) n s) more))
+      (subst (λ (l : ℕ). After cells line (384 * line + i) (suc (n + k)) (placed (cellAt cells l .pins) (cellAt cells l .table) (384 * line + i) (passed (cellAt cells line .pins) (cellAt cells line .table) (suc (384 * line + i)) n s))) o
+      (one-more cells line (384 * line + i) (n + k) (omega arith) (omega arith) (passed (cellAt cells line .pins) (cellAt cells line .table) (suc (384 * line + i)) n s) more))
 
   matched : (line k : ℕ) (s : List ℕ) → line < length cells → After cells (suc line) (384 * suc line) k s
       → After cells line (384 * line) (384 + k) (cellMatched (cellAt cells line) line s)
@@ -380,7 +388,7 @@ module _ (cells : List Cell) (fits : length cells ≤ 256) where
       (all-matched cs (suc line) s (omega arith) (λ i. sym (next-cell c cs i) ∙ same (suc i) ∙ ap (cellAt cells) (add-suc line i ∙ sym (suc-add line i))) long zeros)))
 
   all-sheet : Matchable cells → (s : List ℕ) → Blank (length cells) s → SheetOf cells (listMatched cells 0 s)
-  unfolding variants below
+  unfolding freshOnes below
   all-sheet ready s blank =
       let a = all-matched cells 0 s (zero-add (length cells)) (λ i. ap (cellAt cells) (sym (zero-add i))) (blank .long) (blank .empty) in
       record { matchable = ready; long = a .long; chained = a .listed; delayed = λ line j l f. a .delayed line j (omega arith) l f }

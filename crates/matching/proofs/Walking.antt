@@ -1,11 +1,12 @@
 -- The walk along a chain: what is left of it leads from the best so far to the answer.
 --     swift-arrival       the arrival of a variant, from the sheet
+--     masked-word         the word of a mask, from that of mask 0
 --     walking-within      a head that is not 0 is that of a variant, which may be tried
 --     walking-falls       the next head is nearer to the end
 --     walking-next        the best so far and the variant give the next best
 --     walking-end         at the end the best is the answer; `walking-none`: of an empty chain there is none
 -- Assumes nothing.
-use Prim.Native.Nat.{ℕ, zero, suc, _+_, _-_, _*_, _/_, _%_, _<_, _≤_, max}
+use Prim.Native.Nat.{ℕ, zero, suc, _+_, _-_, _*_, _/_, _%_, _^_, _<_, _≤_, max}
 use mathlib.Core.Path.{_≡_, refl, sym, ap, ap₂, subst, _∙_}
 use mathlib.Core.Bool.{Bool, true, false, cond, not, false≢true}
 use mathlib.Core.List.{List, [], _∷_}
@@ -13,19 +14,22 @@ use native.Mathlib.Nat.{add-zero}
 use native.Mathlib.Omega.{arith}
 use lib.Dec.{eqb, ltb}
 use lib.ListN.{length, getD}
+use lib.Pow.{pow-mono}
 use borrow.Author.Tests.{eqb-true, lt-ltb, le-ltb}
-use Rattle.model.specs.Base.{bit}
+use Rattle.model.specs.Base.{bit, one}
 use Rattle.model.specs.Cells.{cellAt}
 use Rattle.model.specs.Graph.{literal}
 use Rattle.model.specs.declared.Cell.{Cell}
 use Rattle.truth.specs.Variant.{placesOf}
-use Rattle.truth.proofs.Tables.{one-small}
+use Rattle.truth.proofs.Tables.{one-small, one-bit}
 use Rattle.truth.proofs.Nets.{literal-one}
 use Rattle.truth.proofs.Variants.{place-small}
 use Rattle.matching.specs.declared.Best.{Best}
-use Rattle.matching.specs.Variants.{lineOf, orderOf, maskOf, variants}
-use Rattle.matching.specs.Sheet.{linkAddr, pickAddr, delayAddr, pickPin, pickOf, pickAt, delayOf, Linked, SheetOf, isListed}
+use Rattle.matching.specs.Variants.{lineOf, orderOf, maskOf, freshOnes}
+use Rattle.matching.specs.Sheet.{linkAddr, pickAddr, delayAddr, pickPin, pickOf, masked, wordOf, pickAt, delayOf, Linked, SheetOf, isListed}
 use Rattle.matching.specs.Best.{Timely, Triable, unmatched, pinAt, largest, arrivalOf, arrivalAt, waits, swiftAt, better, bestFrom, bestOf}
+use Rattle.matching.proofs.Choosing.{by-less}
+use Rattle.matching.proofs.Fresh.{best-fresh}
 use Rattle.matching.proofs.Linking.{linked-lower}
 
 -- ---- one pin
@@ -106,15 +110,28 @@ module _ (pins : ℕ) (delays : List ℕ) (order mask : ℕ) (times : List ℕ) 
 
 -- ---- the four pins of a variant
 
--- the pick of each pin out of the word
-nibbles : (a b c d : ℕ) → a ≤ 8 → b ≤ 8 → c ≤ 8 → d ≤ 8
-    → ((a + 16 * b + 256 * c + 4096 * d) % 16 ≡ a) × ((a + 16 * b + 256 * c + 4096 * d) / 16 % 16 ≡ b) × ((a + 16 * b + 256 * c + 4096 * d) / 256 % 16 ≡ c)
-    × ((a + 16 * b + 256 * c + 4096 * d) / 4096 % 16 ≡ d)
-nibbles a b c d ha hb hc hd = (omega arith, omega arith, omega arith, omega arith)
+-- the pick of each pin out of the word, and where the delays stand
+nibbles : (a b c d l : ℕ) → a ≤ 8 → b ≤ 8 → c ≤ 8 → d ≤ 8
+    → ((a + 16 * b + 256 * c + 4096 * d + 262144 * l) % 16 ≡ a) × ((a + 16 * b + 256 * c + 4096 * d + 262144 * l) / 16 % 16 ≡ b)
+    × ((a + 16 * b + 256 * c + 4096 * d + 262144 * l) / 256 % 16 ≡ c) × ((a + 16 * b + 256 * c + 4096 * d + 262144 * l) / 4096 % 16 ≡ d)
+    × ((a + 16 * b + 256 * c + 4096 * d + 262144 * l) / 65536 ≡ 4 * l)
+nibbles a b c d l ha hb hc hd = (omega arith, omega arith, omega arith, omega arith, omega arith)
+
+module _ (pins x : ℕ) where
+  pin : ℕ → ℕ
+  pin j = pickPin pins (placesOf (orderOf x)) (maskOf x) j
+
+  pin-small : (j : ℕ) → j < 4 → pin j ≤ 8
+  unfolding pin
+  pin-small j f = pick-small pins (orderOf x) (maskOf x) j (omega arith) f
+
+  word-parts : (wordOf pins x % 16 ≡ pin 0) × (wordOf pins x / 16 % 16 ≡ pin 1) × (wordOf pins x / 256 % 16 ≡ pin 2) × (wordOf pins x / 4096 % 16 ≡ pin 3) × (wordOf pins x / 65536 ≡ 4 * lineOf x)
+  unfolding wordOf pickOf pin
+  word-parts = nibbles (pin 0) (pin 1) (pin 2) (pin 3) (lineOf x) (pin-small 0 (omega arith)) (pin-small 1 (omega arith)) (pin-small 2 (omega arith)) (pin-small 3 (omega arith))
 
 module _ (cells : List Cell) (s times : List ℕ) (sheet : SheetOf cells s) (timely : Timely times) where
   pub swift-arrival : (x : ℕ) → x < 384 * length cells → getD s (pickAddr x) 0 ≡ pickAt cells x → swiftAt s times x ≡ arrivalAt cells times x
-  unfolding swiftAt arrivalAt pickAt pickOf wait
+  unfolding swiftAt arrivalAt pickAt wait pin
   swift-arrival x h e =
       ap (λ (q : ℕ). max (max (waits s times (q % 16) (delayAddr (lineOf x) 0)) (waits s times (q / 16 % 16) (delayAddr (lineOf x) 1)))
       (max (waits s times (q / 256 % 16) (delayAddr (lineOf x) 2)) (waits s times (q / 4096 % 16) (delayAddr (lineOf x) 3)))) e
@@ -127,16 +144,10 @@ module _ (cells : List Cell) (s times : List ℕ) (sheet : SheetOf cells s) (tim
       delays : List ℕ
       delays = cellAt cells (lineOf x) .delays
 
-      pin : ℕ → ℕ
-      pin j = pickPin pins (placesOf (orderOf x)) (maskOf x) j
+      n : (wordOf pins x % 16 ≡ pin pins x 0) × (wordOf pins x / 16 % 16 ≡ pin pins x 1) × (wordOf pins x / 256 % 16 ≡ pin pins x 2) × (wordOf pins x / 4096 % 16 ≡ pin pins x 3) × (wordOf pins x / 65536 ≡ 4 * lineOf x)
+      n = word-parts pins x
 
-      word : ℕ
-      word = pin 0 + 16 * pin 1 + 256 * pin 2 + 4096 * pin 3
-
-      n : (word % 16 ≡ pin 0) × (word / 16 % 16 ≡ pin 1) × (word / 256 % 16 ≡ pin 2) × (word / 4096 % 16 ≡ pin 3)
-      n = nibbles (pin 0) (pin 1) (pin 2) (pin 3) (pick-small pins (orderOf x) (maskOf x) 0 (omega arith) (omega arith)) (pick-small pins (orderOf x) (maskOf x) 1 (omega arith) (omega arith)) (pick-small pins (orderOf x) (maskOf x) 2 (omega arith) (omega arith)) (pick-small pins (orderOf x) (maskOf x) 3 (omega arith) (omega arith))
-
-      one-pin : (j : ℕ) {i : ℕ} → i ≡ pin j → j < 4 → waits s times i (delayAddr (lineOf x) j) ≡ getD times (pin j) 0 + delayOf pins delays j
+      one-pin : (j : ℕ) {i : ℕ} → i ≡ pin pins x j → j < 4 → waits s times i (delayAddr (lineOf x) j) ≡ getD times (pin pins x j) 0 + delayOf pins delays j
       one-pin j e f = ap₂ (λ (i d : ℕ). getD times i 0 + d) e (sheet .delayed (lineOf x) j (omega arith) f)
 
 -- ---- one variant tried
@@ -149,21 +160,32 @@ pub better-strict : (b : Best) (x a : ℕ) → a < b .arrival → better b x a �
 unfolding better
 better-strict b x a h = rw (lt-ltb a (b .arrival) h)
 
-pub brief-first : (s : List ℕ) (x : ℕ) → Triable s x → getD s (65536 + 4 * lineOf x) 0 < 131072
-brief-first s x t = subst (λ (a : ℕ). getD s a 0 < 131072) (add-zero (65536 + 4 * lineOf x)) (t .brief 0 (omega arith))
+module _ (s times : List ℕ) (x : ℕ) (ready : Triable s x) (b : Best) (p : ℕ) (picked : p ≡ getD s (pickAddr x) 0) where
+  -- where the word says that the delays stand
+  led-by : p / 65536 ≡ 4 * lineOf x
+  led-by = ap (λ (q : ℕ). q / 65536) picked ∙ ready .led
 
-module _ (s times : List ℕ) (x : ℕ) (b : Best) (p : ℕ) (picked : p ≡ getD s (pickAddr x) 0) where
+  pub delay-within : 65536 + p / 65536 + 3 < length s
+  delay-within = omega (arith, led-by, ready .within, ready .there)
+
+  pub brief-at : (j : ℕ) → j < 4 → getD s (65536 + p / 65536 + j) 0 < 131072
+  brief-at j f = subst (λ (d : ℕ). getD s (65536 + d + j) 0 < 131072) (sym led-by) (ready .brief j f)
+
+  pub brief-first : getD s (65536 + p / 65536) 0 < 131072
+  brief-first = subst (λ (a : ℕ). getD s a 0 < 131072) (add-zero (65536 + p / 65536)) (brief-at 0 (omega arith))
+
   -- what the four pins wait for
   abbrev pub Four : ℕ → ℕ → ℕ → ℕ → Type 0
   Four t u v w =
-      (t ≡ waits s times (p % 16) (65536 + 4 * lineOf x)) × (u ≡ waits s times (p / 16 % 16) (65536 + 4 * lineOf x + 1))
-      × (v ≡ waits s times (p / 256 % 16) (65536 + 4 * lineOf x + 2)) × (w ≡ waits s times (p / 4096 % 16) (65536 + 4 * lineOf x + 3))
+      (t ≡ waits s times (p % 16) (65536 + p / 65536)) × (u ≡ waits s times (p / 16 % 16) (65536 + p / 65536 + 1))
+      × (v ≡ waits s times (p / 256 % 16) (65536 + p / 65536 + 2)) × (w ≡ waits s times (p / 4096 % 16) (65536 + p / 65536 + 3))
 
   four-swift : (t u v w : ℕ) → Four t u v w → max (max t u) (max v w) ≡ swiftAt s times x
   unfolding swiftAt
   four-swift t u v w f =
-      let e : 65536 + 4 * lineOf x ≡ delayAddr (lineOf x) 0 = sym (add-zero (65536 + 4 * lineOf x)) in
-      ap₂ max (ap₂ max (f .0 ∙ ap (waits s times (p % 16)) e) (f .1)) (ap₂ max (f .2) (f .3))
+      let e : 65536 + p / 65536 ≡ delayAddr (lineOf x) 0 = ap (λ (d : ℕ). 65536 + d) led-by ∙ sym (add-zero (65536 + 4 * lineOf x)) in
+      ap₂ max (ap₂ max (f .0 ∙ ap (waits s times (p % 16)) e) (f .1 ∙ ap (λ (d : ℕ). waits s times (p / 16 % 16) (65536 + d + 1)) led-by))
+      (ap₂ max (f .2 ∙ ap (λ (d : ℕ). waits s times (p / 256 % 16) (65536 + d + 2)) led-by) (f .3 ∙ ap (λ (d : ℕ). waits s times (p / 4096 % 16) (65536 + d + 3)) led-by))
       ∙ ap (λ (q : ℕ). max (max (waits s times (q % 16) (delayAddr (lineOf x) 0)) (waits s times (q / 16 % 16) (delayAddr (lineOf x) 1)))
       (max (waits s times (q / 256 % 16) (delayAddr (lineOf x) 2)) (waits s times (q / 4096 % 16) (delayAddr (lineOf x) 3)))) picked
 
@@ -196,6 +218,16 @@ unfolding Linked
 within cells s h [] k l = absurd (omega (arith, k))
 within cells s h (x ∷ xs) k l = omega (arith, k .0, k .2)
 
+-- and its word
+worded : (cells : List Cell) (s : List ℕ) (h : ℕ) (rest : List ℕ) → Linked cells s 0 h rest → 0 < h → getD s (pickAddr (h - 1)) 0 ≡ pickAt cells (h - 1)
+unfolding Linked
+worded cells s h [] k l = absurd (omega (arith, k))
+worded cells s h (x ∷ xs) k l = let p : h - 1 ≡ x = omega (arith, k .0) in rw p (k .3)
+
+led-to : (cells : List Cell) (s : List ℕ) (x : ℕ) → getD s (pickAddr x) 0 ≡ pickAt cells x → getD s (pickAddr x) 0 / 65536 ≡ 4 * lineOf x
+unfolding pickAt
+led-to cells s x e = ap (λ (q : ℕ). q / 65536) e ∙ word-parts (cellAt cells (lineOf x) .pins) x .4
+
 falls : (cells : List Cell) (s : List ℕ) (h : ℕ) (rest : List ℕ) → Linked cells s 0 h rest → 0 < h → 384 * length cells ≤ 98304 → togo (getD s (linkAddr (h - 1)) 0) < togo h
 unfolding Linked togo
 falls cells s h [] k l few = absurd (omega (arith, k))
@@ -217,6 +249,7 @@ module _ (cells : List Cell) (times : List ℕ) (answer : Best) (s : List ℕ) (
       record {
         within = omega (arith, k, sheet .matchable .few);
         there = omega (arith, k, sheet .long);
+        led = led-to cells s (h - 1) (worded cells s h (w .0) (w .1) l);
         brief = λ j f. rw (sheet .delayed (lineOf (h - 1)) j (omega arith) f)
             (delay-brief (cellAt cells (lineOf (h - 1)) .pins) (cellAt cells (lineOf (h - 1)) .delays) j (sheet .matchable .delays (lineOf (h - 1)) j));
       }
@@ -247,8 +280,7 @@ module _ (cells : List Cell) (times : List ℕ) (answer : Best) (s : List ℕ) (
 -- the walk begins
 pub walking-first : (cells : List Cell) (s : List ℕ) (f : ℕ) (times : List ℕ) → SheetOf cells s → f < 65536
     → Walking cells times (bestOf cells f times) s (getD s f 0) unmatched
-unfolding bestOf
-walking-first cells s f times sheet small = (variants cells f, sheet .chained f small, refl)
+walking-first cells s f times sheet small = (freshOnes cells f, sheet .chained f small, best-fresh cells times f (sheet .matchable .pins))
 
 -- a table that is no variant's
 pub walking-none : (cells : List Cell) (s : List ℕ) (f : ℕ) (times : List ℕ) → SheetOf cells s → f < 65536 → isListed s f ≡ false → unmatched ≡ bestOf cells f times
@@ -259,3 +291,43 @@ walking-none cells s f times sheet small e =
     head : (t : Bool) → eqb (getD s f 0) 0 ≡ t → isListed s f ≡ false → getD s f 0 ≡ 0
     head true q h = eqb-true (getD s f 0) 0 q
     head false q h = absurd (false≢true (sym h ∙ ap not q))
+
+-- ---- the word of a mask
+
+-- pin j's phase is bit j of the mask
+pick-masked : (pins : ℕ) (places : List ℕ) (mask j : ℕ) → one (bit 0 j) ≡ 0 → (pins ≤ j → mask / 2 ^ j ≡ 0) → pickPin pins places mask j ≡ pickPin pins places 0 j + mask / 2 ^ j % 2
+pick-masked pins places mask j none past = by-less j pins
+    (λ l. omega (
+      arith,
+      pick-there pins places mask j (literal (bit mask j) (getD places j 0)) l refl,
+      pick-there pins places 0 j (literal (bit 0 j) (getD places j 0)) l refl,
+      literal-one (bit mask j) (getD places j 0),
+      literal-one (bit 0 j) (getD places j 0),
+      one-bit mask j,
+      none,
+    ))
+    (λ l. omega (arith, pick-absent pins places mask j l, pick-absent pins places 0 j l, past l))
+
+pub masked-word : (pins : ℕ) (places : List ℕ) (mask line : ℕ) → mask < 2 ^ pins → masked (pickOf pins places 0 + 262144 * line) mask ≡ pickOf pins places mask + 262144 * line
+unfolding masked pickOf one bit
+masked-word pins places mask line h =
+    let small : (j : ℕ) → pins ≤ j → mask < 2 ^ j = λ j l. omega (arith, pow-mono {i = pins} {j = j} l) in
+    omega (
+      arith,
+      pick-masked pins places mask 0 refl (λ l. omega (arith, small 0 l)),
+      pick-masked pins places mask 1 refl (λ l. omega (arith, small 1 l)),
+      pick-masked pins places mask 2 refl (λ l. omega (arith, small 2 l)),
+      pick-masked pins places mask 3 refl (λ l. omega (arith, small 3 l)),
+    )
+
+pub pick-first : (pins : ℕ) (places : List ℕ) (j : ℕ) → j < pins → j < 4 → 2 * getD places j 0 ≡ pickPin pins places 0 j
+unfolding one bit
+pick-first pins places j l f =
+    omega (arith, pick-there pins places 0 j (literal (bit 0 j) (getD places j 0)) l refl, literal-one (bit 0 j) (getD places j 0), none j f)
+  where
+    none : (j : ℕ) → j < 4 → one (bit 0 j) ≡ 0
+    none zero f = refl
+    none (suc zero) f = refl
+    none (suc (suc zero)) f = refl
+    none (suc (suc (suc zero))) f = refl
+    none (suc (suc (suc (suc j)))) f = absurd (omega arith)

@@ -1,5 +1,5 @@
 -- The best match of a cut, over the arrivals of its leaves. Assumes nothing.
-use Prim.Native.Nat.{ℕ, zero, suc, _+_, _/_, _%_, _≤_, _<_, max}
+use Prim.Native.Nat.{ℕ, zero, suc, _+_, _*_, _/_, _%_, _≤_, _<_, max}
 use mathlib.Core.Path.{_≡_}
 use mathlib.Core.Bool.{Bool, cond}
 use mathlib.Core.List.{List, [], _∷_}
@@ -77,10 +77,11 @@ swiftAt s times x =
     max (max (waits s times (p % 16) (delayAddr (lineOf x) 0)) (waits s times (p / 16 % 16) (delayAddr (lineOf x) 1)))
     (max (waits s times (p / 256 % 16) (delayAddr (lineOf x) 2)) (waits s times (p / 4096 % 16) (delayAddr (lineOf x) 3)))
 
--- what a try of variant x asks: its words are there, and a delay of its cell may be added to an arrival
+-- what a try of variant x asks: its words are there, they say where its cell's delays stand, and such a delay may be added to an arrival
 pub record Triable (s : List ℕ) (x : ℕ) : Type 0 where
   pub within : x < 98304
   pub there : pickAddr x < length s
+  pub led : getD s (pickAddr x) 0 / 65536 ≡ 4 * lineOf x
   pub brief : (j : ℕ) → j < 4 → getD s (delayAddr (lineOf x) j) 0 < 131072
 
 -- ---- the best of several

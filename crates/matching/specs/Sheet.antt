@@ -1,7 +1,7 @@
 -- The sheet: all that a match asks of the cells, once for each library. It has, by table, the head of the chain of the variants that have the
--- table; by cell, its delays; by variant, the next one of its chain and what feeds its pins. What the variants have stands last, so that a shorter
--- sheet serves fewer cells. Assumes nothing.
-use Prim.Native.Nat.{ℕ, zero, suc, _+_, _*_, _^_, _≤_, _<_}
+-- table; by cell, its delays; by variant, the next one of its chain, what feeds its pins and where its cell's delays stand. What the variants have
+-- stands last, so that a shorter sheet serves fewer cells. Assumes nothing.
+use Prim.Native.Nat.{ℕ, zero, suc, _+_, _*_, _/_, _%_, _≤_, _<_}
 use mathlib.Core.Path.{_≡_}
 use mathlib.Core.Bool.{Bool, cond, not}
 use mathlib.Core.List.{List, [], _∷_}
@@ -12,7 +12,7 @@ use Rattle.model.specs.Cells.{cellAt}
 use Rattle.model.specs.Graph.{literal}
 use Rattle.model.specs.declared.Cell.{Cell}
 use Rattle.truth.specs.Variant.{placesOf, variantTable}
-use Rattle.matching.specs.Variants.{Matchable, lineOf, orderOf, maskOf, variants}
+use Rattle.matching.specs.Variants.{Matchable, lineOf, orderOf, maskOf, fresh, freshOnes}
 
 -- ---- what lies where: 65,536 heads, 256 times 4 delays, and for each variant its link and its pick, 384 times 2 for each cell
 
@@ -43,10 +43,18 @@ unfolding pickPin
 pickOf pins places mask =
     pickPin pins places mask 0 + 16 * pickPin pins places mask 1 + 256 * pickPin pins places mask 2 + 4096 * pickPin pins places mask 3
 
--- the pick of a variant
+-- a word of mask 0 with the phases of a mask: the negative arrival of a leaf stands behind the positive one
+unfoldable pub masked : ℕ → ℕ → ℕ
+masked word mask = word + mask % 2 + 16 * (mask / 2 % 2) + 256 * (mask / 4 % 2) + 4096 * (mask / 8 % 2)
+
+-- the same of a variant of a cell with so many pins, and above it how far behind the first delay its cell's delays stand
+unfoldable pub wordOf : ℕ → ℕ → ℕ
+unfolding pickOf
+wordOf pins x = pickOf pins (placesOf (orderOf x)) (maskOf x) + 262144 * lineOf x
+
 unfoldable pub pickAt : List Cell → ℕ → ℕ
-unfolding pickOf cellAt
-pickAt cells x = pickOf (cellAt cells (lineOf x) .pins) (placesOf (orderOf x)) (maskOf x)
+unfolding wordOf cellAt
+pickAt cells x = wordOf (cellAt cells (lineOf x) .pins) x
 
 -- the delay of pin j, none for an absent pin
 unfoldable pub delayOf : ℕ → List ℕ → ℕ → ℕ
@@ -58,12 +66,12 @@ delayOf pins delays j = cond (ltb j pins) (getD delays j 0) 0
 unfoldable pub pushed : ℕ → ℕ → ℕ → List ℕ → List ℕ
 pushed t x p s = set (set (set s (linkAddr x) (getD s t 0)) t (x + 1)) (pickAddr x) p
 
--- variant x of a cell at the head of the chain of its table, if its mask is one
+-- variant x of a cell at the head of the chain of its table, if it is one that is tried
 unfoldable pub placed : ℕ → ℕ → ℕ → List ℕ → List ℕ
-unfolding pushed variantTable pickOf
+unfolding pushed variantTable wordOf fresh
 placed pins table x s =
-    let there = pushed (variantTable pins table (placesOf (orderOf x)) (maskOf x)) x (pickOf pins (placesOf (orderOf x)) (maskOf x)) s in
-    cond (ltb (maskOf x) (2 ^ pins)) there s
+    let there = pushed (variantTable pins table (placesOf (orderOf x)) (maskOf x)) x (wordOf pins x) s in
+    cond (fresh pins x) there s
 
 -- the variants from x on, k of them, from the highest down
 unfoldable pub passed : ℕ → ℕ → ℕ → ℕ → List ℕ → List ℕ
@@ -78,7 +86,7 @@ timed pins delays line s =
     set (set (set (set s (delayAddr line 0) (delayOf pins delays 0)) (delayAddr line 1) (delayOf pins delays 1)) (delayAddr line 2) (delayOf pins delays 2))
     (delayAddr line 3) (delayOf pins delays 3)
 
--- a cell matched: its delays, and each of its variants on the chain of its table
+-- a cell matched: its delays, and its variants on the chains of their tables
 unfoldable pub cellMatched : Cell → ℕ → List ℕ → List ℕ
 unfolding passed timed
 cellMatched c line s = passed (c .pins) (c .table) (384 * line) 384 (timed (c .pins) (c .delays) line s)
@@ -98,11 +106,11 @@ Linked cells s low h [] = h ≡ 0
 Linked cells s low h (x ∷ xs) =
     (h ≡ x + 1) × (low ≤ x) × (x < 384 * length cells) × (getD s (pickAddr x) 0 ≡ pickAt cells x) × Linked cells s (suc x) (getD s (linkAddr x) 0) xs
 
--- the chain of each table lists the variants that have it, ascending; the delays are the cells'
+-- the chain of each table lists the variants that have it and are tried, ascending; the delays are the cells'
 pub record SheetOf (cells : List Cell) (s : List ℕ) : Type 0 where
   pub matchable : Matchable cells
   pub long : sheetLong (length cells) ≤ length s
-  pub chained : (t : ℕ) → t < 65536 → Linked cells s 0 (getD s t 0) (variants cells t)
+  pub chained : (t : ℕ) → t < 65536 → Linked cells s 0 (getD s t 0) (freshOnes cells t)
   pub delayed : (line j : ℕ) → line < length cells → j < 4 → getD s (delayAddr line j) 0 ≡ delayOf (cellAt cells line .pins) (cellAt cells line .delays) j
 
 -- whether a table is some variant's

@@ -1,5 +1,5 @@
 -- A cell line, an order and a mask as one number, in 01's order: "cell line, order number, mask, lowest first". Assumes nothing.
-use Prim.Native.Nat.{ℕ, _*_, _/_, _%_, _^_, _≤_, _<_}
+use Prim.Native.Nat.{ℕ, zero, suc, _*_, _/_, _%_, _^_, _≤_, _<_}
 use mathlib.Core.Path.{_≡_}
 use mathlib.Core.Bool.{Bool, _&&_}
 use mathlib.Core.List.{List}
@@ -65,6 +65,34 @@ hasTable cells t x = isVariant cells x && eqb t (tableAt cells x)
 unfoldable pub variants : List Cell → ℕ → List ℕ
 unfolding keep below hasTable
 variants cells t = keep (hasTable cells t) (below (384 * length cells))
+
+-- ---- those that are tried
+
+-- "The 24 orders of places 0 to 3 stand in lexicographic order": so those that give a cell's pins the same places stand side by side, as many as the places
+-- that are left have orders
+unfoldable pub runOf : ℕ → ℕ
+runOf zero = 24
+runOf (suc zero) = 6
+runOf (suc (suc zero)) = 2
+runOf (suc (suc (suc pins))) = 1
+
+-- the first of each run is enough: the others have its table and its arrival, and come later
+unfoldable pub fresh : ℕ → ℕ → Bool
+unfolding runOf
+fresh pins x = ltb (maskOf x) (2 ^ pins) && eqb (orderOf x % runOf pins) 0
+
+unfoldable pub isFresh : List Cell → ℕ → Bool
+unfolding cellAt fresh
+isFresh cells x = fresh (cellAt cells (lineOf x) .pins) x
+
+unfoldable pub freshWith : List Cell → ℕ → ℕ → Bool
+unfolding isFresh tableAt
+freshWith cells t x = isFresh cells x && eqb t (tableAt cells x)
+
+-- those of the table t, lowest first
+unfoldable pub freshOnes : List Cell → ℕ → List ℕ
+unfolding keep below freshWith
+freshOnes cells t = keep (freshWith cells t) (below (384 * length cells))
 
 -- "pin j's place is below the number of leaves for each j < m", of variant x
 unfoldable pub placesAt : List Cell → ℕ → ℕ → Bool

@@ -1,7 +1,8 @@
 // The best match on a cut of the cells to map with, listed ones and pairs. Each cell's number, order and mask is one number, a variant:
 // (cell * 24 + order) * 16 + mask. Once for each library every variant is put on the chain of its 16-row table, so that a cut looks up its own table
-// and walks the variants that have it, in 01's order: "cell line, order number, mask, lowest first". The chains, what feeds each variant's pins and the
-// cells' delays are one sheet of lent words: what lies where is said by specs/Sheet.antt.
+// and walks the variants that have it, in 01's order: "cell line, order number, mask, lowest first". Left out is one whose order gives the cell's pins
+// the places that the order before gave them: it is never strictly earlier. The chains, what feeds each variant's pins and the cells' delays are one
+// sheet of lent words: what lies where is said by specs/Sheet.antt.
 use model::Cell;
 use model::Library;
 use model::Match;
@@ -9,14 +10,14 @@ use model::Phase;
 use model::Source;
 ghost use mathlib.Core.Path.{_≡_};
 ghost use mathlib.Core.List.{List};
-ghost use Prim.Native.Nat.{ℕ, _+_, _*_, _<_, _≤_, max};
+ghost use Prim.Native.Nat.{ℕ, _+_, _*_, _%_, _<_, _≤_, max};
 ghost use lib.ListN.{length, drop, getD};
 ghost use Rattle.model.specs.Cells.{cellAt, cellsOf};
 ghost use Rattle.model.specs.declared.Cell.{Cell};
-ghost use Rattle.truth.specs.Variant.{placesOf};
+ghost use Rattle.truth.specs.Variant.{placesOf, variantTable};
 ghost use Rattle.pairs.specs.Codes.{cellsBy, Coded};
-ghost use Rattle.matching.specs.Variants.{Usable, matchOf};
-ghost use Rattle.matching.specs.Sheet.{pickAddr, sheetLong, pickPin, pickOf, delayOf, pushed, placed, passed, timed, cellMatched, listMatched, SheetOf, isListed, Blank};
+ghost use Rattle.matching.specs.Variants.{Usable, matchOf, runOf};
+ghost use Rattle.matching.specs.Sheet.{pickAddr, sheetLong, pickPin, pickOf, masked, delayOf, pushed, passed, timed, cellMatched, listMatched, SheetOf, isListed, Blank};
 ghost use Rattle.matching.specs.Best.{never, Timely, waits, Triable, swiftAt, better, bestOf, phaseAs};
 ghost use Rattle.matching.specs.Inverters.{quicker, tried, inverterOf};
 
@@ -73,41 +74,72 @@ fn push(t: u16, x: usize, p: u32, sheet: &mut [u32])
     sheet[at + 1] = p;
 }
 
-// Where the arrival that pin j waits for stands among a cut's: "each pin needing its leaf in the mask's phase". An absent pin waits for none.
-fn pick_pin(pins: u16, order: usize, mask: usize, j: usize) -> usize
+// Where the positive arrival of the leaf at pin j stands among a cut's. An absent pin waits for none.
+fn pick_pin(pins: u16, order: usize, j: usize) -> usize
     requires { ⌜ (order < 24) × (j < 4) ⌝ }
-    ensures { λ r. ⌜ (r ≡ pickPin pins (placesOf order) mask j) × (r ≤ 8) ⌝ }
+    ensures { λ r. ⌜ (r ≡ pickPin pins (placesOf order) 0 j) × (r ≤ 8) ⌝ }
 {
     if j < pins as usize {
-        truth::masked(truth::place(order, j), mask, j)
+        2 * truth::place(order, j)
     } else {
         8
     }
 }
 
-// Those of the four pins in one word.
-fn pick(pins: u16, order: usize, mask: usize) -> u32
-    requires { ⌜ order < 24 ⌝ }
-    ensures { λ r. ⌜ r ≡ pickOf pins (placesOf order) mask ⌝ }
+// Those of the four pins in one word, and above them where the delays of the line's cell stand.
+fn first_word(pins: u16, line: usize, order: usize) -> usize
+    requires { ⌜ (line < 256) × (order < 24) ⌝ }
+    ensures { λ r. ⌜ (r ≡ pickOf pins (placesOf order) 0 + 262144 * line) × (r < 134217728) ⌝ }
 {
-    let a = pick_pin(pins, order, mask, 0);
-    let b = pick_pin(pins, order, mask, 1);
-    let c = pick_pin(pins, order, mask, 2);
-    let d = pick_pin(pins, order, mask, 3);
-    (a + 16 * b + 256 * c + 4096 * d) as u32
+    let a = pick_pin(pins, order, 0);
+    let b = pick_pin(pins, order, 1);
+    let c = pick_pin(pins, order, 2);
+    let d = pick_pin(pins, order, 3);
+    a + 16 * b + 256 * c + 4096 * d + 262144 * line
 }
 
-// A variant of a cell, if its mask has "no bit at or above m".
-fn put(pins: u16, table: u16, x: usize, sheet: &mut [u32])
-    requires { ⌜ (pins ≤ 4) × (x < 98304) × (pickAddr x < length (now sheet)) ⌝ }
-    ensures { λ _. ⌜ now (sheet .exit) ≡ placed pins table x (now (sheet .entry)) ⌝ }
+// The word of a mask, from that of mask 0: "each pin needing its leaf in the mask's phase", whose negative arrival stands behind the positive one.
+fn with_mask(word: usize, mask: usize) -> u32
+    requires { ⌜ (word < 134217728) × (mask < 16) ⌝ }
+    ensures { λ r. ⌜ r ≡ masked word mask ⌝ }
 {
-    let order = x / 16 % 24;
-    let mask = x % 16;
-    if mask < (1 << pins) {
-        let t = truth::variant_table(pins, table, order, mask);
-        push(t, x, pick(pins, order, mask), sheet);
+    (word + mask % 2 + 16 * (mask / 2 % 2) + 256 * (mask / 4 % 2) + 4096 * (mask / 8 % 2)) as u32
+}
+
+// Variant x of a cell, of this order and this mask, on the chain of its table; `word` is that of mask 0.
+fn put(pins: u16, table: u16, order: usize, mask: usize, x: usize, word: usize, sheet: &mut [u32])
+    requires { ⌜ (pins ≤ 4) × (order < 24) × (mask < 16) × (x < 98304) × (pickAddr x < length (now sheet)) × (word < 134217728) ⌝ }
+    ensures { λ _. ⌜ now (sheet .exit) ≡ pushed (variantTable pins table (placesOf order) mask) x (masked word mask) (now (sheet .entry)) ⌝ }
+{
+    let t = truth::variant_table(pins, table, order, mask);
+    push(t, x, with_mask(word, mask), sheet);
+}
+
+// The variants of a cell and an order, from the highest mask that has "no bit at or above m" down, so that the chains ascend.
+fn put_order(pins: u16, table: u16, line: usize, order: usize, sheet: &mut [u32])
+    requires { ⌜ (pins ≤ 4) × (line < 256) × (order < 24) × (order % runOf pins ≡ 0) × (sheetLong (line + 1) ≤ length (now sheet)) ⌝ }
+    ensures { λ _. ⌜ now (sheet .exit) ≡ passed pins table (384 * line + 16 * order) 16 (now (sheet .entry)) ⌝ }
+{
+    let word = first_word(pins, line, order);
+    let x = 384 * line + 16 * order;
+    let mut mask: usize = 1 << pins;
+    while mask > 0 {
+        mask -= 1;
+        put(pins, table, order, mask, x + mask, word, sheet);
     }
+}
+
+// How many orders side by side give a cell's pins the same places.
+fn run_of(pins: u16) -> usize
+    ensures { λ r. ⌜ r ≡ runOf pins ⌝ }
+{
+    if pins > 2 {
+        return 1;
+    }
+    if pins == 2 {
+        return 2;
+    }
+    if pins == 1 { 6 } else { 24 }
 }
 
 // The delay of pin j, none for an absent pin.
@@ -129,19 +161,20 @@ fn put_delays(pins: u16, delays: [u32; 4], line: usize, sheet: &mut [u32])
     sheet[at + 3] = delay_of(pins, delays, 3);
 }
 
-// The variants of a cell, from the highest number down, so that the chains ascend.
+// The variants of a cell, from the highest order down, of each run of orders the first.
 fn put_variants(pins: u16, table: u16, line: usize, sheet: &mut [u32])
     requires { ⌜ (pins ≤ 4) × (line < 256) × (sheetLong (line + 1) ≤ length (now sheet)) ⌝ }
     ensures { λ _. ⌜ now (sheet .exit) ≡ passed pins table (384 * line) 384 (now (sheet .entry)) ⌝ }
 {
-    let mut k: usize = 384;
-    while k > 0 {
-        k -= 1;
-        put(pins, table, 384 * line + k, sheet);
+    let run = run_of(pins);
+    let mut order: usize = 24;
+    while order > 0 {
+        order -= run;
+        put_order(pins, table, line, order, sheet);
     }
 }
 
-// One cell matched: its delays, and each of its variants on the chain of its table.
+// One cell matched: its delays, and its variants on the chains of their tables.
 fn match_parts(pins: u16, table: u16, delays: [u32; 4], line: usize, sheet: &mut [u32])
     requires { ⌜ (pins ≤ 4) × (line < 256) × (sheetLong (line + 1) ≤ length (now sheet)) ⌝ }
     ensures { λ _. ⌜ now (sheet .exit) ≡ passed pins table (384 * line) 384 (timed pins delays line (now (sheet .entry))) ⌝ }
@@ -247,7 +280,7 @@ fn try_variant(sheet: &[u32], times: &[u32; 16], x: usize, b: Best) -> Best
     ensures { λ r. ⌜ r ≡ better b x (swiftAt (now (sheet .entry)) (now (times .entry)) x) ⌝ }
 {
     let s = wide(sheet[VARIANTS + 2 * x + 1]);
-    let at = DELAYS + 4 * (x / 384);
+    let at = DELAYS + s / 65536;
     let t = pin_time(sheet, times, s % 16, at);
     if b.arrival <= t {
         return b;

@@ -5,7 +5,7 @@ use Prim.Native.Nat.{ℕ, _+_, _*_, _/_, _%_, _<_, max}
 use native.Mathlib.Omega.{arith}
 use lib.ListN.{getD}
 use Rattle.matching.specs.Best.{waits}
-use Rattle.matching.proofs.Walking.{brief-first, one-late, all-early}
+use Rattle.matching.proofs.Walking.{delay-within, brief-at, brief-first, one-late, all-early}
 use borrow.Author.Needs.{needs}
 use Rattle.matching.proofs.try_variant.Statement.{statement}
 use Rattle.matching.proofs.try_variant.Tie as tie
@@ -31,16 +31,16 @@ shared-slice-read-wide c = search needs
 wide-requires : tie.Need-wide-requires
 wide-requires c κs = search needs
 
-mul-at : tie.Need-mul-at
-mul-at c = search needs
-
 add-at : tie.Need-add-at
 add-at c = search needs
 
 pin-time-requires : tie.Need-pin-time-requires
 pin-time-requires c κs =
     let s = c .before .before .before in
-    (omega arith, omega (arith, s .pre .0 .within, s .pre .0 .there), brief-first (s .args .sheet .now) (s .args .x) (s .pre .0), s .pre .1)
+    let a = s .args in
+    let p : ℕ = c .wide .result in
+    let picked : p ≡ getD (a .sheet .now) (66560 + 2 * a .x + 1) 0 = c .wide .ensures in
+    (omega arith, omega (arith, delay-within (a .sheet .now) (a .times .now) (a .x) (s .pre .0) (a .b) p picked), brief-first (a .sheet .now) (a .times .now) (a .x) (s .pre .0) (a .b) p picked, s .pre .1)
 
 returns : tie.Need-returns
 returns c =
@@ -48,7 +48,7 @@ returns c =
     let a = s .args in
     let p : ℕ = c .before .before .before .wide .result in
     let picked : p ≡ getD (a .sheet .now) (66560 + 2 * a .x + 1) 0 = c .before .before .before .wide .ensures in
-    one-late (a .sheet .now) (a .times .now) (a .x) (a .b) p picked (c .before .before .pin-time .result) (waits (a .sheet .now) (a .times .now) (p / 16 % 16) (65536 + 4 * (a .x / 384) + 1)) (waits (a .sheet .now) (a .times .now) (p / 256 % 16) (65536 + 4 * (a .x / 384) + 2)) (waits (a .sheet .now) (a .times .now) (p / 4096 % 16) (65536 + 4 * (a .x / 384) + 3)) (c .before .before .pin-time .ensures, refl, refl, refl) (omega (arith, c .if1 .taken))
+    one-late (a .sheet .now) (a .times .now) (a .x) (s .pre .0) (a .b) p picked (c .before .before .pin-time .result) (waits (a .sheet .now) (a .times .now) (p / 16 % 16) (65536 + p / 65536 + 1)) (waits (a .sheet .now) (a .times .now) (p / 256 % 16) (65536 + p / 65536 + 2)) (waits (a .sheet .now) (a .times .now) (p / 4096 % 16) (65536 + p / 65536 + 3)) (c .before .before .pin-time .ensures, refl, refl, refl) (omega (arith, c .if1 .taken))
 
 add-pin-time : tie.Need-add-pin-time
 add-pin-time c = search needs
@@ -56,7 +56,10 @@ add-pin-time c = search needs
 pin-time-requires-2 : tie.Need-pin-time-requires-2
 pin-time-requires-2 c κs =
     let s = c .before .before .before .before .before .before in
-    (omega arith, omega (arith, s .pre .0 .within, s .pre .0 .there), s .pre .0 .brief 1 (omega arith), s .pre .1)
+    let a = s .args in
+    let p : ℕ = c .before .before .before .wide .result in
+    let picked : p ≡ getD (a .sheet .now) (66560 + 2 * a .x + 1) 0 = c .before .before .before .wide .ensures in
+    (omega arith, omega (arith, delay-within (a .sheet .now) (a .times .now) (a .x) (s .pre .0) (a .b) p picked), brief-at (a .sheet .now) (a .times .now) (a .x) (s .pre .0) (a .b) p picked 1 (omega arith), s .pre .1)
 
 returns-2 : tie.Need-returns-2
 returns-2 c =
@@ -64,7 +67,7 @@ returns-2 c =
     let a = s .args in
     let p : ℕ = c .before .before .before .before .before .before .wide .result in
     let picked : p ≡ getD (a .sheet .now) (66560 + 2 * a .x + 1) 0 = c .before .before .before .before .before .before .wide .ensures in
-    one-late (a .sheet .now) (a .times .now) (a .x) (a .b) p picked (c .before .before .before .before .before .pin-time .result) (c .before .before .pin-time2 .result) (waits (a .sheet .now) (a .times .now) (p / 256 % 16) (65536 + 4 * (a .x / 384) + 2)) (waits (a .sheet .now) (a .times .now) (p / 4096 % 16) (65536 + 4 * (a .x / 384) + 3)) (c .before .before .before .before .before .pin-time .ensures, c .before .before .pin-time2 .ensures, refl, refl) (omega (arith, c .if2 .taken))
+    one-late (a .sheet .now) (a .times .now) (a .x) (s .pre .0) (a .b) p picked (c .before .before .before .before .before .pin-time .result) (c .before .before .pin-time2 .result) (waits (a .sheet .now) (a .times .now) (p / 256 % 16) (65536 + p / 65536 + 2)) (waits (a .sheet .now) (a .times .now) (p / 4096 % 16) (65536 + p / 65536 + 3)) (c .before .before .before .before .before .pin-time .ensures, c .before .before .pin-time2 .ensures, refl, refl) (omega (arith, c .if2 .taken))
 
 add-pin-time-2 : tie.Need-add-pin-time-2
 add-pin-time-2 c = search needs
@@ -72,7 +75,10 @@ add-pin-time-2 c = search needs
 pin-time-requires-3 : tie.Need-pin-time-requires-3
 pin-time-requires-3 c κs =
     let s = c .before .before .before .before .before .before .before .before .before in
-    (omega arith, omega (arith, s .pre .0 .within, s .pre .0 .there), s .pre .0 .brief 2 (omega arith), s .pre .1)
+    let a = s .args in
+    let p : ℕ = c .before .before .before .before .before .before .wide .result in
+    let picked : p ≡ getD (a .sheet .now) (66560 + 2 * a .x + 1) 0 = c .before .before .before .before .before .before .wide .ensures in
+    (omega arith, omega (arith, delay-within (a .sheet .now) (a .times .now) (a .x) (s .pre .0) (a .b) p picked), brief-at (a .sheet .now) (a .times .now) (a .x) (s .pre .0) (a .b) p picked 2 (omega arith), s .pre .1)
 
 returns-3 : tie.Need-returns-3
 returns-3 c =
@@ -80,7 +86,7 @@ returns-3 c =
     let a = s .args in
     let p : ℕ = c .before .before .before .before .before .before .before .before .before .wide .result in
     let picked : p ≡ getD (a .sheet .now) (66560 + 2 * a .x + 1) 0 = c .before .before .before .before .before .before .before .before .before .wide .ensures in
-    one-late (a .sheet .now) (a .times .now) (a .x) (a .b) p picked (c .before .before .before .before .before .before .before .before .pin-time .result) (c .before .before .before .before .before .pin-time2 .result) (c .before .before .pin-time3 .result) (waits (a .sheet .now) (a .times .now) (p / 4096 % 16) (65536 + 4 * (a .x / 384) + 3)) (c .before .before .before .before .before .before .before .before .pin-time .ensures, c .before .before .before .before .before .pin-time2 .ensures, c .before .before .pin-time3 .ensures, refl) (omega (arith, c .if3 .taken))
+    one-late (a .sheet .now) (a .times .now) (a .x) (s .pre .0) (a .b) p picked (c .before .before .before .before .before .before .before .before .pin-time .result) (c .before .before .before .before .before .pin-time2 .result) (c .before .before .pin-time3 .result) (waits (a .sheet .now) (a .times .now) (p / 4096 % 16) (65536 + p / 65536 + 3)) (c .before .before .before .before .before .before .before .before .pin-time .ensures, c .before .before .before .before .before .pin-time2 .ensures, c .before .before .pin-time3 .ensures, refl) (omega (arith, c .if3 .taken))
 
 add-pin-time-3 : tie.Need-add-pin-time-3
 add-pin-time-3 c = search needs
@@ -88,7 +94,10 @@ add-pin-time-3 c = search needs
 pin-time-requires-4 : tie.Need-pin-time-requires-4
 pin-time-requires-4 c κs =
     let s = c .before .before .before .before .before .before .before .before .before .before .before .before in
-    (omega arith, omega (arith, s .pre .0 .within, s .pre .0 .there), s .pre .0 .brief 3 (omega arith), s .pre .1)
+    let a = s .args in
+    let p : ℕ = c .before .before .before .before .before .before .before .before .before .wide .result in
+    let picked : p ≡ getD (a .sheet .now) (66560 + 2 * a .x + 1) 0 = c .before .before .before .before .before .before .before .before .before .wide .ensures in
+    (omega arith, omega (arith, delay-within (a .sheet .now) (a .times .now) (a .x) (s .pre .0) (a .b) p picked), brief-at (a .sheet .now) (a .times .now) (a .x) (s .pre .0) (a .b) p picked 3 (omega arith), s .pre .1)
 
 returns-4 : tie.Need-returns-4
 returns-4 c =
@@ -96,7 +105,7 @@ returns-4 c =
     let a = s .args in
     let p : ℕ = c .before .before .before .before .before .before .before .before .before .before .before .before .wide .result in
     let picked : p ≡ getD (a .sheet .now) (66560 + 2 * a .x + 1) 0 = c .before .before .before .before .before .before .before .before .before .before .before .before .wide .ensures in
-    one-late (a .sheet .now) (a .times .now) (a .x) (a .b) p picked (c .before .before .before .before .before .before .before .before .before .before .before .pin-time .result) (c .before .before .before .before .before .before .before .before .pin-time2 .result) (c .before .before .before .before .before .pin-time3 .result) (c .before .before .pin-time4 .result) (c .before .before .before .before .before .before .before .before .before .before .before .pin-time .ensures, c .before .before .before .before .before .before .before .before .pin-time2 .ensures, c .before .before .before .before .before .pin-time3 .ensures, c .before .before .pin-time4 .ensures) (omega (arith, c .if4 .taken))
+    one-late (a .sheet .now) (a .times .now) (a .x) (s .pre .0) (a .b) p picked (c .before .before .before .before .before .before .before .before .before .before .before .pin-time .result) (c .before .before .before .before .before .before .before .before .pin-time2 .result) (c .before .before .before .before .before .pin-time3 .result) (c .before .before .pin-time4 .result) (c .before .before .before .before .before .before .before .before .before .before .before .pin-time .ensures, c .before .before .before .before .before .before .before .before .pin-time2 .ensures, c .before .before .before .before .before .pin-time3 .ensures, c .before .before .pin-time4 .ensures) (omega (arith, c .if4 .taken))
 
 cast-variant : tie.Need-cast-variant
 cast-variant c = search needs
@@ -117,7 +126,7 @@ returns-5 c =
     let p : ℕ = c .before .before .before .before .before .before .before .before .before .before .before .before .before .before .before .wide .result in
     let picked : p ≡ getD (a .sheet .now) (66560 + 2 * a .x + 1) 0 = c .before .before .before .before .before .before .before .before .before .before .before .before .before .before .before .wide .ensures in
     let top = c .larger3 .ensures ∙ ap₂ max (c .before .before .larger .ensures) (c .before .larger2 .ensures) in
-    all-early (a .sheet .now) (a .times .now) (a .x) (a .b) p picked (c .before .before .before .before .before .before .before .before .before .before .before .before .before .before .pin-time .result) (c .before .before .before .before .before .before .before .before .before .before .before .pin-time2 .result) (c .before .before .before .before .before .before .before .before .pin-time3 .result) (c .before .before .before .before .before .pin-time4 .result) (c .larger3 .result) (c .before .before .before .before .before .before .before .before .before .before .before .before .before .before .pin-time .ensures, c .before .before .before .before .before .before .before .before .before .before .before .pin-time2 .ensures, c .before .before .before .before .before .before .before .before .pin-time3 .ensures, c .before .before .before .before .before .pin-time4 .ensures) top
+    all-early (a .sheet .now) (a .times .now) (a .x) (s .pre .0) (a .b) p picked (c .before .before .before .before .before .before .before .before .before .before .before .before .before .before .pin-time .result) (c .before .before .before .before .before .before .before .before .before .before .before .pin-time2 .result) (c .before .before .before .before .before .before .before .before .pin-time3 .result) (c .before .before .before .before .before .pin-time4 .result) (c .larger3 .result) (c .before .before .before .before .before .before .before .before .before .before .before .before .before .before .pin-time .ensures, c .before .before .before .before .before .before .before .before .before .before .before .pin-time2 .ensures, c .before .before .before .before .before .before .before .before .pin-time3 .ensures, c .before .before .before .before .before .pin-time4 .ensures) top
     (lowest (a .b .arrival) (c .before .before .before .before .before .before .before .before .before .before .before .before .before .before .pin-time .result) (c .before .before .before .before .before .before .before .before .before .before .before .pin-time2 .result) (c .before .before .before .before .before .before .before .before .pin-time3 .result) (c .before .before .before .before .before .pin-time4 .result) (c .larger3 .result) top (c .before .before .before .before .before .before .before .before .before .before .before .before .if1 .left) (c .before .before .before .before .before .before .before .before .before .if2 .left) (c .before .before .before .before .before .before .if3 .left) (c .before .before .before .if4 .left))
 
 pub try-variant-spec : {M : Type 1} → statement M
@@ -130,7 +139,6 @@ try-variant-spec =
     mul-wide-2
     shared-slice-read-wide
     wide-requires
-    mul-at
     add-at
     pin-time-requires
     returns

@@ -1,10 +1,10 @@
--- `matching::pick` meets its contract: four picks below 16 fit in a word.
+-- `matching::first_word` meets its contract: four picks below 16 and a line below 256 fit in a word.
 -- Assumes nothing.
 use native.Mathlib.Omega.{arith}
 use Rattle.matching.specs.Sheet.{pickOf}
 use borrow.Author.Needs.{needs}
-use Rattle.matching.proofs.pick.Statement.{statement}
-use Rattle.matching.proofs.pick.Tie as tie
+use Rattle.matching.proofs.first_word.Statement.{statement}
+use Rattle.matching.proofs.first_word.Tie as tie
 
 pick-pin-requires : tie.Need-pick-pin-requires
 pick-pin-requires c κs = search needs
@@ -36,15 +36,23 @@ mul-result-3 c = search needs
 add-result-3 : tie.Need-add-result-3
 add-result-3 c = search needs
 
-cast-result : tie.Need-cast-result
-cast-result c = search needs
+mul-result-4 : tie.Need-mul-result-4
+mul-result-4 c = search needs
+
+add-result-4 : tie.Need-add-result-4
+add-result-4 c = search needs
 
 returns : tie.Need-returns
 unfolding pickOf
-returns c = omega (arith, c .before .before .before .pick-pin .ensures .0, c .before .before .pick-pin2 .ensures .0, c .before .pick-pin3 .ensures .0, c .pick-pin4 .ensures .0)
+returns c =
+    let p = c .before .before .before .pick-pin .ensures in
+    let q = c .before .before .pick-pin2 .ensures in
+    let r = c .before .pick-pin3 .ensures in
+    let t = c .pick-pin4 .ensures in
+    (omega (arith, p .0, q .0, r .0, t .0), omega (arith, p .1, q .1, r .1, t .1, c .before .before .before .before .pre .0))
 
-pub pick-spec : {M : Type 1} → statement M
-pick-spec =
+pub first-word-spec : {M : Type 1} → statement M
+first-word-spec =
     tie.close
     (tie.spec
     pick-pin-requires
@@ -57,5 +65,6 @@ pick-spec =
     add-result-2
     mul-result-3
     add-result-3
-    cast-result
+    mul-result-4
+    add-result-4
     returns)
