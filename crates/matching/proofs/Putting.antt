@@ -9,7 +9,8 @@ use mathlib.Core.Bool.{false}
 use mathlib.Core.List.{List}
 use native.Mathlib.Omega.{arith}
 use lib.Pow.{pow-mono}
-use Rattle.truth.specs.Variant.{placesOf, variantTable}
+use Rattle.truth.specs.Variant.{placesOf, variantTable, turned}
+use Rattle.truth.proofs.Turning.{turned-variant}
 use Rattle.matching.specs.Variants.{lineOf, orderOf, maskOf, runOf, fresh}
 use Rattle.matching.specs.Sheet.{pickOf, masked, wordOf, pushed, placed, passed}
 use Rattle.matching.proofs.Fresh.{line-is, order-is, mask-is, fresh-one, fresh-mask, fresh-run, run-fits}
@@ -23,21 +24,22 @@ module _ (pins table line o : ℕ) (four : pins ≤ 4) (order : o < 24) (s : Lis
       let a : 384 * line + 16 * o + m + i ≡ 384 * line + 16 * o + (m + i) = omega arith in
       ap (fresh pins) a ∙ fresh-mask line o (m + i) order (omega arith) pins (omega arith)))
 
-  module _ (first : o % runOf pins ≡ 0) (word : ℕ) (worded : word ≡ pickOf pins (placesOf o) 0 + 262144 * line) where
+  module _ (first : o % runOf pins ≡ 0) (word : ℕ) (worded : word ≡ pickOf pins (placesOf o) 0 + 262144 * line) (t : ℕ) (tabled : t ≡ variantTable pins table (placesOf o) 0) where
     -- a variant that is tried
     put-one : (i : ℕ) (z : List ℕ) → i < 2 ^ pins
-        → pushed (variantTable pins table (placesOf o) i) (384 * line + 16 * o + i) (masked word i) z ≡ placed pins table (384 * line + 16 * o + i) z
+        → pushed (turned (placesOf o) i t) (384 * line + 16 * o + i) (masked word i) z ≡ placed pins table (384 * line + 16 * o + i) z
     unfolding wordOf
     put-one i z h =
         let small : i < 16 = omega (arith, pow-mono {i = pins} {j = 4} four) in
         let x : ℕ = 384 * line + 16 * o + i in
-        sym (placed-fresh pins table x (variantTable pins table (placesOf o) i) (masked word i) z (fresh-one line o i order small pins h first)
-        (ap₂ (λ (q m : ℕ). variantTable pins table (placesOf q) m) (sym (order-is line o i order small)) (sym (mask-is line o i order small)))
+        sym (placed-fresh pins table x (turned (placesOf o) i t) (masked word i) z (fresh-one line o i order small pins h first)
+        (ap (turned (placesOf o) i) tabled ∙ turned-variant pins table o i four order h
+        ∙ ap₂ (λ (q m : ℕ). variantTable pins table (placesOf q) m) (sym (order-is line o i order small)) (sym (mask-is line o i order small)))
         (ap (λ (w : ℕ). masked w i) worded ∙ masked-word pins (placesOf o) i line h
         ∙ (λ j. pickOf pins (placesOf (sym (order-is line o i order small) j)) (sym (mask-is line o i order small) j) + 262144 * sym (line-is line o i order small) j)))
 
     pub order-next : (m : ℕ) (z : List ℕ) → 0 < m → m ≤ 2 ^ pins → z ≡ passed pins table (384 * line + 16 * o + m) (16 - m) s
-        → pushed (variantTable pins table (placesOf o) (m - 1)) (384 * line + 16 * o + (m - 1)) (masked word (m - 1)) z ≡ passed pins table (384 * line + 16 * o + (m - 1)) (16 - (m - 1)) s
+        → pushed (turned (placesOf o) (m - 1) t) (384 * line + 16 * o + (m - 1)) (masked word (m - 1)) z ≡ passed pins table (384 * line + 16 * o + (m - 1)) (16 - (m - 1)) s
     order-next m z l h e =
         put-one (m - 1) z (omega arith) ∙ ap (placed pins table (384 * line + 16 * o + (m - 1))) e
         ∙ passed-down pins table (384 * line + 16 * o) m 16 s l (omega (arith, pow-mono {i = pins} {j = 4} four))

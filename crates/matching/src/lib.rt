@@ -14,7 +14,7 @@ ghost use Prim.Native.Nat.{ℕ, _+_, _*_, _%_, _<_, _≤_, max};
 ghost use lib.ListN.{length, drop, getD};
 ghost use Rattle.model.specs.Cells.{cellAt, cellsOf};
 ghost use Rattle.model.specs.declared.Cell.{Cell};
-ghost use Rattle.truth.specs.Variant.{placesOf, variantTable};
+ghost use Rattle.truth.specs.Variant.{placesOf, turned};
 ghost use Rattle.pairs.specs.Codes.{cellsBy, Coded};
 ghost use Rattle.matching.specs.Variants.{Usable, matchOf, runOf};
 ghost use Rattle.matching.specs.Sheet.{pickAddr, sheetLong, pickPin, pickOf, masked, delayOf, pushed, passed, timed, cellMatched, listMatched, SheetOf, isListed, Blank};
@@ -106,12 +106,12 @@ fn with_mask(word: usize, mask: usize) -> u32
     (word + mask % 2 + 16 * (mask / 2 % 2) + 256 * (mask / 4 % 2) + 4096 * (mask / 8 % 2)) as u32
 }
 
-// Variant x of a cell, of this order and this mask, on the chain of its table; `word` is that of mask 0.
-fn put(pins: u16, table: u16, order: usize, mask: usize, x: usize, word: usize, sheet: &mut [u32])
-    requires { ⌜ (pins ≤ 4) × (order < 24) × (mask < 16) × (x < 98304) × (pickAddr x < length (now sheet)) × (word < 134217728) ⌝ }
-    ensures { λ _. ⌜ now (sheet .exit) ≡ pushed (variantTable pins table (placesOf order) mask) x (masked word mask) (now (sheet .entry)) ⌝ }
+// Variant x, of this order and this mask, on the chain of its table; `first` and `word` are its table and its word under mask 0.
+fn put(first: u16, order: usize, mask: usize, x: usize, word: usize, sheet: &mut [u32])
+    requires { ⌜ (order < 24) × (mask < 16) × (x < 98304) × (pickAddr x < length (now sheet)) × (word < 134217728) ⌝ }
+    ensures { λ _. ⌜ now (sheet .exit) ≡ pushed (turned (placesOf order) mask first) x (masked word mask) (now (sheet .entry)) ⌝ }
 {
-    let t = truth::variant_table(pins, table, order, mask);
+    let t = truth::turned(order, mask, first);
     push(t, x, with_mask(word, mask), sheet);
 }
 
@@ -120,12 +120,13 @@ fn put_order(pins: u16, table: u16, line: usize, order: usize, sheet: &mut [u32]
     requires { ⌜ (pins ≤ 4) × (line < 256) × (order < 24) × (order % runOf pins ≡ 0) × (sheetLong (line + 1) ≤ length (now sheet)) ⌝ }
     ensures { λ _. ⌜ now (sheet .exit) ≡ passed pins table (384 * line + 16 * order) 16 (now (sheet .entry)) ⌝ }
 {
+    let first = truth::first_table(pins, table, order);
     let word = first_word(pins, line, order);
     let x = 384 * line + 16 * order;
     let mut mask: usize = 1 << pins;
     while mask > 0 {
         mask -= 1;
-        put(pins, table, order, mask, x + mask, word, sheet);
+        put(first, order, mask, x + mask, word, sheet);
     }
 }
 

@@ -4,4 +4,5 @@ pub mod Tables
 pub mod Variants
 pub mod Nets
 pub mod Downward
+pub mod Turning
 pub mod Pairs

@@ -1,7 +1,8 @@
 -- The table of a cell under an order and a mask, the table of a leaf, whether the pins' places are there, and the net of a pin. Assumes nothing.
-use Prim.Native.Nat.{ℕ}
-use mathlib.Core.Bool.{Bool}
+use Prim.Native.Nat.{ℕ, _^_}
+use mathlib.Core.Bool.{Bool, cond}
 use mathlib.Core.List.{List, []}
+use lib.Bits.{bitXor}
 use lib.Dec.{ltb}
 use lib.ListN.{take, getD}
 use Rattle.model.specs.Base.{all, bit}
@@ -16,6 +17,20 @@ placesOf order = getD orders order []
 -- "the cell's value with pin j fed from its place, complemented where mask bit j is 1", in all 16 rows
 unfoldable pub variantTable : ℕ → ℕ → List ℕ → ℕ → ℕ
 variantTable pins table places mask = tabulate (λ r. value table (pinRow pins places mask r)) 16
+
+-- a table with leaf k complemented
+unfoldable pub crossed : ℕ → ℕ → ℕ
+crossed t k = tabulate (λ r. value t (bitXor r (2 ^ k))) 16
+
+-- the same of the leaf at pin j, where bit j of a mask is 1
+unfoldable pub crossedAt : List ℕ → ℕ → ℕ → ℕ → ℕ
+unfolding crossed bit
+crossedAt places mask j t = cond (bit mask j) (crossed t (getD places j 0)) t
+
+-- the same of each of four pins
+unfoldable pub turned : List ℕ → ℕ → ℕ → ℕ
+unfolding crossedAt
+turned places mask t = crossedAt places mask 3 (crossedAt places mask 2 (crossedAt places mask 1 (crossedAt places mask 0 t)))
 
 -- "leaf number i (ascending, from 0) is bit i of the row", in all 16 rows
 unfoldable pub leafTable : ℕ → ℕ

@@ -3,7 +3,6 @@ use model::Cell;
 ghost use mathlib.Core.Path.{_≡_};
 ghost use Prim.Native.Nat.{_+_, _*_, _/_, _%_, _^_, _<_, _≤_};
 ghost use mathlib.Core.List.{map};
-ghost use lib.Bits.{bitXor};
 ghost use mathlib.Core.Bool.{true};
 ghost use lib.ListN.{getD};
 ghost use Rattle.model.specs.Base.{bit, one, below};
@@ -12,7 +11,7 @@ ghost use Rattle.model.specs.Table.{value, rowMap};
 ghost use Rattle.model.specs.Matching.{phaseTable};
 ghost use Rattle.model.specs.Pairs.{pairTable};
 ghost use Rattle.truth.specs.Pair.{rootBit, rootRow};
-ghost use Rattle.truth.specs.Variant.{placesOf, variantTable, leafTable, pinNet};
+ghost use Rattle.truth.specs.Variant.{placesOf, variantTable, crossed, crossedAt, turned, leafTable, pinNet};
 
 // "A fixed table of 384 rows gives, for each order and row r, the row whose bit j is the bit of r at the order's place j".
 const ROWS: [[u8; 16]; 24] = [
@@ -104,20 +103,20 @@ pub fn bit(table: u16, r: usize) -> bool
     (table >> r) % 2 == 1
 }
 
-// The row of a cell's pins, from the row that the order makes: "pin j fed from its place, complemented where mask bit j is 1".
-fn pin_row(pins: u16, row: usize, mask: usize) -> usize
+// The row of a cell's pins, from the row that the order makes.
+fn pin_row(pins: u16, row: usize) -> usize
     requires { ⌜ pins ≤ 4 ⌝ }
-    ensures { λ x. ⌜ (x ≡ bitXor row mask % 2 ^ pins) × (x < 16) ⌝ }
+    ensures { λ x. ⌜ (x ≡ row % 2 ^ pins) × (x < 16) ⌝ }
 {
-    (row ^ mask) % (1 << pins)
+    row % (1 << pins)
 }
 
 // The value of a cell there.
-fn value_at(pins: u16, table: u16, row: usize, mask: usize) -> bool
+fn value_at(pins: u16, table: u16, row: usize) -> bool
     requires { ⌜ pins ≤ 4 ⌝ }
-    ensures { λ x. ⌜ x ≡ value table (bitXor row mask % 2 ^ pins) ⌝ }
+    ensures { λ x. ⌜ x ≡ value table (row % 2 ^ pins) ⌝ }
 {
-    bit(table, pin_row(pins, row, mask))
+    bit(table, pin_row(pins, row))
 }
 
 // A table with a row put below those that it has.
@@ -128,19 +127,52 @@ fn with_row(b: bool, t: u16) -> u16
     if b { 1 + 2 * t } else { 2 * t }
 }
 
-// The 16 rows of a cell under an order and a mask, from the last row down.
-pub fn variant_table(pins: u16, table: u16, order: usize, mask: usize) -> u16
+// The 16 rows of a cell under an order and mask 0, from the last row down.
+pub fn first_table(pins: u16, table: u16, order: usize) -> u16
     requires { ⌜ (pins ≤ 4) × (order < 24) ⌝ }
-    ensures { λ x. ⌜ x ≡ variantTable pins table (placesOf order) mask ⌝ }
+    ensures { λ x. ⌜ x ≡ variantTable pins table (placesOf order) 0 ⌝ }
 {
     let rs = rows(order);
     let mut t: u16 = 0;
     let mut r: usize = 16;
     while r > 0 {
         r -= 1;
-        t = with_row(value_at(pins, table, wide(rs[r]), mask), t);
+        t = with_row(value_at(pins, table, wide(rs[r])), t);
     }
     t
+}
+
+// A table with leaf k complemented: the rows where it is 1 and those where it is 0 change places.
+fn crossed(t: u16, k: usize) -> u16
+    requires { ⌜ k < 4 ⌝ }
+    ensures { λ x. ⌜ x ≡ crossed t k ⌝ }
+{
+    let p = pattern(k);
+    let n = 1usize << k;
+    ((t & p) >> n) | ((t & complement(p)) << n)
+}
+
+// The same of the leaf at pin j: "pin j fed from its place, complemented where mask bit j is 1".
+fn crossed_at(order: usize, mask: usize, j: usize, t: u16) -> u16
+    requires { ⌜ (order < 24) × (j < 4) ⌝ }
+    ensures { λ x. ⌜ x ≡ crossedAt (placesOf order) mask j t ⌝ }
+{
+    if (mask >> j) % 2 == 1 {
+        crossed(t, place(order, j))
+    } else {
+        t
+    }
+}
+
+// The table of a cell under an order and a mask, from that of mask 0.
+pub fn turned(order: usize, mask: usize, t: u16) -> u16
+    requires { ⌜ order < 24 ⌝ }
+    ensures { λ x. ⌜ x ≡ turned (placesOf order) mask t ⌝ }
+{
+    let a = crossed_at(order, mask, 0, t);
+    let b = crossed_at(order, mask, 1, a);
+    let c = crossed_at(order, mask, 2, b);
+    crossed_at(order, mask, 3, c)
 }
 
 // ---- pairs of cells
@@ -178,7 +210,7 @@ fn pair_value(root: Cell, pin: usize, inner: Cell, r: u16) -> bool
 {
     let n = inner.pins;
     let row = r as usize;
-    let b = value_at(n, inner.table, row >> pin, 0);
+    let b = value_at(n, inner.table, row >> pin);
     let q = root_row(r, pin, n as usize, b);
     bit(root.table, q as usize)
 }

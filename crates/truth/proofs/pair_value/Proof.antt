@@ -2,9 +2,7 @@
 -- Assumes nothing.
 use mathlib.Core.Path.{ap, _∙_}
 use mathlib.Core.Bool.{Bool}
-use Prim.Native.Nat.{ℕ, _/_, _%_, _^_}
 use native.Mathlib.Omega.{arith}
-use lib.Bits.{xor-zero-r}
 use borrow.Author.Needs.{needs}
 use Rattle.model.specs.Table.{value}
 use Rattle.truth.specs.Pair.{rootRow}
@@ -33,8 +31,7 @@ returns : tie.Need-returns
 returns c =
     let a = c .before .before .before .args in
     c .bit .ensures ∙ ap (value (a .root .table)) (c .before .root-row .ensures .0
-    ∙ ap (rootRow (a .r) (a .pin) (a .inner .pins)) (c .before .before .value-at .ensures
-    ∙ ap (λ (x : ℕ). value (a .inner .table) (x % 2 ^ a .inner .pins)) (xor-zero-r (a .r / 2 ^ a .pin))))
+    ∙ ap (rootRow (a .r) (a .pin) (a .inner .pins)) (c .before .before .value-at .ensures))
 
 pub pair-value-spec : {M : Type 1} → statement M
 pair-value-spec = tie.close (tie.spec shr-value-at value-at-requires cast-root-row root-row-requires cast-bit bit-requires returns)

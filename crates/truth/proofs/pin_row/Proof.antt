@@ -1,10 +1,9 @@
--- `truth::pin_row` meets its contract: the row, exclusive-or with the mask, modulo 2 ^ pins.
+-- `truth::pin_row` meets its contract: the row modulo 2 ^ pins.
 -- Assumes nothing.
 use mathlib.Core.Path.{ap}
 use Prim.Native.Nat.{ℕ, _%_}
 use native.Mathlib.Nat.{mod-lt}
 use native.Mathlib.Omega.{arith}
-use lib.Bits.{bitXor}
 use lib.Pow.{pow-pos, pow-mono}
 use borrow.Author.Needs.{needs}
 use Rattle.truth.proofs.Tables.{power}
@@ -20,8 +19,8 @@ rem-result c = omega (arith, power (c .args .pins) (c .pre), pow-pos (c .args .p
 returns : tie.Need-returns
 returns c =
     let a = c .args in
-    let e = ap (λ (x : ℕ). bitXor (a .row) (a .mask) % x) (power (a .pins) (c .pre)) in
-    (e, omega (arith, e, mod-lt (bitXor (a .row) (a .mask)) (pow-pos (a .pins)), pow-mono {i = a .pins} {j = 4} (c .pre)))
+    let e = ap (λ (x : ℕ). a .row % x) (power (a .pins) (c .pre)) in
+    (e, omega (arith, e, mod-lt (a .row) (pow-pos (a .pins)), pow-mono {i = a .pins} {j = 4} (c .pre)))
 
 pub pin-row-spec : {M : Type 1} → statement M
 pin-row-spec = tie.close (tie.spec shl-result rem-result returns)
