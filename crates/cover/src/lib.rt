@@ -26,7 +26,7 @@ ghost use Rattle.pairs.specs.Codes.{Joinable, cellsBy, Coded};
 ghost use Rattle.cover.specs.Asked.{PinsOf, PinsIn, LeavesIn, OutputsIn, SlotsIn, CutsIn, MatchIn, MatchesIn};
 ghost use Rattle.matching.specs.Variants.{Usable, Matchable};
 ghost use Rattle.matching.specs.Sheet.{sheetLong, listMatched, SheetOf, isListed};
-ghost use Rattle.matching.specs.Best.{Timely, timeOf, bestOf, phaseAs};
+ghost use Rattle.matching.specs.Best.{Timely, timeOf, bestOf, boundOf, phaseAs};
 ghost use Rattle.matching.specs.Inverters.{inverted};
 ghost use Rattle.model.specs.declared.Cell.{Cell};
 ghost use Rattle.matching.specs.declared.Inverter.the-variants.{Is};
@@ -164,23 +164,52 @@ fn is_matched(sheet: &[u32], f: u16) -> bool
     }
 }
 
-// The best match on cut number k, f its function in the phase and t the arrivals of its leaves.
-fn match_phase(sheet: &[u32], k: usize, f: u16, t: &[u32; 16]) -> Phase
-    requires { ⌜ ((cells : List Cell) × SheetOf cells (now sheet)) × Timely (now t) ⌝ }
-    ensures { λ r. ⌜ ((cells : List Cell) → SheetOf cells (now (sheet .entry)) → r ≡ phaseAs k (bestOf cells f (now (t .entry)))) ⌝ }
+// What a match must be earlier than to be chosen before a phase of a later cut.
+fn bound_of(p: Phase) -> u32
+    ensures { λ r. ⌜ r ≡ boundOf p ⌝ }
 {
-    matching::phase_as(k, matching::best_match(sheet, f, t))
+    let t = time(p);
+    if t < matching::NEVER {
+        t + 1
+    } else {
+        matching::NEVER
+    }
 }
 
-// The best matches on cut number k of v, f its function.
-fn match_cut(work: &[u16], m: usize, v: usize, k: usize, f: u16, sheet: &[u32]) -> Both
+// The best match on cut number k or the phase of the cuts behind it, f the cut's function in the phase and t the arrivals of its leaves.
+fn match_phase(sheet: &[u32], k: usize, f: u16, t: &[u32; 16], rest: Phase) -> Phase
+    requires { ⌜ ((cells : List Cell) × SheetOf cells (now sheet)) × Timely (now t) ⌝ }
+    ensures { λ r. ⌜ ((cells : List Cell) → SheetOf cells (now (sheet .entry)) → r ≡ earlier (phaseAs k (bestOf cells f (now (t .entry)))) rest) ⌝ }
+{
+    let bound = bound_of(rest);
+    let b = matching::best_match(sheet, f, t, bound);
+    if b.arrival < bound {
+        return matching::phase_as(k, b);
+    }
+    rest
+}
+
+// The best matches on cut number k of v, f its function, or the phases of the cuts behind it.
+fn match_cut(
+    work: &[u16],
+    m: usize,
+    v: usize,
+    k: usize,
+    f: u16,
+    sheet: &[u32],
+    positive: Phase,
+    negative: Phase,
+) -> Both
     requires { ⌜ ((cells : List Cell) × SheetOf cells (now sheet)) × Choosable (now work) m × (v ≤ m) × (k < countAt (now work) m v) ⌝ }
-    ensures { λ r. ⌜ ((cells : List Cell) → SheetOf cells (now (sheet .entry)) → (r .positive ≡ choose (foundOn cells (now (work .entry)) m k (leavesAt (now (work .entry)) m v k) f)) × (r .negative ≡ choose (foundOn cells (now (work .entry)) m k (leavesAt (now (work .entry)) m v k) (phaseTable true f)))) ⌝ }
+    ensures { λ r. ⌜ ((cells : List Cell) → SheetOf cells (now (sheet .entry)) → (r .positive ≡ earlier (choose (foundOn cells (now (work .entry)) m k (leavesAt (now (work .entry)) m v k) f)) positive) × (r .negative ≡ earlier (choose (foundOn cells (now (work .entry)) m k (leavesAt (now (work .entry)) m v k) (phaseTable true f))) negative)) ⌝ }
 {
     let t = times(work, m, words::load_cut(work, m, v, k));
-    let positive = match_phase(sheet, k, f, &t);
-    let negative = match_phase(sheet, k, truth::in_phase(true, f), &t);
-    Both { positive, negative }
+    let p = match_phase(sheet, k, f, &t, positive);
+    let n = match_phase(sheet, k, truth::in_phase(true, f), &t, negative);
+    Both {
+        positive: p,
+        negative: n,
+    }
 }
 
 // The function of cut number k of v.
@@ -191,19 +220,27 @@ fn table(work: &[u16], m: usize, v: usize, k: usize) -> u16
     words::function(work, m, v, k) as u16
 }
 
-// The best matches on cut number k of v, "a cut other than the variable alone".
-fn cut_phases(work: &[u16], m: usize, v: usize, k: usize, sheet: &[u32]) -> Both
+// The best matches on cut number k of v, "a cut other than the variable alone", or the phases of the cuts behind it.
+fn cut_phases(
+    work: &[u16],
+    m: usize,
+    v: usize,
+    k: usize,
+    sheet: &[u32],
+    positive: Phase,
+    negative: Phase,
+) -> Both
     requires { ⌜ ((cells : List Cell) × SheetOf cells (now sheet)) × Choosable (now work) m × (v ≤ m) × (k < countAt (now work) m v) ⌝ }
-    ensures { λ r. ⌜ ((cells : List Cell) → SheetOf cells (now (sheet .entry)) → (r .positive ≡ choose (foundAt cells (now (work .entry)) m v false k)) × (r .negative ≡ choose (foundAt cells (now (work .entry)) m v true k))) ⌝ }
+    ensures { λ r. ⌜ ((cells : List Cell) → SheetOf cells (now (sheet .entry)) → (r .positive ≡ earlier (choose (foundAt cells (now (work .entry)) m v false k)) positive) × (r .negative ≡ earlier (choose (foundAt cells (now (work .entry)) m v true k)) negative)) ⌝ }
 {
     if alone(work, m, v, k) {
-        return neither();
+        return Both { positive, negative };
     }
     let f = table(work, m, v, k);
     if !is_matched(sheet, f) {
-        return neither();
+        return Both { positive, negative };
     }
-    match_cut(work, m, v, k, f, sheet)
+    match_cut(work, m, v, k, f, sheet, positive, negative)
 }
 
 // The best matches of v, from its last cut to its first: of equal arrivals the lowest cut's.
@@ -216,11 +253,9 @@ fn best_phases(work: &[u16], m: usize, v: usize, sheet: &[u32]) -> Both
     let mut k = words::count(work, m, v);
     while k > 0 {
         k -= 1;
-        let b = cut_phases(work, m, v, k, sheet);
-        let p = b.positive;
-        let n = b.negative;
-        positive = sooner(p, positive);
-        negative = sooner(n, negative);
+        let b = cut_phases(work, m, v, k, sheet, positive, negative);
+        positive = b.positive;
+        negative = b.negative;
     }
     Both { positive, negative }
 }

@@ -23,7 +23,7 @@ use Rattle.truth.proofs.Tested.{at}
 use Rattle.truth.proofs.Variants.{places-four}
 use Rattle.matching.specs.declared.Best.{Best}
 use Rattle.matching.specs.Variants.{lineOf, orderOf, maskOf, isVariant, tableAt, hasTable, variants, runOf, fresh, isFresh, freshWith, freshOnes}
-use Rattle.matching.specs.Best.{pinAt, largest, arrivalOf, arrivalAt, unmatched, better, bestFrom, bestOf}
+use Rattle.matching.specs.Best.{pinAt, largest, arrivalOf, arrivalAt, unmatchedUnder, better, bestFrom, bestUnder}
 use Rattle.matching.proofs.Choosing.{by-bool}
 
 -- ---- the number of a variant
@@ -239,6 +239,6 @@ module _ (cells : List Cell) (times : List ℕ) (f : ℕ) (four : (c : ℕ) → 
       late : hasTable cells f i ≡ true → freshWith cells f i ≡ false → b .arrival ≤ arrivalAt cells times i
       late e g = omega (arith, p (i - 16) (omega (arith, enough i e g)) (has-before i e g), arrival-before i e g)
 
-  pub best-fresh : bestFrom cells times unmatched (freshOnes cells f) ≡ bestOf cells f times
-  unfolding freshOnes bestOf variants below Passed
-  best-fresh = best-from (384 * length cells) 0 unmatched (λ y h e. absurd (omega arith))
+  pub best-fresh : (bound : ℕ) → bestFrom cells times (unmatchedUnder bound) (freshOnes cells f) ≡ bestUnder cells f times bound
+  unfolding freshOnes bestUnder variants below Passed
+  best-fresh bound = best-from (384 * length cells) 0 (unmatchedUnder bound) (λ y h e. absurd (omega arith))

@@ -27,7 +27,7 @@ use Rattle.truth.proofs.Variants.{place-small}
 use Rattle.matching.specs.declared.Best.{Best}
 use Rattle.matching.specs.Variants.{lineOf, orderOf, maskOf, freshOnes}
 use Rattle.matching.specs.Sheet.{linkAddr, pickAddr, delayAddr, pickPin, pickOf, masked, wordOf, pickAt, delayOf, Linked, SheetOf, isListed}
-use Rattle.matching.specs.Best.{Timely, Triable, unmatched, pinAt, largest, arrivalOf, arrivalAt, waits, swiftAt, better, bestFrom, bestOf}
+use Rattle.matching.specs.Best.{never, Timely, Triable, unmatchedUnder, unmatched, pinAt, largest, arrivalOf, arrivalAt, waits, swiftAt, better, bestFrom, bestUnder, bestOf}
 use Rattle.matching.proofs.Choosing.{by-less}
 use Rattle.matching.proofs.Fresh.{best-fresh}
 use Rattle.matching.proofs.Linking.{linked-lower}
@@ -204,8 +204,8 @@ abbrev pub Walking : List Cell → List ℕ → Best → List ℕ → ℕ → Be
 Walking cells times answer s h b = (rest : List ℕ) × Linked cells s 0 h rest × (bestFrom cells times b rest ≡ answer)
 
 -- for every list of cells whose sheet this is
-abbrev pub Walks : List ℕ → ℕ → List ℕ → ℕ → Best → Type 0
-Walks s f times h b = (cells : List Cell) → SheetOf cells s → Walking cells times (bestOf cells f times) s h b
+abbrev pub Walks : List ℕ → ℕ → List ℕ → ℕ → ℕ → Best → Type 0
+Walks s f times bound h b = (cells : List Cell) → SheetOf cells s → Walking cells times (bestUnder cells f times bound) s h b
 
 -- how far a head is from the end
 pub togo : ℕ → ℕ
@@ -278,15 +278,15 @@ module _ (cells : List Cell) (times : List ℕ) (answer : Best) (s : List ℕ) (
   walking-end h b w l = done h b (w .0) l (w .1) (w .2)
 
 -- the walk begins
-pub walking-first : (cells : List Cell) (s : List ℕ) (f : ℕ) (times : List ℕ) → SheetOf cells s → f < 65536
-    → Walking cells times (bestOf cells f times) s (getD s f 0) unmatched
-walking-first cells s f times sheet small = (freshOnes cells f, sheet .chained f small, best-fresh cells times f (sheet .matchable .pins))
+pub walking-first : (cells : List Cell) (s : List ℕ) (f : ℕ) (times : List ℕ) (bound : ℕ) → SheetOf cells s → f < 65536
+    → Walking cells times (bestUnder cells f times bound) s (getD s f 0) (unmatchedUnder bound)
+walking-first cells s f times bound sheet small = (freshOnes cells f, sheet .chained f small, best-fresh cells times f (sheet .matchable .pins) bound)
 
 -- a table that is no variant's
 pub walking-none : (cells : List Cell) (s : List ℕ) (f : ℕ) (times : List ℕ) → SheetOf cells s → f < 65536 → isListed s f ≡ false → unmatched ≡ bestOf cells f times
-unfolding isListed
+unfolding isListed bestOf
 walking-none cells s f times sheet small e =
-    walking-end cells times (bestOf cells f times) s sheet (getD s f 0) unmatched (walking-first cells s f times sheet small) (omega (arith, head (eqb (getD s f 0) 0) refl e))
+    walking-end cells times (bestOf cells f times) s sheet (getD s f 0) unmatched (walking-first cells s f times never sheet small) (omega (arith, head (eqb (getD s f 0) 0) refl e))
   where
     head : (t : Bool) → eqb (getD s f 0) 0 ≡ t → isListed s f ≡ false → getD s f 0 ≡ 0
     head true q h = eqb-true (getD s f 0) 0 q

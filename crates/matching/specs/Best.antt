@@ -86,9 +86,13 @@ pub record Triable (s : List ℕ) (x : ℕ) : Type 0 where
 
 -- ---- the best of several
 
+-- no match that is earlier than a bound, yet
+abbrev pub unmatchedUnder : ℕ → Best
+unmatchedUnder bound = record { variant = 0; arrival = bound }
+
 -- no match yet
 abbrev pub unmatched : Best
-unmatched = record { variant = 0; arrival = never }
+unmatched = unmatchedUnder never
 
 -- "earliest arrival": a variant takes the place of the best before it only if it is strictly earlier
 unfoldable pub better : Best → ℕ → ℕ → Best
@@ -99,10 +103,20 @@ unfolding better arrivalAt
 bestFrom cells times b [] = b
 bestFrom cells times b (x ∷ xs) = bestFrom cells times (better b x (arrivalAt cells times x)) xs
 
--- the best match of a cut, f its function in the phase
-unfoldable pub bestOf : List Cell → ℕ → List ℕ → Best
+-- the best match of a cut that is earlier than a bound, f its function in the phase
+unfoldable pub bestUnder : List Cell → ℕ → List ℕ → ℕ → Best
 unfolding bestFrom variants
-bestOf cells f times = bestFrom cells times unmatched (variants cells f)
+bestUnder cells f times bound = bestFrom cells times (unmatchedUnder bound) (variants cells f)
+
+-- the best match of a cut
+unfoldable pub bestOf : List Cell → ℕ → List ℕ → Best
+unfolding bestUnder
+bestOf cells f times = bestUnder cells f times never
+
+-- what a match must be earlier than to be chosen before a phase of a later cut: of equal arrivals the lowest cut's is
+unfoldable pub boundOf : Phase → ℕ
+unfolding timeOf
+boundOf p = cond (ltb (timeOf p) never) (suc (timeOf p)) never
 
 -- the phase that the best match on cut number k gives
 unfoldable pub phaseAs : ℕ → Best → Phase

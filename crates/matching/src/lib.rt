@@ -18,7 +18,7 @@ ghost use Rattle.truth.specs.Variant.{placesOf, turned};
 ghost use Rattle.pairs.specs.Codes.{cellsBy, Coded};
 ghost use Rattle.matching.specs.Variants.{Usable, matchOf, runOf};
 ghost use Rattle.matching.specs.Sheet.{pickAddr, sheetLong, pickPin, pickOf, masked, delayOf, pushed, passed, timed, cellMatched, listMatched, SheetOf, isListed, Blank};
-ghost use Rattle.matching.specs.Best.{never, Timely, waits, Triable, swiftAt, better, bestOf, phaseAs};
+ghost use Rattle.matching.specs.Best.{never, Timely, waits, Triable, swiftAt, better, bestUnder, phaseAs};
 ghost use Rattle.matching.specs.Inverters.{quicker, tried, inverterOf};
 
 // The arrival of a phase that has no source.
@@ -305,15 +305,15 @@ fn try_variant(sheet: &[u32], times: &[u32; 16], x: usize, b: Best) -> Best
     }
 }
 
-// The best match of a cut, f its function in the phase: leaf i's arrivals stand at 2 i, positive, and 2 i + 1, negative. The walk goes along the
-// chain of f.
-pub fn best_match(sheet: &[u32], f: u16, times: &[u32; 16]) -> Best
+// The best match of a cut that is earlier than `bound`, f its function in the phase: leaf i's arrivals stand at 2 i, positive, and 2 i + 1, negative. The
+// walk goes along the chain of f.
+pub fn best_match(sheet: &[u32], f: u16, times: &[u32; 16], bound: u32) -> Best
     requires { ⌜ ((cells : List Cell) × SheetOf cells (now sheet)) × Timely (now times) ⌝ }
-    ensures { λ r. ⌜ ((cells : List Cell) → SheetOf cells (now (sheet .entry)) → r ≡ bestOf cells f (now (times .entry))) ⌝ }
+    ensures { λ r. ⌜ ((cells : List Cell) → SheetOf cells (now (sheet .entry)) → r ≡ bestUnder cells f (now (times .entry)) bound) ⌝ }
 {
     let mut b = Best {
         variant: 0,
-        arrival: NEVER,
+        arrival: bound,
     };
     let mut h = wide(sheet[f as usize]);
     while h > 0 {

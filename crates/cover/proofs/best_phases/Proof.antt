@@ -9,7 +9,7 @@ use Rattle.model.specs.declared.Cell.{Cell}
 use Rattle.model.specs.declared.Phase.{Phase}
 use Rattle.words.specs.Layout.{countAt}
 use Rattle.matching.specs.Sheet.{SheetOf}
-use Rattle.cover.specs.Choosing.{foundFrom}
+use Rattle.cover.specs.Choosing.{foundAt, foundFrom}
 use Rattle.cover.proofs.Found.{from-none, from-more, from-all}
 use borrow.Author.Needs.{needs}
 use Rattle.cover.proofs.best_phases.Statement.{statement}
@@ -54,19 +54,12 @@ cut-phases-requires c κs =
     let s = c .before .before .before .before .before .before .before in
     (s .pre .0, s .pre .1, s .pre .2, omega (arith, c .before .loop .inv .0, c .loop-test .taken))
 
-sooner-requires : tie.Need-sooner-requires Inv-loop μ-loop
-sooner-requires c κs = search needs
-
-sooner-requires-2 : tie.Need-sooner-requires-2 Inv-loop μ-loop
-sooner-requires-2 c κs = search needs
-
 loop-less : tie.Need-loop-less Inv-loop μ-loop
-loop-less c = omega (arith, c .before .before .before .before .before .loop-test .taken)
+loop-less c = omega (arith, c .before .before .before .loop-test .taken)
 
 loop-again : tie.Need-loop-again Inv-loop μ-loop
 loop-again c =
-    let first = c .before in
-    let found = first .before .before .before in
+    let found = c .before .before in
     let turn = found .before in
     let l = turn .before in
     let a = l .before .before .before .before .before .before .args in
@@ -74,11 +67,11 @@ loop-again c =
     let n : ℕ = countAt w (a .m) (a .v) in (
       omega (arith, l .loop .inv .0),
       λ cells sheet. (
-        first .sooner .ensures
-            ∙ (λ i. earlier (found .cut-phases .ensures cells sheet .0 i) (l .loop .inv .1 cells sheet .0 i))
+        found .cut-phases .ensures cells sheet .0
+            ∙ ap (earlier (choose (foundAt cells w (a .m) (a .v) false (l .loop .k - 1)))) (l .loop .inv .1 cells sheet .0)
             ∙ from-more cells w (a .m) (a .v) false (l .loop .k) n (turn .loop-test .taken) (l .loop .inv .0),
-        c .sooner2 .ensures
-            ∙ (λ i. earlier (found .cut-phases .ensures cells sheet .1 i) (l .loop .inv .1 cells sheet .1 i))
+        found .cut-phases .ensures cells sheet .1
+            ∙ ap (earlier (choose (foundAt cells w (a .m) (a .v) true (l .loop .k - 1)))) (l .loop .inv .1 cells sheet .1)
             ∙ from-more cells w (a .m) (a .v) true (l .loop .k) n (turn .loop-test .taken) (l .loop .inv .0),
       ),
     )
@@ -104,8 +97,6 @@ best-phases-spec =
     loop-holds
     sub-k
     cut-phases-requires
-    sooner-requires
-    sooner-requires-2
     loop-less
     loop-again
     returns)

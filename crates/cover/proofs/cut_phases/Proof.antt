@@ -1,11 +1,13 @@
 -- `cover::cut_phases` meets its contract: by whether the cut is the variable alone, and whether its function is a cell's in either phase. Assumes nothing.
-use mathlib.Core.Path.{sym, ap, _∙_}
+use mathlib.Core.Path.{_≡_, sym, ap, _∙_}
 use mathlib.Core.Bool.{true, false}
 use mathlib.Core.List.{List}
 use Prim.Native.Nat.{ℕ, _<_}
 use native.Mathlib.Omega.{arith}
-use Rattle.model.specs.Choice.{choose}
+use Rattle.model.specs.Choice.{noPhase, earlier, choose}
 use Rattle.model.specs.Matching.{phaseTable}
+use Rattle.model.specs.declared.Phase.{Phase}
+use Rattle.matching.proofs.Choosing.{earlier-none}
 use Rattle.words.specs.Record.{leavesAt}
 use Rattle.words.proofs.Tabled.{function-fits}
 use Rattle.cover.specs.Choosing.{foundOn}
@@ -20,17 +22,18 @@ alone-requires c κs =
     let s = c .before .before in
     (s .pre .1 .cuts .room, s .pre .2, omega (arith, s .pre .3, s .pre .1 .cuts .few (s .args .v) (s .pre .2)))
 
-neither-requires : tie.Need-neither-requires
-neither-requires c κs = search needs
+-- with no match the phase of the cuts behind stays
+stays : {found : Phase} (rest : Phase) → noPhase ≡ found → rest ≡ earlier found rest
+stays rest e = sym (earlier-none rest) ∙ ap (λ (z : Phase). earlier z rest) e
 
 returns : tie.Need-returns
 returns c =
-    let tested = c .before .before in
+    let tested = c .before in
     let a = tested .before .before .before .args in
-    let e = sym (tested .alone .ensures) ∙ c .before .if1 .taken in
+    let e = sym (tested .alone .ensures) ∙ c .if1 .taken in
     λ cells sheet. (
-      c .neither .ensures .0 ∙ at-alone cells (a .work .now) (a .m) (a .v) false (a .k) e,
-      c .neither .ensures .1 ∙ at-alone cells (a .work .now) (a .m) (a .v) true (a .k) e,
+      stays (a .positive) (at-alone cells (a .work .now) (a .m) (a .v) false (a .k) e),
+      stays (a .negative) (at-alone cells (a .work .now) (a .m) (a .v) true (a .k) e),
     )
 
 table-requires : tie.Need-table-requires
@@ -41,12 +44,9 @@ table-requires c κs =
 is-matched-requires : tie.Need-is-matched-requires
 is-matched-requires c κs = let s = c .before .before .before .before .before in omega (arith, s .pre .0 .1 .long)
 
-neither-requires-2 : tie.Need-neither-requires-2
-neither-requires-2 c κs = search needs
-
 returns-2 : tie.Need-returns-2
 returns-2 c =
-    let asked = c .before .before in
+    let asked = c .before in
     let read = asked .before in
     let tested = read .before .before in
     let s = tested .before .before .before in
@@ -55,18 +55,16 @@ returns-2 c =
     let few = few-leaves w (a .m) (a .v) (a .k) in
     let e = sym (tested .alone .ensures) ∙ read .before .if1 .left in
     let fits : read .table .result < 65536 = omega (arith, read .table .ensures, function-fits w (a .m) (a .v) (a .k) 65536 (λ i. omega (arith, tested .before .before .shared-slice-known .given i))) in
-    let none = asked .is-matched .ensures (not-true _ (c .before .if2 .taken)) in
+    let none = asked .is-matched .ensures (not-true _ (c .if2 .taken)) in
     λ cells sheet. (
-      c .neither2 .ensures .0
-          ∙ on-none cells (a .sheet .now) sheet w (a .m) 1073741823 (s .pre .1 .early) (omega arith) (leavesAt w (a .m) (a .v) (a .k)) few
+      stays (a .positive) (on-none cells (a .sheet .now) sheet w (a .m) 1073741823 (s .pre .1 .early) (omega arith) (leavesAt w (a .m) (a .v) (a .k)) few
           (λ j i. s .pre .1 .cuts .within (a .v) (a .k) j (s .pre .2) (s .pre .3) i) (a .k) (read .table .result) fits (none .0)
           ∙ ap (λ (f : ℕ). choose (foundOn cells w (a .m) (a .k) (leavesAt w (a .m) (a .v) (a .k)) f)) (read .table .ensures ∙ sym (table-straight _))
-          ∙ at-cut cells w (a .m) (a .v) false (a .k) e,
-      c .neither2 .ensures .1
-          ∙ on-none cells (a .sheet .now) sheet w (a .m) 1073741823 (s .pre .1 .early) (omega arith) (leavesAt w (a .m) (a .v) (a .k)) few
+          ∙ at-cut cells w (a .m) (a .v) false (a .k) e),
+      stays (a .negative) (on-none cells (a .sheet .now) sheet w (a .m) 1073741823 (s .pre .1 .early) (omega arith) (leavesAt w (a .m) (a .v) (a .k)) few
           (λ j i. s .pre .1 .cuts .within (a .v) (a .k) j (s .pre .2) (s .pre .3) i) (a .k) (phaseTable true (read .table .result)) (table-small (read .table .result)) (none .1)
           ∙ ap (λ (f : ℕ). choose (foundOn cells w (a .m) (a .k) (leavesAt w (a .m) (a .v) (a .k)) (phaseTable true f))) (read .table .ensures)
-          ∙ at-cut cells w (a .m) (a .v) true (a .k) e,
+          ∙ at-cut cells w (a .m) (a .v) true (a .k) e),
     )
 
 match-cut-requires : tie.Need-match-cut-requires
@@ -81,11 +79,11 @@ returns-3 c =
     let e = sym (tested .alone .ensures) ∙ read .before .if1 .left in
     λ cells sheet. (
       c .match-cut .ensures cells sheet .0
-          ∙ ap (λ (f : ℕ). choose (foundOn cells w (a .m) (a .k) (leavesAt w (a .m) (a .v) (a .k)) f)) (read .table .ensures ∙ sym (table-straight _))
-          ∙ at-cut cells w (a .m) (a .v) false (a .k) e,
+          ∙ ap (λ (z : Phase). earlier z (a .positive)) (ap (λ (f : ℕ). choose (foundOn cells w (a .m) (a .k) (leavesAt w (a .m) (a .v) (a .k)) f)) (read .table .ensures ∙ sym (table-straight _))
+          ∙ at-cut cells w (a .m) (a .v) false (a .k) e),
       c .match-cut .ensures cells sheet .1
-          ∙ ap (λ (f : ℕ). choose (foundOn cells w (a .m) (a .k) (leavesAt w (a .m) (a .v) (a .k)) (phaseTable true f))) (read .table .ensures)
-          ∙ at-cut cells w (a .m) (a .v) true (a .k) e,
+          ∙ ap (λ (z : Phase). earlier z (a .negative)) (ap (λ (f : ℕ). choose (foundOn cells w (a .m) (a .k) (leavesAt w (a .m) (a .v) (a .k)) (phaseTable true f))) (read .table .ensures)
+          ∙ at-cut cells w (a .m) (a .v) true (a .k) e),
     )
 
 pub cut-phases-spec : {M : Type 1} → statement M
@@ -93,11 +91,9 @@ cut-phases-spec =
     tie.close
     (tie.spec
     alone-requires
-    neither-requires
     returns
     table-requires
     is-matched-requires
-    neither-requires-2
     returns-2
     match-cut-requires
     returns-3)

@@ -4,8 +4,10 @@ use mathlib.Core.Bool.{true}
 use mathlib.Core.List.{List}
 use Prim.Native.Nat.{ℕ, _≤_, _<_}
 use native.Mathlib.Omega.{arith}
+use Rattle.model.specs.Choice.{earlier}
 use Rattle.model.specs.Matching.{phaseTable}
 use Rattle.model.specs.declared.Cut.{Cut}
+use Rattle.model.specs.declared.Phase.{Phase}
 use Rattle.words.specs.Layout.{countAt}
 use Rattle.words.specs.Record.{cutOf, leavesOf, leavesAt}
 use Rattle.words.proofs.Stored.{four-leaves}
@@ -69,13 +71,13 @@ returns c =
     let few = few-leaves w (a .m) (a .v) (a .k) in
     λ cells sheet. (
       first .match-phase .ensures cells sheet
-          ∙ ap (λ (x : List ℕ). phaseAs (a .k) (bestOf cells (a .f) x)) (are t)
+          ∙ ap (λ (z : Phase). earlier z (a .positive)) (ap (λ (x : List ℕ). phaseAs (a .k) (bestOf cells (a .f) x)) (are t)
           ∙ on-best cells (a .sheet .now) sheet w (a .m) 1073741823 (s .pre .1 .early) (omega arith) (leavesAt w (a .m) (a .v) (a .k)) few
-          (λ j i. s .pre .1 .cuts .within (a .v) (a .k) j (s .pre .2) (s .pre .3) i) (a .k) (a .f) (omega (arith, s .fits .f)),
+          (λ j i. s .pre .1 .cuts .within (a .v) (a .k) j (s .pre .2) (s .pre .3) i) (a .k) (a .f) (omega (arith, s .fits .f))),
       c .match-phase2 .ensures cells sheet
-          ∙ (λ i. phaseAs (a .k) (bestOf cells (turned .in-phase .ensures i) (are t i)))
+          ∙ ap (λ (z : Phase). earlier z (a .negative)) ((λ i. phaseAs (a .k) (bestOf cells (turned .in-phase .ensures i) (are t i)))
           ∙ on-best cells (a .sheet .now) sheet w (a .m) 1073741823 (s .pre .1 .early) (omega arith) (leavesAt w (a .m) (a .v) (a .k)) few
-          (λ j i. s .pre .1 .cuts .within (a .v) (a .k) j (s .pre .2) (s .pre .3) i) (a .k) (phaseTable true (a .f)) (table-small (a .f)),
+          (λ j i. s .pre .1 .cuts .within (a .v) (a .k) j (s .pre .2) (s .pre .3) i) (a .k) (phaseTable true (a .f)) (table-small (a .f))),
     )
 
 pub match-cut-spec : {M : Type 1} → statement M

@@ -7,16 +7,16 @@ use native.Mathlib.Omega.{arith}
 use lib.ListN.{getD}
 use Rattle.matching.specs.declared.Best.{Best}
 use Rattle.matching.specs.Sheet.{linkAddr}
-use Rattle.matching.specs.Best.{unmatched, bestOf}
+use Rattle.matching.specs.Best.{unmatchedUnder, bestUnder}
 use Rattle.matching.proofs.Walking.{Walking, Walks, togo, walking-within, walking-falls, walking-next, walking-end, walking-first}
 use Rattle.matching.proofs.best_match.Statement.{statement}
 use Rattle.matching.proofs.best_match.Tie as tie
 
 abbrev Inv-loop : tie.InvT-loop
-Inv-loop sheet f times b₀ h₀ b h = Walks sheet f times h b
+Inv-loop sheet f times bound b₀ h₀ b h = Walks sheet f times bound h b
 
 abbrev μ-loop : tie.MeasureT-loop
-μ-loop sheet f times b₀ h₀ b h = togo h
+μ-loop sheet f times bound b₀ h₀ b h = togo h
 
 mul-wide : tie.Need-mul-wide Inv-loop μ-loop
 mul-wide c = omega (arith, c .before .fits .f)
@@ -31,8 +31,8 @@ loop-holds : tie.Need-loop-holds Inv-loop μ-loop
 loop-holds c =
     let s = c .before .before .before in
     let a = s .args in
-    λ cells sheet. subst (λ (h : ℕ). Walking cells (a .times .now) (bestOf cells (a .f) (a .times .now)) (a .sheet .now) h unmatched) (sym (c .wide .ensures))
-    (walking-first cells (a .sheet .now) (a .f) (a .times .now) sheet (omega (arith, s .fits .f)))
+    λ cells sheet. subst (λ (h : ℕ). Walking cells (a .times .now) (bestUnder cells (a .f) (a .times .now) (a .bound)) (a .sheet .now) h (unmatchedUnder (a .bound))) (sym (c .wide .ensures))
+    (walking-first cells (a .sheet .now) (a .f) (a .times .now) (a .bound) sheet (omega (arith, s .fits .f)))
 
 sub-x : tie.Need-sub-x Inv-loop μ-loop
 sub-x c = omega arith
@@ -43,7 +43,7 @@ try-variant-requires c κs =
     let a = s .args in
     let l = c .before .loop in
     let k = s .pre .0 in
-    (walking-within (k .0) (a .times .now) (bestOf (k .0) (a .f) (a .times .now)) (a .sheet .now) (k .1) (l .h) (l .b) (l .inv (k .0) (k .1)) (c .loop-test .taken), s .pre .1)
+    (walking-within (k .0) (a .times .now) (bestUnder (k .0) (a .f) (a .times .now) (a .bound)) (a .sheet .now) (k .1) (l .h) (l .b) (l .inv (k .0) (k .1)) (c .loop-test .taken), s .pre .1)
 
 mul-wide-2 : tie.Need-mul-wide-2 Inv-loop μ-loop
 mul-wide-2 c =
@@ -51,7 +51,7 @@ mul-wide-2 c =
     let a = s .args in
     let l = c .before .before .loop in
     let k = s .pre .0 in
-    let w = walking-within (k .0) (a .times .now) (bestOf (k .0) (a .f) (a .times .now)) (a .sheet .now) (k .1) (l .h) (l .b) (l .inv (k .0) (k .1)) (c .before .loop-test .taken) in
+    let w = walking-within (k .0) (a .times .now) (bestUnder (k .0) (a .f) (a .times .now) (a .bound)) (a .sheet .now) (k .1) (l .h) (l .b) (l .inv (k .0) (k .1)) (c .before .loop-test .taken) in
     omega (arith, w .within, w .there)
 
 add-wide : tie.Need-add-wide Inv-loop μ-loop
@@ -60,7 +60,7 @@ add-wide c =
     let a = s .args in
     let l = c .before .before .loop in
     let k = s .pre .0 in
-    let w = walking-within (k .0) (a .times .now) (bestOf (k .0) (a .f) (a .times .now)) (a .sheet .now) (k .1) (l .h) (l .b) (l .inv (k .0) (k .1)) (c .before .loop-test .taken) in
+    let w = walking-within (k .0) (a .times .now) (bestUnder (k .0) (a .f) (a .times .now) (a .bound)) (a .sheet .now) (k .1) (l .h) (l .b) (l .inv (k .0) (k .1)) (c .before .loop-test .taken) in
     omega (arith, w .within, w .there)
 
 mul-wide-3 : tie.Need-mul-wide-3 Inv-loop μ-loop
@@ -69,7 +69,7 @@ mul-wide-3 c =
     let a = s .args in
     let l = c .before .before .loop in
     let k = s .pre .0 in
-    let w = walking-within (k .0) (a .times .now) (bestOf (k .0) (a .f) (a .times .now)) (a .sheet .now) (k .1) (l .h) (l .b) (l .inv (k .0) (k .1)) (c .before .loop-test .taken) in
+    let w = walking-within (k .0) (a .times .now) (bestUnder (k .0) (a .f) (a .times .now) (a .bound)) (a .sheet .now) (k .1) (l .h) (l .b) (l .inv (k .0) (k .1)) (c .before .loop-test .taken) in
     omega (arith, w .within, w .there)
 
 shared-slice-read-wide-2 : tie.Need-shared-slice-read-wide-2 Inv-loop μ-loop
@@ -78,7 +78,7 @@ shared-slice-read-wide-2 c =
     let a = s .args in
     let l = c .before .before .before .loop in
     let k = s .pre .0 in
-    let w = walking-within (k .0) (a .times .now) (bestOf (k .0) (a .f) (a .times .now)) (a .sheet .now) (k .1) (l .h) (l .b) (l .inv (k .0) (k .1)) (c .before .before .loop-test .taken) in
+    let w = walking-within (k .0) (a .times .now) (bestUnder (k .0) (a .f) (a .times .now) (a .bound)) (a .sheet .now) (k .1) (l .h) (l .b) (l .inv (k .0) (k .1)) (c .before .before .loop-test .taken) in
     omega (arith, w .within, w .there)
 
 wide-requires-2 : tie.Need-wide-requires-2 Inv-loop μ-loop
@@ -90,7 +90,7 @@ loop-less c =
     let a = s .args in
     let l = c .before .before .before .before .loop in
     let k = s .pre .0 in
-    subst (λ (g : ℕ). togo g < togo (l .h)) (sym (c .wide2 .ensures)) (walking-falls (k .0) (a .times .now) (bestOf (k .0) (a .f) (a .times .now)) (a .sheet .now) (k .1) (l .h) (l .b) (l .inv (k .0) (k .1)) (c .before .before .before .loop-test .taken))
+    subst (λ (g : ℕ). togo g < togo (l .h)) (sym (c .wide2 .ensures)) (walking-falls (k .0) (a .times .now) (bestUnder (k .0) (a .f) (a .times .now) (a .bound)) (a .sheet .now) (k .1) (l .h) (l .b) (l .inv (k .0) (k .1)) (c .before .before .before .loop-test .taken))
 
 loop-again : tie.Need-loop-again Inv-loop μ-loop
 loop-again c =
@@ -98,15 +98,15 @@ loop-again c =
     let a = s .args in
     let l = c .before .before .before .before .loop in
     let k = s .pre .0 in
-    λ cells sheet. subst (λ (g : ℕ). Walking cells (a .times .now) (bestOf cells (a .f) (a .times .now)) (a .sheet .now) g (c .before .before .try-variant .result)) (sym (c .wide2 .ensures))
-    (subst (λ (x : Best). Walking cells (a .times .now) (bestOf cells (a .f) (a .times .now)) (a .sheet .now) (getD (a .sheet .now) (linkAddr (l .h - 1)) 0) x) (sym (c .before .before .try-variant .ensures))
-    (walking-next cells (a .times .now) (bestOf cells (a .f) (a .times .now)) (a .sheet .now) sheet (s .pre .1) (l .h) (l .b) (l .inv cells sheet) (c .before .before .before .loop-test .taken)))
+    λ cells sheet. subst (λ (g : ℕ). Walking cells (a .times .now) (bestUnder cells (a .f) (a .times .now) (a .bound)) (a .sheet .now) g (c .before .before .try-variant .result)) (sym (c .wide2 .ensures))
+    (subst (λ (x : Best). Walking cells (a .times .now) (bestUnder cells (a .f) (a .times .now) (a .bound)) (a .sheet .now) (getD (a .sheet .now) (linkAddr (l .h - 1)) 0) x) (sym (c .before .before .try-variant .ensures))
+    (walking-next cells (a .times .now) (bestUnder cells (a .f) (a .times .now) (a .bound)) (a .sheet .now) sheet (s .pre .1) (l .h) (l .b) (l .inv cells sheet) (c .before .before .before .loop-test .taken)))
 
 returns : tie.Need-returns Inv-loop μ-loop
 returns c =
     let a = c .before .before .before .before .before .args in
     let l = c .before .loop in
-    λ cells sheet. walking-end cells (a .times .now) (bestOf cells (a .f) (a .times .now)) (a .sheet .now) sheet (l .h) (l .b) (l .inv cells sheet) (c .loop-test .left)
+    λ cells sheet. walking-end cells (a .times .now) (bestUnder cells (a .f) (a .times .now) (a .bound)) (a .sheet .now) sheet (l .h) (l .b) (l .inv cells sheet) (c .loop-test .left)
 
 pub best-match-spec : {M : Type 1} → statement M
 best-match-spec =
