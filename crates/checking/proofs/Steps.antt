@@ -100,7 +100,7 @@ module _ (w : List ℕ) (h : Header) (nets : List ℕ) (n : ℕ) (g : Graph) (ds
     pub wired-stops : (m k : ℕ) → v ≡ Refused m k → Turned m k ≡ checkRead (judgedRead g ds)
     unfolding checkRead judgedRead next Judged
     wired-stops m k e =
-        let f : judgeNets (inputNets g) ds ≡ fault m k = subst (λ (x : Verdict). Judged (inputNets g) ds x refs order) e j in
+        let f : judgeNets (inputNets g) ds ≡ fault m k = subst (λ (x : Verdict). Judged (inputNets g) ds x refs order) e j .0 in
         sym (ap (λ (r : Read (List Driver)). checkRead (next r (λ es. holds (record { graph = g; drivers = es })))) f)
 
 -- ---- 32

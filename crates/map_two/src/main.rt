@@ -1,44 +1,17 @@
 // The program for two channels: `cells.txt`, and of each channel a graph and the arrivals of its inputs, in the current folder; the first channel's netlist
 // or line of `refused`, number and place is printed, then the second's.
-use libc::STDOUT_FILENO;
 use model::Answer;
 ghost use mathlib.Core.Path.{_≡_};
 ghost use lib.ListN.{length};
-ghost use Rattle.io.specs.Counts.{Counts};
 ghost use Rattle.mapper.specs.Stages.{Fits};
-
-// The file's first bytes, at most buf's length; none where the file is absent: "an absent file counts as empty". The buffer has room for one
-// byte more than 65,536, so that "one over 65,536 bytes brings refusal 1".
-fn load(path: &[u8], buf: &mut [u8]) -> usize
-    requires { ⌜ length (now buf) ≡ 65537 ⌝ }
-    ensures { λ r. ⌜ Counts r (now (buf .exit)) ⌝ }
-{
-    let fd = os::open_read(path);
-    if fd < 0 {
-        return io::count(0, buf);
-    }
-    let n = io::read_full(fd, buf);
-    libc::close(fd);
-    n
-}
-
-fn refused(number: usize, place: usize) {
-    io::write_all(STDOUT_FILENO, b"refused ");
-    io::print_decimal(STDOUT_FILENO, number as u64);
-    io::write_all(STDOUT_FILENO, b" ");
-    io::print_decimal(STDOUT_FILENO, place as u64);
-    io::write_all(STDOUT_FILENO, b"\n");
-}
 
 // A channel's netlist, at the start of its text memory, or its refusal.
 fn show(a: Answer, text: &[u8])
     requires { ⌜ Fits a (length (now text)) ⌝ }
 {
     match a {
-        Answer::Mapped(n, _) => {
-            io::write_all(STDOUT_FILENO, &text[..n]);
-        }
-        Answer::Refused(number, place) => refused(number, place),
+        Answer::Mapped(n, _) => files::said(files::put(&text[..n]), b"map_two"),
+        Answer::Refused(number, place) => files::said(files::refused(number, place), b"map_two"),
     }
 }
 
@@ -81,11 +54,11 @@ fn main() {
     let mut work = [0u16; 32768];
     let mut text1 = [0u8; 65536];
     let mut text2 = [0u8; 65536];
-    let n = load(b"cells.txt", &mut cells);
-    let g1 = load(b"graph1.aag", &mut graph1);
-    let a1 = load(b"arrivals1.txt", &mut arrivals1);
-    let g2 = load(b"graph2.aag", &mut graph2);
-    let a2 = load(b"arrivals2.txt", &mut arrivals2);
+    let n = files::load(b"cells.txt", &mut cells);
+    let g1 = files::load(b"graph1.aag", &mut graph1);
+    let a1 = files::load(b"arrivals1.txt", &mut arrivals1);
+    let g2 = files::load(b"graph2.aag", &mut graph2);
+    let a2 = files::load(b"arrivals2.txt", &mut arrivals2);
     map_files(
         &cells[..n],
         &graph1[..g1],

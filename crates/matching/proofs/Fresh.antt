@@ -1,6 +1,7 @@
 -- Orders that give a cell's pins the same places, of which the first is tried.
 --     fresh-one           a variant of such an order, its mask the cell's; `fresh-mask`, `fresh-run`: others are not tried
 --     run-fits            what is left of the 24 orders is of whole runs
+--     better-not          a variant that is not strictly earlier changes nothing
 --     best-fresh          those that are not tried are never strictly earlier: the best of the others is the best of all
 -- Assumes nothing.
 use Prim.Native.Nat.{ℕ, zero, suc, _+_, _-_, _*_, _/_, _%_, _^_, _<_, _≤_, max}
@@ -20,6 +21,7 @@ use Rattle.model.specs.Cuts.{tabulate}
 use Rattle.model.specs.declared.Cell.{Cell}
 use Rattle.truth.specs.Variant.{placesOf, variantTable}
 use Rattle.truth.proofs.Tested.{at}
+use Rattle.truth.proofs.Turning.{or-out}
 use Rattle.truth.proofs.Variants.{places-four}
 use Rattle.matching.specs.declared.Best.{Best}
 use Rattle.matching.specs.Variants.{lineOf, orderOf, maskOf, isVariant, tableAt, hasTable, variants, runOf, fresh, isFresh, freshWith, freshOnes}
@@ -96,15 +98,10 @@ run-fits (suc (suc (suc pins))) o l e = (omega arith, omega arith, omega arith)
 follows : ℕ → ℕ → ℕ → Bool
 follows run j o = eqb (o % run) 0 || eqb (getD (placesOf (o - 1)) j 0) (getD (placesOf o) j 0)
 
-or-second : (a b : Bool) → T (a || b) → a ≡ false → b ≡ true
-or-second true b t e = absurd (false≢true (sym e))
-or-second false true t e = refl
-or-second false false t e = absurd t
-
 follow : (run j o : ℕ) → T (follows run j o) → ¬ (o % run ≡ 0) → getD (placesOf (o - 1)) j 0 ≡ getD (placesOf o) j 0
 unfolding follows
 follow run j o t n = eqb-true (getD (placesOf (o - 1)) j 0) (getD (placesOf o) j 0)
-    (or-second (eqb (o % run) 0) (eqb (getD (placesOf (o - 1)) j 0) (getD (placesOf o) j 0)) t (ne-eqb (o % run) 0 n))
+    (or-out (eqb (o % run) 0) (eqb (getD (placesOf (o - 1)) j 0) (getD (placesOf o) j 0)) t (ne-eqb (o % run) 0 n))
 
 place-same : (pins o j : ℕ) → o < 24 → ¬ (o % runOf pins ≡ 0) → j < pins → getD (placesOf (o - 1)) j 0 ≡ getD (placesOf o) j 0
 unfolding runOf follows all below orders
@@ -149,6 +146,10 @@ module _ (pins o : ℕ) (four : pins ≤ 4) (h : o < 24) (n : ¬ (o % runOf pins
       (λ j l. ap (λ (p : ℕ). getD times (literal (bit mask j) p) 0 + getD delays j 0) (place-same pins o j h n (omega arith)))
 
 -- ---- the best of all
+
+pub better-not : (b : Best) (x a : ℕ) → b .arrival ≤ a → better b x a ≡ b
+unfolding better
+better-not b x a h = rw (le-ltb a (b .arrival) h)
 
 and-true : (a b : Bool) → (a && b) ≡ true → (a ≡ true) × (b ≡ true)
 and-true true b e = (refl, e)
@@ -215,10 +216,6 @@ module _ (cells : List Cell) (times : List ℕ) (f : ℕ) (four : (c : ℕ) → 
       (λ e. rw e (omega (arith, ltb-true a (b .arrival) e), omega arith))
       (λ e. rw e (omega arith, ltb-false a (b .arrival) e))
 
-  better-stays : (b : Best) (x a : ℕ) → b .arrival ≤ a → better b x a ≡ b
-  unfolding better
-  better-stays b x a h = rw (le-ltb a (b .arrival) h)
-
   last : (b : Best) (i : ℕ) → Passed b i → (hasTable cells f i ≡ true → b .arrival ≤ arrivalAt cells times i) → Passed b (suc i)
   unfolding Passed
   last b i p q y h e = by-bool (eqb y i)
@@ -233,7 +230,7 @@ module _ (cells : List Cell) (times : List ℕ) (f : ℕ) (four : (c : ℕ) → 
       (λ g. rw (e, g) (best-from n (suc i) (better b i (arrivalAt cells times i))
       (last (better b i (arrivalAt cells times i)) i (λ y h k. omega (arith, p y h k, better-low b i (arrivalAt cells times i) .0)) (λ k. better-low b i (arrivalAt cells times i) .1))))
       (λ g. rw (e, g) (best-from n (suc i) b (last b i p (λ k. late e g))
-      ∙ sym (ap (λ (c : Best). bestFrom cells times c (keep (hasTable cells f) (from (suc i) n))) (better-stays b i (arrivalAt cells times i) (late e g))))))
+      ∙ sym (ap (λ (c : Best). bestFrom cells times c (keep (hasTable cells f) (from (suc i) n))) (better-not b i (arrivalAt cells times i) (late e g))))))
       (λ e. rw (e, fresh-variant i e) (best-from n (suc i) b (last b i p (λ k. absurd (false≢true (sym e ∙ k))))))
     where
       late : hasTable cells f i ≡ true → freshWith cells f i ≡ false → b .arrival ≤ arrivalAt cells times i

@@ -1,7 +1,6 @@
--- `Again`: a slice lent again. `Choosing`: the laws of the first of the earliest. `Fresh`: variants that need not be tried. `Linking`: the chains list the variants of each table. `Putting`: what is put on the sheet for a cell. `Listing`: the variants of a table are 01's matches of a
+-- `Choosing`: the laws of the first of the earliest. `Fresh`: variants that need not be tried. `Linking`: the chains list the variants of each table. `Putting`: what is put on the sheet for a cell. `Listing`: the variants of a table are 01's matches of a
 -- cut. `Arriving`: a variant's arrival is its match's. `Matching`: the best variant is 01's choice. `Inverting`: the best inverter is.
 -- `Pairing`: the cells to map with, pairs among them.
-pub mod Again
 pub mod Choosing
 pub mod Fresh
 pub mod Linking

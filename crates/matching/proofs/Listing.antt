@@ -21,6 +21,7 @@ use Rattle.truth.specs.Variant.{placesOf, variantTable}
 use Rattle.truth.proofs.Variants.{rows-agree}
 use Rattle.matching.specs.Variants.{lineOf, orderOf, maskOf, matchOf, hasTable, placesAt, variants}
 use Rattle.matching.proofs.Choosing.{by-bool}
+use Rattle.matching.proofs.Fresh.{line-is, order-is, mask-is}
 
 -- ---- lists
 
@@ -135,22 +136,13 @@ fitAt look leaves f x =
 
 module _ (look : ℕ → Cell) (k leaves f : ℕ) (small : f < 65536) where
   module _ (line o : ℕ) (order : o < 24) where
-    line-is : (i : ℕ) → i < 16 → lineOf (384 * line + 16 * o + i) ≡ line
-    line-is i h = omega arith
-
-    order-is : (i : ℕ) → i < 16 → orderOf (384 * line + 16 * o + i) ≡ o
-    order-is i h = omega arith
-
-    mask-is : (i : ℕ) → i < 16 → maskOf (384 * line + 16 * o + i) ≡ i
-    mask-is i h = omega arith
-
     fit-is : (i : ℕ) → i < 16 → fitAt look leaves f (384 * line + 16 * o + i) ≡ fits (look line) (placesOf o) i leaves f
     unfolding fitAt
-    fit-is i h = rw (line-is i h, order-is i h, mask-is i h) (fits-so (look line) (placesOf o) i leaves f small)
+    fit-is i h = rw (line-is line o i order h, order-is line o i order h, mask-is line o i order h) (fits-so (look line) (placesOf o) i leaves f small)
 
     match-is : (i : ℕ) → i < 16 → matchOf k (384 * line + 16 * o + i) ≡ record { cut = k; cell = line; order = o; mask = i }
     unfolding matchOf
-    match-is i h = λ j. record { cut = k; cell = line-is i h j; order = order-is i h j; mask = mask-is i h j }
+    match-is i h = λ j. record { cut = k; cell = line-is line o i order h j; order = order-is line o i order h j; mask = mask-is line o i order h j }
 
     order-block : look line .pins ≤ 4 → map (matchOf k) (keep (fitAt look leaves f) (from (384 * line + 16 * o) 16))
         ≡ map (λ (mask : ℕ). record { cut = k; cell = line; order = o; mask = mask }) (keep (λ (mask : ℕ). fits (look line) (placesOf o) mask leaves f) (below (2 ^ look line .pins)))

@@ -21,8 +21,9 @@ use Rattle.matching.specs.declared.Best.{Best}
 use Rattle.matching.specs.Variants.{Matchable, lineOf, matchOf, placesAt, variants}
 use Rattle.matching.specs.Best.{never, timeOf, TimesOf, Quick, arrivalAt, unmatchedUnder, unmatched, better, bestFrom, bestUnder, bestOf, boundOf, phaseAs}
 use Rattle.matching.proofs.Choosing.{by-bool, by-less, none-absent, earlier-none, earlier-assoc, earlier-first, earlier-strict, earlier-tie, choose-kept}
+use Rattle.matching.proofs.Fresh.{better-not}
 use Rattle.matching.proofs.Listing.{variant-matches}
-use Rattle.matching.proofs.Walking.{better-strict, better-not}
+use Rattle.matching.proofs.Walking.{better-strict}
 use Rattle.matching.proofs.Arriving.{ofVariant, phase-late, phase-timely, variant-past, variant-phase}
 
 -- ---- one variant more

@@ -29,7 +29,7 @@ use Rattle.matching.specs.Variants.{lineOf, orderOf, maskOf, freshOnes}
 use Rattle.matching.specs.Sheet.{linkAddr, pickAddr, delayAddr, pickPin, pickOf, masked, wordOf, pickAt, delayOf, Linked, SheetOf, isListed}
 use Rattle.matching.specs.Best.{never, Timely, Triable, unmatchedUnder, unmatched, pinAt, largest, arrivalOf, arrivalAt, waits, swiftAt, better, bestFrom, bestUnder, bestOf}
 use Rattle.matching.proofs.Choosing.{by-less}
-use Rattle.matching.proofs.Fresh.{best-fresh}
+use Rattle.matching.proofs.Fresh.{best-fresh, better-not}
 use Rattle.matching.proofs.Linking.{linked-lower}
 
 -- ---- one pin
@@ -151,10 +151,6 @@ module _ (cells : List Cell) (s times : List ℕ) (sheet : SheetOf cells s) (tim
       one-pin j e f = ap₂ (λ (i d : ℕ). getD times i 0 + d) e (sheet .delayed (lineOf x) j (omega arith) f)
 
 -- ---- one variant tried
-
-pub better-not : (b : Best) (x a : ℕ) → b .arrival ≤ a → better b x a ≡ b
-unfolding better
-better-not b x a h = rw (le-ltb a (b .arrival) h)
 
 pub better-strict : (b : Best) (x a : ℕ) → a < b .arrival → better b x a ≡ record { variant = x; arrival = a }
 unfolding better

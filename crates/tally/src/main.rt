@@ -1,40 +1,15 @@
 // The program: the netlists `1.blif`, `2.blif` and so on of the current folder, up to the first absent one, counted by the library `cells.txt`; then the report.
 // For a netlist that is refused, and for a report that is, one line of `refused`, number and place is printed in its place.
-use libc::STDOUT_FILENO;
 use model::Tally;
 use model::Verdict;
 use model::Written;
 ghost use mathlib.Core.Path.{_≡_};
 ghost use lib.ListN.{length};
-ghost use Rattle.io.specs.Counts.{Counts};
 
 // The tally so far, and whether there was a file.
 pub struct Next {
     pub found: bool,
     pub tally: Tally,
-}
-
-// The file's first bytes, at most buf's length; none where the file is absent: "an absent file counts as empty". The buffer has room for one
-// byte more than 65,536, so that a text over that length brings refusal 1.
-fn load(path: &[u8], buf: &mut [u8]) -> usize
-    requires { ⌜ length (now buf) ≡ 65537 ⌝ }
-    ensures { λ r. ⌜ Counts r (now (buf .exit)) ⌝ }
-{
-    let fd = os::open_read(path);
-    if fd < 0 {
-        return io::count(0, buf);
-    }
-    let n = io::read_full(fd, buf);
-    libc::close(fd);
-    n
-}
-
-fn refused(number: usize, place: usize) {
-    io::write_all(STDOUT_FILENO, b"refused ");
-    io::print_decimal(STDOUT_FILENO, number as u64);
-    io::write_all(STDOUT_FILENO, b" ");
-    io::print_decimal(STDOUT_FILENO, place as u64);
-    io::write_all(STDOUT_FILENO, b"\n");
 }
 
 // A netlist, or its refusal in its place.
@@ -43,7 +18,7 @@ fn count_one(cells: &[u8], netlist: &[u8], t: Tally) -> Tally {
     let verdict = r.verdict;
     match verdict {
         Verdict::Accepted => {}
-        Verdict::Refused(number, place) => refused(number, place),
+        Verdict::Refused(number, place) => files::said(files::refused(number, place), b"tally"),
     }
     r.tally
 }
@@ -100,10 +75,8 @@ fn show(t: Tally, cells: &[u8], text: &mut [u8])
     requires { ⌜ length (now text) ≡ 65536 ⌝ }
 {
     match reporting::report(t, cells, text) {
-        Written::Length(n) => {
-            io::write_all(STDOUT_FILENO, &text[..n]);
-        }
-        Written::Refused(number, place) => refused(number, place),
+        Written::Length(n) => files::said(files::put(&text[..n]), b"tally"),
+        Written::Refused(number, place) => files::said(files::refused(number, place), b"tally"),
     }
 }
 
@@ -111,7 +84,7 @@ fn main() {
     let mut cells = [0u8; 65537];
     let mut buf = [0u8; 65537];
     let mut text = [0u8; 65536];
-    let n = load(b"cells.txt", &mut cells);
+    let n = files::load(b"cells.txt", &mut cells);
     let t = count_all(&cells[..n], &mut buf);
     show(t, &cells[..n], &mut text);
 }

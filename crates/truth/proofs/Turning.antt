@@ -46,7 +46,7 @@ value-low (suc n) x (suc r) h = rw (shifted-half x n) (value-low n x r (omega ar
 
 -- ---- a leaf complemented
 
-or-out : (a b : Bool) → T (a || b) → a ≡ false → b ≡ true
+pub or-out : (a b : Bool) → T (a || b) → a ≡ false → b ≡ true
 or-out true b t e = absurd (false≢true (sym e))
 or-out false true t e = refl
 or-out false false t e = absurd t

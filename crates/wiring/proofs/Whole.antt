@@ -6,7 +6,7 @@ use mathlib.Core.List.{List}
 use lib.ListN.{length, getD}
 use Rattle.model.specs.Reading.{Read, fault}
 use Rattle.model.specs.Check.{Driver, judgeNets}
-use Rattle.model.specs.declared.Verdict.the-variants.{Accepted, Refused}
+use Rattle.model.specs.declared.Verdict.the-variants.{Accepted}
 use Rattle.wires.specs.Pins.{Once, Rows, Referred, twice, once}
 use Rattle.ordering.specs.Lists.{Pinned, Settled, Circled}
 use Rattle.wiring.specs.Wired.{noDriver}
@@ -25,10 +25,9 @@ module _ (inputs : List (List ℕ)) (ds : List Driver) (nets ins : List ℕ) (n 
   line-inside r h = omega (arith, stored-long ds nets n (st .drivers) (st .first))
 
   module _ (f : ℕ) (refs : List ℕ) where
-    pub refused : Referred nets ins count n f refs → f < n → (refs′ order : List ℕ) → Judged inputs ds (Refused 33 (getD nets (8 * f) 0)) refs′ order
-    unfolding Judged
-    refused (twice lt o) h refs′ order = placed f h (judged-twice inputs ds (getD ds f noDriver .offset) (twice-at inputs ds nets ins n count st f h o))
-    refused (once o rows) h refs′ order =
+    pub refused : Referred nets ins count n f refs → f < n → judgeNets inputs ds ≡ fault 33 (getD nets (8 * f) 0)
+    refused (twice lt o) h = placed f h (judged-twice inputs ds (getD ds f noDriver .offset) (twice-at inputs ds nets ins n count st f h o))
+    refused (once o rows) h =
         placed f h (judged-loose inputs ds (getD ds f noDriver .offset) (twice-nowhere inputs ds nets ins n count st o) (loose-at inputs ds nets ins n count st refs f h rows))
 
     passed : Referred nets ins count n f refs → n ≤ f → Once nets ins count n n × Rows nets ins count n n refs
@@ -54,9 +53,8 @@ module _ (inputs : List (List ℕ)) (ds : List Driver) (nets ins : List ℕ) (n 
           pub circle-inside : c < n
           circle-inside = let p = passed g le in circle-there inputs ds nets ins n count st refs (p .0) (p .1) r marks order s ne c k
 
-          pub circled : (order′ : List ℕ) → Judged inputs ds (Refused 33 (getD nets (8 * c) 0)) refs order′
-          unfolding Judged
-          circled order′ =
+          pub circled : judgeNets inputs ds ≡ fault 33 (getD nets (8 * c) 0)
+          circled =
               let p = passed g le in
               placed c circle-inside
               (judged-circle inputs ds (getD ds c noDriver .offset) (twice-nowhere inputs ds nets ins n count st (p .0)) (loose-nowhere inputs ds nets ins n count st refs (p .1))

@@ -3,7 +3,7 @@ use Prim.Native.Nat.{ℕ, _*_, _≤_, _<_}
 use mathlib.Core.Path.{_≡_}
 use mathlib.Core.List.{List, [], List·Memᴰ}
 use lib.Dec.{T}
-use lib.ListN.{length, take, getD}
+use lib.ListN.{length, replicate, take, getD}
 use Rattle.model.specs.Base.{each}
 use Rattle.model.specs.Reading.{holds, fault}
 use Rattle.model.specs.Check.{Driver, isNet, judgeNets}
@@ -26,8 +26,8 @@ pub record Stored (inputs : List (List ℕ)) (ds : List Driver) (nets ins : List
   pub codes : (k : ℕ) → k < count → getD ins k 0 ≡ code (getD inputs k [])
   pub names : (u : List ℕ) → List·Memᴰ u inputs → T (isNet u)
 
--- 33 and its place, or the nets wired and the drivers ordered
+-- 33 and its place, with nothing left in what is lent, or the nets wired and the drivers ordered
 unfoldable pub Judged : List (List ℕ) → List Driver → Verdict → List ℕ → List ℕ → Type 0
 unfolding judgeNets
 Judged inputs ds Accepted refs order = (judgeNets inputs ds ≡ holds ds) × Wired inputs ds refs × Ordered ds refs order
-Judged inputs ds (Refused m k) refs order = judgeNets inputs ds ≡ fault m k
+Judged inputs ds (Refused m k) refs order = (judgeNets inputs ds ≡ fault m k) × (refs ≡ replicate 43692 0) × (order ≡ replicate 10923 0)

@@ -23,6 +23,8 @@ pub fn wire(
 {
     let f = wires::refer(nets, n, inputs, count, refs);
     if f < n {
+        *refs = [0u16; PINS];
+        *order = [0u16; DRIVERS];
         return Verdict::Refused(33, nets[8 * f] as usize);
     }
     let mut marks = [0u8; DRIVERS];
@@ -30,5 +32,7 @@ pub fn wire(
         return Verdict::Accepted;
     }
     let c = ordering::first_circle(refs, n, &marks);
+    *refs = [0u16; PINS];
+    *order = [0u16; DRIVERS];
     Verdict::Refused(33, nets[8 * c] as usize)
 }

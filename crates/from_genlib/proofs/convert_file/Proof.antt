@@ -20,20 +20,32 @@ convert-requires c κs = search needs
 enum-known-n : tie.Need-enum-known-n
 enum-known-n c = search needs
 
-slice-reshare-prefix-write-all : tie.Need-slice-reshare-prefix-write-all
-slice-reshare-prefix-write-all c = let h = within c in omega arith
+slice-reshare-prefix-put : tie.Need-slice-reshare-prefix-put
+slice-reshare-prefix-put c = let h = within c in omega arith
 
-slice-aggregate-write-all : tie.Need-slice-aggregate-write-all
-slice-aggregate-write-all c = let h = within (c .before) in omega (arith, length-take (c .before .before .n .given .0 .0) (at-convert (c .before) .convert .last .1 .0))
+slice-aggregate-put : tie.Need-slice-aggregate-put
+slice-aggregate-put c = let h = within (c .before) in omega (arith, length-take (c .before .before .n .given .0 .0) (at-convert (c .before) .convert .last .1 .0))
 
-write-all-requires : tie.Need-write-all-requires
-write-all-requires c κs = search needs
+put-requires : tie.Need-put-requires
+put-requires c κs = search needs
+
+slice-aggregate-said : tie.Need-slice-aggregate-said
+slice-aggregate-said c = search needs
+
+said-requires : tie.Need-said-requires
+said-requires c κs = search needs
 
 enum-known-number : tie.Need-enum-known-number
 enum-known-number c = search needs
 
 refused-requires : tie.Need-refused-requires
 refused-requires c κs = search needs
+
+slice-aggregate-said-2 : tie.Need-slice-aggregate-said-2
+slice-aggregate-said-2 c = search needs
+
+said-requires-2 : tie.Need-said-requires-2
+said-requires-2 c κs = search needs
 
 same-length : tie.Need-same-length
 same-length c = search needs
@@ -53,11 +65,15 @@ convert-file-spec =
     (tie.spec
     convert-requires
     enum-known-n
-    slice-reshare-prefix-write-all
-    slice-aggregate-write-all
-    write-all-requires
+    slice-reshare-prefix-put
+    slice-aggregate-put
+    put-requires
+    slice-aggregate-said
+    said-requires
     enum-known-number
     refused-requires
+    slice-aggregate-said-2
+    said-requires-2
     same-length
     returns
     same-length-2

@@ -12,22 +12,34 @@ use Rattle.map_two.proofs.show.Tie as tie
 enum-known-a : tie.Need-enum-known-a
 enum-known-a c = search needs
 
-slice-aggregate-write-all : tie.Need-slice-aggregate-write-all
-slice-aggregate-write-all c =
+slice-aggregate-put : tie.Need-slice-aggregate-put
+slice-aggregate-put c =
     let start = c .before .before .before .before .before in
     let text = start .args .text .now in
     let n = c .before .before .a .given in
     let h : n .0 .0 ≤ length text = subst (λ (a : Answer). Fits a (length text)) (n .1) (start .pre) in
     omega (arith, length-take (n .0 .0) text)
 
-write-all-requires : tie.Need-write-all-requires
-write-all-requires c κs = search needs
+put-requires : tie.Need-put-requires
+put-requires c κs = search needs
+
+slice-aggregate-said : tie.Need-slice-aggregate-said
+slice-aggregate-said c = search needs
+
+said-requires : tie.Need-said-requires
+said-requires c κs = search needs
 
 enum-known-a-2 : tie.Need-enum-known-a-2
 enum-known-a-2 c = search needs
 
 refused-requires : tie.Need-refused-requires
 refused-requires c κs = search needs
+
+slice-aggregate-said-2 : tie.Need-slice-aggregate-said-2
+slice-aggregate-said-2 c = search needs
+
+said-requires-2 : tie.Need-said-requires-2
+said-requires-2 c κs = search needs
 
 returns : tie.Need-returns
 returns c = search needs
@@ -40,9 +52,13 @@ show-spec =
     tie.close
     (tie.spec
     enum-known-a
-    slice-aggregate-write-all
-    write-all-requires
+    slice-aggregate-put
+    put-requires
+    slice-aggregate-said
+    said-requires
     enum-known-a-2
     refused-requires
+    slice-aggregate-said-2
+    said-requires-2
     returns
     returns-2)

@@ -48,7 +48,7 @@ use Rattle.model.specs.Cells.{cellAt}
 use Rattle.model.specs.declared.Cell.{Cell}
 use Rattle.model.proofs.Cell as T
 use Rattle.matching.specs.Sheet.{sheetLong, cellMatched, listMatched}
-use Rattle.matching.proofs.Again.{LentAgain, lends-again, comes-back}
+use Rattle.words.proofs.Again.{LentAgain, lends-again, comes-back}
 use Rattle.matching.proofs.Linking.{listed-none, listed-down, listed-all}
 use Rattle.matching.proofs.match_listed as listed-fn
 use Rattle.matching.proofs.match_listed.Symbol as listed-def

@@ -54,7 +54,7 @@ use Rattle.netlist.specs.declared.Walk.{Walk}
 use Rattle.drivers.proofs.Driver as Z
 use Rattle.drivers.proofs.Driver.Laws as Z′
 use Rattle.netlist.proofs.Walk.Laws as T′
-use Rattle.netlist.proofs.Again.{LentAgain, lends-again, comes-back}
+use Rattle.words.proofs.Again.{LentAgain, lends-again, comes-back}
 use Rattle.netlist.proofs.Counting.{lines-next, lines-none}
 use Rattle.text.proofs.Progress.{Partly, begin, step as goes-on, room as has-room, kept, end as ends}
 use Rattle.netlist.proofs.Walking.{gate-from-low, gate-from-high, gates-skip}

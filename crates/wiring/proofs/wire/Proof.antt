@@ -2,6 +2,7 @@
 use borrow.Author.Needs.{needs}
 use mathlib.Core.Path.{refl}
 use Rattle.ordering.proofs.Placing.{arranged-none}
+use Rattle.wiring.specs.Judged.{Judged}
 use Rattle.wiring.proofs.Nets.{drivers-are}
 use Rattle.wiring.proofs.Whole.{line-inside, refused, pinned-all, accepted, circle-inside, circled}
 use borrow.Author.Needs.{needs}
@@ -23,7 +24,7 @@ mul-t13 c = search needs
 
 shared-slice-read-t15 : tie.Need-shared-slice-read-t15
 shared-slice-read-t15 c =
-    let t = c .before in
+    let t = c .before .before .before in
     let f = t .before in
     let s = f .before .before .before in
     let a = s .args in
@@ -31,11 +32,12 @@ shared-slice-read-t15 c =
     line-inside (g .0) (g .1) (a .nets .now) (a .inputs .now) (a .n) (a .count) (g .2) (f .refer .result) (t .if1 .taken)
 
 returns : tie.Need-returns
+unfolding Judged
 returns c =
-    let t = c .before in
+    let t = c .before .before .before in
     let f = t .before in
     let a = f .before .before .before .args in
-    λ names ds st. refused names ds (a .nets .now) (a .inputs .now) (a .n) (a .count) st (f .refer .result) (f .refer .last .1 .1 .1 .1 .0) (f .refer .ensures) (t .if1 .taken) _ _
+    λ names ds st. (refused names ds (a .nets .now) (a .inputs .now) (a .n) (a .count) st (f .refer .result) (f .refer .last .1 .1 .1 .1 .0) (f .refer .ensures) (t .if1 .taken), refl, refl)
 
 arrange-requires : tie.Need-arrange-requires
 arrange-requires c κs =
@@ -73,7 +75,7 @@ mul-t23 c = search needs
 
 shared-slice-read-t25 : tie.Need-shared-slice-read-t25
 shared-slice-read-t25 c =
-    let k = c .before in
+    let k = c .before .before .before in
     let d = k .before .before .before in
     let r = d .before in
     let e = r .before .before .before .before in
@@ -86,16 +88,20 @@ shared-slice-read-t25 c =
     (k .first-circle .result) (k .first-circle .ensures))
 
 returns-3 : tie.Need-returns-3
+unfolding Judged
 returns-3 c =
-    let k = c .before in
+    let k = c .before .before .before in
     let d = k .before .before .before in
     let r = d .before in
     let e = r .before .before .before .before in
     let f = e .before in
     let a = f .before .before .before .args in
-    λ names ds st.
-    circled names ds (a .nets .now) (a .inputs .now) (a .n) (a .count) st (f .refer .result) (f .refer .last .1 .1 .1 .1 .0) (f .refer .ensures) (e .if1 .left) (r .arrange .result) _ _ (r .arrange .ensures) (d .if2 .left)
-    (k .first-circle .result) (k .first-circle .ensures) _
+    λ names ds st. (
+      circled names ds (a .nets .now) (a .inputs .now) (a .n) (a .count) st (f .refer .result) (f .refer .last .1 .1 .1 .1 .0) (f .refer .ensures) (e .if1 .left) (r .arrange .result) _ _ (r .arrange .ensures) (d .if2 .left)
+          (k .first-circle .result) (k .first-circle .ensures),
+      refl,
+      refl,
+    )
 
 pub wire-spec : {M : Type 1} → statement M
 wire-spec =

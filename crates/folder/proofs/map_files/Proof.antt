@@ -1,4 +1,4 @@
--- `map_pairs::map_files` is safe: the netlist's length is within text memory, as `map_texts` ensures. Assumes nothing.
+-- `folder::map_files` is safe: the netlist's length is within text memory, as `map_texts` ensures. Assumes nothing.
 use Prim.Native.Nat.{_≤_}
 use native.Mathlib.Omega.{arith}
 use mathlib.Core.Path.{subst}
@@ -6,8 +6,8 @@ use lib.ListN.{length, length-take}
 use Rattle.model.specs.declared.Answer.{Answer}
 use Rattle.mapper.specs.Stages.{Fits}
 use borrow.Author.Needs.{needs}
-use Rattle.map_pairs.proofs.map_files.Statement.{statement}
-use Rattle.map_pairs.proofs.map_files.Tie as tie
+use Rattle.folder.proofs.map_files.Statement.{statement}
+use Rattle.folder.proofs.map_files.Tie as tie
 
 map-texts-requires : tie.Need-map-texts-requires
 map-texts-requires c κs = search needs
@@ -15,24 +15,24 @@ map-texts-requires c κs = search needs
 enum-known-n : tie.Need-enum-known-n
 enum-known-n c = search needs
 
-slice-reshare-prefix-write-all : tie.Need-slice-reshare-prefix-write-all
-slice-reshare-prefix-write-all c =
+slice-reshare-prefix-put : tie.Need-slice-reshare-prefix-put
+slice-reshare-prefix-put c =
     let at-map-texts = c .before .before .before .before .before .before .before in
-    let text = at-map-texts .before .before .before .before .before .before .before .before .args .text .now in
+    let text = at-map-texts .before .before .before .before .before .before .before .before .before .args .text .now in
     let n = c .before .n .given in
     let h : n .0 .0 ≤ length text = subst (λ (a : Answer). Fits a (length text)) (n .1) (at-map-texts .map-texts .ensures .1 .1 .1 .0) in
     omega arith
 
-slice-aggregate-write-all : tie.Need-slice-aggregate-write-all
-slice-aggregate-write-all c =
+slice-aggregate-put : tie.Need-slice-aggregate-put
+slice-aggregate-put c =
     let at-map-texts = c .before .before .before .before .before .before .before .before in
-    let text = at-map-texts .before .before .before .before .before .before .before .before .args .text .now in
+    let text = at-map-texts .before .before .before .before .before .before .before .before .before .args .text .now in
     let n = c .before .before .n .given in
     let h : n .0 .0 ≤ length text = subst (λ (a : Answer). Fits a (length text)) (n .1) (at-map-texts .map-texts .ensures .1 .1 .1 .0) in
     omega (arith, length-take (n .0 .0) (at-map-texts .map-texts .last .1 .1 .1 .1 .1 .0))
 
-write-all-requires : tie.Need-write-all-requires
-write-all-requires c κs = search needs
+put-requires : tie.Need-put-requires
+put-requires c κs = search needs
 
 said-requires : tie.Need-said-requires
 said-requires c κs = search needs
@@ -70,9 +70,9 @@ map-files-spec =
     (tie.spec
     map-texts-requires
     enum-known-n
-    slice-reshare-prefix-write-all
-    slice-aggregate-write-all
-    write-all-requires
+    slice-reshare-prefix-put
+    slice-aggregate-put
+    put-requires
     said-requires
     enum-known-number
     refused-requires
