@@ -35,7 +35,7 @@ pub fn line(word: &[u8], a: usize, b: usize) -> bool {
         && put(b"\n")
 }
 
-// "one line `refused` with the number and place".
+// "one line of `refused`, number and place, as `refused 17 0`".
 pub fn refused(number: usize, place: usize) -> bool {
     line(b"refused", number, place)
 }

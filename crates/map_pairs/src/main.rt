@@ -1,4 +1,4 @@
-// The same with pairs of cells.
+// The program that wants pairs of cells: `folder::map` with them.
 fn main() {
     folder::map(b"map_pairs", true);
 }

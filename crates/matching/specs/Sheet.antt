@@ -47,7 +47,7 @@ pickOf pins places mask =
 unfoldable pub masked : ℕ → ℕ → ℕ
 masked word mask = word + mask % 2 + 16 * (mask / 2 % 2) + 256 * (mask / 4 % 2) + 4096 * (mask / 8 % 2)
 
--- the same of a variant of a cell with so many pins, and above it how far behind the first delay its cell's delays stand
+-- the picks of a variant of a cell with so many pins, and above them how far behind the first delay its cell's delays stand
 unfoldable pub wordOf : ℕ → ℕ → ℕ
 unfolding pickOf
 wordOf pins x = pickOf pins (placesOf (orderOf x)) (maskOf x) + 262144 * lineOf x
