@@ -1,14 +1,29 @@
 /* The array mapper's calls. What they answer and leave is proved (crates/capi); this page says it in words.
  *
- * mapper_map maps a cell library text, an AIGER graph text, in the ASCII or the binary form, and a text of the inputs' arrivals, empty for none.
- * It never reads or writes outside the five arrays, always returns, and asks nothing of what they hold; they may not overlap. The cells have one
- * of two first lines; under the longer, `cell pins table area d0 d1 d2 d3 l0 l1 l2 l3`, a `# timing` line for each output, its low and its high
+ * Of every call
+ *   Arrays   It never reads or writes outside of the arrays that it is given, always returns, and asks nothing of what they hold. Those that are const are
+ *            only read. An array of length 0 may be null. Arrays that are only read may share memory, in part or whole; an array that is written
+ *            shares none with another of the same call.
+ *   Status   It answers a number: 0, or that of a refusal, with its place (docs/GUIDE.md); mapper_check a verdict, and with MAPPER_REFUSED the same.
+ *            There is no other failure. Nothing is printed, no memory is allocated, errno is not set.
+ *   Threads  It keeps nothing between calls and is safe from several threads at once, each with arrays of its own to write.
+ *   Stack    MAPPER_STACK bytes are enough for every call. Measured over texts that take a call deep, on x86-64, it takes up to
+ *              mapper_map            1,150 KB
+ *              mapper_map_pairs      1,150 KB
+ *              mapper_map_two        1,150 KB
+ *              mapper_map_two_pairs  1,150 KB
+ *              mapper_check          1,000 KB
+ *              mapper_cells              6 KB
+ *              mapper_count             16 KB
+ *              mapper_report            14 KB
+ *
+ * mapper_map maps a cell library text, an AIGER graph text, in the ASCII or the binary form, and a text of the inputs' arrivals, empty for none. The cells
+ * have one of two first lines; under the longer, `cell pins table area d0 d1 d2 d3 l0 l1 l2 l3`, a `# timing` line for each output, its low and its high
  * arrival, stands behind the netlist and counts as part of it.
  *   success   number 0, value the netlist's length; text begins with the netlist and keeps its other bytes; gates, area and arrival are the
  *             figures of its `# gates` line; every word of work is 0
- *   refusal   number and value are the refusal's number and place (docs/GUIDE.md), the figures are 0; text is unchanged; work is unchanged
- *             for numbers up to 10, for 19, 27 and 30, and every word of it is 0 for any other
- * The call keeps nothing between calls and is safe from several threads at once, each with work and text of its own. The thread needs 1.5 MB of stack. */
+ *   refusal   number and value are the refusal's number and place, the figures are 0; text is unchanged; work is unchanged for numbers up to 10, for 19, 27
+ *             and 30, and every word of it is 0 for any other */
 #ifndef MAPPER_H
 #define MAPPER_H
 #include <stddef.h>
@@ -31,6 +46,9 @@ extern "C" {
 /* The words of work that mapper_check needs for a netlist with so many bytes 10, those behind `.end` counted: MAPPER_CHECK_WORDS(4095, 4096, MAPPER_LIMIT),
  * 2.1 MB, are enough for every graph and netlist. */
 #define MAPPER_CHECK_WORDS(m, o, lines) (MAPPER_WORDS(m, o) + 8 * (size_t)(lines))
+
+/* The bytes of stack that a thread needs to make any call. */
+#define MAPPER_STACK 1500000
 
 /* The longest text that is read: of a longer file hand over one byte more, and the answer is MAPPER_TOO_LONG. */
 #define MAPPER_LIMIT 65536
@@ -118,7 +136,8 @@ MapperTwo mapper_map_two_pairs(const uint8_t *cells, size_t cells_len, const uin
  *                    MAPPER_INPUTS_OVER_12, MAPPER_EDITED_FORM, MAPPER_EDITED_NET; of the last, first for a net driven twice, then for one that no line
  *                    drives, then for a circle, each at the first such line
  * work is unchanged after a refusal for numbers up to 10, for 19 and for 27, and every word of it is 0 otherwise. Given memory enough, every netlist of up to
- * MAPPER_LIMIT bytes that mapper_map or mapper_map_pairs printed from these cells, this graph and any arrivals is accepted where the graph has up to 12 inputs. */
+ * MAPPER_LIMIT bytes that mapper_map or mapper_map_pairs printed from these cells, this graph and any arrivals is accepted where the graph has up to 12
+ * inputs. */
 enum { MAPPER_ACCEPTED = 0, MAPPER_DIFFERS = 1, MAPPER_REFUSED = 2 };
 
 typedef struct {
@@ -136,8 +155,8 @@ MapperChecked mapper_check(const uint8_t *cells, size_t cells_len, const uint8_t
  * Of both the figures are 0. */
 MapperAnswer mapper_cells(const uint8_t *genlib, size_t genlib_len, uint8_t *text, size_t text_len);
 
-/* Counts a netlist that was mapped by the cells into a tally, which the caller keeps from call to call and clears before the first. The tally is 97 numbers: the
- * gates of the 32 cells, the areas of the 32, the netlists in which each occurs, and the netlists counted.
+/* Counts a netlist that was mapped by the cells into a tally, which the caller keeps from call to call and clears before the first. The tally is 97
+ * numbers: the gates of the 32 cells, the areas of the 32, the netlists in which each occurs, and the netlists counted.
  *   success   number 0, value 0; the tally has this netlist too
  *   refusal   MAPPER_TOO_LONG, the cells' (2 to 6, 27), MAPPER_TALLY_FULL or MAPPER_NETLIST_LINE; the tally is unchanged
  * A tally of another length is refused as a full one is: number 28, value 64, after the cells' refusals. Of both the figures are 0. */

@@ -1,4 +1,5 @@
-//! Finds the static library, and has `rt` prove and build it where it is not there.
+//! Has `rt` prove the call and write the static library, whenever a source or the kit has changed: `rt` proves what is not proved, and no archive is linked
+//! that is older than its sources. MAPPER_LIB_DIR names the folder of an archive that is taken as it is.
 
 use std::{
     env,
@@ -8,27 +9,50 @@ use std::{
 
 fn main() {
     println!("cargo:rerun-if-env-changed=MAPPER_LIB_DIR");
+    println!("cargo:rerun-if-env-changed=PATH");
     println!("cargo:rerun-if-changed=build.rs");
     let folder = match env::var_os("MAPPER_LIB_DIR") {
-        Some(folder) => PathBuf::from(folder),
-        None => built(),
+        Some(folder) => given(PathBuf::from(folder)),
+        None => proved(),
     };
-    let library = folder.join("libcapi.a");
-    assert!(library.exists(), "there is no {}: MAPPER_LIB_DIR names the folder of libcapi.a", library.display());
-    println!("cargo:rerun-if-changed={}", library.display());
     println!("cargo:rustc-link-search=native={}", folder.display());
     println!("cargo:rustc-link-lib=static=capi");
 }
 
-/// `target/staticlib` of the repository. An archive that is there is used as it is.
-fn built() -> PathBuf {
+/// A folder with an archive, which is taken as it is.
+fn given(folder: PathBuf) -> PathBuf {
+    let library = folder.join("libcapi.a");
+    assert!(library.exists(), "there is no {}: MAPPER_LIB_DIR names the folder of libcapi.a", library.display());
+    println!("cargo:rerun-if-changed={}", library.display());
+    folder
+}
+
+/// `target/staticlib` of the repository, written for the sources as they are.
+fn proved() -> PathBuf {
     let root = Path::new(&env::var_os("CARGO_MANIFEST_DIR").expect("cargo sets it")).join("../..");
-    let folder = root.join("target/staticlib");
-    if !folder.join("libcapi.a").exists() {
-        let run = Command::new("rt").args(["staticlib", "capi"]).current_dir(&root).output();
-        let run = run.unwrap_or_else(|error| panic!("`rt staticlib capi` cannot be run: {error}"));
-        let told = String::from_utf8_lossy(&run.stdout) + String::from_utf8_lossy(&run.stderr);
-        assert!(run.status.success(), "`rt staticlib capi` failed:\n{told}");
+    let root = root.canonicalize().expect("the repository");
+    for source in ["crates", "crates.txt"] {
+        println!("cargo:rerun-if-changed={}", root.join(source).display());
     }
-    folder.canonicalize().expect("the folder of libcapi.a")
+    if let Some(kit) = kit() {
+        println!("cargo:rerun-if-changed={}", kit.display());
+    }
+    // `check` proves as many crates at a time as there are processors, `staticlib` one.
+    for words in [["check", "capi"], ["staticlib", "capi"]] {
+        let asked = format!("`rt {}`", words.join(" "));
+        // What it prints is cargo's to show: with -vv as it comes, and else where it fails.
+        let status = Command::new("rt").args(words).current_dir(&root).status();
+        let status = status.unwrap_or_else(|error| {
+            panic!("{asked} cannot be run: {error}; it proves the library, or MAPPER_LIB_DIR names the folder of one")
+        });
+        assert!(status.success(), "{asked} failed: the library is not proved, and nothing is built of it");
+    }
+    root.join("target/staticlib")
+}
+
+/// The program `rt` that the path leads to.
+fn kit() -> Option<PathBuf> {
+    let folders = env::var_os("PATH")?;
+    let found = env::split_paths(&folders).map(|folder| folder.join("rt")).find(|program| program.is_file())?;
+    found.canonicalize().ok()
 }

@@ -1,20 +1,29 @@
 /* Maps the files that are named: `map_c CELLS GRAPH [ARRIVALS]` prints what `map` prints, with enough words lent for any graph.
  * gcc -Iinclude examples/c/map.c target/staticlib/libcapi.a
- * Status 0: the netlist or the refusal is printed; 2: it could not be written, or the command line is at fault. */
+ * Status 0: the netlist or the refusal is printed; 2: a file could not be read, or the answer not written, or the command line is at fault. */
 #include "mapper.h"
+#include <errno.h>
 #include <inttypes.h>
 #include <stdio.h>
+#include <stdlib.h>
+#include <string.h>
 
 static uint8_t cells[MAPPER_LIMIT + 1], graph[MAPPER_LIMIT + 1], arrivals[MAPPER_LIMIT + 1], text[MAPPER_TEXT(4095, 4096)];
 static uint16_t work[MAPPER_WORDS(4095, 4096)];
 
-/* An absent file counts as empty, as it does for `map`. */
+/* An absent file counts as empty, as it does for `map`. One that is there and cannot be read would give another netlist: that ends the program.
+ * A folder opens and fails at the first read. */
 static size_t load(const char *path, uint8_t *to)
 {
     FILE *f = fopen(path, "rb");
+    if (!f && errno == ENOENT)
+        return 0;
     size_t n = f ? fread(to, 1, MAPPER_LIMIT + 1, f) : 0;
-    if (f)
-        fclose(f);
+    if (!f || ferror(f)) {
+        fprintf(stderr, "map_c: %s: %s\n", path, strerror(errno));
+        exit(2);
+    }
+    fclose(f);
     return n;
 }
 

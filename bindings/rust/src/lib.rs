@@ -16,13 +16,23 @@
 //! ```
 //!
 //! What the call answers and leaves in the memory that it is lent is proved (crates/capi of the repository); docs/GUIDE.md has the texts, the
-//! netlist and every refusal. Calls on memory of their own are safe from several threads at once. A call is given 1.5 MB of stack: a thread of
-//! the standard library has 2 MB.
+//! netlist and every refusal. Calls on memory of their own are safe from several threads at once. Texts may share memory, and may be empty.
+//!
+//! 1.5 MB of stack are enough for every call, and a thread of the standard library has 2 MB. On x86-64 a call takes up to
+//!
+//! | Function | Call in C | Stack |
+//! |---|---|--:|
+//! | [`map`], [`map_in`] | `mapper_map` | 1,150 KB |
+//! | [`map_pairs`], [`map_pairs_in`] | `mapper_map_pairs` | 1,150 KB |
+//! | [`map_two`] | `mapper_map_two` | 1,150 KB |
+//! | [`map_two_pairs`] | `mapper_map_two_pairs` | 1,150 KB |
+//! | [`check`], [`check_in`] | `mapper_check` | 1,000 KB |
+//! | [`cells`] | `mapper_cells` | 6 KB |
+//! | [`Tally::count`] | `mapper_count` | 16 KB |
+//! | [`Tally::report`] | `mapper_report` | 14 KB |
 
 mod raw;
 mod refusal;
-#[doc(hidden)]
-pub mod shell;
 
 pub use raw::{
     call, call_cells, call_check, call_count, call_pairs, call_report, call_two, call_two_pairs, Answer, AnswerChecked,
@@ -52,7 +62,7 @@ pub struct Netlist {
 }
 
 /// The five numbers M, I, L, O and A of a graph's header, where it has them.
-fn header(graph: &[u8]) -> Option<[usize; 5]> {
+pub fn header(graph: &[u8]) -> Option<[usize; 5]> {
     let line = graph.split(|&byte| byte == b'\n').next()?;
     let line = std::str::from_utf8(line.strip_suffix(b"\r").unwrap_or(line)).ok()?;
     let mut words = line.split(' ');

@@ -12,7 +12,8 @@ ghost use Rattle.words.specs.Layout.{Room};
 ghost use Rattle.placing.specs.Loaded.{Fit};
 ghost use Rattle.placing.specs.Placing.{Operands};
 ghost use Rattle.loading.specs.Tests.{dueCount, LiteralsFit};
-ghost use Rattle.aiger.specs.Lines.{threeAt, tagBehind, tagAt, headerRecord, numbersForm, headerEnds, formAt, oneLine, andLine, lineRead, judgedAt, isKnown, usesKnown, outputKnown, operandsKnown, wordsKnown};
+ghost use Rattle.aiger.specs.Lines.{threeAt, tagBehind, tagAt, headerRecord, numbersForm, headerEnds, formAt, oneLine, andLine, lineRead, judgedAt};
+ghost use Rattle.aiger.specs.Lines.{isKnown, usesKnown, outputKnown, operandsKnown, wordsKnown};
 ghost use Rattle.aiger.specs.Passes.{turnAt, turnWords, linesVerdict, linesWords, checkAt, checkVerdict, asciiWords, loadedWords};
 use loading::Literals;
 use loading::Turn;
@@ -312,7 +313,7 @@ fn turn_at(s: &[u8], at: usize, work: &mut [u16], h: Header, k: usize) -> Turn
     }
 }
 
-// "Items 11 to 13" "line by line".
+// "Items 3 to 6 are tried line by line, 11 to 13 too."
 fn read_lines(s: &[u8], work: &mut [u16], h: Header) -> Verdict
     requires { ⌜ Fit h (now work) ⌝ }
     ensures answer { λ r. ⌜ r ≡ linesVerdict (now (s .entry)) h (dueCount h) 0 (h .next) (now (work .entry)) ⌝ }

@@ -1,12 +1,13 @@
-// Each text of the standard input, ended by byte 0, is read as a graph and its ANDs are placed, with the same 80,000 words lent to every one, and one line says what was found:
-// `refused`, number and place; or `placed`, the placing order, and the outputs' literals behind `outputs`. cases.py writes the texts, and the lines by a reader of its own.
+// Each text of the standard input, ended by byte 0, is read as a graph and its ANDs are placed, with the same 80,000 words lent to every one, and one line
+// says what was found:
+// `refused`, number and place; or `placed`, the placing order, and the outputs' literals behind `outputs`. cases.py writes the texts, and the lines by a
+// reader of its own.
 ghost use mathlib.Core.Path.{_≡_};
 ghost use Prim.Native.Nat.{_+_, _≤_};
 ghost use lib.ListN.{length};
 ghost use Rattle.model.specs.Limits.{need};
 ghost use Rattle.model.specs.Reading.{holds};
 ghost use Rattle.model.specs.GraphText.{readHeader};
-ghost use Rattle.words.specs.Layout.{Room, RoomFor};
 ghost use Rattle.placing.specs.Loaded.{Fit};
 ghost use Rattle.placing.specs.Placing.{Operands};
 use libc::STDIN_FILENO;

@@ -10,7 +10,8 @@ ghost use Rattle.model.specs.GraphText.{lessBy, readHeader, readGraph};
 ghost use Rattle.placing.specs.Loaded.{Fit};
 ghost use Rattle.loading.specs.Tests.{dueCount};
 ghost use Rattle.binary.specs.Gates.{lessOf, gateAt};
-ghost use Rattle.binary.specs.Passes.{inputLiterals, inputTurn, inputLeft, outputTurn, outputLeft, gateTurn, gateLeft, passTurn, passWords, asVerdict, binaryWords};
+ghost use Rattle.binary.specs.Passes.{inputLiterals, inputTurn, inputLeft, outputTurn, outputLeft, gateTurn, gateLeft, passTurn, passWords};
+ghost use Rattle.binary.specs.Passes.{asVerdict, binaryWords};
 use loading::Literals;
 use loading::Turn;
 use model::Header;
@@ -136,8 +137,10 @@ fn output_turn(s: &[u8], at: usize, work: &mut [u16], h: Header, k: usize) -> Tu
 // The output lines, and the place behind them.
 fn read_outputs(s: &[u8], work: &mut [u16], h: Header) -> Turn
     requires { ⌜ Fit h (now work) ⌝ }
-    ensures answer { λ r. ⌜ r ≡ passTurn (outputTurn (now (s .entry)) h) (outputLeft (now (s .entry)) h) (h .outputs) (h .inputs) (h .next) (now (work .entry)) ⌝ }
-    ensures left { λ _. ⌜ now (work .exit) ≡ passWords (outputTurn (now (s .entry)) h) (outputLeft (now (s .entry)) h) (h .outputs) (h .inputs) (h .next) (now (work .entry)) ⌝ }
+    ensures answer { λ r. ⌜ r ≡ passTurn (outputTurn (now (s .entry)) h) (outputLeft (now (s .entry)) h) (h .outputs) (h .inputs) (h .next)
+        (now (work .entry)) ⌝ }
+    ensures left { λ _. ⌜ now (work .exit) ≡ passWords (outputTurn (now (s .entry)) h) (outputLeft (now (s .entry)) h) (h .outputs) (h .inputs) (h .next)
+        (now (work .entry)) ⌝ }
 {
     let end = h.inputs + h.outputs;
     let mut at = h.next;
@@ -176,8 +179,10 @@ fn gate_turn(s: &[u8], at: usize, work: &mut [u16], h: Header, k: usize) -> Turn
 // 20 and 21 "are tried difference by difference after the output lines".
 fn read_gates(s: &[u8], from: usize, work: &mut [u16], h: Header) -> Verdict
     requires { ⌜ Fit h (now work) ⌝ }
-    ensures answer { λ r. ⌜ r ≡ asVerdict (passTurn (gateTurn (now (s .entry)) h) (gateLeft (now (s .entry)) h) (h .ands) (h .inputs + h .outputs) from (now (work .entry))) ⌝ }
-    ensures left { λ _. ⌜ now (work .exit) ≡ passWords (gateTurn (now (s .entry)) h) (gateLeft (now (s .entry)) h) (h .ands) (h .inputs + h .outputs) from (now (work .entry)) ⌝ }
+    ensures answer { λ r. ⌜ r ≡ asVerdict (passTurn (gateTurn (now (s .entry)) h) (gateLeft (now (s .entry)) h) (h .ands) (h .inputs + h .outputs) from
+        (now (work .entry))) ⌝ }
+    ensures left { λ _. ⌜ now (work .exit) ≡ passWords (gateTurn (now (s .entry)) h) (gateLeft (now (s .entry)) h) (h .ands) (h .inputs + h .outputs) from
+        (now (work .entry)) ⌝ }
 {
     let end = h.inputs + h.outputs + h.ands;
     let mut at = from;

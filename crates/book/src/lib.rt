@@ -4,7 +4,7 @@ use model::Cell;
 use model::Library;
 ghost use mathlib.Core.Path.{_≡_};
 ghost use mathlib.Core.List.{List};
-ghost use Prim.Native.Nat.{ℕ, _+_, _*_, _≤_, _<_};
+ghost use Prim.Native.Nat.{ℕ, _+_, _*_, _≤_, _<_, min};
 ghost use lib.ListN.{length, take};
 ghost use Rattle.model.specs.Base.{each};
 ghost use Rattle.model.specs.Cells.{cellsOf};
@@ -14,7 +14,7 @@ ghost use Rattle.book.specs.Bytes.{nameFrom, cellBytes, cellFrom, codeBy
 
 // How long a cell's name is: never past its eight bytes.
 pub fn name_len(len: usize) -> usize
-    ensures { λ r. ⌜ (r ≤ 8) × ((s : List ℕ) → length s ≡ 8 → take r s ≡ take len s) ⌝ }
+    ensures { λ r. ⌜ (r ≤ 8) × ((s : List ℕ) → length s ≡ 8 → take r s ≡ take len s) × (r ≡ min len 8) ⌝ }
 {
     if len < 8 { len } else { 8 }
 }

@@ -6,18 +6,19 @@ use model::Written;
 ghost use mathlib.Core.Path.{_≡_};
 ghost use mathlib.Core.Bool.{true, false};
 ghost use lib.ListN.{length};
-ghost use Rattle.model.specs.Mapper.{callOf, mapTexts, returned, returnedBy, textAfter, workAfter};
-ghost use Rattle.model.specs.Demands.{Values, Earliest, Twins, Sequenced, EitherEnd, Untimed, Listed, Former};
-ghost use Rattle.model.specs.ShuffleDemands.{Shuffles};
+ghost use Rattle.model.specs.Mapper.{returned};
 ghost use Rattle.model.specs.Genlib.{genlibText, writtenAnswer, writtenPair, writtenAfter};
 ghost use Rattle.model.specs.GenlibDemands.{GenlibDemand};
-ghost use Rattle.model.specs.Channels.{channelOf, twoCallOf, needsOf, mapTwo, twoWorkAfter};
-ghost use Rattle.model.specs.TwoDemands.{TogetherRefused, Independent, Each, TwinChannels, EitherEndTwo};
+ghost use Rattle.theory_foundry.specs.GateRefusals.{GenlibRefusals};
 ghost use Rattle.model.specs.Reading.{verdictOf};
 ghost use Rattle.model.specs.Tally.{countText, reportOf};
+ghost use Rattle.theory_tally.specs.CountRefusals.{CountRefusals, ReportRefusals};
 ghost use Rattle.stock.specs.Numbers.{tallyOf, numbersAfter};
+ghost use Rattle.stock.specs.Demands.{CountReturned, ReportReturned};
 ghost use Rattle.model.specs.Check.{checkTexts, checkedWork, toldOf};
-ghost use Rattle.model.specs.CheckDemands.{ComparedCheck};
+ghost use Rattle.model.specs.CheckDemands.{CheckPromised};
+ghost use Rattle.theory_check.specs.CheckRefusals.{CheckRefusals};
+ghost use Rattle.capi.specs.Calls.{Called, CalledTwo};
 ghost use Rattle.capi.specs.Answers.{answered, answeredText, checkedAnswer, verdictPair};
 
 // "Success returns number 0, the netlist's length and the three figures of its `# gates` line; a refusal its number, its place and zero figures".
@@ -77,18 +78,8 @@ pub extern "C" fn mapper_map(
     work: &mut [u16],
     text: &mut [u8],
 ) -> MapperAnswer
-    ensures answers { λ r. ⌜ r ≡ answered (returnedBy (mapTexts (callOf false (now (cells .entry)) (now (graph .entry)) (now (arrivals .entry)) (now (work .entry)) (now (text .entry))))) ⌝ }
-    ensures words { λ _. ⌜ now (work .exit) ≡ workAfter (mapTexts (callOf false (now (cells .entry)) (now (graph .entry)) (now (arrivals .entry)) (now (work .entry)) (now (text .entry)))) (now (work .entry)) ⌝ }
-    ensures bytes { λ _. ⌜ now (text .exit) ≡ textAfter (mapTexts (callOf false (now (cells .entry)) (now (graph .entry)) (now (arrivals .entry)) (now (work .entry)) (now (text .entry)))) (now (text .entry)) ⌝ }
-    ensures values { λ _. ⌜ Values (callOf false (now (cells .entry)) (now (graph .entry)) (now (arrivals .entry)) (now (work .entry)) (now (text .entry))) ⌝ }
-    ensures earliest { λ _. ⌜ Earliest (callOf false (now (cells .entry)) (now (graph .entry)) (now (arrivals .entry)) (now (work .entry)) (now (text .entry))) ⌝ }
-    ensures twins { λ _. ⌜ Twins (callOf false (now (cells .entry)) (now (graph .entry)) (now (arrivals .entry)) (now (work .entry)) (now (text .entry))) ⌝ }
-    ensures sequenced { λ _. ⌜ Sequenced (callOf false (now (cells .entry)) (now (graph .entry)) (now (arrivals .entry)) (now (work .entry)) (now (text .entry))) ⌝ }
-    ensures ends { λ _. ⌜ EitherEnd (callOf false (now (cells .entry)) (now (graph .entry)) (now (arrivals .entry)) (now (work .entry)) (now (text .entry))) ⌝ }
-    ensures untimed { λ _. ⌜ Untimed (callOf false (now (cells .entry)) (now (graph .entry)) (now (arrivals .entry)) (now (work .entry)) (now (text .entry))) ⌝ }
-    ensures listed { λ _. ⌜ Listed (callOf false (now (cells .entry)) (now (graph .entry)) (now (arrivals .entry)) (now (work .entry)) (now (text .entry))) ⌝ }
-    ensures former { λ _. ⌜ Former (callOf false (now (cells .entry)) (now (graph .entry)) (now (arrivals .entry)) (now (work .entry)) (now (text .entry))) ⌝ }
-    ensures shuffles { λ _. ⌜ Shuffles (callOf false (now (cells .entry)) (now (graph .entry)) (now (arrivals .entry)) (now (work .entry)) (now (text .entry))) ⌝ }
+    ensures { λ r. ⌜ Called false (now (cells .entry)) (now (graph .entry)) (now (arrivals .entry)) (now (work .entry)) (now (text .entry))
+        r (now (work .exit)) (now (text .exit)) ⌝ }
 {
     answer(mapper::map_texts(cells, graph, arrivals, false, work, text))
 }
@@ -102,18 +93,8 @@ pub extern "C" fn mapper_map_pairs(
     work: &mut [u16],
     text: &mut [u8],
 ) -> MapperAnswer
-    ensures answers { λ r. ⌜ r ≡ answered (returnedBy (mapTexts (callOf true (now (cells .entry)) (now (graph .entry)) (now (arrivals .entry)) (now (work .entry)) (now (text .entry))))) ⌝ }
-    ensures words { λ _. ⌜ now (work .exit) ≡ workAfter (mapTexts (callOf true (now (cells .entry)) (now (graph .entry)) (now (arrivals .entry)) (now (work .entry)) (now (text .entry)))) (now (work .entry)) ⌝ }
-    ensures bytes { λ _. ⌜ now (text .exit) ≡ textAfter (mapTexts (callOf true (now (cells .entry)) (now (graph .entry)) (now (arrivals .entry)) (now (work .entry)) (now (text .entry)))) (now (text .entry)) ⌝ }
-    ensures values { λ _. ⌜ Values (callOf true (now (cells .entry)) (now (graph .entry)) (now (arrivals .entry)) (now (work .entry)) (now (text .entry))) ⌝ }
-    ensures earliest { λ _. ⌜ Earliest (callOf true (now (cells .entry)) (now (graph .entry)) (now (arrivals .entry)) (now (work .entry)) (now (text .entry))) ⌝ }
-    ensures twins { λ _. ⌜ Twins (callOf true (now (cells .entry)) (now (graph .entry)) (now (arrivals .entry)) (now (work .entry)) (now (text .entry))) ⌝ }
-    ensures sequenced { λ _. ⌜ Sequenced (callOf true (now (cells .entry)) (now (graph .entry)) (now (arrivals .entry)) (now (work .entry)) (now (text .entry))) ⌝ }
-    ensures ends { λ _. ⌜ EitherEnd (callOf true (now (cells .entry)) (now (graph .entry)) (now (arrivals .entry)) (now (work .entry)) (now (text .entry))) ⌝ }
-    ensures untimed { λ _. ⌜ Untimed (callOf true (now (cells .entry)) (now (graph .entry)) (now (arrivals .entry)) (now (work .entry)) (now (text .entry))) ⌝ }
-    ensures listed { λ _. ⌜ Listed (callOf true (now (cells .entry)) (now (graph .entry)) (now (arrivals .entry)) (now (work .entry)) (now (text .entry))) ⌝ }
-    ensures former { λ _. ⌜ Former (callOf true (now (cells .entry)) (now (graph .entry)) (now (arrivals .entry)) (now (work .entry)) (now (text .entry))) ⌝ }
-    ensures shuffles { λ _. ⌜ Shuffles (callOf true (now (cells .entry)) (now (graph .entry)) (now (arrivals .entry)) (now (work .entry)) (now (text .entry))) ⌝ }
+    ensures { λ r. ⌜ Called true (now (cells .entry)) (now (graph .entry)) (now (arrivals .entry)) (now (work .entry)) (now (text .entry))
+        r (now (work .exit)) (now (text .exit)) ⌝ }
 {
     answer(mapper::map_texts(cells, graph, arrivals, true, work, text))
 }
@@ -124,6 +105,7 @@ pub extern "C" fn mapper_cells(genlib: &[u8], text: &mut [u8]) -> MapperAnswer
     ensures answers { λ r. ⌜ r ≡ answeredText (writtenPair (writtenAnswer (genlibText (now (genlib .entry)) (length (now (text .entry)))))) ⌝ }
     ensures bytes { λ _. ⌜ now (text .exit) ≡ writtenAfter (genlibText (now (genlib .entry)) (length (now (text .entry)))) (now (text .entry)) ⌝ }
     ensures cells { λ _. ⌜ GenlibDemand (now (genlib .entry)) (length (now (text .entry))) ⌝ }
+    ensures refusals { λ _. ⌜ GenlibRefusals (now (genlib .entry)) (length (now (text .entry))) ⌝ }
 {
     text_answer(genlib::convert(genlib, text))
 }
@@ -141,8 +123,12 @@ fn verdict_answer(v: Verdict) -> MapperAnswer
 // "Stock planning reads up to 64 mapped netlists of one library, one after another, into a tally": one netlist more, in a tally of 97 numbers.
 #[no_mangle]
 pub extern "C" fn mapper_count(cells: &[u8], netlist: &[u8], tally: &mut [u64]) -> MapperAnswer
-    ensures answers { λ r. ⌜ r ≡ answeredText (verdictPair (verdictOf (countText (tallyOf (now (tally .entry))) (now (cells .entry)) (now (netlist .entry))))) ⌝ }
-    ensures numbers { λ _. ⌜ now (tally .exit) ≡ numbersAfter (countText (tallyOf (now (tally .entry))) (now (cells .entry)) (now (netlist .entry))) (now (tally .entry)) ⌝ }
+    ensures answers { λ r. ⌜ r ≡ answeredText (verdictPair (verdictOf
+        (countText (tallyOf (now (tally .entry))) (now (cells .entry)) (now (netlist .entry))))) ⌝ }
+    ensures numbers { λ _. ⌜ now (tally .exit) ≡ numbersAfter (countText (tallyOf (now (tally .entry))) (now (cells .entry)) (now (netlist .entry)))
+        (now (tally .entry)) ⌝ }
+    ensures sums { λ r. ⌜ CountReturned (now (cells .entry)) (now (netlist .entry)) (now (tally .entry)) (now (tally .exit)) (r .number) ⌝ }
+    ensures refusals { λ _. ⌜ CountRefusals (tallyOf (now (tally .entry))) (now (cells .entry)) (now (netlist .entry)) ⌝ }
 {
     verdict_answer(stock::count(cells, netlist, tally))
 }
@@ -150,8 +136,12 @@ pub extern "C" fn mapper_count(cells: &[u8], netlist: &[u8], tally: &mut [u64]) 
 // "Report a line per cell in library order .. then `total`": the report of a tally of 97 numbers, into lent bytes.
 #[no_mangle]
 pub extern "C" fn mapper_report(cells: &[u8], tally: &[u64], text: &mut [u8]) -> MapperAnswer
-    ensures answers { λ r. ⌜ r ≡ answeredText (writtenPair (writtenAnswer (reportOf (tallyOf (now (tally .entry))) (now (cells .entry)) (length (now (text .entry)))))) ⌝ }
-    ensures bytes { λ _. ⌜ now (text .exit) ≡ writtenAfter (reportOf (tallyOf (now (tally .entry))) (now (cells .entry)) (length (now (text .entry)))) (now (text .entry)) ⌝ }
+    ensures answers { λ r. ⌜ r ≡ answeredText (writtenPair (writtenAnswer
+        (reportOf (tallyOf (now (tally .entry))) (now (cells .entry)) (length (now (text .entry)))))) ⌝ }
+    ensures bytes { λ _. ⌜ now (text .exit) ≡ writtenAfter (reportOf (tallyOf (now (tally .entry))) (now (cells .entry)) (length (now (text .entry))))
+        (now (text .entry)) ⌝ }
+    ensures sums { λ r. ⌜ ReportReturned (now (cells .entry)) (now (tally .entry)) (now (text .exit)) (r .number) (r .value) ⌝ }
+    ensures refusals { λ _. ⌜ ReportRefusals (tallyOf (now (tally .entry))) (now (cells .entry)) (length (now (text .entry))) ⌝ }
 {
     text_answer(stock::report(cells, tally, text))
 }
@@ -176,16 +166,8 @@ pub extern "C" fn mapper_map_two(
     text1: &mut [u8],
     text2: &mut [u8],
 ) -> MapperTwo
-    ensures first { λ r. ⌜ r .first ≡ answered (returnedBy (mapTwo (twoCallOf false (now (cells .entry)) (channelOf (now (graph1 .entry)) (now (arrivals1 .entry)) (now (text1 .entry))) (channelOf (now (graph2 .entry)) (now (arrivals2 .entry)) (now (text2 .entry))) (now (work .entry))) .first)) ⌝ }
-    ensures second { λ r. ⌜ r .second ≡ answered (returnedBy (mapTwo (twoCallOf false (now (cells .entry)) (channelOf (now (graph1 .entry)) (now (arrivals1 .entry)) (now (text1 .entry))) (channelOf (now (graph2 .entry)) (now (arrivals2 .entry)) (now (text2 .entry))) (now (work .entry))) .second)) ⌝ }
-    ensures words { λ _. ⌜ now (work .exit) ≡ twoWorkAfter (needsOf (twoCallOf false (now (cells .entry)) (channelOf (now (graph1 .entry)) (now (arrivals1 .entry)) (now (text1 .entry))) (channelOf (now (graph2 .entry)) (now (arrivals2 .entry)) (now (text2 .entry))) (now (work .entry)))) (now (work .entry)) ⌝ }
-    ensures bytes1 { λ _. ⌜ now (text1 .exit) ≡ textAfter (mapTwo (twoCallOf false (now (cells .entry)) (channelOf (now (graph1 .entry)) (now (arrivals1 .entry)) (now (text1 .entry))) (channelOf (now (graph2 .entry)) (now (arrivals2 .entry)) (now (text2 .entry))) (now (work .entry))) .first) (now (text1 .entry)) ⌝ }
-    ensures bytes2 { λ _. ⌜ now (text2 .exit) ≡ textAfter (mapTwo (twoCallOf false (now (cells .entry)) (channelOf (now (graph1 .entry)) (now (arrivals1 .entry)) (now (text1 .entry))) (channelOf (now (graph2 .entry)) (now (arrivals2 .entry)) (now (text2 .entry))) (now (work .entry))) .second) (now (text2 .entry)) ⌝ }
-    ensures together { λ _. ⌜ TogetherRefused (twoCallOf false (now (cells .entry)) (channelOf (now (graph1 .entry)) (now (arrivals1 .entry)) (now (text1 .entry))) (channelOf (now (graph2 .entry)) (now (arrivals2 .entry)) (now (text2 .entry))) (now (work .entry))) ⌝ }
-    ensures independent { λ _. ⌜ Independent (twoCallOf false (now (cells .entry)) (channelOf (now (graph1 .entry)) (now (arrivals1 .entry)) (now (text1 .entry))) (channelOf (now (graph2 .entry)) (now (arrivals2 .entry)) (now (text2 .entry))) (now (work .entry))) ⌝ }
-    ensures each { λ _. ⌜ Each (twoCallOf false (now (cells .entry)) (channelOf (now (graph1 .entry)) (now (arrivals1 .entry)) (now (text1 .entry))) (channelOf (now (graph2 .entry)) (now (arrivals2 .entry)) (now (text2 .entry))) (now (work .entry))) ⌝ }
-    ensures twins { λ _. ⌜ TwinChannels (twoCallOf false (now (cells .entry)) (channelOf (now (graph1 .entry)) (now (arrivals1 .entry)) (now (text1 .entry))) (channelOf (now (graph2 .entry)) (now (arrivals2 .entry)) (now (text2 .entry))) (now (work .entry))) ⌝ }
-    ensures ends { λ _. ⌜ EitherEndTwo (twoCallOf false (now (cells .entry)) (channelOf (now (graph1 .entry)) (now (arrivals1 .entry)) (now (text1 .entry))) (channelOf (now (graph2 .entry)) (now (arrivals2 .entry)) (now (text2 .entry))) (now (work .entry))) ⌝ }
+    ensures { λ r. ⌜ CalledTwo false (now (cells .entry)) (now (graph1 .entry)) (now (arrivals1 .entry)) (now (graph2 .entry)) (now (arrivals2 .entry))
+        (now (work .entry)) (now (text1 .entry)) (now (text2 .entry)) r (now (work .exit)) (now (text1 .exit)) (now (text2 .exit)) ⌝ }
 {
     let r = channels::map_two(
         cells,
@@ -218,16 +200,8 @@ pub extern "C" fn mapper_map_two_pairs(
     text1: &mut [u8],
     text2: &mut [u8],
 ) -> MapperTwo
-    ensures first { λ r. ⌜ r .first ≡ answered (returnedBy (mapTwo (twoCallOf true (now (cells .entry)) (channelOf (now (graph1 .entry)) (now (arrivals1 .entry)) (now (text1 .entry))) (channelOf (now (graph2 .entry)) (now (arrivals2 .entry)) (now (text2 .entry))) (now (work .entry))) .first)) ⌝ }
-    ensures second { λ r. ⌜ r .second ≡ answered (returnedBy (mapTwo (twoCallOf true (now (cells .entry)) (channelOf (now (graph1 .entry)) (now (arrivals1 .entry)) (now (text1 .entry))) (channelOf (now (graph2 .entry)) (now (arrivals2 .entry)) (now (text2 .entry))) (now (work .entry))) .second)) ⌝ }
-    ensures words { λ _. ⌜ now (work .exit) ≡ twoWorkAfter (needsOf (twoCallOf true (now (cells .entry)) (channelOf (now (graph1 .entry)) (now (arrivals1 .entry)) (now (text1 .entry))) (channelOf (now (graph2 .entry)) (now (arrivals2 .entry)) (now (text2 .entry))) (now (work .entry)))) (now (work .entry)) ⌝ }
-    ensures bytes1 { λ _. ⌜ now (text1 .exit) ≡ textAfter (mapTwo (twoCallOf true (now (cells .entry)) (channelOf (now (graph1 .entry)) (now (arrivals1 .entry)) (now (text1 .entry))) (channelOf (now (graph2 .entry)) (now (arrivals2 .entry)) (now (text2 .entry))) (now (work .entry))) .first) (now (text1 .entry)) ⌝ }
-    ensures bytes2 { λ _. ⌜ now (text2 .exit) ≡ textAfter (mapTwo (twoCallOf true (now (cells .entry)) (channelOf (now (graph1 .entry)) (now (arrivals1 .entry)) (now (text1 .entry))) (channelOf (now (graph2 .entry)) (now (arrivals2 .entry)) (now (text2 .entry))) (now (work .entry))) .second) (now (text2 .entry)) ⌝ }
-    ensures together { λ _. ⌜ TogetherRefused (twoCallOf true (now (cells .entry)) (channelOf (now (graph1 .entry)) (now (arrivals1 .entry)) (now (text1 .entry))) (channelOf (now (graph2 .entry)) (now (arrivals2 .entry)) (now (text2 .entry))) (now (work .entry))) ⌝ }
-    ensures independent { λ _. ⌜ Independent (twoCallOf true (now (cells .entry)) (channelOf (now (graph1 .entry)) (now (arrivals1 .entry)) (now (text1 .entry))) (channelOf (now (graph2 .entry)) (now (arrivals2 .entry)) (now (text2 .entry))) (now (work .entry))) ⌝ }
-    ensures each { λ _. ⌜ Each (twoCallOf true (now (cells .entry)) (channelOf (now (graph1 .entry)) (now (arrivals1 .entry)) (now (text1 .entry))) (channelOf (now (graph2 .entry)) (now (arrivals2 .entry)) (now (text2 .entry))) (now (work .entry))) ⌝ }
-    ensures twins { λ _. ⌜ TwinChannels (twoCallOf true (now (cells .entry)) (channelOf (now (graph1 .entry)) (now (arrivals1 .entry)) (now (text1 .entry))) (channelOf (now (graph2 .entry)) (now (arrivals2 .entry)) (now (text2 .entry))) (now (work .entry))) ⌝ }
-    ensures ends { λ _. ⌜ EitherEndTwo (twoCallOf true (now (cells .entry)) (channelOf (now (graph1 .entry)) (now (arrivals1 .entry)) (now (text1 .entry))) (channelOf (now (graph2 .entry)) (now (arrivals2 .entry)) (now (text2 .entry))) (now (work .entry))) ⌝ }
+    ensures { λ r. ⌜ CalledTwo true (now (cells .entry)) (now (graph1 .entry)) (now (arrivals1 .entry)) (now (graph2 .entry)) (now (arrivals2 .entry))
+        (now (work .entry)) (now (text1 .entry)) (now (text2 .entry)) r (now (work .exit)) (now (text1 .exit)) (now (text2 .exit)) ⌝ }
 {
     let r = channels::map_two(
         cells,
@@ -285,9 +259,12 @@ pub extern "C" fn mapper_check(
     netlist: &[u8],
     work: &mut [u16],
 ) -> MapperChecked
-    ensures answers { λ r. ⌜ r ≡ checkedAnswer (toldOf (checkTexts (now (cells .entry)) (now (graph .entry)) (now (netlist .entry)) (length (now (work .entry))))) ⌝ }
-    ensures words { λ _. ⌜ now (work .exit) ≡ checkedWork (checkTexts (now (cells .entry)) (now (graph .entry)) (now (netlist .entry)) (length (now (work .entry)))) (now (work .entry)) ⌝ }
-    ensures compared { λ _. ⌜ ComparedCheck (now (cells .entry)) (now (graph .entry)) (now (netlist .entry)) (length (now (work .entry))) ⌝ }
+    ensures answers { λ r. ⌜ r ≡ checkedAnswer (toldOf (checkTexts (now (cells .entry)) (now (graph .entry)) (now (netlist .entry))
+        (length (now (work .entry))))) ⌝ }
+    ensures words { λ _. ⌜ now (work .exit) ≡ checkedWork (checkTexts (now (cells .entry)) (now (graph .entry)) (now (netlist .entry))
+        (length (now (work .entry)))) (now (work .entry)) ⌝ }
+    ensures promised { λ _. ⌜ CheckPromised (now (cells .entry)) (now (graph .entry)) (now (netlist .entry)) (length (now (work .entry))) ⌝ }
+    ensures refusals { λ _. ⌜ CheckRefusals (now (cells .entry)) (now (graph .entry)) (now (netlist .entry)) (length (now (work .entry))) ⌝ }
 {
     checked_answer(checking::check_texts(cells, graph, netlist, work))
 }

@@ -7,7 +7,6 @@ use mathlib.Core.Bool.{Bool, true, false, _&&_}
 use mathlib.Core.List.{List}
 use lib.Dec.{T, leb, leb→le, le→leb}
 use lib.ListN.{length}
-use mir.Facts.{and-yes, leb-yes}
 use Rattle.model.specs.Limits.{need}
 use Rattle.model.specs.Reading.{Read, holds, fault, next, unless}
 use Rattle.model.specs.Cells.{cellsOf, libraryOf, libraryAnswer}
@@ -15,11 +14,11 @@ use Rattle.model.specs.LibraryText.{readLibrary, isRanged}
 use Rattle.model.specs.Pairs.{cellsFor}
 use Rattle.model.specs.GraphText.{readHeader, readGraph}
 use Rattle.model.specs.ArrivalsText.{readArrivals, timedBy}
-use Rattle.model.specs.Graph.{Graph}
 use Rattle.model.specs.Netlist.{Outcome, refused}
 use Rattle.model.specs.Mapper.{Design, short, readListed, readTexts, mapDesign, mapTexts, answerOf, returned, textAfter}
-use Rattle.model.specs.Channels.{Channel, TwoCall, twoCallOf, alone, needOf, Needs, needsOf, Outcomes, mapNeeds, mapTwo, answersOf, twoWorkAfter}
-use Rattle.model.specs.TwoDemands.{TwoMemory}
+use Rattle.model.specs.Channels.{Channel, TwoCall, channelOf, twoCallOf, alone, needOf, Needs, needsOf, Outcomes, mapNeeds, mapTwo, answersOf, twoWorkAfter}
+use Rattle.promises.specs.Promised.{Fits}
+use Rattle.promises.specs.TwoDemands.{TwoMemory, MappingTwo}
 use Rattle.model.specs.declared.Cell.{Cell}
 use Rattle.model.specs.declared.Library.{Library}
 use Rattle.model.specs.declared.Header.{Header}
@@ -29,26 +28,23 @@ use Rattle.model.specs.declared.Two.{Two}
 use Rattle.model.specs.declared.Answer.the-variants.{Refused}
 use Rattle.model.proofs.Answers.{answer-returns}
 use Rattle.theory_text.proofs.Steps.{holds-once, unless-out, next-out}
-use Rattle.mapper.specs.Stages.{Fits, LibraryRead, allOf, graphFor}
+use Rattle.theory.proofs.Channels.{two-promised}
+use Rattle.mapper.specs.Stages.{LibraryRead, allOf, graphFor}
 use Rattle.mapper.proofs.Libraries.{cells-back, library-read}
-use Rattle.mapper.proofs.Whole.{texts-fit}
 use Rattle.channels.specs.Pairs.{Heads, sumFor, secondFor, firstFor, pairFor, workFor, PairLeft, TwoLeft}
 use Rattle.channels.proofs.Leaving.{pair-as}
 
--- the answers are within the text memories
-pub two-fit : (c : TwoCall) → Fits (answerOf (mapTwo c .first)) (c .first .bytes) × Fits (answerOf (mapTwo c .second)) (c .second .bytes)
-unfolding mapTwo mapNeeds
-two-fit c = go (needsOf c)
-  where
-    go : (r : Read Needs) → Fits (answerOf (mapNeeds c r .first)) (c .first .bytes) × Fits (answerOf (mapNeeds c r .second)) (c .second .bytes)
-    go (fault n k) = unfold answerOf in (tt, tt)
-    go (holds n) = (texts-fit (alone (c .paired) (c .library) (c .first) (n .first)), texts-fit (alone (c .paired) (c .library) (c .second) (n .second)))
-
-pub memory-fits : (c : TwoCall) (work first second : List ℕ) (answer : Two) (y u w : List ℕ) → TwoMemory c work first second answer y u w
-    → Fits (answer .first) (c .first .bytes) × Fits (answer .second) (c .second .bytes)
-unfolding answersOf
-memory-fits c work first second answer y u w m =
-    subst (λ (x : Two). Fits (x .first) (c .first .bytes) × Fits (x .second) (c .second .bytes)) (sym (m .answers)) (two-fit c)
+-- with what is promised of every call it is all that the contract says
+pub mapping-of : {paired : Bool} {library graph1 arrivals1 graph2 arrivals2 work text1 text2 : List ℕ} {answer : Two} {y u w : List ℕ}
+    → TwoMemory (twoCallOf paired library (channelOf graph1 arrivals1 text1) (channelOf graph2 arrivals2 text2) work) work text1 text2 answer y u w
+    → MappingTwo paired library graph1 arrivals1 graph2 arrivals2 work text1 text2 answer y u w
+mapping-of {paired = paired} {library = library} {graph1 = graph1} {arrivals1 = arrivals1} {graph2 = graph2} {arrivals2 = arrivals2} {work = work} {text1 = text1} {text2 = text2} m =
+    let p = two-promised (twoCallOf paired library (channelOf graph1 arrivals1 text1) (channelOf graph2 arrivals2 text2) work) in record {
+      memory = m;
+      fitsFirst = subst (λ (x : Two). Fits (x .first) (length text1)) (sym (m .answers)) (p .fitsFirst);
+      fitsSecond = subst (λ (x : Two). Fits (x .second) (length text2)) (sym (m .answers)) (p .fitsSecond);
+      promised = p;
+    }
 
 -- the needs of these headers
 needsIn : Read Heads → Read Needs

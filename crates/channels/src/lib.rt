@@ -12,11 +12,11 @@ ghost use lib.ListN.{length};
 ghost use Rattle.model.specs.Limits.{need};
 ghost use Rattle.model.specs.Reading.{holds};
 ghost use Rattle.model.specs.GraphText.{readHeader};
-ghost use Rattle.model.specs.Channels.{channelOf, twoCallOf};
-ghost use Rattle.model.specs.TwoDemands.{TwoMemory, Independent, TogetherRefused, Each, TwinChannels, EitherEndTwo};
+ghost use Rattle.model.specs.Channels.{channelOf};
+ghost use Rattle.promises.specs.TwoDemands.{MappingTwo};
 ghost use Rattle.model.specs.declared.Answer.the-variants.{Refused};
 ghost use Rattle.matching.specs.Sheet.{Blank};
-ghost use Rattle.mapper.specs.Stages.{Fits, LibraryRead, LibraryOk, allOf};
+ghost use Rattle.mapper.specs.Stages.{LibraryRead, LibraryOk, allOf};
 ghost use Rattle.channels.specs.Pairs.{PairLeft, TwoLeft, sumFor, secondFor, firstFor};
 
 // "both return that number and place"
@@ -46,8 +46,12 @@ fn map_both_on(
     text1: &mut [u8],
     text2: &mut [u8],
 ) -> Two
-    requires { ⌜ LibraryOk lib (now codes) × (readHeader (now graph1) ≡ holds h1) × (readHeader (now graph2) ≡ holds h2) × (need (h1 .size) (h1 .outputs) ≤ length (now work)) × (need (h2 .size) (h2 .outputs) ≤ length (now work)) × Blank (length (allOf lib (now codes))) (now sheet) ⌝ }
-    ensures { λ r. ⌜ PairLeft ranged lib (now (codes .entry)) (channelOf (now (graph1 .entry)) (now (arrivals1 .entry)) (now (text1 .entry))) (channelOf (now (graph2 .entry)) (now (arrivals2 .entry)) (now (text2 .entry))) (holds (record { first = h1; second = h2 })) (now (work .entry)) (now (text1 .entry)) (now (text2 .entry)) r (now (work .exit)) (now (text1 .exit)) (now (text2 .exit)) ⌝ }
+    requires { ⌜ LibraryOk lib (now codes) × (readHeader (now graph1) ≡ holds h1) × (readHeader (now graph2) ≡ holds h2) ×
+        (need (h1 .size) (h1 .outputs) ≤ length (now work)) × (need (h2 .size) (h2 .outputs) ≤ length (now work)) × Blank (length (allOf lib (now codes)))
+        (now sheet) ⌝ }
+    ensures { λ r. ⌜ PairLeft ranged lib (now (codes .entry)) (channelOf (now (graph1 .entry)) (now (arrivals1 .entry)) (now (text1 .entry)))
+        (channelOf (now (graph2 .entry)) (now (arrivals2 .entry)) (now (text2 .entry))) (holds (record { first = h1; second = h2 })) (now (work .entry))
+        (now (text1 .entry)) (now (text2 .entry)) r (now (work .exit)) (now (text1 .exit)) (now (text2 .exit)) ⌝ }
 {
     cover::match_library(lib, codes, sheet);
     let first = mapper::load_graph(
@@ -94,8 +98,11 @@ fn map_both_listed(
     text1: &mut [u8],
     text2: &mut [u8],
 ) -> Two
-    requires { ⌜ LibraryOk lib (now codes) × (readHeader (now graph1) ≡ holds h1) × (readHeader (now graph2) ≡ holds h2) × (need (h1 .size) (h1 .outputs) ≤ length (now work)) × (need (h2 .size) (h2 .outputs) ≤ length (now work)) × (length (now codes) ≡ 0) ⌝ }
-    ensures { λ r. ⌜ PairLeft ranged lib (now (codes .entry)) (channelOf (now (graph1 .entry)) (now (arrivals1 .entry)) (now (text1 .entry))) (channelOf (now (graph2 .entry)) (now (arrivals2 .entry)) (now (text2 .entry))) (holds (record { first = h1; second = h2 })) (now (work .entry)) (now (text1 .entry)) (now (text2 .entry)) r (now (work .exit)) (now (text1 .exit)) (now (text2 .exit)) ⌝ }
+    requires { ⌜ LibraryOk lib (now codes) × (readHeader (now graph1) ≡ holds h1) × (readHeader (now graph2) ≡ holds h2) ×
+        (need (h1 .size) (h1 .outputs) ≤ length (now work)) × (need (h2 .size) (h2 .outputs) ≤ length (now work)) × (length (now codes) ≡ 0) ⌝ }
+    ensures { λ r. ⌜ PairLeft ranged lib (now (codes .entry)) (channelOf (now (graph1 .entry)) (now (arrivals1 .entry)) (now (text1 .entry)))
+        (channelOf (now (graph2 .entry)) (now (arrivals2 .entry)) (now (text2 .entry))) (holds (record { first = h1; second = h2 })) (now (work .entry))
+        (now (text1 .entry)) (now (text2 .entry)) r (now (work .exit)) (now (text1 .exit)) (now (text2 .exit)) ⌝ }
 {
     let mut sheet = matching::no_sheet();
     map_both_on(
@@ -130,8 +137,11 @@ fn map_both_joined(
     text1: &mut [u8],
     text2: &mut [u8],
 ) -> Two
-    requires { ⌜ LibraryOk lib (now codes) × (readHeader (now graph1) ≡ holds h1) × (readHeader (now graph2) ≡ holds h2) × (need (h1 .size) (h1 .outputs) ≤ length (now work)) × (need (h2 .size) (h2 .outputs) ≤ length (now work)) ⌝ }
-    ensures { λ r. ⌜ PairLeft ranged lib (now (codes .entry)) (channelOf (now (graph1 .entry)) (now (arrivals1 .entry)) (now (text1 .entry))) (channelOf (now (graph2 .entry)) (now (arrivals2 .entry)) (now (text2 .entry))) (holds (record { first = h1; second = h2 })) (now (work .entry)) (now (text1 .entry)) (now (text2 .entry)) r (now (work .exit)) (now (text1 .exit)) (now (text2 .exit)) ⌝ }
+    requires { ⌜ LibraryOk lib (now codes) × (readHeader (now graph1) ≡ holds h1) × (readHeader (now graph2) ≡ holds h2) ×
+        (need (h1 .size) (h1 .outputs) ≤ length (now work)) × (need (h2 .size) (h2 .outputs) ≤ length (now work)) ⌝ }
+    ensures { λ r. ⌜ PairLeft ranged lib (now (codes .entry)) (channelOf (now (graph1 .entry)) (now (arrivals1 .entry)) (now (text1 .entry)))
+        (channelOf (now (graph2 .entry)) (now (arrivals2 .entry)) (now (text2 .entry))) (holds (record { first = h1; second = h2 })) (now (work .entry))
+        (now (text1 .entry)) (now (text2 .entry)) r (now (work .exit)) (now (text1 .exit)) (now (text2 .exit)) ⌝ }
 {
     let mut sheet = matching::no_paired_sheet();
     map_both_on(
@@ -166,8 +176,11 @@ fn map_both(
     text1: &mut [u8],
     text2: &mut [u8],
 ) -> Two
-    requires { ⌜ LibraryOk lib (now codes) × (readHeader (now graph1) ≡ holds h1) × (readHeader (now graph2) ≡ holds h2) × (need (h1 .size) (h1 .outputs) ≤ length (now work)) × (need (h2 .size) (h2 .outputs) ≤ length (now work)) ⌝ }
-    ensures { λ r. ⌜ PairLeft ranged lib (now (codes .entry)) (channelOf (now (graph1 .entry)) (now (arrivals1 .entry)) (now (text1 .entry))) (channelOf (now (graph2 .entry)) (now (arrivals2 .entry)) (now (text2 .entry))) (holds (record { first = h1; second = h2 })) (now (work .entry)) (now (text1 .entry)) (now (text2 .entry)) r (now (work .exit)) (now (text1 .exit)) (now (text2 .exit)) ⌝ }
+    requires { ⌜ LibraryOk lib (now codes) × (readHeader (now graph1) ≡ holds h1) × (readHeader (now graph2) ≡ holds h2) ×
+        (need (h1 .size) (h1 .outputs) ≤ length (now work)) × (need (h2 .size) (h2 .outputs) ≤ length (now work)) ⌝ }
+    ensures { λ r. ⌜ PairLeft ranged lib (now (codes .entry)) (channelOf (now (graph1 .entry)) (now (arrivals1 .entry)) (now (text1 .entry)))
+        (channelOf (now (graph2 .entry)) (now (arrivals2 .entry)) (now (text2 .entry))) (holds (record { first = h1; second = h2 })) (now (work .entry))
+        (now (text1 .entry)) (now (text2 .entry)) r (now (work .exit)) (now (text1 .exit)) (now (text2 .exit)) ⌝ }
 {
     if codes.len() == 0 {
         return map_both_listed(
@@ -217,7 +230,9 @@ fn map_pair(
     text2: &mut [u8],
 ) -> Two
     requires { ⌜ LibraryOk lib (now codes) × (readHeader (now graph1) ≡ holds h1) × (readHeader (now graph2) ≡ holds h2) ⌝ }
-    ensures { λ r. ⌜ PairLeft ranged lib (now (codes .entry)) (channelOf (now (graph1 .entry)) (now (arrivals1 .entry)) (now (text1 .entry))) (channelOf (now (graph2 .entry)) (now (arrivals2 .entry)) (now (text2 .entry))) (sumFor (length (now (work .entry))) h1 h2) (now (work .entry)) (now (text1 .entry)) (now (text2 .entry)) r (now (work .exit)) (now (text1 .exit)) (now (text2 .exit)) ⌝ }
+    ensures { λ r. ⌜ PairLeft ranged lib (now (codes .entry)) (channelOf (now (graph1 .entry)) (now (arrivals1 .entry)) (now (text1 .entry)))
+        (channelOf (now (graph2 .entry)) (now (arrivals2 .entry)) (now (text2 .entry))) (sumFor (length (now (work .entry))) h1 h2) (now (work .entry))
+        (now (text1 .entry)) (now (text2 .entry)) r (now (work .exit)) (now (text1 .exit)) (now (text2 .exit)) ⌝ }
 {
     let first = words::need_words(h1.size, h1.outputs);
     let second = words::need_words(h2.size, h2.outputs);
@@ -255,7 +270,10 @@ fn map_second(
     text2: &mut [u8],
 ) -> Two
     requires { ⌜ LibraryOk lib (now codes) × (readHeader (now graph1) ≡ holds h1) ⌝ }
-    ensures { λ r. ⌜ PairLeft ranged lib (now (codes .entry)) (channelOf (now (graph1 .entry)) (now (arrivals1 .entry)) (now (text1 .entry))) (channelOf (now (graph2 .entry)) (now (arrivals2 .entry)) (now (text2 .entry))) (secondFor (length (now (work .entry))) (channelOf (now (graph2 .entry)) (now (arrivals2 .entry)) (now (text2 .entry))) h1) (now (work .entry)) (now (text1 .entry)) (now (text2 .entry)) r (now (work .exit)) (now (text1 .exit)) (now (text2 .exit)) ⌝ }
+    ensures { λ r. ⌜ PairLeft ranged lib (now (codes .entry)) (channelOf (now (graph1 .entry)) (now (arrivals1 .entry)) (now (text1 .entry)))
+        (channelOf (now (graph2 .entry)) (now (arrivals2 .entry)) (now (text2 .entry)))
+        (secondFor (length (now (work .entry))) (channelOf (now (graph2 .entry)) (now (arrivals2 .entry)) (now (text2 .entry))) h1) (now (work .entry))
+        (now (text1 .entry)) (now (text2 .entry)) r (now (work .exit)) (now (text1 .exit)) (now (text2 .exit)) ⌝ }
 {
     if graph2.len() > 65536 {
         return both(1, 0);
@@ -298,7 +316,11 @@ fn map_first(
     text2: &mut [u8],
 ) -> Two
     requires { ⌜ LibraryOk lib (now codes) ⌝ }
-    ensures { λ r. ⌜ PairLeft ranged lib (now (codes .entry)) (channelOf (now (graph1 .entry)) (now (arrivals1 .entry)) (now (text1 .entry))) (channelOf (now (graph2 .entry)) (now (arrivals2 .entry)) (now (text2 .entry))) (firstFor (length (now (work .entry))) (channelOf (now (graph1 .entry)) (now (arrivals1 .entry)) (now (text1 .entry))) (channelOf (now (graph2 .entry)) (now (arrivals2 .entry)) (now (text2 .entry)))) (now (work .entry)) (now (text1 .entry)) (now (text2 .entry)) r (now (work .exit)) (now (text1 .exit)) (now (text2 .exit)) ⌝ }
+    ensures { λ r. ⌜ PairLeft ranged lib (now (codes .entry)) (channelOf (now (graph1 .entry)) (now (arrivals1 .entry)) (now (text1 .entry)))
+        (channelOf (now (graph2 .entry)) (now (arrivals2 .entry)) (now (text2 .entry)))
+        (firstFor (length (now (work .entry))) (channelOf (now (graph1 .entry)) (now (arrivals1 .entry)) (now (text1 .entry)))
+        (channelOf (now (graph2 .entry)) (now (arrivals2 .entry)) (now (text2 .entry)))) (now (work .entry)) (now (text1 .entry)) (now (text2 .entry)) r
+        (now (work .exit)) (now (text1 .exit)) (now (text2 .exit)) ⌝ }
 {
     match aiger::header(graph1) {
         HeaderAnswer::Read(h1) => {
@@ -333,7 +355,9 @@ fn map_pairs(
     text2: &mut [u8],
 ) -> Two
     requires { ⌜ LibraryRead lib ⌝ }
-    ensures { λ r. ⌜ TwoLeft true ranged lib (channelOf (now (graph1 .entry)) (now (arrivals1 .entry)) (now (text1 .entry))) (channelOf (now (graph2 .entry)) (now (arrivals2 .entry)) (now (text2 .entry))) (now (work .entry)) (now (text1 .entry)) (now (text2 .entry)) r (now (work .exit)) (now (text1 .exit)) (now (text2 .exit)) ⌝ }
+    ensures { λ r. ⌜ TwoLeft true ranged lib (channelOf (now (graph1 .entry)) (now (arrivals1 .entry)) (now (text1 .entry)))
+        (channelOf (now (graph2 .entry)) (now (arrivals2 .entry)) (now (text2 .entry))) (now (work .entry)) (now (text1 .entry)) (now (text2 .entry)) r
+        (now (work .exit)) (now (text1 .exit)) (now (text2 .exit)) ⌝ }
 {
     let mut codes = [0u16; 4096];
     let n = pairs::form(&mut codes, lib);
@@ -368,7 +392,9 @@ fn map_cells(
     text2: &mut [u8],
 ) -> Two
     requires { ⌜ LibraryRead lib ⌝ }
-    ensures { λ r. ⌜ TwoLeft paired ranged lib (channelOf (now (graph1 .entry)) (now (arrivals1 .entry)) (now (text1 .entry))) (channelOf (now (graph2 .entry)) (now (arrivals2 .entry)) (now (text2 .entry))) (now (work .entry)) (now (text1 .entry)) (now (text2 .entry)) r (now (work .exit)) (now (text1 .exit)) (now (text2 .exit)) ⌝ }
+    ensures { λ r. ⌜ TwoLeft paired ranged lib (channelOf (now (graph1 .entry)) (now (arrivals1 .entry)) (now (text1 .entry)))
+        (channelOf (now (graph2 .entry)) (now (arrivals2 .entry)) (now (text2 .entry))) (now (work .entry)) (now (text1 .entry)) (now (text2 .entry)) r
+        (now (work .exit)) (now (text1 .exit)) (now (text2 .exit)) ⌝ }
 {
     if paired {
         return map_pairs(
@@ -398,10 +424,7 @@ fn map_cells(
     )
 }
 
-// Two channels mapped: each netlist at the start of its text memory, or its refusal. The clauses carry the names of the demands: `memory` both answers and
-// all memory, `independent` that "a channel's netlist or refusal depends on the library, its own graph, arrivals and text length, and nothing of the
-// other's", `together` the exception for "a refusal tried up to 10", `each` that "what is promised of one netlist holds for each", `twins` and `ends` that
-// texts which mean the same graph, or are alike but for line ends, give the same netlists, `fits` that a netlist is within its text memory.
+// Two channels mapped: each netlist at the start of its text memory, or its refusal. `model.TwoDemands.TwoPromised` is the page of what is promised.
 pub fn map_two(
     cells: &[u8],
     graph1: &[u8],
@@ -413,13 +436,8 @@ pub fn map_two(
     text1: &mut [u8],
     text2: &mut [u8],
 ) -> Two
-    ensures memory { λ r. ⌜ TwoMemory (twoCallOf paired (now (cells .entry)) (channelOf (now (graph1 .entry)) (now (arrivals1 .entry)) (now (text1 .entry))) (channelOf (now (graph2 .entry)) (now (arrivals2 .entry)) (now (text2 .entry))) (now (work .entry))) (now (work .entry)) (now (text1 .entry)) (now (text2 .entry)) r (now (work .exit)) (now (text1 .exit)) (now (text2 .exit)) ⌝ }
-    ensures together { λ _. ⌜ TogetherRefused (twoCallOf paired (now (cells .entry)) (channelOf (now (graph1 .entry)) (now (arrivals1 .entry)) (now (text1 .entry))) (channelOf (now (graph2 .entry)) (now (arrivals2 .entry)) (now (text2 .entry))) (now (work .entry))) ⌝ }
-    ensures independent { λ _. ⌜ Independent (twoCallOf paired (now (cells .entry)) (channelOf (now (graph1 .entry)) (now (arrivals1 .entry)) (now (text1 .entry))) (channelOf (now (graph2 .entry)) (now (arrivals2 .entry)) (now (text2 .entry))) (now (work .entry))) ⌝ }
-    ensures each { λ _. ⌜ Each (twoCallOf paired (now (cells .entry)) (channelOf (now (graph1 .entry)) (now (arrivals1 .entry)) (now (text1 .entry))) (channelOf (now (graph2 .entry)) (now (arrivals2 .entry)) (now (text2 .entry))) (now (work .entry))) ⌝ }
-    ensures twins { λ _. ⌜ TwinChannels (twoCallOf paired (now (cells .entry)) (channelOf (now (graph1 .entry)) (now (arrivals1 .entry)) (now (text1 .entry))) (channelOf (now (graph2 .entry)) (now (arrivals2 .entry)) (now (text2 .entry))) (now (work .entry))) ⌝ }
-    ensures ends { λ _. ⌜ EitherEndTwo (twoCallOf paired (now (cells .entry)) (channelOf (now (graph1 .entry)) (now (arrivals1 .entry)) (now (text1 .entry))) (channelOf (now (graph2 .entry)) (now (arrivals2 .entry)) (now (text2 .entry))) (now (work .entry))) ⌝ }
-    ensures fits { λ r. ⌜ Fits (r .first) (length (now (text1 .entry))) × Fits (r .second) (length (now (text2 .entry))) ⌝ }
+    ensures { λ r. ⌜ MappingTwo paired (now (cells .entry)) (now (graph1 .entry)) (now (arrivals1 .entry)) (now (graph2 .entry)) (now (arrivals2 .entry))
+        (now (work .entry)) (now (text1 .entry)) (now (text2 .entry)) r (now (work .exit)) (now (text1 .exit)) (now (text2 .exit)) ⌝ }
 {
     if cells.len() > 65536 {
         return both(1, 0);

@@ -1,6 +1,9 @@
 // The program: `netlist.blif` of the current folder checked against `graph.aag` with the cells of `cells.txt`; `accepted`, `differs` with the setting and the
 // output, or one line of `refused`, number and place printed.
+use files::Loaded;
 use model::Checked;
+ghost use lib.ListN.{length};
+ghost use Rattle.checker.specs.Enough.{Enough};
 
 fn show(c: Checked) {
     match c {
@@ -13,18 +16,31 @@ fn show(c: Checked) {
     }
 }
 
-fn check_files(cells: &[u8], graph: &[u8], netlist: &[u8], work: &mut [u16]) {
+// With enough words lent, 10 never comes.
+fn check_files(cells: &[u8], graph: &[u8], netlist: &[u8], work: &mut [u16])
+    requires { ⌜ Enough (length (now work)) ⌝ }
+{
     show(checking::check_texts(cells, graph, netlist, work));
 }
 
-// It lends as many words as `map` does.
+// It lends 124 * 4096 + 4096 words, for the largest graph that passes 9, and 8 for each byte that a netlist may have.
+// Where a file cannot be read, which `load` has said, nothing is printed.
 fn main() {
     let mut cells = [0u8; 65537];
     let mut graph = [0u8; 65537];
     let mut netlist = [0u8; 65537];
-    let mut work = [0u16; 32768];
-    let n = files::load(b"cells.txt", &mut cells);
-    let m = files::load(b"graph.aag", &mut graph);
-    let k = files::load(b"netlist.blif", &mut netlist);
+    let mut work = [0u16; 1036288];
+    let cells_read = files::load(b"checker", b"cells.txt", &mut cells);
+    let Loaded::Bytes(n) = cells_read else {
+        return;
+    };
+    let graph_read = files::load(b"checker", b"graph.aag", &mut graph);
+    let Loaded::Bytes(m) = graph_read else {
+        return;
+    };
+    let netlist_read = files::load(b"checker", b"netlist.blif", &mut netlist);
+    let Loaded::Bytes(k) = netlist_read else {
+        return;
+    };
     check_files(&cells[..n], &graph[..m], &netlist[..k], &mut work);
 }

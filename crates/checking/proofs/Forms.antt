@@ -4,17 +4,17 @@ use native.Mathlib.Omega.{arith}
 use native.Mathlib.Nat.{add-zero}
 use mathlib.Core.Path.{_≡_, refl, sym, _∙_, ap, subst}
 use mathlib.Core.Bool.{Bool, true, false, cond, _&&_}
-use mathlib.Core.Option.{Option, some}
+use mathlib.Core.Option.{some}
 use mathlib.Core.List.{List, [], _∷_, _++_, map, List·Memᴰ, List·Memᴰ·head, List·Memᴰ·tail, List·Memᴰ·not-nil, List·Memᴰ·eq-of-singleton}
 use lib.Dec.{T, eqb}
 use lib.ListN.{length, take, getD, length-append}
 use lib.Seq.{length-take-le}
 use Rattle.model.specs.Base.{all, from, below, same, andThen, only}
 use Rattle.model.specs.Text.{Line, endedByTen, text, decimal, linesFrom, fields, isLetter, between}
-use Rattle.model.specs.Reading.{Read, holds, next, from?}
+use Rattle.model.specs.Reading.{holds, next, from?}
 use Rattle.model.specs.Cells.{nameOf}
 use Rattle.model.specs.Graph.{Graph, literal}
-use Rattle.model.specs.Netlist.{netName, outName}
+use Rattle.model.specs.Netlist.{outName}
 use Rattle.model.specs.Check.{Driver, isNet, isLine, pinNet, boundNets, cellNamed, gateOfFields, gateDriver, isGate, nameDriver, pastRow, pastLines, frameOf, readNames, readDrivers, readNetlist}
 use Rattle.model.specs.declared.Cell.{Cell}
 use Rattle.theory_graph.proofs.Lists.{getD-in}

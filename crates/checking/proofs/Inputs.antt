@@ -1,16 +1,16 @@
 -- The inputs' nets: where the words have them, and their numbers. Assumes nothing.
-use Prim.Native.Nat.{ℕ, zero, suc, _+_, _-_, _*_, _≤_, _<_}
+use Prim.Native.Nat.{ℕ, zero, suc, _+_, _≤_, _<_}
 use native.Mathlib.Omega.{arith}
 use native.Mathlib.Nat.{add-zero}
 use native.Mathlib.Numerals.{add-one}
 use mathlib.Core.Path.{_≡_, refl, sym, _∙_, ap, subst}
-use mathlib.Core.Bool.{Bool, false}
+use mathlib.Core.Bool.{false}
 use mathlib.Core.List.{List, [], _∷_, _++_, map, List·Memᴰ, Memᴰ·append-left}
 use lib.Dec.{T, leb, leb→le}
 use lib.ListN.{length, getD, set, replicate, length-append, length-replicate, List·getD-append}
 use Rattle.model.specs.Base.{from}
 use Rattle.model.specs.Text.{decimal}
-use Rattle.model.specs.Graph.{Graph, literal, placeF, placingOrder}
+use Rattle.model.specs.Graph.{Graph, literal, placeF, placingOrder, andVars}
 use Rattle.model.specs.Netlist.{netName}
 use Rattle.model.specs.Check.{isNet, inputNets}
 use Rattle.model.specs.declared.Header.{Header}
@@ -18,7 +18,6 @@ use Rattle.words.specs.Put.{putAt, zeros}
 use Rattle.words.specs.Layout.{slotAt}
 use Rattle.words.proofs.Putting.{put-none, put-more, get-put}
 use Rattle.theory_graph.proofs.Lists.{map-out, all-of}
-use Rattle.theory_graph.specs.Accepted.{andVars}
 use Rattle.theory_check.proofs.PrintedNets.{net-form}
 use Rattle.placing.specs.Loaded.{Fit, Holding}
 use Rattle.placing.proofs.Slots.{fit-length, fit-room}

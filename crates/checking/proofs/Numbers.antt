@@ -8,7 +8,7 @@ use lib.Dec.{leb}
 use lib.ListN.{length, replicate}
 use Rattle.model.specs.Base.{lowest}
 use Rattle.model.specs.Text.{Line, text, linesFrom}
-use Rattle.model.specs.Reading.{Read, holds, fault, next, unless, from?}
+use Rattle.model.specs.Reading.{Read, holds, fault, next, from?}
 use Rattle.model.specs.Cells.{cellsOf}
 use Rattle.model.specs.Graph.{Graph, unplaced}
 use Rattle.model.specs.LibraryText.{readLibrary}
@@ -18,8 +18,7 @@ use Rattle.model.specs.Check.{Driver, Edited, isLine, isGate, gateDriver, nameD
 use Rattle.model.specs.declared.Cell.{Cell}
 use Rattle.model.specs.declared.Library.{Library}
 use Rattle.model.specs.declared.Header.{Header}
-use Rattle.model.specs.declared.Checked.{Checked}
-use Rattle.model.specs.declared.Checked.the-variants.{Accepted, Differs, Refused}
+use Rattle.model.specs.declared.Checked.the-variants.{Differs, Refused}
 use Rattle.theory_text.proofs.Faults.{Faults, in-holds, in-fault, in-unless, in-from, in-next, library-faults, header-faults, graph-faults}
 use Rattle.checking.specs.Stages.{judgedRead, netlistRead, placedRead, graphRead}
 

@@ -2,9 +2,9 @@
 use Prim.Native.Nat.{ℕ, zero, suc, _+_, _-_, _*_, _^_, _≤_, _<_}
 use native.Mathlib.Omega.{arith}
 use mathlib.Core.Path.{_≡_, refl, sym, _∙_, ap, ap₂, subst}
-use mathlib.Core.Bool.{Bool, true, false, cond, _&&_}
+use mathlib.Core.Bool.{Bool, true, false, _&&_}
 use mathlib.Core.Option.{Option, none, some}
-use mathlib.Core.List.{List, [], _∷_, _++_, map, List·Memᴰ, List·Memᴰ·head, List·Memᴰ·tail, List·Memᴰ·not-nil}
+use mathlib.Core.List.{List, [], _∷_, map, List·Memᴰ, List·Memᴰ·head, List·Memᴰ·tail, List·Memᴰ·not-nil}
 use lib.Dec.{T, leb, leb→le, le→leb}
 use lib.ListN.{length, take, drop, getD, replicate, length-append, length-replicate, List·getD-append}
 use lib.Seq.{take-append-seam}
@@ -12,11 +12,11 @@ use Rattle.model.specs.Base.{from, each, lowest}
 use Rattle.model.specs.Limits.{need}
 use Rattle.model.specs.Reading.{Read, holds, fault, next, unless, verdictOf, refusedAt}
 use Rattle.model.specs.Cells.{noCell, blank, cellsOf, libraryOf, libraryAnswer}
-use Rattle.model.specs.Graph.{Graph, placingOrder, unplaced}
+use Rattle.model.specs.Graph.{Graph, unplaced}
 use Rattle.model.specs.LibraryText.{readLibrary}
 use Rattle.model.specs.GraphText.{readHeader, readGraph, headerAnswer}
 use Rattle.model.specs.Netlist.{placingVerdict}
-use Rattle.model.specs.Check.{Driver, Edited, inputNets, readNetlist, judgeNets, settled, wrongAt, compareFrom, unlessAt, lineEnds, readEdited, checkRead, checkTexts, checkedWork}
+use Rattle.model.specs.Check.{Driver, Edited, inputNets, readNetlist, judgeNets, settled, wrongAt, compareFrom, unlessAt, lineEnds, readEdited, checkRead, checkTexts, toldOf, toldBy, checkedWork}
 use Rattle.model.specs.CheckDemands.{CheckMemory}
 use Rattle.model.specs.declared.Cell.{Cell}
 use Rattle.model.specs.declared.Library.{Library}
@@ -28,12 +28,13 @@ use Rattle.model.specs.declared.Verdict.{Verdict}
 use Rattle.model.specs.declared.Verdict.the-variants.{Accepted, Refused}
 use Rattle.model.specs.declared.Checked.{Checked}
 use Rattle.model.specs.declared.Checked.the-variants.{Refused as Turned}
+use Rattle.model.proofs.Answers.{check-tells}
 use Rattle.words.specs.Put.{putAt, zeros}
 use Rattle.text.proofs.Progress.{put-front}
 use Rattle.theory_text.proofs.ReadLibrary.{library-few, library-written}
 use Rattle.theory_text.proofs.ReadGraph.{graph-accepted}
 use Rattle.theory_check.proofs.Whole.{all-placed}
-use Rattle.placing.specs.Loaded.{Fit, Holding}
+use Rattle.placing.specs.Loaded.{Fit}
 use Rattle.placing.specs.Placing.{Operands, placedVerdict, placedWords}
 use Rattle.placing.proofs.Slots.{fit-length}
 use Rattle.placing.proofs.Orders.{holding-operands, place-verdict, place-law}
@@ -46,7 +47,7 @@ use Rattle.edited.proofs.Gathering.{words-long}
 use Rattle.wiring.specs.Wired.{noDriver, Wired, Ordered}
 use Rattle.wiring.specs.Judged.{Stored, Judged}
 use Rattle.comparing.specs.Comparable.{Comparable}
-use Rattle.checking.specs.Stages.{inputCode, Loaded, Placed, Formed, Wireable, judgedRead, netlistRead, placedRead, graphRead, headerRead, Left}
+use Rattle.checking.specs.Stages.{inputCode, Loaded, Placed, Wireable, judgedRead, netlistRead, placedRead, graphRead, headerRead, Left}
 use Rattle.checking.proofs.Forms.{netlist-formed}
 use Rattle.checking.proofs.Inputs.{codes-are, nets-form, inputs-counted}
 use Rattle.checking.proofs.Numbers.{Early, library-early, header-early, graph-late, work-early, work-late}
@@ -132,7 +133,7 @@ module _ (w : List ℕ) (h : Header) (g : Graph) (p : Placed w h g) (lib : Libra
         record {
           placed = p;
           stored =
-              ap₂ take (let z : 8 * r .count ≡ length (each driverWords (t .drivers)) = omega (arith, t .counted, long) in z) (t .stored ∙ put-front before (each driverWords (t .drivers)))
+              ap₂ take (let z : 8 * r .count ≡ length (each driverWords (t .drivers)) = omega (arith, t .counted, long) in z) (t .stored e ∙ put-front before (each driverWords (t .drivers)))
               ∙ take-append-seam (each driverWords (t .drivers)) (drop (length (each driverWords (t .drivers))) before);
           counted = t .counted;
           bounded = omega (arith, t .few e);
@@ -310,7 +311,7 @@ module _ (library graph netlist work : List ℕ) where
 
   memory-of : (r : Read Edited) (a : Checked) (y : List ℕ) → readEdited library graph netlist (length work) ≡ r → Left r work a y → CheckMemory library graph netlist work a y
   unfolding checkTexts
-  memory-of r a y e l = record { answers = l .answers ∙ ap checkRead (sym e); words = l .words ∙ ap (λ (x : Read Edited). checkedWork (checkRead x) work) (sym e) }
+  memory-of r a y e l = record { answers = l .answers ∙ ap checkRead (sym e); told = ap toldOf (l .answers) ∙ check-tells r ∙ ap toldBy (sym e); words = l .words ∙ ap (λ (x : Read Edited). checkedWork (checkRead x) work) (sym e) }
 
   short-not : (a b c : Bool) → (T a → T b → T c → ⊥) → (a && (b && c)) ≡ false
   short-not true true true y = absurd (y tt tt tt)

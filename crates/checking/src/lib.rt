@@ -1,4 +1,4 @@
-// The check of an edited netlist: three texts and lent memory in, the first refusal or the comparison with the graph out, "in checking order": "31 to 33 are
+// The check of an edited netlist: three texts and lent memory in, the first refusal or the comparison with the graph out, "in checking order": 31 to 33 "are
 // tried after 15 in place of 16 to 18".
 use model::Checked;
 use model::Header;
@@ -15,7 +15,8 @@ ghost use Rattle.model.specs.Reading.{holds};
 ghost use Rattle.model.specs.Graph.{Graph};
 ghost use Rattle.model.specs.GraphText.{readHeader};
 ghost use Rattle.model.specs.Check.{Driver, lineEnds, checkRead};
-ghost use Rattle.model.specs.CheckDemands.{CheckMemory, ComparedCheck};
+ghost use Rattle.model.specs.CheckDemands.{CheckMemory, CheckPromised};
+ghost use Rattle.theory_check.specs.CheckRefusals.{CheckRefusals};
 ghost use Rattle.words.specs.Put.{putAt, zeros};
 ghost use Rattle.words.specs.Layout.{Room};
 ghost use Rattle.edited.specs.Store.{Fitting};
@@ -108,7 +109,8 @@ fn load_graph(graph: &[u8], netlist: &[u8], h: Header, lib: Library, work: &mut 
 // The same, and the clearing: work memory is "all zero after a later one and after success".
 fn check_graph(graph: &[u8], netlist: &[u8], h: Header, lib: Library, work: &mut [u16]) -> Checked
     requires { ⌜ (readHeader (now graph) ≡ holds h) × (need (h .size) (h .outputs) ≤ length (now work)) × Fitting lib × (length (now netlist) ≤ 65536) ⌝ }
-    ensures { λ r. ⌜ (r ≡ checkRead (graphRead lib (now (graph .entry)) h (now (netlist .entry)))) × (now (work .exit) ≡ replicate (length (now (work .entry))) 0) ⌝ }
+    ensures { λ r. ⌜ (r ≡ checkRead (graphRead lib (now (graph .entry)) h (now (netlist .entry)))) ×
+        (now (work .exit) ≡ replicate (length (now (work .entry))) 0) ⌝ }
 {
     let r = load_graph(graph, netlist, h, lib, work);
     words::clear_all(work);
@@ -131,12 +133,14 @@ fn check_header(graph: &[u8], netlist: &[u8], lib: Library, work: &mut [u16]) ->
     }
 }
 
-// A library text, a graph text in either form and a netlist checked against the graph: "accepted exactly when every output equals the graph's for each of the 2^I
+// A library text, a graph text in either form and a netlist checked against the graph: "accepted exactly when every output equals the graph's for each of
+// the 2^I
 // input settings; otherwise the lowest setting that differs is returned, input k as bit k, and that setting's first wrong output", or the first refusal that
-// applies. That what `map` prints is accepted is `theory_check`'s `accepts-printed`.
+// applies. "Given memory enough, every netlist that `map` prints from the same texts with I up to 12 is accepted."
 pub fn check_texts(cells: &[u8], graph: &[u8], netlist: &[u8], work: &mut [u16]) -> Checked
     ensures memory { λ r. ⌜ CheckMemory (now (cells .entry)) (now (graph .entry)) (now (netlist .entry)) (now (work .entry)) r (now (work .exit)) ⌝ }
-    ensures compared { λ _. ⌜ ComparedCheck (now (cells .entry)) (now (graph .entry)) (now (netlist .entry)) (length (now (work .entry))) ⌝ }
+    ensures promised { λ _. ⌜ CheckPromised (now (cells .entry)) (now (graph .entry)) (now (netlist .entry)) (length (now (work .entry))) ⌝ }
+    ensures refusals { λ _. ⌜ CheckRefusals (now (cells .entry)) (now (graph .entry)) (now (netlist .entry)) (length (now (work .entry))) ⌝ }
 {
     if cells.len() > 65536 {
         return Checked::Refused(1, 0);

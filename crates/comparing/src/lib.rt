@@ -12,7 +12,7 @@ ghost use Rattle.model.specs.Check.{Driver, inputNets, settled, wrongAt, compar
 ghost use Rattle.words.specs.Layout.{Room, RoomFor, leftAt, rightAt, slotAt, outputAt};
 ghost use Rattle.placing.specs.Placing.{seek};
 ghost use Rattle.settings.specs.Settings.{literalWord, differences};
-ghost use Rattle.comparing.specs.Filling.{andAt, slotWord, Slots, SlotsTurn, pinsOf, pinWord, driverWord, Readable, DriversTurn};
+ghost use Rattle.comparing.specs.Filling.{andAt, slotWord, Slots, SlotsTurn, pinWord, driverWord, Readable, DriversTurn};
 ghost use Rattle.comparing.specs.Comparable.{Comparable, Wrong};
 
 // A word for each variable: "M exceeds 4,095" is turned back, and so are more outputs.
@@ -95,7 +95,8 @@ fn fill_slots(
     variables: &mut [u64; VARIABLES],
 )
     requires { ⌜ Slots (now work) m inputs n × (length (now variables) ≡ 4096) ⌝ }
-    ensures { λ _. ⌜ ((values : ℕ → ℕ) → SlotsTurn (now (work .entry)) m inputs n b values → (i : ℕ) → i < n → getD (now (variables .exit)) (slotAt (now (work .entry)) m i) 0 ≡ values (slotAt (now (work .entry)) m i)) ⌝ }
+    ensures { λ _. ⌜ ((values : ℕ → ℕ) → SlotsTurn (now (work .entry)) m inputs n b values → (i : ℕ) → i < n → getD (now (variables .exit))
+        (slotAt (now (work .entry)) m i) 0 ≡ values (slotAt (now (work .entry)) m i)) ⌝ }
 {
     let mut i = 0;
     while i < n {
@@ -156,7 +157,8 @@ fn fill_drivers(
     drivers: &mut [u64; DRIVERS],
 )
     requires { ⌜ (n ≤ 10923) × ((p : ℕ) → p < n → Readable (now nets) (now refs) (getD (now order) p 0)) × (length (now drivers) ≡ 10923) ⌝ }
-    ensures { λ _. ⌜ ((values : ℕ → ℕ) → DriversTurn (now (nets .entry)) (now (refs .entry)) (now (order .entry)) n b values → (p : ℕ) → p < n → getD (now (drivers .exit)) (getD (now (order .entry)) p 0) 0 ≡ values (getD (now (order .entry)) p 0)) ⌝ }
+    ensures { λ _. ⌜ ((values : ℕ → ℕ) → DriversTurn (now (nets .entry)) (now (refs .entry)) (now (order .entry)) n b values → (p : ℕ) → p < n → getD
+        (now (drivers .exit)) (getD (now (order .entry)) p 0) 0 ≡ values (getD (now (order .entry)) p 0)) ⌝ }
 {
     let mut p = 0;
     while p < n {
@@ -179,7 +181,8 @@ fn difference(
     driver: u64,
 ) -> u64
     requires { ⌜ RoomFor (now work) m outputs × (k < outputs) × (outputAt (now work) m k ≤ 2 * m + 1) ⌝ }
-    ensures { λ r. ⌜ r ≡ differences (literalWord (outputAt (now (work .entry)) m k) (getD (now (variables .entry)) (outputAt (now (work .entry)) m k / 2) 0)) driver ⌝ }
+    ensures { λ r. ⌜ r ≡ differences (literalWord (outputAt (now (work .entry)) m k)
+        (getD (now (variables .entry)) (outputAt (now (work .entry)) m k / 2) 0)) driver ⌝ }
 {
     let l = words::output(work, m, outputs, k);
     let x = variables[l / 2];
@@ -196,9 +199,12 @@ fn fill_differences(
     drivers: &[u64; DRIVERS],
     wrong: &mut [u64; VARIABLES],
 )
-    requires { ⌜ RoomFor (now work) m outputs × (outputs ≤ 4096) × (first + outputs ≤ 10923) × ((k : ℕ) → k < outputs → outputAt (now work) m k ≤ 2 * m + 1) × (length (now wrong) ≡ 4096) ⌝ }
+    requires { ⌜ RoomFor (now work) m outputs × (outputs ≤ 4096) × (first + outputs ≤ 10923) × ((k : ℕ) → k < outputs → outputAt (now work) m k ≤ 2 * m + 1)
+        × (length (now wrong) ≡ 4096) ⌝ }
     ensures { λ _. ⌜ length (now (wrong .exit)) ≡ 4096 ⌝ }
-    ensures { λ _. ⌜ ((k : ℕ) → k < outputs → getD (now (wrong .exit)) k 0 ≡ differences (literalWord (outputAt (now (work .entry)) m k) (getD (now (variables .entry)) (outputAt (now (work .entry)) m k / 2) 0)) (getD (now (drivers .entry)) (first + k) 0)) ⌝ }
+    ensures { λ _. ⌜ ((k : ℕ) → k < outputs → getD (now (wrong .exit)) k 0 ≡ differences
+        (literalWord (outputAt (now (work .entry)) m k) (getD (now (variables .entry)) (outputAt (now (work .entry)) m k / 2) 0))
+        (getD (now (drivers .entry)) (first + k) 0)) ⌝ }
 {
     let mut k = 0;
     while k < outputs {
@@ -222,7 +228,8 @@ fn evaluate(
 )
     requires { ⌜ ((g : Graph) × (ds : List Driver) × Comparable (now work) h (now nets) n (now refs) (now order) g ds) × (length (now wrong) ≡ 4096) ⌝ }
     ensures { λ _. ⌜ length (now (wrong .exit)) ≡ 4096 ⌝ }
-    ensures { λ _. ⌜ ((g : Graph) (ds : List Driver) → Comparable (now (work .entry)) h (now (nets .entry)) n (now (refs .entry)) (now (order .entry)) g ds → Wrong g ds b (now (wrong .exit))) ⌝ }
+    ensures { λ _. ⌜ ((g : Graph) (ds : List Driver) → Comparable (now (work .entry)) h (now (nets .entry)) n (now (refs .entry)) (now (order .entry)) g ds →
+        Wrong g ds b (now (wrong .exit))) ⌝ }
 {
     let mut variables = [0u64; VARIABLES];
     let mut drivers = [0u64; DRIVERS];
@@ -244,9 +251,11 @@ fn reach(
     wrong: &mut [u64; VARIABLES],
 )
     requires { ⌜ ((g : Graph) × (ds : List Driver) × Comparable (now work) h (now nets) n (now refs) (now order) g ds) × (length (now wrong) ≡ 4096) ⌝ }
-    requires { ⌜ ((g : Graph) (ds : List Driver) → Comparable (now work) h (now nets) n (now refs) (now order) g ds → ¬ (s % 64 ≡ 0) → Wrong g ds (s / 64) (now wrong)) ⌝ }
+    requires { ⌜ ((g : Graph) (ds : List Driver) → Comparable (now work) h (now nets) n (now refs) (now order) g ds → ¬ (s % 64 ≡ 0) → Wrong g ds (s / 64)
+        (now wrong)) ⌝ }
     ensures { λ _. ⌜ length (now (wrong .exit)) ≡ 4096 ⌝ }
-    ensures { λ _. ⌜ ((g : Graph) (ds : List Driver) → Comparable (now (work .entry)) h (now (nets .entry)) n (now (refs .entry)) (now (order .entry)) g ds → Wrong g ds (s / 64) (now (wrong .exit))) ⌝ }
+    ensures { λ _. ⌜ ((g : Graph) (ds : List Driver) → Comparable (now (work .entry)) h (now (nets .entry)) n (now (refs .entry)) (now (order .entry)) g ds →
+        Wrong g ds (s / 64) (now (wrong .exit))) ⌝ }
 {
     if s % 64 == 0 {
         evaluate(work, h, nets, n, refs, order, block_of(s), wrong);
@@ -278,7 +287,8 @@ pub fn compare(
     order: &[u16; DRIVERS],
 ) -> Checked
     requires { ⌜ ((g : Graph) × (ds : List Driver) × Comparable (now work) h (now nets) n (now refs) (now order) g ds) ⌝ }
-    ensures { λ r. ⌜ ((g : Graph) (ds : List Driver) → Comparable (now (work .entry)) h (now (nets .entry)) n (now (refs .entry)) (now (order .entry)) g ds → r ≡ compareFrom (2 ^ length (g .inputs)) 0 (wrongAt g (settled (length ds) (inputNets g) ds))) ⌝ }
+    ensures { λ r. ⌜ ((g : Graph) (ds : List Driver) → Comparable (now (work .entry)) h (now (nets .entry)) n (now (refs .entry)) (now (order .entry)) g ds →
+        r ≡ compareFrom (2 ^ length (g .inputs)) 0 (wrongAt g (settled (length ds) (inputNets g) ds))) ⌝ }
 {
     let outputs = h.outputs;
     let end = settings_of(h.inputs);

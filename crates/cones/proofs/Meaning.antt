@@ -3,18 +3,15 @@
 --     functions-of                so for all cuts of a variable
 -- Assumes nothing.
 use mathlib.Core.Path.{_≡_, refl, sym, ap, _∙_}
-use mathlib.Core.Bool.{Bool, true, false}
 use mathlib.Core.List.{List, [], _∷_, map}
 use Prim.Native.Nat.{ℕ, zero, suc, _/_, _≤_, _<_}
 use native.Mathlib.Omega.{arith}
-use lib.Dec.{eqb}
 use lib.ListN.{length}
-use borrow.Author.Tests.{eqb-true, eqb-false}
 use Rattle.model.specs.Graph.{Graph, node, span}
 use Rattle.model.specs.Cuts.{cutTable}
-use Rattle.words.specs.Layout.{andKind, kindAt, leftAt, rightAt, placeAt}
-use Rattle.words.specs.Record.{nodeOf, nodeAt, cutsAt, AllGood, Sound}
-use Rattle.cones.specs.Table.{leafWord, nodeWord, orWord, walkWord, joined, Placed}
+use Rattle.words.specs.Layout.{kindAt, leftAt, rightAt, placeAt}
+use Rattle.words.specs.Record.{nodeAt, cutsAt, AllGood, Sound}
+use Rattle.cones.specs.Table.{leafWord, nodeWord, orWord, walkWord, Placed}
 use Rattle.cones.specs.Filling.{cutWord, functionsOf}
 use Rattle.cones.proofs.Walks.{node-word, fuel}
 use Rattle.cones.proofs.Truth.{walk-table}

@@ -67,7 +67,8 @@ fn table(work: &[u16], m: usize, notes: &mut [usize; NOTES], base: usize, v: usi
 
 // That of an AND that is not noted.
 fn walk(work: &[u16], m: usize, notes: &mut [usize; NOTES], base: usize, v: usize) -> u16
-    requires { ⌜ Placed (now work) m × Early m (base + 65536) (now notes) × (base < 65536000000) × (v ≤ m) × (kindAt (now work) m v ≡ andKind) × (getD (now notes) v 0 < base) ⌝ }
+    requires { ⌜ Placed (now work) m × Early m (base + 65536) (now notes) × (base < 65536000000) × (v ≤ m) × (kindAt (now work) m v ≡ andKind) ×
+        (getD (now notes) v 0 < base) ⌝ }
     ensures { λ r. ⌜ Walked (now (work .entry)) m base v (now (notes .entry)) (now (notes .exit)) r ⌝ }
 {
     let l = words::left(work, m, v);
@@ -141,7 +142,8 @@ fn recall(
     leaves: [u16; 4],
     u: usize,
 )
-    requires { ⌜ Placed (now work) m × Noted (now work) m leaves base (now notes) × Early m (base + 65536) (now notes) × Done (now work) m u × (base < 65536000000) × (u ≤ m) × (0 < placeAt (now work) m u) × (countAt (now work) m u ≤ cutLimit) ⌝ }
+    requires { ⌜ Placed (now work) m × Noted (now work) m leaves base (now notes) × Early m (base + 65536) (now notes) × Done (now work) m u ×
+        (base < 65536000000) × (u ≤ m) × (0 < placeAt (now work) m u) × (countAt (now work) m u ≤ cutLimit) ⌝ }
     ensures { λ _. ⌜ Noted (now (work .entry)) m leaves base (now (notes .exit)) × Early m (base + 65536) (now (notes .exit)) ⌝ }
 {
     if base <= notes[u] {
@@ -166,7 +168,8 @@ fn recall_operands(
     n: usize,
     v: usize,
 )
-    requires { ⌜ Reached (now work) m v × Noted (now work) m (take n leaves) base (now notes) × Early m (base + 65536) (now notes) × (base < 65536000000) × (n ≤ 4) ⌝ }
+    requires { ⌜ Reached (now work) m v × Noted (now work) m (take n leaves) base (now notes) × Early m (base + 65536) (now notes) × (base < 65536000000) ×
+        (n ≤ 4) ⌝ }
     ensures { λ _. ⌜ Noted (now (work .entry)) m (take n leaves) base (now (notes .exit)) × Early m (base + 65536) (now (notes .exit)) ⌝ }
 {
     if n < 4 {

@@ -10,7 +10,7 @@ use native.Mathlib.Omega.{arith}
 use mathlib.Core.Path.{_≡_, refl, sym, ap, _∙_}
 use mathlib.Core.Bool.{Bool, true, false, cond, _&&_}
 use mathlib.Core.List.{List, [], _∷_, _++_, map}
-use lib.Dec.{eqb, ltb}
+use lib.Dec.{ltb}
 use lib.ListN.{length, take, drop, getD, length-drop}
 use lib.Seq.{drop-drop, getD-drop}
 use borrow.Author.Tests.{eq-eqb, ne-eqb}
@@ -23,7 +23,7 @@ use Rattle.text.specs.declared.Span.{Span}
 use Rattle.text.specs.Lines.{lineAt, pastLine, spanAt}
 use Rattle.text.proofs.Bridge.{lines-none}
 use Rattle.text.proofs.Spans.{span-out, span-from, span-fits, span-long, span-next, span-contents}
-use Rattle.groups.proofs.LineLaws.{Bounded, bounded}
+use Rattle.groups.proofs.LineLaws.{bounded}
 use Rattle.counting.specs.declared.Reached.{Reached}
 use Rattle.counting.specs.Reached.{linesOf, pickRead, readIn}
 

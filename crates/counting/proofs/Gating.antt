@@ -5,14 +5,14 @@
 -- Assumes nothing.
 use Prim.Native.Nat.{ℕ, zero, suc, _+_, _-_, _*_, _≤_, _<_}
 use native.Mathlib.Omega.{arith}
-use mathlib.Core.Path.{_≡_, refl, sym, ap, _∙_, subst}
-use mathlib.Core.Bool.{Bool, true, false, cond, _&&_}
+use mathlib.Core.Path.{_≡_, refl, sym, ap, _∙_}
+use mathlib.Core.Bool.{Bool, true, false, cond}
 use mathlib.Core.Option.{Option, none, some}
-use mathlib.Core.List.{List, [], _∷_, _++_, map}
+use mathlib.Core.List.{List, [], _∷_}
 use lib.Dec.{eqb}
 use lib.ListN.{length, take, drop, getD, set, replicate, length-set}
 use lib.Seq.{getD-set-same, getD-set-other}
-use borrow.Author.Tests.{eq-eqb, ne-eqb, eqb-true, eqb-false}
+use borrow.Author.Tests.{eqb-true, eqb-false}
 use Rattle.model.specs.Text.{Line, endedByTen, fields}
 use Rattle.model.specs.Cells.{noCell, cellAt, cellsOf}
 use Rattle.model.specs.NetlistLines.{ofForm, gateForm, gateOf}
@@ -28,11 +28,10 @@ use Rattle.lines.specs.declared.Which.the-variants.{Line as Found, Nothing}
 use Rattle.lines.specs.Kinds.{whichOf, Listed}
 use Rattle.lines.proofs.Gates.{cells-count, cells-at}
 use Rattle.counting.specs.declared.Counts.{Counts}
-use Rattle.counting.specs.declared.Gate.{Gate}
 use Rattle.counting.specs.declared.Gate.the-variants.{Is, Other}
 use Rattle.counting.specs.Reached.{linesOf}
 use Rattle.counting.specs.Counts.{gateOr, gateAt, noGates, withGate, Counted}
-use Rattle.counting.proofs.DueLines.{Ten, ten-line, NotTen, missing, other, not-ten, not-ended}
+use Rattle.counting.proofs.DueLines.{Ten, ten-line, NotTen, missing, other, not-ten}
 
 -- ---- the line at a place
 

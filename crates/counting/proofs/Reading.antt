@@ -1,9 +1,9 @@
 -- A netlist read whole: the frame, the gates and what is due behind them are `readCounted`. Assumes nothing.
-use Prim.Native.Nat.{ℕ, _<_}
+use Prim.Native.Nat.{ℕ}
 use native.Mathlib.Omega.{arith}
 use mathlib.Core.Path.{_≡_, refl, sym, ap, ap₂, _∙_}
 use mathlib.Core.Bool.{Bool, true, false}
-use mathlib.Core.List.{List, []}
+use mathlib.Core.List.{List}
 use lib.ListN.{length}
 use Rattle.model.specs.Text.{Line}
 use Rattle.model.specs.Reading.{Read, holds, fault, next}

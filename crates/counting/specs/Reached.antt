@@ -1,13 +1,10 @@
 -- What a reader of lines answers: the place of the next line, or that of the line at fault. Assumes nothing.
 use Prim.Native.Nat.{ℕ}
-use mathlib.Core.Path.{_≡_}
 use mathlib.Core.Bool.{Bool, true, false}
 use mathlib.Core.List.{List, []}
 use lib.ListN.{drop}
 use Rattle.model.specs.Text.{Line, linesFrom}
-use Rattle.model.specs.Reading.{Read, holds, fault, next}
-use Rattle.model.specs.declared.Verdict.{Verdict}
-use Rattle.model.specs.declared.Verdict.the-variants.{Accepted, Refused}
+use Rattle.model.specs.Reading.{Read, holds, fault}
 use Rattle.counting.specs.declared.Reached.{Reached}
 
 -- the lines from a place on

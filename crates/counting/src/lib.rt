@@ -1,15 +1,15 @@
 // Mapped netlists counted into a tally, and its report. "Stock planning reads up to 64 mapped netlists of one library, one after another, into a tally handed
 // on by these calls from an empty one."
 ghost use mathlib.Core.Path.{_≡_};
-ghost use mathlib.Core.Bool.{Bool, true, _&&_};
-ghost use mathlib.Core.List.{List, [], _∷_, _++_, map};
+ghost use mathlib.Core.Bool.{true};
+ghost use mathlib.Core.List.{[], _∷_};
 ghost use Prim.Native.Nat.{ℕ, _+_, _*_, _^_, _≤_, _<_};
 ghost use lib.Dec.{leb, ltb};
 ghost use lib.ListN.{length, getD};
 ghost use Rattle.model.specs.Base.{one, all};
-ghost use Rattle.model.specs.Reading.{fault, next};
+ghost use Rattle.model.specs.Reading.{fault, next, rulingOf, verdictRuling};
 ghost use Rattle.model.specs.Cells.{cellsOf};
-ghost use Rattle.model.specs.Tally.{emptyTally, inWidth, dueLines, nothingLeft, frame, wirePairs, timings, behindGates, outputsOf, countText, countedAnswer};
+ghost use Rattle.model.specs.Tally.{inWidth, dueLines, nothingLeft, frame, wirePairs, timings, behindGates, outputsOf, countText, countedAnswer};
 ghost use Rattle.lines.specs.Kinds.{Listed};
 ghost use Rattle.counting.specs.Forms.{formTest};
 ghost use Rattle.counting.specs.Reached.{linesOf, readIn};
@@ -77,7 +77,8 @@ fn has_form(w: &[u8], form: Form) -> bool
 // One line that is due at a place.
 fn due(s: &[u8], at: usize, form: Form) -> Reached
     requires { ⌜ (at ≤ length (now s)) × (length (now s) ≤ 65536) ⌝ }
-    ensures { λ r. ⌜ (readIn (now (s .entry)) r ≡ dueLines (length (now (s .entry))) (formTest form ∷ []) (linesOf (now (s .entry)) at)) × (r .at ≤ length (now (s .entry))) ⌝ }
+    ensures { λ r. ⌜ (readIn (now (s .entry)) r ≡ dueLines (length (now (s .entry))) (formTest form ∷ []) (linesOf (now (s .entry)) at)) ×
+        (r .at ≤ length (now (s .entry))) ⌝ }
 {
     let l = text::line(s, at);
     let stop = l.stop;
@@ -95,7 +96,8 @@ fn due(s: &[u8], at: usize, form: Form) -> Reached
 // The same behind lines that were read.
 fn then_due(s: &[u8], r: Reached, form: Form) -> Reached
     requires { ⌜ (r .at ≤ length (now s)) × (length (now s) ≤ 65536) ⌝ }
-    ensures { λ q. ⌜ (readIn (now (s .entry)) q ≡ next (readIn (now (s .entry)) r) (dueLines (length (now (s .entry))) (formTest form ∷ []))) × (q .at ≤ length (now (s .entry))) ⌝ }
+    ensures { λ q. ⌜ (readIn (now (s .entry)) q ≡ next (readIn (now (s .entry)) r) (dueLines (length (now (s .entry))) (formTest form ∷ []))) ×
+        (q .at ≤ length (now (s .entry))) ⌝ }
 {
     if r.ok { due(s, r.at, form) } else { r }
 }
@@ -128,7 +130,8 @@ fn outputs(s: &[u8]) -> usize
 // "each gets `.names` with its net and its own name, then `1 1`", for so many outputs.
 fn read_wires(s: &[u8], from: Reached, outs: usize) -> Reached
     requires { ⌜ (from .at ≤ length (now s)) × (length (now s) ≤ 65536) ⌝ }
-    ensures { λ r. ⌜ (readIn (now (s .entry)) r ≡ next (readIn (now (s .entry)) from) (dueLines (length (now (s .entry))) (wirePairs outs))) × (r .at ≤ length (now (s .entry))) ⌝ }
+    ensures { λ r. ⌜ (readIn (now (s .entry)) r ≡ next (readIn (now (s .entry)) from) (dueLines (length (now (s .entry))) (wirePairs outs))) ×
+        (r .at ≤ length (now (s .entry))) ⌝ }
 {
     let mut r = from;
     let mut k = 0;
@@ -143,7 +146,8 @@ fn read_wires(s: &[u8], from: Reached, outs: usize) -> Reached
 // A timing line for each output, where the library gives delays as a range.
 fn read_timings(s: &[u8], from: Reached, ranged: bool, outs: usize) -> Reached
     requires { ⌜ (from .at ≤ length (now s)) × (length (now s) ≤ 65536) ⌝ }
-    ensures { λ r. ⌜ (readIn (now (s .entry)) r ≡ next (readIn (now (s .entry)) from) (dueLines (length (now (s .entry))) (timings ranged outs))) × (r .at ≤ length (now (s .entry))) ⌝ }
+    ensures { λ r. ⌜ (readIn (now (s .entry)) r ≡ next (readIn (now (s .entry)) from) (dueLines (length (now (s .entry))) (timings ranged outs))) ×
+        (r .at ≤ length (now (s .entry))) ⌝ }
 {
     let n = if ranged { outs } else { 0 };
     let mut r = from;
@@ -172,7 +176,8 @@ fn at_end(s: &[u8], r: Reached) -> Reached
 // What is due behind the gates, up to the text's end.
 fn read_behind(s: &[u8], at: usize, ranged: bool, outs: usize, gates: u32, area: u32) -> Reached
     requires { ⌜ (at ≤ length (now s)) × (length (now s) ≤ 65536) ⌝ }
-    ensures { λ r. ⌜ (readIn (now (s .entry)) r ≡ next (dueLines (length (now (s .entry))) (behindGates ranged outs gates area) (linesOf (now (s .entry)) at)) nothingLeft) × (r .at ≤ length (now (s .entry))) ⌝ }
+    ensures { λ r. ⌜ (readIn (now (s .entry)) r ≡ next (dueLines (length (now (s .entry))) (behindGates ranged outs gates area)
+        (linesOf (now (s .entry)) at)) nothingLeft) × (r .at ≤ length (now (s .entry))) ⌝ }
 {
     let a = read_wires(s, Reached { ok: true, at }, outs);
     let b = then_due(s, a, Form::End);
@@ -298,7 +303,8 @@ fn long(x: u32) -> u64
 
 // So many gates of this area at a place.
 fn add_place(mut t: Tally, i: usize, n: u64, area: u64) -> Tally
-    requires { ⌜ (i < 32) × (n < 4294967296) × (area < 65536) × (getD (t .gates) i 0 ≤ 2 ^ 40) × (getD (t .areas) i 0 ≤ 2 ^ 40) × (getD (t .occurs) i 0 ≤ 2 ^ 40) ⌝ }
+    requires { ⌜ (i < 32) × (n < 4294967296) × (area < 65536) × (getD (t .gates) i 0 ≤ 2 ^ 40) × (getD (t .areas) i 0 ≤ 2 ^ 40) ×
+        (getD (t .occurs) i 0 ≤ 2 ^ 40) ⌝ }
     ensures { λ r. ⌜ r ≡ placed t i n area ⌝ }
 {
     t.gates[i] = t.gates[i] + n;
@@ -405,7 +411,8 @@ fn count_in(t: Tally, lib: Library, ranged: bool, s: &[u8]) -> Counted
 // The tally with one netlist more, or the first refusal and the tally as it was: 1, the library's, "28 when 64 netlists are counted already or .. a tally
 // figure exceeds 2^40", 29.
 pub fn count(t: Tally, cells: &[u8], netlist: &[u8]) -> Counted
-    ensures { λ r. ⌜ r ≡ countedAnswer t (countText t (now (cells .entry)) (now (netlist .entry))) ⌝ }
+    ensures answer { λ r. ⌜ r ≡ countedAnswer t (countText t (now (cells .entry)) (now (netlist .entry))) ⌝ }
+    ensures ruling { λ r. ⌜ verdictRuling (r .verdict) ≡ rulingOf (countText t (now (cells .entry)) (now (netlist .entry))) ⌝ }
 {
     if cells.len() > 65536 {
         return refused(t, 1, 0);

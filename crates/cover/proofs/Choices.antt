@@ -3,7 +3,6 @@
 --     direct-held         a phase without inverters
 --     up-held             after each turn the words have what is known
 --     choose-law          the chosen phases
---     library-sheet       the sheet of the cells to map with
 -- Assumes nothing.
 use Prim.Native.Nat.{ℕ, zero, suc, _+_, _*_, _/_, _≤_, _<_}
 use native.Mathlib.Omega.{arith}
@@ -17,14 +16,13 @@ use lib.Seq.{take-suc, take-length, drop-cons, drop-length}
 use borrow.Author.Tests.{eqb-true, eqb-false, ltb-true, ltb-false}
 use Rattle.model.specs.Base.{any, same, find, run}
 use Rattle.model.specs.Table.{orders}
-use Rattle.model.specs.Cells.{cellAt, cellsOf}
+use Rattle.model.specs.Cells.{cellAt}
 use Rattle.model.specs.Graph.{Graph, Node, constant, input, undefined, both, node, placingOrder, varOf, negated}
 use Rattle.model.specs.Cuts.{cutsOf, cutTable}
 use Rattle.model.specs.Matching.{phaseTable, matchNets}
 use Rattle.model.specs.Choice.{Phases, noPhase, noPhases, phaseOf, latest, absent, choose, matchPhase, cutMatches, cutPhases, matchPhases, direct, joined, choices, chosen}
 use Rattle.model.specs.declared.Cell.{Cell}
 use Rattle.model.specs.declared.Header.{Header}
-use Rattle.model.specs.declared.Library.{Library}
 use Rattle.model.specs.declared.Match.{Match}
 use Rattle.model.specs.declared.Phase.{Phase}
 use Rattle.model.specs.declared.Source.the-variants.{Input, Cell as Matched}
@@ -38,10 +36,8 @@ use Rattle.words.specs.Phases.{phaseIn, phasesAt}
 use Rattle.words.specs.Holding.{HoldsPhases}
 use Rattle.words.proofs.Chosen.{phase-none}
 use Rattle.words.proofs.Stored.{held-count, held-cut}
-use Rattle.matching.specs.Sheet.{listMatched, SheetOf, Blank}
-use Rattle.matching.proofs.Pairing.{sheet-by}
-use Rattle.matching.specs.Variants.{Usable, Matchable}
-use Rattle.pairs.specs.Codes.{cellsBy, Coded}
+use Rattle.matching.specs.Sheet.{SheetOf}
+use Rattle.matching.specs.Variants.{Matchable}
 use Rattle.cover.specs.Choosing.{foundOn, foundAt, foundFrom, bestAt, ownPhase, directOf, directAt, chosenTurn, chosenUp, Early, Unchosen}
 use Rattle.cover.proofs.Keeping.{PhasesKept, graph-kept, order-kept, cuts-kept}
 use Rattle.cover.proofs.Marks.{nets-in}
@@ -263,9 +259,3 @@ choose-law w cells h g e k u z =
 pub choose-asked : (w : List ℕ) (cells : List Cell) (h : Header) (g : Graph) → HeaderOf h g → Held w g → (sheet : List ℕ) → SheetOf cells sheet → NonePicked w (g .size)
     → SheetOf cells sheet × Unchosen w (h .size) (placedOf h)
 choose-asked w cells h g e k sheet b z = (b, rw (e .size, placed-is h g e (k .accepted)) (unchosen cells (b .matchable) g w k z))
-
--- and of the sheet: it is that of the cells to map with once they are matched, from one with nothing on it that has room
-pub library-sheet : (lib : Library) (codes blank sheet : List ℕ) (room : ℕ) → Usable lib → Coded lib codes → lib .n + length codes ≤ room → Blank room blank
-    → sheet ≡ listMatched (cellsBy (cellsOf lib) codes) 0 blank → SheetOf (cellsBy (cellsOf lib) codes) sheet
-library-sheet lib codes blank sheet room u ok fits z e =
-    subst (SheetOf (cellsBy (cellsOf lib) codes)) (sym e) (sheet-by lib codes blank u ok (record { long = omega (arith, fits, z .long); empty = z .empty }))

@@ -12,13 +12,13 @@ use lib.ListN.{length, length-append, length-map}
 use borrow.Author.Tests.{ltb-false}
 use Rattle.model.specs.Limits.{cutLimit}
 use Rattle.model.specs.Base.{below, from}
-use Rattle.model.specs.Graph.{And, Graph, placingOrder, span}
+use Rattle.model.specs.Graph.{And, Graph, placingOrder, span, andVars}
 use Rattle.model.specs.Cuts.{cutsOf, crowded}
 use Rattle.words.specs.Layout.{countAt}
 use Rattle.words.specs.Holding.{HoldsCuts}
 use Rattle.words.proofs.Stored.{held-count}
 use Rattle.theory_graph.proofs.Lists.{below-in, keep-in}
-use Rattle.theory_graph.specs.Accepted.{Accepted, andVars}
+use Rattle.theory_graph.specs.Accepted.{Accepted}
 use Rattle.theory_graph.proofs.Placing.{order-once, order-small, defined-placed}
 use Rattle.theory_graph.proofs.CutFacts.{length-order, cuts-none}
 use Rattle.theory_order.proofs.Splits.{no-more, by-elem, distinct-yes}

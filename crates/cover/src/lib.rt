@@ -30,7 +30,8 @@ ghost use Rattle.matching.specs.Best.{Timely, timeOf, bestOf, boundOf, phaseAs}
 ghost use Rattle.matching.specs.Inverters.{inverted};
 ghost use Rattle.model.specs.declared.Cell.{Cell};
 ghost use Rattle.matching.specs.declared.Inverter.the-variants.{Is};
-ghost use Rattle.cover.specs.Choosing.{leafTime, timesAt, foundOn, foundAt, bestAt, ownPhase, directAt, chosenTurn, chosenUp, ToolsIn, Choosable, Unchosen};
+ghost use Rattle.cover.specs.Choosing.{leafTime, timesAt, foundOn, foundAt, bestAt, ownPhase, directAt, chosenTurn, chosenUp, ToolsIn, Choosable};
+ghost use Rattle.cover.specs.Choosing.{Unchosen};
 ghost use Rattle.cover.specs.Missing.{missing};
 ghost use Rattle.cover.specs.Marking.{putAll, putOutputs, feedsAt, fedOnce, fedTurn, fedDown, marked};
 
@@ -201,7 +202,9 @@ fn match_cut(
     negative: Phase,
 ) -> Both
     requires { ⌜ ((cells : List Cell) × SheetOf cells (now sheet)) × Choosable (now work) m × (v ≤ m) × (k < countAt (now work) m v) ⌝ }
-    ensures { λ r. ⌜ ((cells : List Cell) → SheetOf cells (now (sheet .entry)) → (r .positive ≡ earlier (choose (foundOn cells (now (work .entry)) m k (leavesAt (now (work .entry)) m v k) f)) positive) × (r .negative ≡ earlier (choose (foundOn cells (now (work .entry)) m k (leavesAt (now (work .entry)) m v k) (phaseTable true f))) negative)) ⌝ }
+    ensures { λ r. ⌜ ((cells : List Cell) → SheetOf cells (now (sheet .entry)) →
+        (r .positive ≡ earlier (choose (foundOn cells (now (work .entry)) m k (leavesAt (now (work .entry)) m v k) f)) positive) ×
+        (r .negative ≡ earlier (choose (foundOn cells (now (work .entry)) m k (leavesAt (now (work .entry)) m v k) (phaseTable true f))) negative)) ⌝ }
 {
     let t = times(work, m, words::load_cut(work, m, v, k));
     let p = match_phase(sheet, k, f, &t, positive);
@@ -231,7 +234,9 @@ fn cut_phases(
     negative: Phase,
 ) -> Both
     requires { ⌜ ((cells : List Cell) × SheetOf cells (now sheet)) × Choosable (now work) m × (v ≤ m) × (k < countAt (now work) m v) ⌝ }
-    ensures { λ r. ⌜ ((cells : List Cell) → SheetOf cells (now (sheet .entry)) → (r .positive ≡ earlier (choose (foundAt cells (now (work .entry)) m v false k)) positive) × (r .negative ≡ earlier (choose (foundAt cells (now (work .entry)) m v true k)) negative)) ⌝ }
+    ensures { λ r. ⌜ ((cells : List Cell) → SheetOf cells (now (sheet .entry)) →
+        (r .positive ≡ earlier (choose (foundAt cells (now (work .entry)) m v false k)) positive) ×
+        (r .negative ≡ earlier (choose (foundAt cells (now (work .entry)) m v true k)) negative)) ⌝ }
 {
     if alone(work, m, v, k) {
         return Both { positive, negative };
@@ -246,7 +251,8 @@ fn cut_phases(
 // The best matches of v, from its last cut to its first: of equal arrivals the lowest cut's.
 fn best_phases(work: &[u16], m: usize, v: usize, sheet: &[u32]) -> Both
     requires { ⌜ ((cells : List Cell) × SheetOf cells (now sheet)) × Choosable (now work) m × (v ≤ m) ⌝ }
-    ensures { λ r. ⌜ ((cells : List Cell) → SheetOf cells (now (sheet .entry)) → (r .positive ≡ bestAt cells (now (work .entry)) m v false) × (r .negative ≡ bestAt cells (now (work .entry)) m v true)) ⌝ }
+    ensures { λ r. ⌜ ((cells : List Cell) → SheetOf cells (now (sheet .entry)) → (r .positive ≡ bestAt cells (now (work .entry)) m v false) ×
+        (r .negative ≡ bestAt cells (now (work .entry)) m v true)) ⌝ }
 {
     let mut positive = nothing();
     let mut negative = nothing();
@@ -276,7 +282,8 @@ fn own(work: &[u16], m: usize, v: usize) -> Both
 // The phases of v without inverters: "for an input's positive phase its own net, otherwise earliest arrival".
 fn direct(work: &[u16], m: usize, v: usize, sheet: &[u32]) -> Both
     requires { ⌜ ((cells : List Cell) × SheetOf cells (now sheet)) × Choosable (now work) m × (v ≤ m) ⌝ }
-    ensures { λ r. ⌜ ((cells : List Cell) → SheetOf cells (now (sheet .entry)) → (r .positive ≡ directAt cells (now (work .entry)) m v false) × (r .negative ≡ directAt cells (now (work .entry)) m v true)) ⌝ }
+    ensures { λ r. ⌜ ((cells : List Cell) → SheetOf cells (now (sheet .entry)) → (r .positive ≡ directAt cells (now (work .entry)) m v false) ×
+        (r .negative ≡ directAt cells (now (work .entry)) m v true)) ⌝ }
 {
     match words::kind(work, m, v) {
         words::CONSTANT | words::AND => best_phases(work, m, v, sheet),
@@ -425,7 +432,8 @@ pub fn pin_counts(lib: Library, codes: &[u16]) -> [u16; 256]
 // The nets that feed a match are needed.
 fn mark_match(work: &mut [u16], pins: &[u16; 256], m: usize, v: usize, x: Match)
     requires { ⌜ ((cells : List Cell) × Matchable cells × MatchIn cells (now work) m v x × PinsOf cells (now pins)) × CutsIn (now work) m × (v ≤ m) ⌝ }
-    ensures { λ _. ⌜ ((cells : List Cell) → Matchable cells → MatchIn cells (now (work .entry)) m v x → PinsOf cells (now (pins .entry)) → now (work .exit) ≡ putAll (now (work .entry)) m (matchNets cells (leavesAt (now (work .entry)) m v (x .cut)) x)) ⌝ }
+    ensures { λ _. ⌜ ((cells : List Cell) → Matchable cells → MatchIn cells (now (work .entry)) m v x → PinsOf cells (now (pins .entry)) → now (work .exit) ≡
+        putAll (now (work .entry)) m (matchNets cells (leavesAt (now (work .entry)) m v (x .cut)) x)) ⌝ }
 {
     let cut = words::load_cut(work, m, v, x.cut);
     let leaves = cut.leaves;
@@ -437,7 +445,8 @@ fn mark_match(work: &mut [u16], pins: &[u16; 256], m: usize, v: usize, x: Match)
 // What feeds a phase is needed.
 fn mark_feeds(work: &mut [u16], pins: &[u16; 256], m: usize, l: usize)
     requires { ⌜ ((cells : List Cell) × MatchesIn cells (now work) m × PinsOf cells (now pins)) × (l / 2 ≤ m) ⌝ }
-    ensures { λ _. ⌜ ((cells : List Cell) → MatchesIn cells (now (work .entry)) m → PinsOf cells (now (pins .entry)) → now (work .exit) ≡ putAll (now (work .entry)) m (feedsAt cells (now (work .entry)) m l)) ⌝ }
+    ensures { λ _. ⌜ ((cells : List Cell) → MatchesIn cells (now (work .entry)) m → PinsOf cells (now (pins .entry)) → now (work .exit) ≡ putAll
+        (now (work .entry)) m (feedsAt cells (now (work .entry)) m l)) ⌝ }
 {
     let p = words::phase(work, m, l);
     let s = p.source;
@@ -452,7 +461,8 @@ fn mark_feeds(work: &mut [u16], pins: &[u16; 256], m: usize, l: usize)
 // "the source of a needed phase is fed by it"
 fn mark_phase(work: &mut [u16], pins: &[u16; 256], m: usize, l: usize)
     requires { ⌜ ((cells : List Cell) × MatchesIn cells (now work) m × PinsOf cells (now pins)) × (l / 2 ≤ m) ⌝ }
-    ensures { λ _. ⌜ ((cells : List Cell) → MatchesIn cells (now (work .entry)) m → PinsOf cells (now (pins .entry)) → now (work .exit) ≡ fedOnce cells (now (work .entry)) m l) ⌝ }
+    ensures { λ _. ⌜ ((cells : List Cell) → MatchesIn cells (now (work .entry)) m → PinsOf cells (now (pins .entry)) → now (work .exit) ≡ fedOnce cells
+        (now (work .entry)) m l) ⌝ }
 {
     if words::is_needed(work, m, l) {
         mark_feeds(work, pins, m, l);
@@ -462,7 +472,8 @@ fn mark_phase(work: &mut [u16], pins: &[u16; 256], m: usize, l: usize)
 // Both phases of a variable: one that an inverter drives before the one that feeds it.
 fn mark_variable(work: &mut [u16], pins: &[u16; 256], m: usize, v: usize)
     requires { ⌜ ((cells : List Cell) × MatchesIn cells (now work) m × PinsOf cells (now pins)) × (v ≤ m) ⌝ }
-    ensures { λ _. ⌜ ((cells : List Cell) → MatchesIn cells (now (work .entry)) m → PinsOf cells (now (pins .entry)) → now (work .exit) ≡ fedTurn cells (now (work .entry)) m v) ⌝ }
+    ensures { λ _. ⌜ ((cells : List Cell) → MatchesIn cells (now (work .entry)) m → PinsOf cells (now (pins .entry)) → now (work .exit) ≡ fedTurn cells
+        (now (work .entry)) m v) ⌝ }
 {
     if words::is_inverted(words::positive(work, m, v)) {
         mark_phase(work, pins, m, 2 * v);
@@ -489,7 +500,8 @@ fn mark_outputs(work: &mut [u16], m: usize, outputs: usize)
 // "or the source of a needed phase is fed by it": each variable after all that it can feed.
 fn mark_variables(work: &mut [u16], pins: &[u16; 256], m: usize, n: usize)
     requires { ⌜ ((cells : List Cell) × MatchesIn cells (now work) m × PinsOf cells (now pins)) × SlotsIn (now work) m n ⌝ }
-    ensures { λ _. ⌜ ((cells : List Cell) → MatchesIn cells (now (work .entry)) m → PinsOf cells (now (pins .entry)) → now (work .exit) ≡ fedDown cells (now (work .entry)) m n) ⌝ }
+    ensures { λ _. ⌜ ((cells : List Cell) → MatchesIn cells (now (work .entry)) m → PinsOf cells (now (pins .entry)) → now (work .exit) ≡ fedDown cells
+        (now (work .entry)) m n) ⌝ }
 {
     let mut i = n;
     while i > 0 {
@@ -501,7 +513,8 @@ fn mark_variables(work: &mut [u16], pins: &[u16; 256], m: usize, n: usize)
 
 // The needed phases.
 pub fn mark(work: &mut [u16], lib: Library, codes: &[u16], h: Header)
-    requires { ⌜ Coded lib (now codes) × MatchesIn (cellsBy (cellsOf lib) (now codes)) (now work) (h .size) × OutputsIn (now work) (h .size) (h .outputs) × SlotsIn (now work) (h .size) (placedOf h) ⌝ }
+    requires { ⌜ Coded lib (now codes) × MatchesIn (cellsBy (cellsOf lib) (now codes)) (now work) (h .size) × OutputsIn (now work) (h .size) (h .outputs) ×
+        SlotsIn (now work) (h .size) (placedOf h) ⌝ }
     ensures { λ _. ⌜ now (work .exit) ≡ marked (cellsBy (cellsOf lib) (now (codes .entry))) (now (work .entry)) (h .size) (h .outputs) (placedOf h) ⌝ }
 {
     let pins = pin_counts(lib, codes);

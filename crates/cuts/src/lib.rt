@@ -156,7 +156,8 @@ fn row(
     keys: &mut [u64],
     had: usize,
 ) -> usize
-    requires { ⌜ Room (now work) m × (v ≤ m) × Sound (now work) m v × (x .count ≤ 4) × Good (leavesOf x) × Packed (now work) m v (now ys) × Building (now keys) had ⌝ }
+    requires { ⌜ Room (now work) m × (v ≤ m) × Sound (now work) m v × (x .count ≤ 4) × Good (leavesOf x) × Packed (now work) m v (now ys) × Building
+        (now keys) had ⌝ }
     ensures { λ r. ⌜ (take r (now (keys .exit)) ≡ rowKeys (leavesOf x) (cutsAt (now (work .entry)) m v) (take had (now (keys .entry)))) × (r ≤ keyRoom) ⌝ }
 {
     let xs = packed(x);
@@ -232,7 +233,9 @@ fn single(keys: &mut [u64], k: u64) -> usize
 // "of AND n, {{n}} and every union".
 fn and_keys(work: &[u16], m: usize, v: usize, keys: &mut [u64]) -> usize
     requires { ⌜ Operands (now work) m × (v ≤ m) × (length (now keys) ≡ keyRoom) ⌝ }
-    ensures { λ r. ⌜ (take r (now (keys .exit)) ≡ added (key (v ∷ [])) (crossKeys (cutsAt (now (work .entry)) m (leftAt (now (work .entry)) m v / 2)) (cutsAt (now (work .entry)) m (rightAt (now (work .entry)) m v / 2)))) × (r ≤ keyRoom) ⌝ }
+    ensures { λ r. ⌜ (take r (now (keys .exit)) ≡ added (key (v ∷ []))
+        (crossKeys (cutsAt (now (work .entry)) m (leftAt (now (work .entry)) m v / 2)) (cutsAt (now (work .entry)) m (rightAt (now (work .entry)) m v / 2))))
+        × (r ≤ keyRoom) ⌝ }
 {
     let a = words::left(work, m, v) / 2;
     let b = words::right(work, m, v) / 2;
@@ -256,7 +259,8 @@ fn node_keys(work: &[u16], m: usize, v: usize, keys: &mut [u64]) -> usize
 
 // The first n keys, stored as the cuts of v.
 fn store_keys(work: &mut [u16], m: usize, v: usize, keys: &[u64], n: usize)
-    requires { ⌜ Room (now work) m × (v ≤ m) × (n ≤ cutLimit) × (length (now keys) ≡ keyRoom) × ((i : ℕ) → i < n → getD (now keys) i 0 / 4096 / 4096 / 4096 / 4096 ≤ 4) ⌝ }
+    requires { ⌜ Room (now work) m × (v ≤ m) × (n ≤ cutLimit) × (length (now keys) ≡ keyRoom) ×
+        ((i : ℕ) → i < n → getD (now keys) i 0 / 4096 / 4096 / 4096 / 4096 ≤ 4) ⌝ }
     ensures { λ _. ⌜ now (work .exit) ≡ putKeys (now (work .entry)) m v (take n (now (keys .entry))) ⌝ }
 {
     words::set_count(work, m, v, n);

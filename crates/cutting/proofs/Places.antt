@@ -6,15 +6,15 @@
 use mathlib.Core.Path.{_≡_, refl, sym, ap, _∙_, subst}
 use mathlib.Core.Logic.{_⊎_, inl, inr}
 use mathlib.Core.List.{List, [], _∷_, _++_, append-assoc, List·Memᴰ, List·Memᴰ·head, List·Memᴰ·tail, List·Memᴰ·not-nil, List·Memᴰ·append-cases, Memᴰ·append-right}
-use Prim.Native.Nat.{ℕ, _+_, _*_, _/_, _≤_, _<_}
+use Prim.Native.Nat.{ℕ, _+_, _/_, _≤_, _<_}
 use native.Mathlib.Omega.{arith}
 use lib.ListN.{length, getD, length-append}
 use lib.Seq.{getD-append-add}
-use Rattle.model.specs.Graph.{Graph, And, node, both, varOf, placingOrder}
+use Rattle.model.specs.Graph.{Graph, And, node, both, varOf, placingOrder, andVars}
 use Rattle.model.specs.Demands.{Distinct}
-use Rattle.theory_graph.specs.Accepted.{Accepted, andVars}
+use Rattle.theory_graph.specs.Accepted.{Accepted}
 use Rattle.theory_graph.proofs.Lists.{map-in, each-in}
-use Rattle.theory_graph.proofs.Placing.{order-once, order-small, defined-placed}
+use Rattle.theory_graph.proofs.Placing.{order-once, defined-placed}
 use Rattle.theory_graph.proofs.Values.{Found, node-and, Closed, order-closed, operands-before}
 use Rattle.theory_order.proofs.Splits.{split-at}
 use Rattle.words.specs.Layout.{andKind, kindAt, leftAt, rightAt, slotAt, placeAt}

@@ -16,7 +16,7 @@ use borrow.Author.Tests.{lt-ltb, le-ltb, ltb-true, ltb-false}
 use Rattle.model.specs.Base.{bit}
 use Rattle.model.specs.Pairs.{splice, pairPins}
 use Rattle.model.specs.Matching.{fedNets}
-use Rattle.model.specs.Netlist.{Net, ofPhase, ofPair, Gate, oneGate, twoGates}
+use Rattle.model.specs.Netlist.{Net, ofPhase, ofPair, oneGate, twoGates}
 use Rattle.model.specs.declared.Cell.{Cell}
 use Rattle.truth.specs.Variant.{placesOf}
 use Rattle.truth.proofs.Variants.{places-four}
@@ -192,11 +192,12 @@ module _ (ps : List ℕ) (four : length ps ≡ 4) (l : ℕ) where
     two-drive = record {
       isGate = λ i. record { cell = inner; pins = inner-nets i; net = net-inside l i } ∷ record { cell = root; pins = root-nets i; net = net-phase l i } ∷ [];
       few = (omega arith, omega arith);
+      none = λ e. absurd (omega (arith, ap length e));
     }
 
   one-drives : (c : Cell) → c .pins ≤ 4 → Drives (oneDriver c nets (c .pins) l) (oneGate c (take (c .pins) ps) l)
   unfolding gatesOf gateOf oneGate
-  one-drives c h = record { isGate = λ i. record { cell = c; pins = one-nets (c .pins) i; net = net-phase l i } ∷ []; few = (omega arith, h) }
+  one-drives c h = record { isGate = λ i. record { cell = c; pins = one-nets (c .pins) i; net = net-phase l i } ∷ []; few = (omega arith, h); none = λ e. absurd (omega (arith, ap length e)) }
 
   pub drives-by : (book : List ℕ) (k : ℕ) → NumberReady book k → Drives (driverBy book k nets l) (gatesUnder book k (take (pinsBy book k) ps) l)
   unfolding driverBy gatesUnder pinsBy pairPins
@@ -223,4 +224,4 @@ number-pins book k ready = go (ltb k (countIn book)) refl
 -- an inverter's
 pub drives-inverted : (c : Cell) (x l : ℕ) → Drives (oneDriver c (phaseNet x ∷ 0 ∷ 0 ∷ 0 ∷ []) 1 l) (oneGate c (x ∷ []) l)
 unfolding gatesOf gateOf oneGate
-drives-inverted c x l = record { isGate = λ i. record { cell = c; pins = net-phase x i ∷ []; net = net-phase l i } ∷ []; few = (omega arith, omega arith) }
+drives-inverted c x l = record { isGate = λ i. record { cell = c; pins = net-phase x i ∷ []; net = net-phase l i } ∷ []; few = (omega arith, omega arith); none = λ e. absurd (omega (arith, ap length e)) }

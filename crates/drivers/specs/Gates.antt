@@ -66,13 +66,18 @@ gatesOf d = cond (d .there) (cond (d .pair) (gateOf (d .inner) ∷ gateOf (d .ro
 abbrev pub FewPins : Driver → Type 0
 FewPins d = (d .inner .count ≤ 4) × (d .root .count ≤ 4)
 
--- a driver is these gates
+abbrev pub noInstance : Instance
+noInstance = record { cell = blank; nets = 0 ∷ 0 ∷ 0 ∷ 0 ∷ []; count = 0; net = 0 }
+
+-- no gate drives
+abbrev pub noDriver : Driver
+noDriver = record { there = false; pair = false; inner = noInstance; root = noInstance }
+
+-- a driver is these gates; of no gate there is one alone
 pub record Drives (d : Driver) (ts : List Gate) : Type 0 where
   pub isGate : gatesOf d ≡ ts
   pub few : FewPins d
-
-abbrev pub noInstance : Instance
-noInstance = record { cell = blank; nets = 0 ∷ 0 ∷ 0 ∷ 0 ∷ []; count = 0; net = 0 }
+  pub none : ts ≡ [] → d ≡ noDriver
 
 -- a listed cell that drives phase l; a pair that does
 abbrev pub oneDriver : Cell → List ℕ → ℕ → ℕ → Driver

@@ -5,7 +5,8 @@ ghost use mathlib.Core.List.{[], map};
 ghost use Prim.Native.Nat.{_≤_, _<_};
 ghost use lib.ListN.{getD};
 ghost use Rattle.truth.specs.Variant.{placesOf};
-ghost use Rattle.drivers.specs.Gates.{phaseNet, fourNets, innerNets, rootNet, rootNets, noInstance, oneDriver, twoDriver, pairDriver, driverBy, PairReady, NumberReady, Drives};
+ghost use Rattle.drivers.specs.Gates.{phaseNet, fourNets, innerNets, rootNet, rootNets, noInstance, oneDriver, twoDriver, pairDriver, driverBy};
+ghost use Rattle.drivers.specs.Gates.{PairReady, NumberReady, Drives};
 
 // A gate of the netlist: a listed cell, the nets of its first `count` pins in order, and its own net. A net's number is twice a phase's literal, and
 // one more for the net inside the pair that drives the phase.

@@ -1,5 +1,5 @@
 -- Lines read one by one. Assumes nothing.
-use Prim.Native.Nat.{ℕ, zero, suc, _+_, _-_, _*_, _≤_, _<_}
+use Prim.Native.Nat.{ℕ, _+_, _*_, _≤_, _<_}
 use native.Mathlib.Omega.{arith}
 use mathlib.Core.Path.{_≡_, refl, sym, _∙_, ap, ap₂, subst}
 use mathlib.Core.Bool.{Bool, true, false, cond, _&&_, true≢false}
@@ -7,9 +7,9 @@ use mathlib.Core.Option.{Option, none, some}
 use mathlib.Core.List.{List, [], _∷_, _++_, append-assoc, append-nil}
 use borrow.Author.Tests.{eq-eqb, ne-eqb, eqb-true, lt-ltb}
 use lib.Dec.{eqb}
-use lib.ListN.{length, take, drop, getD, length-append}
+use lib.ListN.{length, getD, length-append}
 use Rattle.model.specs.Base.{each, same, andThen, only}
-use Rattle.model.specs.Text.{Line, ended, endedByTen, text, linesFrom, fields}
+use Rattle.model.specs.Text.{Line, ended, text, fields}
 use Rattle.model.specs.Reading.{Read, holds, fault, next, from?}
 use Rattle.model.specs.Cells.{cellsOf}
 use Rattle.model.specs.Netlist.{outName}
@@ -17,7 +17,7 @@ use Rattle.model.specs.Check.{Driver, isNet, isGate, gateDriver, gateOfFields, 
 use Rattle.model.specs.declared.Cell.{Cell}
 use Rattle.model.specs.declared.Library.{Library}
 use Rattle.words.specs.Put.{putAt}
-use Rattle.words.proofs.Putting.{length-put, put-none, put-append}
+use Rattle.words.proofs.Putting.{put-none, put-append}
 use Rattle.text.specs.Lines.{lineAt, pastLine}
 use Rattle.text.proofs.Bridge.{lines-at, lines-none}
 use Rattle.netnames.specs.Codes.{code}
@@ -26,7 +26,6 @@ use Rattle.netnames.specs.declared.Gate.{Gate}
 use Rattle.netnames.proofs.Gates.{driver-net, driver-anywhere}
 use Rattle.framing.specs.Frame.{linesAt}
 use Rattle.edited.specs.Store.{gateWords, driverWords, Gathered}
-use Rattle.edited.specs.declared.Progress.{Progress}
 
 -- ---- a line
 

@@ -1,8 +1,8 @@
 -- An output's two lines, read. Assumes nothing.
-use Prim.Native.Nat.{ℕ, zero, suc, _+_, _-_, _*_, _^_, _≤_, _<_}
+use Prim.Native.Nat.{ℕ, suc, _+_, _-_, _*_, _≤_, _<_}
 use native.Mathlib.Omega.{arith}
-use mathlib.Core.Path.{_≡_, refl, sym, _∙_, ap, ap₂, subst}
-use mathlib.Core.Bool.{Bool, true, false, cond, _&&_, true≢false}
+use mathlib.Core.Path.{_≡_, refl, sym, _∙_, ap, ap₂}
+use mathlib.Core.Bool.{Bool, true, false, cond, true≢false}
 use mathlib.Core.Option.{Option, none, some}
 use mathlib.Core.List.{List, [], _∷_, _++_}
 use lib.Dec.{eqb}
@@ -10,7 +10,7 @@ use lib.ListN.{length, take, drop, getD, length-append}
 use lib.Seq.{take-append-seam}
 use borrow.Author.Tests.{eqb-true, lt-ltb}
 use Rattle.model.specs.Base.{each, same, only}
-use Rattle.model.specs.Text.{Line, ended, endedByTen, text, decimal, fields, nextOf}
+use Rattle.model.specs.Text.{Line, ended, endedByTen, text, decimal, fields}
 use Rattle.model.specs.Reading.{Read, holds, fault, next, unless, from?}
 use Rattle.model.specs.Netlist.{outName}
 use Rattle.model.specs.Check.{Driver, isNet, isLine, nameDriver, pastRow, readNames}

@@ -1,13 +1,13 @@
 -- A netlist read: its first lines, its gates, its outputs and `.end`. Assumes nothing.
-use Prim.Native.Nat.{ℕ, _+_, _*_, _≤_, _<_}
+use Prim.Native.Nat.{ℕ, _+_, _*_, _≤_}
 use native.Mathlib.Omega.{arith}
 use mathlib.Core.Path.{_≡_, refl, sym, _∙_, ap, ap₂}
 use mathlib.Core.Bool.{Bool, true, false, true≢false}
 use mathlib.Core.List.{List, [], _∷_, _++_, append-assoc, append-nil}
-use lib.ListN.{length, length-append}
+use lib.ListN.{length, replicate, length-append}
 use Rattle.model.specs.Base.{each}
 use Rattle.model.specs.Text.{Line, text}
-use Rattle.model.specs.Reading.{Read, holds, fault, next, unless}
+use Rattle.model.specs.Reading.{Read, holds, next, unless}
 use Rattle.model.specs.Cells.{cellsOf}
 use Rattle.model.specs.Graph.{Graph}
 use Rattle.model.specs.Check.{Driver, isLine, pastLines, frameOf, readNames, readDrivers, readNetlist}
@@ -16,7 +16,7 @@ use Rattle.words.specs.Put.{putAt}
 use Rattle.words.proofs.Putting.{length-put, put-none, put-append}
 use Rattle.framing.specs.Frame.{linesAt, Due, Framed}
 use Rattle.framing.specs.declared.Place.{Place}
-use Rattle.edited.specs.Store.{driverWords, Gathered, Paired, Taken}
+use Rattle.edited.specs.Store.{driverWords, Gathered, Paired, Lined, progressOf, netsAfter, Taken}
 use Rattle.edited.specs.declared.Progress.{Progress}
 use Rattle.edited.proofs.Gathering.{words-long}
 
@@ -41,7 +41,7 @@ end-due end k (l ∷ ls) = go (isLine (text ".end") l)
     go false = unfold unless next in refl
 
 module _ (s : List ℕ) (lib : Library) (g : Graph) (before : List ℕ) (f : Place) (frame : Framed s (frameOf g) f) where
-  pub frame-broken : f .broken ≡ true → Taken s lib g (record { at = f .at; count = 0; broken = true }) before before
+  pub frame-broken : f .broken ≡ true → Lined s lib g (record { at = f .at; count = 0; broken = true }) before before
   unfolding each readNetlist next
   frame-broken e = record {
     drivers = [];
@@ -57,7 +57,7 @@ module _ (s : List ℕ) (lib : Library) (g : Graph) (before : List ℕ) (f : Pla
     unfolding readNetlist next
     framed = ap (λ (x : Read (List Line)). next x (readDrivers (cellsOf lib) (length s) (length (g .outputs)))) (frame .next fine)
 
-    pub gates-broken : r .broken ≡ true → Taken s lib g r before mid
+    pub gates-broken : r .broken ≡ true → Lined s lib g r before mid
     gates-broken e = record {
       drivers = gates .drivers;
       counted = gates .counted;
@@ -89,7 +89,7 @@ module _ (s : List ℕ) (lib : Library) (g : Graph) (before : List ℕ) (f : Pla
       gated : readNetlist (cellsOf lib) g s ≡ next (readNames (length s) 0 outs (linesAt s (r .at))) (λ ds. holds (gates .drivers ++ ds))
       gated = framed ∙ ap (λ (n : ℕ). readDrivers (cellsOf lib) (length s) n (linesAt s (f .at))) is ∙ gates .due going (length s) outs
 
-      pub pairs-broken : p .broken ≡ true → Taken s lib g p before after
+      pub pairs-broken : p .broken ≡ true → Lined s lib g p before after
       unfolding next
       pairs-broken e = record {
         drivers = all;
@@ -107,7 +107,7 @@ module _ (s : List ℕ) (lib : Library) (g : Graph) (before : List ℕ) (f : Pla
             gated ∙ ap (λ (x : Read (List Driver)). next x (λ ds. holds (gates .drivers ++ ds)))
             (pairs .due read .1 ∙ ap (λ (x : Read (List Driver)). next x (λ es. holds (pairs .drivers ++ es))) (end-due (length s) outs (linesAt s (p .at))))
 
-        pub all-taken : length s ≤ 65536 → Taken s lib g (record { at = e .at; count = p .count; broken = e .broken }) before after
+        pub all-taken : length s ≤ 65536 → Lined s lib g (record { at = e .at; count = p .count; broken = e .broken }) before after
         unfolding all next pastLines
         all-taken short = record {
           drivers = all;
@@ -118,3 +118,31 @@ module _ (s : List ℕ) (lib : Library) (g : Graph) (before : List ℕ) (f : Pla
               ∙ ap (λ (ds : List Driver). holds (gates .drivers ++ ds)) (append-nil (pairs .drivers));
           few = λ q. omega (arith, pairs .due read .0, end .within q);
         }
+
+-- the lines read are the netlist, or the array is cleared
+module _ (s : List ℕ) (lib : Library) (g : Graph) (r : Progress) (before mid : List ℕ) (lines : Lined s lib g r before mid) where
+  pub read-broken : r .broken ≡ true → (after : List ℕ) → after ≡ replicate (length before) 0 → Taken s lib g (record { at = r .at; count = 0; broken = true }) before after
+  unfolding progressOf netsAfter
+  read-broken e after zeros = record {
+    answer = sym (ap progressOf (lines .refused e));
+    left = zeros ∙ sym (ap (λ (x : Read (List Driver)). netsAfter x before) (lines .refused e));
+    refused = λ _. lines .refused e;
+    drivers = [];
+    held = λ q. absurd (true≢false q);
+    counted = refl;
+    stored = λ q. absurd (true≢false q);
+    few = λ q. absurd (true≢false q);
+  }
+
+  pub read-whole : r .broken ≡ false → Taken s lib g (record { at = 0; count = r .count; broken = false }) before mid
+  unfolding progressOf netsAfter
+  read-whole e = record {
+    answer = ap (λ (n : ℕ). record { at = 0; count = n; broken = false }) (lines .counted) ∙ sym (ap progressOf (lines .held e));
+    left = lines .stored ∙ sym (ap (λ (x : Read (List Driver)). netsAfter x before) (lines .held e));
+    refused = λ q. absurd (true≢false (sym q));
+    drivers = lines .drivers;
+    held = λ _. lines .held e;
+    counted = lines .counted;
+    stored = λ _. lines .stored;
+    few = λ _. lines .few e;
+  }

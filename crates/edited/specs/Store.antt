@@ -1,10 +1,10 @@
 -- The numbers of a driver in the array, and what is gathered of a text's lines. Assumes nothing.
 use Prim.Native.Nat.{ℕ, suc, _+_, _*_, _≤_, _<_}
 use mathlib.Core.Path.{_≡_}
-use mathlib.Core.Bool.{Bool, true, false}
-use mathlib.Core.Option.{Option, some}
+use mathlib.Core.Bool.{true, false}
+use mathlib.Core.Option.{some}
 use mathlib.Core.List.{List, [], _∷_, _++_}
-use lib.ListN.{length, getD}
+use lib.ListN.{length, getD, replicate}
 use Rattle.model.specs.Base.{each}
 use Rattle.model.specs.Reading.{Read, holds, fault, next}
 use Rattle.model.specs.Cells.{noCell, cellsOf}
@@ -69,11 +69,34 @@ pub record Paired (s : List ℕ) (outs at i : ℕ) (r : Progress) (before after 
   pub due : r .broken ≡ false → (6 * r .count ≤ r .at)
       × (readNames (length s) 0 outs (linesAt s at) ≡ next (readNames (length s) outs 0 (linesAt s (r .at))) (λ es. holds (drivers ++ es)))
 
--- a netlist was read: its drivers stand first in the array; or a line breaks its form or is missing, and those of lines before it do
-pub record Taken (s : List ℕ) (lib : Library) (g : Graph) (r : Progress) (before after : List ℕ) : Type 0 where
+-- the lines of a netlist were read: their drivers stand first in the array; or a line breaks its form or is missing, and those of lines before it do
+pub record Lined (s : List ℕ) (lib : Library) (g : Graph) (r : Progress) (before after : List ℕ) : Type 0 where
   pub drivers : List Driver
   pub counted : r .count ≡ length drivers
   pub stored : after ≡ putAt before 0 (each driverWords drivers)
   pub refused : r .broken ≡ true → readNetlist (cellsOf lib) g s ≡ fault 32 (r .at)
   pub held : r .broken ≡ false → readNetlist (cellsOf lib) g s ≡ holds drivers
+  pub few : r .broken ≡ false → r .count < 10923
+
+-- ---- a netlist read
+
+-- the answer: how many drivers, or where a line breaks its form
+unfoldable pub progressOf : Read (List Driver) → Progress
+progressOf (holds ds) = record { at = 0; count = length ds; broken = false }
+progressOf (fault n k) = record { at = k; count = 0; broken = true }
+
+-- what is left in the array: the drivers' numbers first, or zeros
+unfoldable pub netsAfter : Read (List Driver) → List ℕ → List ℕ
+netsAfter (holds ds) before = putAt before 0 (each driverWords ds)
+netsAfter (fault n k) before = replicate (length before) 0
+
+-- a netlist was read: `answer` and `left` say all; what follows from them is what is asked further on
+pub record Taken (s : List ℕ) (lib : Library) (g : Graph) (r : Progress) (before after : List ℕ) : Type 0 where
+  pub answer : r ≡ progressOf (readNetlist (cellsOf lib) g s)
+  pub left : after ≡ netsAfter (readNetlist (cellsOf lib) g s) before
+  pub refused : r .broken ≡ true → readNetlist (cellsOf lib) g s ≡ fault 32 (r .at)
+  pub drivers : List Driver
+  pub held : r .broken ≡ false → readNetlist (cellsOf lib) g s ≡ holds drivers
+  pub counted : r .count ≡ length drivers
+  pub stored : r .broken ≡ false → after ≡ putAt before 0 (each driverWords drivers)
   pub few : r .broken ≡ false → r .count < 10923

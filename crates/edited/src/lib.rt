@@ -6,10 +6,10 @@ use netnames::Gate;
 use text::Span;
 ghost use mathlib.Core.Path.{_≡_};
 ghost use mathlib.Core.List.{_∷_};
-ghost use Prim.Native.Nat.{ℕ, _+_, _*_, _≤_, _<_};
-ghost use lib.ListN.{length, getD};
+ghost use Prim.Native.Nat.{_+_, _*_, _≤_, _<_};
+ghost use lib.ListN.{length, replicate};
 ghost use Rattle.model.specs.Text.{decimal};
-ghost use Rattle.model.specs.Cells.{noCell, cellsOf};
+ghost use Rattle.model.specs.Cells.{cellsOf};
 ghost use Rattle.model.specs.Graph.{Graph};
 ghost use Rattle.model.specs.Check.{gateDriver, nameDriver};
 ghost use Rattle.words.specs.Put.{putAt};
@@ -17,7 +17,7 @@ ghost use Rattle.netnames.specs.Codes.{code};
 ghost use Rattle.text.specs.Lines.{lineAt, spanAt};
 ghost use Rattle.netnames.specs.Bound.{gateOf, nameCode};
 ghost use Rattle.framing.specs.Frame.{Framing};
-ghost use Rattle.edited.specs.Store.{gateWords, Fitting, Gathered, wireGate, Stepped, Paired, Taken};
+ghost use Rattle.edited.specs.Store.{gateWords, Fitting, Gathered, wireGate, Stepped, Paired, Lined, Taken};
 
 // A text within the length in 1 has at most so many lines that drive a net: a line begins at least six bytes behind the one before.
 pub const DRIVERS: usize = 10923;
@@ -215,11 +215,10 @@ fn read_gates(s: &[u8], from: usize, lib: Library, nets: &mut [u64]) -> Progress
     }
 }
 
-// "BLIF as we print it up to `.end`": the first three lines, the gates' lines, the outputs' lines and `.end`; "what follows `.end` isn't read". "32 when a line
-// breaks its form, names no listed cell or has other inputs or outputs than the graph".
-pub fn read(s: &[u8], lib: Library, work: &[u16], h: Header, nets: &mut [u64]) -> Progress
+// "BLIF as we print it up to `.end`": the first three lines, the gates' lines, the outputs' lines and `.end`; "what follows `.end` isn't read".
+fn read_lines(s: &[u8], lib: Library, work: &[u16], h: Header, nets: &mut [u64]) -> Progress
     requires { ⌜ Fitting lib × (length (now s) ≤ 65536) × (87384 ≤ length (now nets)) × ((g : Graph) × Framing (now work) h g) ⌝ }
-    ensures { λ r. ⌜ ((g : Graph) → Framing (now (work .entry)) h g → Taken (now (s .entry)) lib g r (now (nets .entry)) (now (nets .exit))) ⌝ }
+    ensures { λ r. ⌜ ((g : Graph) → Framing (now (work .entry)) h g → Lined (now (s .entry)) lib g r (now (nets .entry)) (now (nets .exit))) ⌝ }
 {
     let f = framing::frame(s, work, h);
     if f.broken {
@@ -242,5 +241,38 @@ pub fn read(s: &[u8], lib: Library, work: &[u16], h: Header, nets: &mut [u64]) -
         at: e.at,
         count: p.count,
         broken: e.broken,
+    }
+}
+
+// Zeros throughout.
+fn clear(nets: &mut [u64])
+    ensures { λ _. ⌜ now (nets .exit) ≡ replicate (length (now (nets .entry))) 0 ⌝ }
+{
+    let mut i = 0;
+    while i < nets.len() {
+        nets[i] = 0;
+        i += 1;
+    }
+}
+
+// "32 when a line breaks its form, names no listed cell or has other inputs or outputs than the graph". Then the array is zeros; else the drivers stand first
+// in it, and no place is left to go on from.
+pub fn read(s: &[u8], lib: Library, work: &[u16], h: Header, nets: &mut [u64]) -> Progress
+    requires { ⌜ Fitting lib × (length (now s) ≤ 65536) × (87384 ≤ length (now nets)) × ((g : Graph) × Framing (now work) h g) ⌝ }
+    ensures { λ r. ⌜ ((g : Graph) → Framing (now (work .entry)) h g → Taken (now (s .entry)) lib g r (now (nets .entry)) (now (nets .exit))) ⌝ }
+{
+    let p = read_lines(s, lib, work, h, nets);
+    if p.broken {
+        clear(nets);
+        return Progress {
+            at: p.at,
+            count: 0,
+            broken: true,
+        };
+    }
+    Progress {
+        at: 0,
+        count: p.count,
+        broken: false,
     }
 }

@@ -16,7 +16,7 @@ use Rattle.model.specs.GenlibFormula.{isPin, withName, addPins, indexOf}
 use Rattle.text.proofs.Bytes.{and-left}
 use Rattle.expression.specs.declared.Token.{Token}
 use Rattle.expression.specs.declared.Pins.{Pins}
-use Rattle.expression.specs.Places.{restAt, part, pickL, partsAt, nameAt, namesAt, pushed}
+use Rattle.expression.specs.Places.{tokenAt, restAt, part, pickL, partsAt, nameAt, namesAt, pushed, addPin, pinsFrom}
 use Rattle.expression.proofs.Walk.{Step}
 
 ltb-suc : (m n : ℕ) → ltb (suc m) (suc n) ≡ ltb m n
@@ -140,3 +140,31 @@ map-at f i (suc n) (suc j) h = let e : suc i + j ≡ i + suc j = omega arith in 
 pub name-of : (w : List ℕ) (p : Pins) (j : ℕ) → j < p .n → getD (namesAt w p) j [] ≡ nameAt w p j
 unfolding namesAt below
 name-of w p j h = let e : 0 + j ≡ j = omega arith in map-at (nameAt w p) 0 (p .n) j h ∙ ap (nameAt w p) e
+
+-- ---- the list by places
+
+-- behind the line's end nothing is added
+pub pins-end : (f : ℕ) (w : List ℕ) (p : Pins) (at : ℕ) → length w ≤ at → p ≡ pinsFrom f w p at
+unfolding pinsFrom
+pins-end zero w p at h = refl
+pins-end (suc f) w p at h = sym (rw (le-ltb at (length w) h))
+
+-- a token more: a fifth pin ends the list, else it goes on behind the token
+abbrev pub PinsOn : List ℕ → Pins → ℕ → Pins → Type 0
+PinsOn w p at r = (f : ℕ) × (length w - at ≤ f) × (r ≡ pinsFrom f w p at)
+
+module _ (w : List ℕ) (p : Pins) (at : ℕ) (h : at < length w) (t : Token) (is : t ≡ tokenAt w at) (q : Pins) (e : q ≡ addPin w p t) (r : Pins) where
+  next : (f : ℕ) → pinsFrom (suc f) w p at ≡ cond (ltb 4 (q .n)) q (pinsFrom f w q (t .to))
+  unfolding pinsFrom
+  next f =
+      ap (λ (b : Bool). cond b (let x = addPin w p (tokenAt w at) in cond (ltb 4 (x .n)) x (pinsFrom f w x (tokenAt w at .to))) p) (lt-ltb at (length w) h)
+      ∙ ap (λ (u : Token). let x = addPin w p u in cond (ltb 4 (x .n)) x (pinsFrom f w x (u .to))) (sym is)
+      ∙ ap (λ (x : Pins). cond (ltb 4 (x .n)) x (pinsFrom f w x (t .to))) (sym e)
+
+  pub pins-fifth : 4 < q .n → PinsOn w p at r → q ≡ r
+  pins-fifth l (zero, m, s) = absurd (omega arith)
+  pins-fifth l (suc f, m, s) = sym (s ∙ next f ∙ ap (λ (b : Bool). cond b q (pinsFrom f w q (t .to))) (lt-ltb 4 (q .n) l))
+
+  pub pins-on : q .n ≤ 4 → at < t .to → PinsOn w p at r → PinsOn w q (t .to) r
+  pins-on l later (zero, m, s) = absurd (omega arith)
+  pins-on l later (suc f, m, s) = (f, omega arith, s ∙ next f ∙ ap (λ (b : Bool). cond b q (pinsFrom f w q (t .to))) (le-ltb 4 (q .n) l))

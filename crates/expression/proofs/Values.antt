@@ -10,7 +10,7 @@ use lib.Dec.{ltb}
 use lib.ListN.{length, drop}
 use borrow.Author.Tests.{ltb-true, ltb-false}
 use Rattle.model.specs.Base.{from, same, flip, andThen}
-use Rattle.model.specs.GenlibWords.{isBlank, isWord, isEmpty, tokens}
+use Rattle.model.specs.GenlibWords.{isBlank, isWord, isEmpty}
 use Rattle.model.specs.GenlibFormula.{Taken, begins, turns, chain, quoted, closeBracket, named, atom, factorOf, sumOf, within, indexOf}
 use Rattle.expression.specs.declared.Parsed.{Parsed}
 use Rattle.expression.specs.declared.Parsed.the-variants.{At, Broken}

@@ -1,5 +1,6 @@
 -- A turn of a reader that goes from token to token: what it read is the first of the tokens that were left, or none was. Assumes nothing.
 use Prim.Native.Nat.{ℕ, _+_, _-_, _≤_, _<_}
+use native.Mathlib.Numerals.{add-one}
 use native.Mathlib.Omega.{arith}
 use mathlib.Core.Path.{_≡_, refl, sym, ap, subst, _∙_}
 use mathlib.Core.Bool.{Bool, true, false, _&&_}
@@ -12,7 +13,7 @@ use Rattle.model.specs.Text.{isNameByte}
 use Rattle.text.proofs.Bytes.{and-left}
 use borrow.Author.Tests.{ltb-true, ltb-false}
 use Rattle.model.specs.GenlibWords.{isBlank, isWord, isEmpty, isWordByte, span, tokens}
-use Rattle.expression.specs.Places.{WordPart, endAt, fromAt, tokenAt, restAt, part, Nth}
+use Rattle.expression.specs.Places.{WordPart, endAt, fromAt, tokenAt, restAt, part, nthAt, Nth}
 use Rattle.expression.specs.declared.Token.{Token}
 use Rattle.expression.proofs.Spans.{span-from, span-le, span-part}
 use Rattle.expression.proofs.Tokens.{token-none, token-first, end-after, end-out, end-word, end-sign}
@@ -107,11 +108,16 @@ module _ (w : List ℕ) (at : ℕ) (t : Token) (s : Step w at t) where
 pub nth-first : (w : List ℕ) (t : Token) → t ≡ tokenAt w 0 → Nth w 0 t
 nth-first w t e =
     let s = step w 0 (omega arith) t e in
-    record { ordered = s .ordered; within = s .within; bytes = first-part w 0 t s; rest = rest-part w 0 t s }
+    record { is = unfold nthAt in e; ordered = s .ordered; within = s .within; bytes = first-part w 0 t s; rest = rest-part w 0 t s }
+
+nth-behind : (w : List ℕ) (k : ℕ) (t u : Token) → t ≡ nthAt w k → u ≡ tokenAt w (t .to) → u ≡ nthAt w (k + 1)
+unfolding nthAt
+nth-behind w k t u is e = e ∙ ap (λ (x : Token). tokenAt w (x .to)) is ∙ ap (nthAt w) (sym (add-one k))
 
 pub nth-next : (w : List ℕ) (k : ℕ) (t u : Token) → Nth w k t → u ≡ tokenAt w (t .to) → Nth w (k + 1) u
 nth-next w k t u n e =
     let s = step w (t .to) (n .within) u e in record {
+      is = nth-behind w k t u (n .is) e;
       ordered = s .ordered;
       within = s .within;
       bytes = first-part w (t .to) u s ∙ ap (λ (ts : List (List ℕ)). getD ts 0 []) (n .rest) ∙ getD-drop (k + 1) (tokens w) 0 [] ∙ ap (λ (i : ℕ). getD (tokens w) i []) (omega arith);

@@ -1,5 +1,5 @@
 -- What the readers of a line find at its places. Assumes nothing.
-use Prim.Native.Nat.{ℕ, _+_, _-_, _≤_, _<_}
+use Prim.Native.Nat.{ℕ, zero, suc, _+_, _-_, _≤_, _<_}
 use mathlib.Core.Path.{_≡_}
 use mathlib.Core.Bool.{Bool, true, false, cond, _&&_, _||_}
 use mathlib.Core.Option.{none, some}
@@ -11,7 +11,7 @@ use Rattle.model.specs.declared.Scan.{Scan}
 use Rattle.model.specs.declared.Scan.the-variants.{Due, After, Done, Broken as NoForm}
 use Rattle.model.specs.Base.{below}
 use Rattle.model.specs.GenlibWords.{isBlank, isWordByte, isWord, tokens, span}
-use Rattle.model.specs.GenlibFormula.{Taken}
+use Rattle.model.specs.GenlibFormula.{Taken, isPin, indexOf}
 use Rattle.expression.specs.declared.Token.{Token}
 use Rattle.expression.specs.declared.Pins.{Pins}
 use Rattle.expression.specs.declared.Turned.{Turned}
@@ -74,8 +74,14 @@ Within a n Broken = Unit {0}
 abbrev pub part : List ℕ → ℕ → ℕ → List ℕ
 part w from to = take (to - from) (drop from w)
 
+-- token k of a line, by its place: each begins behind the one before
+unfoldable pub nthAt : List ℕ → ℕ → Token
+nthAt w zero = tokenAt w 0
+nthAt w (suc k) = tokenAt w (nthAt w k .to)
+
 -- what is known of token k of a line
 pub record Nth (w : List ℕ) (k : ℕ) (t : Token) : Type 0 where
+  pub is : t ≡ nthAt w k
   pub ordered : t .from ≤ t .to
   pub within : t .to ≤ length w
   pub bytes : part w (t .from) (t .to) ≡ getD (tokens w) k []
@@ -123,6 +129,27 @@ openedBy depth b = cond (eqb b 40) (depth + 1) (cond (eqb b 41) (depth - 1) dept
 -- a pin more
 abbrev pub pushed : Pins → ℕ → Pins
 pushed p from = record { n = p .n + 1; at = set (p .at) (p .n) from }
+
+-- the list with a name that is added if it is not in it; a fifth makes the number 5
+unfoldable pub withPin : List ℕ → Pins → ℕ → List ℕ → Pins
+unfolding namesAt
+withPin w p from t = cond (ltb (indexOf t (namesAt w p)) (p .n)) p (cond (ltb (p .n) 4) (pushed p from) (record { n = 5; at = p .at }))
+
+-- the list with a token, if it is a pin
+unfoldable pub addPin : List ℕ → Pins → Token → Pins
+unfolding withPin
+addPin w p t = cond (ltb (t .from) (t .to)) (cond (isPin (part w (t .from) (t .to))) (withPin w p (t .from) (part w (t .from) (t .to))) p) p
+
+-- the list with the tokens from a place on, up to a fifth pin; no line has more tokens than bytes
+unfoldable pub pinsFrom : ℕ → List ℕ → Pins → ℕ → Pins
+unfolding addPin
+pinsFrom zero w p at = p
+pinsFrom (suc left) w p at =
+    let q = addPin w p (tokenAt w at) in
+    cond (ltb at (length w)) (cond (ltb 4 (q .n)) q (pinsFrom left w q (tokenAt w at .to))) p
+
+abbrev pub noPins : Pins
+noPins = record { n = 0; at = 0 ∷ 0 ∷ 0 ∷ 0 ∷ [] }
 
 -- the names that r holds; from the fifth on only their number counts
 pub record Listed (w : List ℕ) (names : List (List ℕ)) (r : Pins) : Type 0 where

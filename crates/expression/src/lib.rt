@@ -9,8 +9,11 @@ ghost use lib.ListN.{length, drop};
 ghost use Rattle.model.specs.Base.{same, flip, one};
 ghost use Rattle.model.specs.Text.{isNameByte};
 ghost use Rattle.model.specs.GenlibWords.{isBlank, isWordByte, isWord, lead, span};
-ghost use Rattle.model.specs.GenlibFormula.{shallow, scan, isDone, formed, isPin, withName, addPins, pinsOf, indexOf, nameValue, valueOf, rowBits, turns, closeBracket, named, factorOf, productOf, sumOf, within};
-ghost use Rattle.expression.specs.Places.{Nth, partsAt, dueStep, closeStep, endStep, afterStep, scanStep, depthOf, openedBy, part, spanEnd, endAt, tokenAt, behindAt, restAt, namesAt, takenAt, turnedAt, Within, pushed, Listed, WordPart};
+ghost use Rattle.model.specs.GenlibFormula.{shallow, scan, isDone, formed, isPin, withName, addPins, pinsOf, indexOf, nameValue, valueOf, rowBits, turns};
+ghost use Rattle.model.specs.GenlibFormula.{closeBracket, named, factorOf, productOf, sumOf, within};
+ghost use Rattle.expression.specs.Places.{Nth, partsAt, dueStep, closeStep, endStep, afterStep, scanStep, depthOf, openedBy, part, spanEnd, endAt};
+ghost use Rattle.expression.specs.Places.{tokenAt, behindAt, restAt, namesAt, takenAt, turnedAt, Within, pushed, Listed, WordPart, withPin, addPin};
+ghost use Rattle.expression.specs.Places.{pinsFrom, noPins};
 use model::Scan;
 
 // A token's place in its line.
@@ -389,7 +392,8 @@ fn push_pin(mut p: Pins, from: usize) -> Pins
 // The list with a name that is added if it is not in it; a fifth makes `n` 5.
 fn with_pin(w: &[u8], from: usize, t: &[u8], p: Pins) -> Pins
     requires { ⌜ (p .n ≤ 4) × (length (p .at) ≡ 4) × (now t ≡ span isWordByte (drop from (now w))) ⌝ }
-    ensures { λ r. ⌜ (length (r .at) ≡ 4) × Listed (now (w .entry)) (withName (namesAt (now (w .entry)) p) (now (t .entry))) r ⌝ }
+    ensures { λ r. ⌜ (length (r .at) ≡ 4) × Listed (now (w .entry)) (withName (namesAt (now (w .entry)) p) (now (t .entry))) r ×
+        (r ≡ withPin (now (w .entry)) p from (now (t .entry))) ⌝ }
 {
     let n = p.n;
     if index(w, p, t) < n {
@@ -405,7 +409,8 @@ fn with_pin(w: &[u8], from: usize, t: &[u8], p: Pins) -> Pins
 // The list with a token, if it is a pin.
 fn add_pin(w: &[u8], t: Token, p: Pins) -> Pins
     requires { ⌜ (p .n ≤ 4) × (length (p .at) ≡ 4) × (t .from ≤ t .to) × (t .to ≤ length (now w)) × WordPart (now w) t ⌝ }
-    ensures { λ r. ⌜ (length (r .at) ≡ 4) × Listed (now (w .entry)) (addPins (namesAt (now (w .entry)) p) (partsAt (now (w .entry)) t)) r ⌝ }
+    ensures { λ r. ⌜ (length (r .at) ≡ 4) × Listed (now (w .entry)) (addPins (namesAt (now (w .entry)) p) (partsAt (now (w .entry)) t)) r ×
+        (r ≡ addPin (now (w .entry)) p t) ⌝ }
 {
     let from = t.from;
     let to = t.to;
@@ -420,7 +425,8 @@ fn add_pin(w: &[u8], t: Token, p: Pins) -> Pins
 // The pins from a place on: "Pins take their order of first appearance." The search stops at the fifth, for 23.
 pub fn find_pins(w: &[u8], from: usize) -> Pins
     requires { ⌜ from ≤ length (now w) ⌝ }
-    ensures { λ r. ⌜ (length (r .at) ≡ 4) × Listed (now (w .entry)) (pinsOf (restAt (now (w .entry)) from)) r ⌝ }
+    ensures { λ r. ⌜ (length (r .at) ≡ 4) × Listed (now (w .entry)) (pinsOf (restAt (now (w .entry)) from)) r ×
+        (r ≡ pinsFrom (length (now (w .entry))) (now (w .entry)) noPins from) ⌝ }
 {
     let mut p = Pins { n: 0, at: [0; 4] };
     let mut at = from;
@@ -505,7 +511,8 @@ fn close(w: &[u8], at: usize, v: bool) -> Parsed
 // A name, and the `'` behind it.
 fn name(w: &[u8], at: usize, p: Pins, row: u16, odd: bool) -> Parsed
     requires { ⌜ (at ≤ length (now w)) × (p .n ≤ 4) ⌝ }
-    ensures { λ r. ⌜ Within at (length (now (w .entry))) r × (takenAt (now (w .entry)) r ≡ named (nameValue (namesAt (now (w .entry)) p) row) odd (restAt (now (w .entry)) at)) ⌝ }
+    ensures { λ r. ⌜ Within at (length (now (w .entry))) r × (takenAt (now (w .entry)) r ≡ named (nameValue (namesAt (now (w .entry)) p) row) odd
+        (restAt (now (w .entry)) at)) ⌝ }
 {
     let t = next_token(w, at);
     let from = t.from;
@@ -525,7 +532,8 @@ fn name(w: &[u8], at: usize, p: Pins, row: u16, odd: bool) -> Parsed
 fn sum(w: &[u8], from: usize, p: Pins, row: u16, depth: usize) -> Parsed
     requires { ⌜ (from ≤ length (now w)) × (p .n ≤ 4) ⌝ }
     ensures within { λ r. ⌜ Within from (length (now (w .entry))) r ⌝ }
-    ensures same { λ r. ⌜ ((k : ℕ) → length (now (w .entry)) < k → takenAt (now (w .entry)) r ≡ sumOf (nameValue (namesAt (now (w .entry)) p) row) k (within (nameValue (namesAt (now (w .entry)) p) row) k depth) (restAt (now (w .entry)) from)) ⌝ }
+    ensures same { λ r. ⌜ ((k : ℕ) → length (now (w .entry)) < k → takenAt (now (w .entry)) r ≡ sumOf (nameValue (namesAt (now (w .entry)) p) row) k
+        (within (nameValue (namesAt (now (w .entry)) p) row) k depth) (restAt (now (w .entry)) from)) ⌝ }
 {
     let mut v = false;
     let mut at = from;
@@ -550,7 +558,8 @@ fn sum(w: &[u8], from: usize, p: Pins, row: u16, depth: usize) -> Parsed
 fn product(w: &[u8], from: usize, p: Pins, row: u16, depth: usize) -> Parsed
     requires { ⌜ (from ≤ length (now w)) × (p .n ≤ 4) ⌝ }
     ensures within { λ r. ⌜ Within from (length (now (w .entry))) r ⌝ }
-    ensures same { λ r. ⌜ ((k : ℕ) → length (now (w .entry)) < k → takenAt (now (w .entry)) r ≡ productOf (nameValue (namesAt (now (w .entry)) p) row) k (within (nameValue (namesAt (now (w .entry)) p) row) k depth) (restAt (now (w .entry)) from)) ⌝ }
+    ensures same { λ r. ⌜ ((k : ℕ) → length (now (w .entry)) < k → takenAt (now (w .entry)) r ≡ productOf (nameValue (namesAt (now (w .entry)) p) row) k
+        (within (nameValue (namesAt (now (w .entry)) p) row) k depth) (restAt (now (w .entry)) from)) ⌝ }
 {
     let mut v = true;
     let mut at = from;
@@ -575,7 +584,8 @@ fn product(w: &[u8], from: usize, p: Pins, row: u16, depth: usize) -> Parsed
 fn factor(w: &[u8], from: usize, p: Pins, row: u16, depth: usize) -> Parsed
     requires { ⌜ (from ≤ length (now w)) × (p .n ≤ 4) ⌝ }
     ensures within { λ r. ⌜ Within from (length (now (w .entry))) r ⌝ }
-    ensures same { λ r. ⌜ ((k : ℕ) → length (now (w .entry)) < k → takenAt (now (w .entry)) r ≡ factorOf (nameValue (namesAt (now (w .entry)) p) row) (within (nameValue (namesAt (now (w .entry)) p) row) k depth) (restAt (now (w .entry)) from)) ⌝ }
+    ensures same { λ r. ⌜ ((k : ℕ) → length (now (w .entry)) < k → takenAt (now (w .entry)) r ≡ factorOf (nameValue (namesAt (now (w .entry)) p) row)
+        (within (nameValue (namesAt (now (w .entry)) p) row) k depth) (restAt (now (w .entry)) from)) ⌝ }
 {
     let t = turn(w, from, b'!', false);
     let at = t.at;

@@ -1,23 +1,95 @@
-// What the programs share: a file read, a line of a word and two numbers written, and what is said where nothing can be written.
+// What the programs share: a file read, a line of a word and two numbers written, and what is said where a file cannot be read or nothing can be written.
+use libc::ENOENT;
 use libc::STDERR_FILENO;
 use libc::STDOUT_FILENO;
 ghost use mathlib.Core.Path.{_≡_};
 ghost use lib.ListN.{length};
-ghost use Rattle.io.specs.Counts.{Counts};
+ghost use Rattle.files.specs.Loading.{Found-in, Loaded-in};
 
-// The file's first bytes, at most buf's length; none where the file is absent: "an absent file counts as empty". The buffer has room for one
-// byte more than 65,536, so that "one over 65,536 bytes brings refusal 1".
-pub fn load(path: &[u8], buf: &mut [u8]) -> usize
+// What a name leads to: so many bytes, at the start of the buffer; no file; or one that cannot be opened or read, which has been said on standard error.
+pub enum Found {
+    Bytes(usize),
+    Absent,
+    Unreadable,
+}
+
+// The same where "an absent file counts as empty".
+pub enum Loaded {
+    Bytes(usize),
+    Unreadable,
+}
+
+// The program, the file and errno's text. It stands right behind the call that failed, for any other may change errno.
+fn say_unreadable(program: &[u8], path: &[u8]) {
+    io::write_all(STDERR_FILENO, program);
+    io::write_all(STDERR_FILENO, b": ");
+    os::fail(path);
+}
+
+// One read: so many bytes, none at the file's end.
+fn read_some(fd: i32, buf: &mut [u8]) -> Loaded
+    ensures { λ r. ⌜ Loaded-in r (now (buf .exit)) ⌝ }
+{
+    let got = libc::read(fd, buf);
+    if got < 0 {
+        return Loaded::Unreadable;
+    }
+    let n = io::count(got, buf);
+    Loaded::Bytes(n)
+}
+
+// An open file's bytes, up to its end or the buffer's; a pipe gives them in pieces. The bytes before a read that fails are no text: they count for nothing.
+fn fill(fd: i32, buf: &mut [u8]) -> Loaded
+    ensures { λ r. ⌜ Loaded-in r (now (buf .exit)) ⌝ }
+{
+    let mut done = 0;
+    while done < buf.len() {
+        let more = read_some(fd, &mut buf[done..]);
+        let Loaded::Bytes(n) = more else {
+            return Loaded::Unreadable;
+        };
+        if n == 0 {
+            return Loaded::Bytes(done);
+        }
+        done += n;
+    }
+    Loaded::Bytes(done)
+}
+
+// The file's first bytes, at most buf's length. The buffer has room for one byte more than 65,536, so that "one over 65,536 bytes brings refusal 1".
+// A file is absent where the system says that there is none of its name (ENOENT). The file is closed again before anything is printed: with standard output
+// closed it may have its number.
+pub fn find(program: &[u8], path: &[u8], buf: &mut [u8]) -> Found
     requires { ⌜ length (now buf) ≡ 65537 ⌝ }
-    ensures { λ r. ⌜ Counts r (now (buf .exit)) ⌝ }
+    ensures { λ r. ⌜ Found-in r (now (buf .exit)) ⌝ }
 {
     let fd = os::open_read(path);
     if fd < 0 {
-        return io::count(0, buf);
+        if os::errno() == ENOENT {
+            return Found::Absent;
+        }
+        say_unreadable(program, path);
+        return Found::Unreadable;
     }
-    let n = io::read_full(fd, buf);
+    let r = fill(fd, buf);
+    let Loaded::Bytes(n) = r else {
+        say_unreadable(program, path);
+        libc::close(fd);
+        return Found::Unreadable;
+    };
     libc::close(fd);
-    n
+    Found::Bytes(n)
+}
+
+pub fn load(program: &[u8], path: &[u8], buf: &mut [u8]) -> Loaded
+    requires { ⌜ length (now buf) ≡ 65537 ⌝ }
+    ensures { λ r. ⌜ Loaded-in r (now (buf .exit)) ⌝ }
+{
+    match find(program, path, buf) {
+        Found::Bytes(n) => Loaded::Bytes(n),
+        Found::Absent => Loaded::Bytes(0),
+        Found::Unreadable => Loaded::Unreadable,
+    }
 }
 
 // A text printed: whether it could be.

@@ -1,5 +1,7 @@
-// `cells.txt`, `graph.aag` and `arrivals.txt` of the current folder mapped, the netlist or one line of `refused`, number and place printed: with pairs of cells or
+// `cells.txt`, `graph.aag` and `arrivals.txt` of the current folder mapped, the netlist or one line of `refused`, number and place printed: with pairs of
+// cells or
 // without, a program each.
+use files::Loaded;
 use model::Answer;
 ghost use mathlib.Core.Path.{_≡_};
 ghost use lib.ListN.{length};
@@ -22,15 +24,25 @@ fn map_files(
     }
 }
 
+// Where a file cannot be read, which `load` has said, nothing is printed.
 pub fn map(program: &[u8], paired: bool) {
     let mut cells = [0u8; 65537];
     let mut graph = [0u8; 65537];
     let mut arrivals = [0u8; 65537];
     let mut work = [0u16; 32768];
     let mut text = [0u8; 65536];
-    let n = files::load(b"cells.txt", &mut cells);
-    let m = files::load(b"graph.aag", &mut graph);
-    let k = files::load(b"arrivals.txt", &mut arrivals);
+    let cells_read = files::load(program, b"cells.txt", &mut cells);
+    let Loaded::Bytes(n) = cells_read else {
+        return;
+    };
+    let graph_read = files::load(program, b"graph.aag", &mut graph);
+    let Loaded::Bytes(m) = graph_read else {
+        return;
+    };
+    let arrivals_read = files::load(program, b"arrivals.txt", &mut arrivals);
+    let Loaded::Bytes(k) = arrivals_read else {
+        return;
+    };
     map_files(
         program,
         &cells[..n],

@@ -9,7 +9,7 @@ use mathlib.Core.List.{List, [], _∷_, _++_, map}
 use lib.ListN.{length, getD, length-append}
 use Rattle.model.specs.Base.{from, below, each}
 use Rattle.model.specs.Text.{text, decimal}
-use Rattle.model.specs.Graph.{Graph, varOf, negated, literal}
+use Rattle.model.specs.Graph.{Graph, literal}
 use Rattle.model.specs.Netlist.{netName, outName}
 use Rattle.model.specs.Check.{inputNets, outputNets, frameOf}
 use Rattle.model.specs.declared.Header.{Header}

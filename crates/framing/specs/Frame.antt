@@ -1,15 +1,17 @@
 -- Lines that are due, and the first three of a netlist. Assumes nothing.
 use Prim.Native.Nat.{ℕ, zero, suc, _+_, _≤_, _<_}
 use mathlib.Core.Path.{_≡_}
-use mathlib.Core.Bool.{true, false}
+use mathlib.Core.Bool.{true, false, cond}
 use mathlib.Core.List.{List, [], _∷_, _++_}
+use lib.Dec.{ltb}
 use lib.ListN.{length, drop, getD}
 use Rattle.model.specs.Text.{Line, linesFrom, decimal}
 use Rattle.model.specs.Reading.{holds, fault}
 use Rattle.model.specs.Graph.{Graph}
-use Rattle.model.specs.Check.{pastLines}
+use Rattle.model.specs.Check.{isLine, pastLines}
 use Rattle.model.specs.declared.Header.{Header}
 use Rattle.words.specs.Layout.{Room, slotAt}
+use Rattle.text.specs.Lines.{lineAt}
 use Rattle.framing.specs.declared.Place.{Place}
 
 -- the lines of a text from a place on
@@ -25,8 +27,23 @@ namesFrom name i (suc n) = (32 ∷ name i) ++ namesFrom name (suc i) n
 unfoldable pub inputName : List ℕ → ℕ → ℕ → List ℕ
 inputName w m i = 112 ∷ decimal (slotAt w m (i + 1))
 
+-- the place behind the line w, if it stands at a place; else that place, and where no line begins the text's length
+unfoldable pub dueAt : List ℕ → List ℕ → ℕ → Place
+unfolding isLine lineAt
+dueAt s w at =
+    cond (ltb at (length s))
+    (cond (isLine w (lineAt s at)) (record { at = at + length w + 1; broken = false }) (record { at = at; broken = true }))
+    (record { at = length s; broken = true })
+
+-- so of lines one behind the other: the place behind all of them, or that of the first that is another or missing
+unfoldable pub dueFrom : List ℕ → List (List ℕ) → ℕ → Place
+unfolding dueAt
+dueFrom s [] at = record { at = at; broken = false }
+dueFrom s (w ∷ ws) at = let p = dueAt s w at in cond (p .broken) p (dueFrom s ws (p .at))
+
 -- the line w is due at a place: the lines behind it come next, or it is another or missing
 pub record Due (s w : List ℕ) (at : ℕ) (r : Place) : Type 0 where
+  pub is : r ≡ dueAt s w at
   pub refused : r .broken ≡ true → (ws : List (List ℕ)) → pastLines (length s) (w ∷ ws) (linesAt s at) ≡ fault 32 (r .at)
   pub next : r .broken ≡ false → (ws : List (List ℕ)) → pastLines (length s) (w ∷ ws) (linesAt s at) ≡ pastLines (length s) ws (linesAt s (r .at))
   pub within : r .broken ≡ false → at < length s
@@ -43,5 +60,6 @@ pub record Framing (w : List ℕ) (h : Header) (g : Graph) : Type 0 where
 
 -- these lines come first: the lines behind them come next, or one of them is another or missing
 pub record Framed (s : List ℕ) (ws : List (List ℕ)) (r : Place) : Type 0 where
+  pub is : r ≡ dueFrom s ws 0
   pub refused : r .broken ≡ true → pastLines (length s) ws (linesAt s 0) ≡ fault 32 (r .at)
   pub next : r .broken ≡ false → pastLines (length s) ws (linesAt s 0) ≡ holds (linesAt s (r .at))

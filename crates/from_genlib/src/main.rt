@@ -1,4 +1,5 @@
 // The program: `cells.genlib` of the current folder converted, our cell text or one line of `refused`, number and place printed.
+use files::Loaded;
 use model::Written;
 ghost use mathlib.Core.Path.{_≡_};
 ghost use lib.ListN.{length};
@@ -16,9 +17,13 @@ fn convert_file(genlib: &[u8], text: &mut [u8])
     }
 }
 
+// Where the file cannot be read, which `load` has said, nothing is printed.
 fn main() {
     let mut genlib = [0u8; 65537];
     let mut text = [0u8; 65536];
-    let n = files::load(b"cells.genlib", &mut genlib);
+    let genlib_read = files::load(b"from_genlib", b"cells.genlib", &mut genlib);
+    let Loaded::Bytes(n) = genlib_read else {
+        return;
+    };
     convert_file(&genlib[..n], &mut text);
 }

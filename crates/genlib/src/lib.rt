@@ -4,8 +4,10 @@ ghost use mathlib.Core.Path.{_≡_};
 ghost use Prim.Native.Nat.{_+_, _≤_, _<_};
 ghost use lib.ListN.{length};
 ghost use Rattle.model.specs.GenlibWords.{tokens};
-ghost use Rattle.model.specs.Genlib.{pinDelay, delaysOf, gateFrom, groups, readGroup, readGenlib, genlibText, writtenAnswer, writtenAfter};
+ghost use Rattle.model.specs.Genlib.{pinDelay, delaysOf, gateFrom, groups, readGroup, readGenlib, genlibText, writtenAnswer, writtenPair, writtenBy};
+ghost use Rattle.model.specs.Genlib.{writtenAfter};
 ghost use Rattle.model.specs.GenlibDemands.{GenlibDemand};
+ghost use Rattle.theory_foundry.specs.GateRefusals.{GenlibRefusals};
 ghost use Rattle.text.specs.Writing.{Wrote};
 ghost use Rattle.expression.specs.Places.{namesAt};
 ghost use Rattle.groups.specs.Lines.{valueIn, linesOf, linesBehind, groupAt};
@@ -65,7 +67,8 @@ fn four_delays(s: &[u8], from: usize, w: &[u8], p: Pins) -> Delays
 // "24 when a used figure has over three decimals or exceeds 65.535": the gate of a group that has its form and its size. The line w begins at `at`.
 fn gate_of(s: &[u8], from: usize, w: &[u8], at: usize, p: Pins) -> Judged
     requires { ⌜ (from ≤ length (now s)) × InLine (now s) at (now w) × Few (now w) p ⌝ }
-    ensures { λ r. ⌜ GateIs (now (s .entry)) r × (gateOption (now (s .entry)) r ≡ gateFrom (linesBehind (now (s .entry)) from) (tokens (now (w .entry)))) × Only24 r ⌝ }
+    ensures { λ r. ⌜ GateIs (now (s .entry)) r × (gateOption (now (s .entry)) r ≡ gateFrom (linesBehind (now (s .entry)) from) (tokens (now (w .entry)))) ×
+        Only24 r ⌝ }
 {
     let name = expression::nth(w, 1);
     let n = expression::nth(w, 4);
@@ -94,7 +97,8 @@ fn gate_of(s: &[u8], from: usize, w: &[u8], at: usize, p: Pins) -> Judged
 // "23 when a gate has over four pins or brackets over 16 deep", then 24.
 fn sized_gate(s: &[u8], from: usize, w: &[u8], at: usize) -> Judged
     requires { ⌜ (from ≤ length (now s)) × InLine (now s) at (now w) ⌝ }
-    ensures { λ r. ⌜ GateIs (now (s .entry)) r × (judgedRead (now (s .entry)) at r ≡ sizedRead (linesBehind (now (s .entry)) from) (tokens (now (w .entry))) at) ⌝ }
+    ensures { λ r. ⌜ GateIs (now (s .entry)) r × (judgedRead (now (s .entry)) at r ≡ sizedRead (linesBehind (now (s .entry)) from) (tokens (now (w .entry)))
+        at) ⌝ }
 {
     let n = expression::nth(w, 4);
     let start = n.to;
@@ -186,6 +190,8 @@ pub fn convert(genlib: &[u8], text: &mut [u8]) -> Written
     ensures answer { λ r. ⌜ r ≡ writtenAnswer (genlibText (now (genlib .entry)) (length (now (text .entry)))) ⌝ }
     ensures bytes { λ _. ⌜ now (text .exit) ≡ writtenAfter (genlibText (now (genlib .entry)) (length (now (text .entry)))) (now (text .entry)) ⌝ }
     ensures cells { λ _. ⌜ GenlibDemand (now (genlib .entry)) (length (now (text .entry))) ⌝ }
+    ensures refusals { λ _. ⌜ GenlibRefusals (now (genlib .entry)) (length (now (text .entry))) ⌝ }
+    ensures ruling { λ r. ⌜ writtenPair r ≡ writtenBy (genlibText (now (genlib .entry)) (length (now (text .entry)))) ⌝ }
 {
     if genlib.len() > 65536 {
         return Written::Refused(1, 0);

@@ -9,7 +9,7 @@ use lib.Dec.{ltb}
 use lib.ListN.{length, take, drop, length-drop}
 use borrow.Author.Tests.{ltb-true, ltb-false, le-ltb}
 use Rattle.model.specs.Base.{same}
-use Rattle.model.specs.Text.{ended, isNameByte, text}
+use Rattle.model.specs.Text.{ended, isNameByte}
 use Rattle.model.specs.GenlibWords.{isBlank, span, tokens}
 use Rattle.model.specs.Genlib.{firstName, startsGate, lineIs, lineTokens}
 use Rattle.text.specs.declared.Span.{Span}

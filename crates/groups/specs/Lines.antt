@@ -2,13 +2,13 @@
 use Prim.Native.Nat.{ℕ}
 use mathlib.Core.Bool.{Bool, true, false, cond, _&&_}
 use mathlib.Core.Option.{Option, none, some}
-use mathlib.Core.List.{List, [], map}
+use mathlib.Core.List.{List, [], _∷_, map}
 use lib.Dec.{ltb}
 use lib.ListN.{length, drop}
 use Rattle.model.specs.Base.{all, andThen}
 use Rattle.model.specs.Text.{Line, text, linesFrom}
 use Rattle.model.specs.GenlibFormula.{isPin}
-use Rattle.model.specs.Genlib.{isGateLine, isPinLine, lineIs, lineTokens, pinLine, hasLine, delayOf, grouped, Group}
+use Rattle.model.specs.Genlib.{isGateLine, isPinLine, lineIs, lineTokens, pinLine, hasLine, delayOf, grouped, groups, Group}
 use Rattle.text.specs.declared.Value.{Value}
 use Rattle.text.specs.declared.Value.the-variants.{Is, Broken as NoValue}
 use Rattle.text.specs.Lines.{lineAt}
@@ -58,3 +58,13 @@ groupIs s from ts = isGateLine ts && (all (lineIs isPinLine) (grouped (linesOf s
 unfoldable pub groupAt : List ℕ → ℕ → Group
 unfolding grouped
 groupAt s at = record { head = lineAt s at; lines = grouped (drop 1 (linesOf s at)) .0 }
+
+-- where the first of some groups begins; without any, the text's end
+unfoldable pub startOf : ℕ → List Group → ℕ
+startOf end [] = end
+startOf end (g ∷ gs) = g .head .offset
+
+-- where the group behind the one at a place begins
+unfoldable pub behindGroup : List ℕ → ℕ → ℕ
+unfolding startOf groups
+behindGroup s at = startOf (length s) (drop 1 (groups (linesOf s at)))

@@ -12,7 +12,7 @@ ghost use Rattle.model.specs.GenlibWords.{isWordByte, isDigit, tokens, isWord, 
 ghost use Rattle.model.specs.Genlib.{gateHead, isGateLine, pinHead, isPinLine, firstName, lineIs, fits, pinLine, lineTokens, delayOf, grouped, groups};
 ghost use Rattle.text.specs.Lines.{lineAt};
 ghost use Rattle.expression.specs.Places.{spanEnd, restAt};
-ghost use Rattle.groups.specs.Lines.{linesOf, gateWord, linesBehind, lineFound, pinHas, valueIn, delayFor, groupIs, groupAt};
+ghost use Rattle.groups.specs.Lines.{linesOf, gateWord, linesBehind, lineFound, pinHas, valueIn, delayFor, groupIs, groupAt, behindGroup};
 use text::Value;
 
 // ---- tokens by number
@@ -467,7 +467,8 @@ pub fn is_group(s: &[u8], from: usize, w: &[u8]) -> bool
 // Where the group behind the one at a place begins.
 pub fn group_end(s: &[u8], at: usize) -> usize
     requires { ⌜ at < length (now s) ⌝ }
-    ensures { λ r. ⌜ (at < r) × (r ≤ length (now (s .entry))) × (groups (linesOf (now (s .entry)) at) ≡ groupAt (now (s .entry)) at ∷ groups (linesOf (now (s .entry)) r)) ⌝ }
+    ensures { λ r. ⌜ (at < r) × (r ≤ length (now (s .entry))) ×
+        (groups (linesOf (now (s .entry)) at) ≡ groupAt (now (s .entry)) at ∷ groups (linesOf (now (s .entry)) r)) × (r ≡ behindGroup (now (s .entry)) at) ⌝ }
 {
     let l = text::line(s, at);
     next_gate(s, l.next)

@@ -1,10 +1,9 @@
 -- The first line of a library's text is one of the two names lines just where the line that the crate text hands back is it. Assumes nothing.
 use Prim.Native.Nat.{ℕ, _-_, _<_, _≤_}
 use native.Mathlib.Omega.{arith}
-use mathlib.Core.Path.{_≡_, refl, sym, ap, _∙_, subst}
+use mathlib.Core.Path.{_≡_, refl, sym, ap, _∙_}
 use mathlib.Core.Bool.{Bool, true, false, cond, _&&_, _||_}
 use mathlib.Core.List.{List, [], _∷_}
-use lib.Dec.{T}
 use lib.ListN.{length, take, drop}
 use Rattle.model.specs.Base.{same}
 use Rattle.model.specs.Text.{ended, text, linesFrom}

@@ -1,7 +1,6 @@
 // Each text of the standard input, ended by byte 0, is read as a cell library, and one line says what was found: `refused`, number and place; or
 // `read`, under the longer names line `ranged`, then the number of cells and their values in the order of that line. cases.py writes the texts, and
 // the lines by a reader of its own.
-ghost use Prim.Native.Nat.{_≤_};
 use libc::STDIN_FILENO;
 use libc::STDOUT_FILENO;
 use model::Cell;

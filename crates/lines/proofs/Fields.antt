@@ -3,18 +3,18 @@
 --     count-space, count-step, count-out   how many fields there are, likewise
 --     field-part, field-fits, field-next   the bytes up to its end are the field, and behind it stand the others
 -- Assumes nothing.
-use Prim.Native.Nat.{ℕ, zero, suc, _+_, _-_, _≤_, _<_}
+use Prim.Native.Nat.{ℕ, suc, _+_, _-_, _≤_, _<_}
 use native.Mathlib.Numerals.{add-one}
 use native.Mathlib.Omega.{arith}
 use mathlib.Core.Path.{_≡_, refl, sym, ap, _∙_}
 use mathlib.Core.Bool.{Bool, true, false}
 use mathlib.Core.List.{List, [], _∷_, _++_}
-use lib.Dec.{eqb, leb}
+use lib.Dec.{eqb}
 use lib.ListN.{length, take, drop, getD, drop-of-length-le, length-append, length-drop}
 use lib.Seq.{drop-cons, drop-drop, take-all, take-append-seam, drop-append-add}
 use borrow.Author.Tests.{eq-eqb, ne-eqb, eqb-true, le-leb, lt-leb}
 use Rattle.model.specs.Text.{fields, split, onto}
-use Rattle.lines.specs.Steps.{pickWords, fieldsAt, fieldAt, fieldEnd}
+use Rattle.lines.specs.Steps.{fieldsAt, fieldAt, fieldEnd}
 
 -- ---- by bytes
 

@@ -1,5 +1,6 @@
 // Each case of the standard input is four parts, each ended by byte 0: four numbers a b c d, which lend 16 a + b words and 16 c + d bytes, a
-// library text, a graph text and an arrivals' text. For each the five values of the answer are printed, and then the netlist. The other mapper writes the cases and
+// library text, a graph text and an arrivals' text. For each the five values of the answer are printed, and then the netlist. The other mapper writes the
+// cases and
 // what must be printed (tests/other/src/bin/cases.rs).
 use libc::STDIN_FILENO;
 use libc::STDOUT_FILENO;
@@ -7,7 +8,6 @@ use model::Answer;
 use text::Cursor;
 use text::Number;
 ghost use Prim.Native.Nat.{_≤_};
-ghost use lib.ListN.{length};
 
 fn wide(x: u16) -> usize
     ensures { λ r. ⌜ r ≤ 65535 ⌝ }

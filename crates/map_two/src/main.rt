@@ -1,9 +1,10 @@
 // The program for two channels: `cells.txt`, and of each channel a graph and the arrivals of its inputs, in the current folder; the first channel's netlist
 // or line of `refused`, number and place is printed, then the second's.
+use files::Loaded;
 use model::Answer;
 ghost use mathlib.Core.Path.{_≡_};
 ghost use lib.ListN.{length};
-ghost use Rattle.mapper.specs.Stages.{Fits};
+ghost use Rattle.promises.specs.Promised.{Fits};
 
 // A channel's netlist, at the start of its text memory, or its refusal.
 fn show(a: Answer, text: &[u8])
@@ -45,6 +46,7 @@ fn map_files(
     show(second, text2);
 }
 
+// Where a file cannot be read, which `load` has said, nothing is printed.
 fn main() {
     let mut cells = [0u8; 65537];
     let mut graph1 = [0u8; 65537];
@@ -54,11 +56,26 @@ fn main() {
     let mut work = [0u16; 32768];
     let mut text1 = [0u8; 65536];
     let mut text2 = [0u8; 65536];
-    let n = files::load(b"cells.txt", &mut cells);
-    let g1 = files::load(b"graph1.aag", &mut graph1);
-    let a1 = files::load(b"arrivals1.txt", &mut arrivals1);
-    let g2 = files::load(b"graph2.aag", &mut graph2);
-    let a2 = files::load(b"arrivals2.txt", &mut arrivals2);
+    let cells_read = files::load(b"map_two", b"cells.txt", &mut cells);
+    let Loaded::Bytes(n) = cells_read else {
+        return;
+    };
+    let graph1_read = files::load(b"map_two", b"graph1.aag", &mut graph1);
+    let Loaded::Bytes(g1) = graph1_read else {
+        return;
+    };
+    let arrivals1_read = files::load(b"map_two", b"arrivals1.txt", &mut arrivals1);
+    let Loaded::Bytes(a1) = arrivals1_read else {
+        return;
+    };
+    let graph2_read = files::load(b"map_two", b"graph2.aag", &mut graph2);
+    let Loaded::Bytes(g2) = graph2_read else {
+        return;
+    };
+    let arrivals2_read = files::load(b"map_two", b"arrivals2.txt", &mut arrivals2);
+    let Loaded::Bytes(a2) = arrivals2_read else {
+        return;
+    };
     map_files(
         &cells[..n],
         &graph1[..g1],

@@ -1,17 +1,16 @@
 -- From the cuts to the marked phases: what the choice and the marking leave is what the writer asks. Assumes nothing.
-use Prim.Native.Nat.{ℕ, _+_, _*_, _/_, _≤_, _<_}
+use Prim.Native.Nat.{ℕ, _/_, _≤_}
 use native.Mathlib.Omega.{arith}
 use mathlib.Core.Path.{_≡_, refl, sym, _∙_, ap, subst}
-use mathlib.Core.Bool.{Bool, true, false, cond}
-use mathlib.Core.List.{List, [], _∷_, List·Memᴰ}
+use mathlib.Core.Bool.{Bool, true, false}
+use mathlib.Core.List.{List, [], _∷_}
 use mathlib.Core.Logic.{inr}
-use lib.ListN.{length, getD}
+use lib.ListN.{length}
 use Rattle.model.specs.Reading.{refusedAt, firstOf}
 use Rattle.model.specs.Cells.{cellsOf}
 use Rattle.model.specs.Graph.{Graph, placingOrder}
-use Rattle.model.specs.Cuts.{crowded}
-use Rattle.model.specs.Choice.{absent, chosen, choices}
-use Rattle.model.specs.Netlist.{Outcome, refused, mapped, coverVerdict, uncovered, printed, mapChosen}
+use Rattle.model.specs.Choice.{absent, chosen}
+use Rattle.model.specs.Netlist.{refused, mapped, coverVerdict, uncovered, printed, mapChosen}
 use Rattle.model.specs.Cover.{Allowed}
 use Rattle.model.specs.Timing.{followed}
 use Rattle.model.specs.Demands.{choiceText, choiceFigures, printedText}
@@ -24,7 +23,6 @@ use Rattle.model.specs.declared.Source.the-variants.{Input, Cell as Matched, In
 use Rattle.model.specs.declared.Verdict.the-variants.{Accepted, Refused}
 use Rattle.words.specs.Layout.{placedOf, neededAt, neededAddr}
 use Rattle.words.specs.Phases.{phaseAt}
-use Rattle.words.specs.Holding.{HoldsGraph, HoldsOrder, HoldsCuts, HoldsPhases}
 use Rattle.words.proofs.Stored.{held-cut}
 use Rattle.theory_graph.proofs.Placing.{order-once}
 use Rattle.theory_cover.proofs.Sound.{chosen-fine}
@@ -32,7 +30,7 @@ use Rattle.netlist.specs.Mapped.{Mapped}
 use Rattle.cover.specs.Missing.{missing}
 use Rattle.cover.specs.Marking.{marked}
 use Rattle.cover.specs.Choosing.{chosenUp}
-use Rattle.cover.proofs.Keeping.{Kept, NeedsKept, PhasesKept, graph-kept, order-kept, cuts-kept, phases-kept}
+use Rattle.cover.proofs.Keeping.{NeedsKept, graph-kept, order-kept, cuts-kept, phases-kept}
 use Rattle.cover.proofs.Counting.{few-placed}
 use Rattle.cover.proofs.Held.{placed-is}
 use Rattle.cover.proofs.Marks.{needs-matches, needs-slots}
@@ -41,8 +39,8 @@ use Rattle.cover.proofs.Needing.{Covered, MarkedFrom, mark-law, mark-asked}
 use Rattle.cover.proofs.Choices.{ChosenFrom, choose-law, unchosen}
 use Rattle.timing.specs.Retiming.{InverterIn}
 use Rattle.cover.proofs.Missed.{uncovered-law}
-use Rattle.theory.proofs.Outcomes.{outputs-present}
-use Rattle.mapper.specs.Stages.{Given, Cut, Timeable, allOf, printedFor, cutFor}
+use Rattle.theory_text.proofs.Outcomes.{outputs-present}
+use Rattle.mapper.specs.Stages.{Cut, Timeable, allOf, printedFor, cutFor}
 use Rattle.mapper.proofs.Libraries.{all-matchable, all-few}
 use Rattle.mapper.proofs.Handing.{none-first}
 

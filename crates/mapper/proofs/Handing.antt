@@ -10,7 +10,7 @@ use lib.Dec.{eqb}
 use lib.ListN.{length, getD, length-append, List·getD-append}
 use Rattle.model.specs.Base.{lowest, smaller}
 use Rattle.model.specs.Reading.{holds, refusedAt, firstOf}
-use Rattle.model.specs.Graph.{Graph, Node, constant, input, undefined, both, node, placeF, placingOrder, unplaced}
+use Rattle.model.specs.Graph.{Graph, Node, constant, input, undefined, both, node, placeF, placingOrder, unplaced, andVars}
 use Rattle.model.specs.Cuts.{cutsOf, cutAt, cutTable, crowded}
 use Rattle.model.specs.GraphText.{readHeader, readGraph}
 use Rattle.model.specs.ArrivalsText.{Late, readArrivals, lateOf, timedBy}
@@ -85,7 +85,7 @@ loaded-after lib codes ok s h w fit d g e =
         fits = graph-fits s h g d e;
         accepted = graph-accepted s h g d e;
       };
-      distinct = front-distinct (g .inputs) (accepted.andVars g) (graph-known s h g d e .once .1);
+      distinct = front-distinct (g .inputs) (andVars g) (graph-known s h g d e .once .1);
       before = w;
       fit = fit;
       holding = load-law w s h fit g e;

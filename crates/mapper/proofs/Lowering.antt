@@ -1,15 +1,14 @@
 -- The low arrivals and the lines that say them: what the pass leaves is what is asked for the writing, and the lines are the definition's.
 -- Assumes nothing.
-use Prim.Native.Nat.{ℕ, _+_, _*_, _/_, _%_, _≤_, _<_}
+use Prim.Native.Nat.{ℕ, _+_, _/_, _%_, _≤_}
 use native.Mathlib.Omega.{arith}
-use mathlib.Core.Path.{_≡_, refl, sym, _∙_, ap, subst}
-use mathlib.Core.Bool.{false}
-use mathlib.Core.List.{List, [], _∷_, List·Memᴰ}
+use mathlib.Core.Path.{_≡_, sym, _∙_, ap, subst}
+use mathlib.Core.List.{List}
 use lib.Dec.{eqb}
 use lib.ListN.{length, getD}
-use Rattle.model.specs.Cells.{cellAt, noCell, cellsOf}
+use Rattle.model.specs.Cells.{noCell}
 use Rattle.model.specs.Graph.{Graph, placingOrder, varOf}
-use Rattle.model.specs.Choice.{cellOf, absent, chosen}
+use Rattle.model.specs.Choice.{cellOf, chosen}
 use Rattle.model.specs.Timing.{lowOf, timingLines}
 use Rattle.model.specs.declared.Library.{Library}
 use Rattle.model.specs.declared.Header.{Header}
@@ -30,7 +29,7 @@ use Rattle.timing.specs.Lines.{linesFrom}
 use Rattle.timing.proofs.Lowest.{LowsKept, lows-phase, lows-leaves}
 use Rattle.timing.proofs.Retimed.{Ready, retime-kept, retime-lows}
 use Rattle.timing.proofs.Counting.{lines-are}
-use Rattle.mapper.specs.Stages.{LibraryOk, Timeable, Lowered, allOf}
+use Rattle.mapper.specs.Stages.{Timeable, Lowered, allOf}
 use Rattle.mapper.proofs.Libraries.{all-ranges, all-brief}
 
 module _ (w : List ℕ) (lib : Library) (codes : List ℕ) (h : Header) (g : Graph) (p : Mapped w lib codes h g) where

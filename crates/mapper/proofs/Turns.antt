@@ -1,5 +1,5 @@
 -- What each function of the call has once the layer below has answered: the next layer's premise, or the outcome. Assumes nothing.
-use Prim.Native.Nat.{ℕ, _≤_, _<_}
+use Prim.Native.Nat.{ℕ}
 use native.Mathlib.Omega.{arith}
 use mathlib.Core.Path.{_≡_, refl, sym, _∙_, ap, subst}
 use mathlib.Core.Bool.{Bool}
@@ -11,12 +11,11 @@ use Rattle.model.specs.Reading.{Read, holds, fault, next, verdictOf, refusedAt,
 use Rattle.model.specs.Cells.{cellsOf}
 use Rattle.model.specs.Graph.{Graph, unplaced}
 use Rattle.model.specs.Cuts.{crowded}
-use Rattle.model.specs.Choice.{choices}
 use Rattle.model.specs.GraphText.{readHeader, readGraph}
 use Rattle.model.specs.ArrivalsText.{Late, readArrivals, timedBy}
 use Rattle.model.specs.Netlist.{Outcome, refused, coverVerdict, cutsVerdict, placingVerdict, mapCut, mapPlaced, mapGraph}
 use Rattle.model.specs.Timing.{followed}
-use Rattle.model.specs.Mapper.{Design, within, mapDesign}
+use Rattle.model.specs.Mapper.{within, mapDesign}
 use Rattle.model.specs.declared.Library.{Library}
 use Rattle.model.specs.declared.Header.{Header}
 use Rattle.model.specs.declared.Answer.{Answer}

@@ -2,7 +2,7 @@
 use Prim.Native.Nat.{ℕ, _≤_}
 use native.Mathlib.Omega.{arith}
 use mathlib.Core.Path.{_≡_, refl, sym, _∙_, ap, subst}
-use mathlib.Core.Bool.{Bool, true, false, cond, _&&_}
+use mathlib.Core.Bool.{Bool, true, false, _&&_}
 use mathlib.Core.List.{List}
 use lib.Dec.{T, leb, leb→le, le→leb}
 use lib.ListN.{length}
@@ -10,9 +10,8 @@ use Rattle.model.specs.Reading.{Read, holds, fault, next, unless}
 use Rattle.model.specs.Cells.{cellsOf, libraryOf, libraryAnswer}
 use Rattle.model.specs.LibraryText.{readLibrary, isRanged}
 use Rattle.model.specs.Pairs.{cellsFor}
-use Rattle.model.specs.Netlist.{Outcome, refused, mapped, mapGraph}
-use Rattle.model.specs.Timing.{followed}
-use Rattle.model.specs.Mapper.{Call, callOf, Design, short, within, mapDesign, readListed, readTexts, mapTexts, answerOf, returned}
+use Rattle.model.specs.Mapper.{Call, callOf, Design, short, mapDesign, readListed, readTexts, mapTexts, returned}
+use Rattle.promises.specs.Promised.{Fits, Mapping}
 use Rattle.model.specs.Demands.{Memory}
 use Rattle.model.specs.declared.Cell.{Cell}
 use Rattle.model.specs.declared.LibraryAnswer.{LibraryAnswer}
@@ -20,7 +19,8 @@ use Rattle.model.specs.declared.Verdict.the-variants.{Accepted, Refused}
 use Rattle.model.specs.declared.Answer.{Answer}
 use Rattle.model.specs.declared.Answer.the-variants.{Refused as Turned}
 use Rattle.model.proofs.Answers.{answer-returns}
-use Rattle.mapper.specs.Stages.{Fits, Left, LibraryRead, headedOf, libraryFor}
+use Rattle.theory.proofs.Channels.{promised}
+use Rattle.mapper.specs.Stages.{Left, LibraryRead, headedOf, libraryFor}
 use Rattle.mapper.proofs.Libraries.{cells-back, library-read}
 use Rattle.mapper.proofs.Numbers.{library-early}
 use Rattle.mapper.proofs.Ends.{left-early, left-as}
@@ -34,26 +34,12 @@ memory-of c work text a y u l = record {
   bytes = l .told .bytes;
 }
 
--- a printed netlist fits
-within-fits : (bytes : ℕ) (o : Outcome) → Fits (answerOf (within bytes o)) bytes
-unfolding within answerOf
-within-fits bytes (refused n k) = tt
-within-fits bytes (mapped t f) = go (leb (length t) bytes) (leb→le (length t) bytes)
-  where
-    go : (b : Bool) → (T b → length t ≤ bytes) → Fits (answerOf (cond b (mapped t f) (refused 18 (length t)))) bytes
-    go true y = y tt
-    go false y = tt
-
-pub texts-fit : (c : Call) → Fits (answerOf (mapTexts c)) (c .bytes)
-unfolding mapTexts mapDesign
-texts-fit c = go (readTexts c)
-  where
-    go : (r : Read Design) → Fits (answerOf (mapDesign (c .bytes) r)) (c .bytes)
-    go (holds d) = within-fits (c .bytes) (followed (d .ranged) (d .cells) (d .graph) (mapGraph (d .listed) (d .cells) (d .graph)))
-    go (fault n k) = unfold answerOf in tt
-
-pub memory-fits : (c : Call) (work text : List ℕ) (a : Answer) (y u : List ℕ) → Memory c work text a y u → Fits a (c .bytes)
-memory-fits c work text a y u m = subst (λ (x : Answer). Fits x (c .bytes)) (sym (m .answers)) (texts-fit c)
+-- with what is promised of every call it is all that the contract says
+pub mapping-of : {paired : Bool} {library graph arrivals work text : List ℕ} {a : Answer} {y u : List ℕ} → Memory (callOf paired library graph arrivals work text) work text a y u
+    → Mapping paired library graph arrivals work text a y u
+mapping-of {paired = paired} {library = library} {graph = graph} {arrivals = arrivals} {work = work} {text = text} m =
+    let p = promised (callOf paired library graph arrivals work text) in
+    record { memory = m; fits = subst (λ (x : Answer). Fits x (length text)) (sym (m .answers)) (p .fits); promised = p }
 
 -- what comes behind a test comes behind what follows it
 unless-next : {A B : Type 0} (b : Bool) (n k : ℕ) (x : A) (f : A → Read B) → next (unless b n k (holds x)) f ≡ unless b n k (f x)

@@ -22,7 +22,6 @@ use Rattle.model.specs.declared.Cell.{Cell}
 use Rattle.model.specs.declared.Library.{Library}
 use Rattle.model.specs.declared.Header.{Header}
 use Rattle.model.specs.declared.Answer.{Answer}
-use Rattle.model.specs.declared.Answer.the-variants.{Mapped as IsMapped, Refused as Turned}
 use Rattle.words.specs.Layout.{placedOf, placeAt, neededAt, lateAt, outputAt, lowAt, positiveAddr, listsFrom}
 use Rattle.theory_graph.specs.Accepted.{Accepted, libraryFits}
 use Rattle.theory_text.specs.Fits.{GraphFits}
@@ -45,11 +44,6 @@ pub record Told (o : Outcome) (before : List ℕ) (answer : Answer) (after : Lis
 pub record Left (o : Outcome) (work text : List ℕ) (answer : Answer) (workLeft textLeft : List ℕ) : Type 0 where
   pub told : Told o text answer textLeft
   pub words : workLeft ≡ workAfter o work
-
--- the netlist's length is within so many bytes
-abbrev pub Fits : Answer → ℕ → Type 0
-Fits (IsMapped n f) bytes = n ≤ bytes
-Fits (Turned n k) bytes = Unit {0}
 
 -- ---- the cells
 

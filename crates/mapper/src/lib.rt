@@ -12,17 +12,17 @@ ghost use Rattle.model.specs.Limits.{need};
 ghost use Rattle.model.specs.Reading.{holds};
 ghost use Rattle.model.specs.Graph.{Graph};
 ghost use Rattle.model.specs.GraphText.{readHeader};
-ghost use Rattle.model.specs.Mapper.{callOf};
-ghost use Rattle.model.specs.Demands.{Memory, Values, Earliest, Twins, Sequenced, EitherEnd, Untimed, Listed, Former};
-ghost use Rattle.model.specs.ShuffleDemands.{Shuffles};
+ghost use Rattle.promises.specs.Promised.{Mapping};
 ghost use Rattle.netlist.specs.Mapped.{Mapped};
 ghost use Rattle.matching.specs.Sheet.{Blank, SheetOf};
-ghost use Rattle.mapper.specs.Stages.{Fits, Told, Left, LibraryRead, LibraryOk, allOf, libraryFor, Loaded, Timed, Cut, Timeable, Lowered, printedFor, cutFor, placedFor, timesFor, graphFor, headerFor};
+ghost use Rattle.mapper.specs.Stages.{Told, Left, LibraryRead, LibraryOk, allOf, libraryFor, Loaded, Timed, Cut, Timeable, Lowered, printedFor};
+ghost use Rattle.mapper.specs.Stages.{cutFor, placedFor, timesFor, graphFor, headerFor};
 
 // 18, and the netlist: "Text memory is shorter than the netlist; place, the length needed."
 fn print(work: &[u16], lib: Library, codes: &[u16], h: Header, text: &mut [u8]) -> Answer
     requires { ⌜ ((g : Graph) × Mapped (now work) lib (now codes) h g) ⌝ }
-    ensures { λ r. ⌜ ((g : Graph) → Mapped (now (work .entry)) lib (now (codes .entry)) h g → Told (printedFor false lib (now (codes .entry)) g (length (now (text .entry)))) (now (text .entry)) r (now (text .exit))) ⌝ }
+    ensures { λ r. ⌜ ((g : Graph) → Mapped (now (work .entry)) lib (now (codes .entry)) h g → Told
+        (printedFor false lib (now (codes .entry)) g (length (now (text .entry)))) (now (text .entry)) r (now (text .exit))) ⌝ }
 {
     let m = netlist::measure(work, lib, codes, h);
     let length = m.length;
@@ -37,7 +37,8 @@ fn print(work: &[u16], lib: Library, codes: &[u16], h: Header, text: &mut [u8]) 
 // The same with a timing line per output behind the netlist: "18 and the returned length count these lines".
 fn print_timed(work: &[u16], lib: Library, codes: &[u16], h: Header, text: &mut [u8]) -> Answer
     requires { ⌜ ((g : Graph) × Mapped (now work) lib (now codes) h g × Lowered (now work) lib (now codes) g) ⌝ }
-    ensures { λ r. ⌜ ((g : Graph) → Mapped (now (work .entry)) lib (now (codes .entry)) h g → Lowered (now (work .entry)) lib (now (codes .entry)) g → Told (printedFor true lib (now (codes .entry)) g (length (now (text .entry)))) (now (text .entry)) r (now (text .exit))) ⌝ }
+    ensures { λ r. ⌜ ((g : Graph) → Mapped (now (work .entry)) lib (now (codes .entry)) h g → Lowered (now (work .entry)) lib (now (codes .entry)) g → Told
+        (printedFor true lib (now (codes .entry)) g (length (now (text .entry)))) (now (text .entry)) r (now (text .exit))) ⌝ }
 {
     let m = netlist::measure(work, lib, codes, h);
     let figures = m.figures;
@@ -62,7 +63,8 @@ fn print_as(
     text: &mut [u8],
 ) -> Answer
     requires { ⌜ ((g : Graph) × Mapped (now work) lib (now codes) h g × Timeable (now work) lib (now codes) h g) ⌝ }
-    ensures { λ r. ⌜ ((g : Graph) → Mapped (now (work .entry)) lib (now (codes .entry)) h g → Timeable (now (work .entry)) lib (now (codes .entry)) h g → Told (printedFor ranged lib (now (codes .entry)) g (length (now (text .entry)))) (now (text .entry)) r (now (text .exit))) ⌝ }
+    ensures { λ r. ⌜ ((g : Graph) → Mapped (now (work .entry)) lib (now (codes .entry)) h g → Timeable (now (work .entry)) lib (now (codes .entry)) h g →
+        Told (printedFor ranged lib (now (codes .entry)) g (length (now (text .entry)))) (now (text .entry)) r (now (text .exit))) ⌝ }
 {
     if ranged {
         timing::retime(work, lib, codes, h);
@@ -82,7 +84,8 @@ fn cover_graph(
     text: &mut [u8],
 ) -> Answer
     requires { ⌜ ((g : Graph) × Cut (now work) lib (now codes) h g) × SheetOf (allOf lib (now codes)) (now sheet) ⌝ }
-    ensures { λ r. ⌜ ((g : Graph) → Cut (now (work .entry)) lib (now (codes .entry)) h g → Told (cutFor ranged lib (now (codes .entry)) g (length (now (text .entry)))) (now (text .entry)) r (now (text .exit))) ⌝ }
+    ensures { λ r. ⌜ ((g : Graph) → Cut (now (work .entry)) lib (now (codes .entry)) h g → Told
+        (cutFor ranged lib (now (codes .entry)) g (length (now (text .entry)))) (now (text .entry)) r (now (text .exit))) ⌝ }
 {
     cover::choose(work, lib, codes, h, sheet);
     match cover::uncovered(work, h) {
@@ -105,7 +108,8 @@ fn cut_graph(
     text: &mut [u8],
 ) -> Answer
     requires { ⌜ ((g : Graph) × Timed (now work) lib (now codes) h g) × SheetOf (allOf lib (now codes)) (now sheet) ⌝ }
-    ensures { λ r. ⌜ ((g : Graph) → Timed (now (work .entry)) lib (now (codes .entry)) h g → Told (placedFor ranged lib (now (codes .entry)) g (length (now (text .entry)))) (now (text .entry)) r (now (text .exit))) ⌝ }
+    ensures { λ r. ⌜ ((g : Graph) → Timed (now (work .entry)) lib (now (codes .entry)) h g → Told
+        (placedFor ranged lib (now (codes .entry)) g (length (now (text .entry)))) (now (text .entry)) r (now (text .exit))) ⌝ }
 {
     match cutting::enumerate(work, h) {
         Verdict::Accepted => cover_graph(work, lib, codes, h, ranged, sheet, text),
@@ -125,7 +129,8 @@ fn place_graph(
     text: &mut [u8],
 ) -> Answer
     requires { ⌜ ((g : Graph) × Loaded (now work) lib (now codes) h g) × SheetOf (allOf lib (now codes)) (now sheet) ⌝ }
-    ensures { λ r. ⌜ ((g : Graph) → Loaded (now (work .entry)) lib (now (codes .entry)) h g → Told (timesFor ranged lib (now (codes .entry)) (now (arrivals .entry)) h g (length (now (text .entry)))) (now (text .entry)) r (now (text .exit))) ⌝ }
+    ensures { λ r. ⌜ ((g : Graph) → Loaded (now (work .entry)) lib (now (codes .entry)) h g → Told
+        (timesFor ranged lib (now (codes .entry)) (now (arrivals .entry)) h g (length (now (text .entry)))) (now (text .entry)) r (now (text .exit))) ⌝ }
 {
     let placed = placing::place(work, h);
     match arrivals::read(arrivals, h, work) {
@@ -150,8 +155,10 @@ pub fn load_graph(
     work: &mut [u16],
     text: &mut [u8],
 ) -> Answer
-    requires { ⌜ LibraryOk lib (now codes) × (readHeader (now graph) ≡ holds h) × (need (h .size) (h .outputs) ≤ length (now work)) × SheetOf (allOf lib (now codes)) (now sheet) ⌝ }
-    ensures { λ r. ⌜ Told (graphFor ranged lib (now (codes .entry)) (now (graph .entry)) (now (arrivals .entry)) h (length (now (text .entry)))) (now (text .entry)) r (now (text .exit)) ⌝ }
+    requires { ⌜ LibraryOk lib (now codes) × (readHeader (now graph) ≡ holds h) × (need (h .size) (h .outputs) ≤ length (now work)) × SheetOf
+        (allOf lib (now codes)) (now sheet) ⌝ }
+    ensures { λ r. ⌜ Told (graphFor ranged lib (now (codes .entry)) (now (graph .entry)) (now (arrivals .entry)) h (length (now (text .entry))))
+        (now (text .entry)) r (now (text .exit)) ⌝ }
 {
     match aiger::load(graph, h, work) {
         Verdict::Accepted => place_graph(arrivals, work, lib, codes, h, ranged, sheet, text),
@@ -171,8 +178,10 @@ fn map_on(
     work: &mut [u16],
     text: &mut [u8],
 ) -> Answer
-    requires { ⌜ LibraryOk lib (now codes) × (readHeader (now graph) ≡ holds h) × (need (h .size) (h .outputs) ≤ length (now work)) × Blank (length (allOf lib (now codes))) (now sheet) ⌝ }
-    ensures { λ r. ⌜ Told (graphFor ranged lib (now (codes .entry)) (now (graph .entry)) (now (arrivals .entry)) h (length (now (text .entry)))) (now (text .entry)) r (now (text .exit)) × (now (work .exit) ≡ replicate (length (now (work .entry))) 0) ⌝ }
+    requires { ⌜ LibraryOk lib (now codes) × (readHeader (now graph) ≡ holds h) × (need (h .size) (h .outputs) ≤ length (now work)) × Blank
+        (length (allOf lib (now codes))) (now sheet) ⌝ }
+    ensures { λ r. ⌜ Told (graphFor ranged lib (now (codes .entry)) (now (graph .entry)) (now (arrivals .entry)) h (length (now (text .entry))))
+        (now (text .entry)) r (now (text .exit)) × (now (work .exit) ≡ replicate (length (now (work .entry))) 0) ⌝ }
 {
     cover::match_library(lib, codes, sheet);
     let a = load_graph(graph, arrivals, h, lib, codes, ranged, sheet, work, text);
@@ -191,8 +200,10 @@ fn map_listed(
     work: &mut [u16],
     text: &mut [u8],
 ) -> Answer
-    requires { ⌜ LibraryOk lib (now codes) × (readHeader (now graph) ≡ holds h) × (need (h .size) (h .outputs) ≤ length (now work)) × (length (now codes) ≡ 0) ⌝ }
-    ensures { λ r. ⌜ Told (graphFor ranged lib (now (codes .entry)) (now (graph .entry)) (now (arrivals .entry)) h (length (now (text .entry)))) (now (text .entry)) r (now (text .exit)) × (now (work .exit) ≡ replicate (length (now (work .entry))) 0) ⌝ }
+    requires { ⌜ LibraryOk lib (now codes) × (readHeader (now graph) ≡ holds h) × (need (h .size) (h .outputs) ≤ length (now work)) ×
+        (length (now codes) ≡ 0) ⌝ }
+    ensures { λ r. ⌜ Told (graphFor ranged lib (now (codes .entry)) (now (graph .entry)) (now (arrivals .entry)) h (length (now (text .entry))))
+        (now (text .entry)) r (now (text .exit)) × (now (work .exit) ≡ replicate (length (now (work .entry))) 0) ⌝ }
 {
     let mut sheet = matching::no_sheet();
     map_on(
@@ -220,7 +231,8 @@ fn map_joined(
     text: &mut [u8],
 ) -> Answer
     requires { ⌜ LibraryOk lib (now codes) × (readHeader (now graph) ≡ holds h) × (need (h .size) (h .outputs) ≤ length (now work)) ⌝ }
-    ensures { λ r. ⌜ Told (graphFor ranged lib (now (codes .entry)) (now (graph .entry)) (now (arrivals .entry)) h (length (now (text .entry)))) (now (text .entry)) r (now (text .exit)) × (now (work .exit) ≡ replicate (length (now (work .entry))) 0) ⌝ }
+    ensures { λ r. ⌜ Told (graphFor ranged lib (now (codes .entry)) (now (graph .entry)) (now (arrivals .entry)) h (length (now (text .entry))))
+        (now (text .entry)) r (now (text .exit)) × (now (work .exit) ≡ replicate (length (now (work .entry))) 0) ⌝ }
 {
     let mut sheet = matching::no_paired_sheet();
     map_on(
@@ -248,7 +260,8 @@ fn map_graph(
     text: &mut [u8],
 ) -> Answer
     requires { ⌜ LibraryOk lib (now codes) × (readHeader (now graph) ≡ holds h) × (need (h .size) (h .outputs) ≤ length (now work)) ⌝ }
-    ensures { λ r. ⌜ Told (graphFor ranged lib (now (codes .entry)) (now (graph .entry)) (now (arrivals .entry)) h (length (now (text .entry)))) (now (text .entry)) r (now (text .exit)) × (now (work .exit) ≡ replicate (length (now (work .entry))) 0) ⌝ }
+    ensures { λ r. ⌜ Told (graphFor ranged lib (now (codes .entry)) (now (graph .entry)) (now (arrivals .entry)) h (length (now (text .entry))))
+        (now (text .entry)) r (now (text .exit)) × (now (work .exit) ≡ replicate (length (now (work .entry))) 0) ⌝ }
 {
     if codes.len() == 0 {
         return map_listed(graph, arrivals, h, lib, codes, ranged, work, text);
@@ -267,7 +280,8 @@ fn map_header(
     text: &mut [u8],
 ) -> Answer
     requires { ⌜ LibraryOk lib (now codes) ⌝ }
-    ensures { λ r. ⌜ Left (headerFor ranged lib (now (codes .entry)) (now (graph .entry)) (now (arrivals .entry)) (length (now (work .entry))) (length (now (text .entry)))) (now (work .entry)) (now (text .entry)) r (now (work .exit)) (now (text .exit)) ⌝ }
+    ensures { λ r. ⌜ Left (headerFor ranged lib (now (codes .entry)) (now (graph .entry)) (now (arrivals .entry)) (length (now (work .entry)))
+        (length (now (text .entry)))) (now (work .entry)) (now (text .entry)) r (now (work .exit)) (now (text .exit)) ⌝ }
 {
     match aiger::header(graph) {
         HeaderAnswer::Read(h) => {
@@ -290,7 +304,8 @@ fn map_pairs(
     text: &mut [u8],
 ) -> Answer
     requires { ⌜ LibraryRead lib ⌝ }
-    ensures { λ r. ⌜ Left (libraryFor true ranged lib (now (graph .entry)) (now (arrivals .entry)) (length (now (work .entry))) (length (now (text .entry)))) (now (work .entry)) (now (text .entry)) r (now (work .exit)) (now (text .exit)) ⌝ }
+    ensures { λ r. ⌜ Left (libraryFor true ranged lib (now (graph .entry)) (now (arrivals .entry)) (length (now (work .entry))) (length (now (text .entry))))
+        (now (work .entry)) (now (text .entry)) r (now (work .exit)) (now (text .exit)) ⌝ }
 {
     let mut codes = [0u16; 4096];
     let n = pairs::form(&mut codes, lib);
@@ -311,7 +326,8 @@ fn map_cells(
     text: &mut [u8],
 ) -> Answer
     requires { ⌜ LibraryRead lib ⌝ }
-    ensures { λ r. ⌜ Left (libraryFor paired ranged lib (now (graph .entry)) (now (arrivals .entry)) (length (now (work .entry))) (length (now (text .entry)))) (now (work .entry)) (now (text .entry)) r (now (work .exit)) (now (text .exit)) ⌝ }
+    ensures { λ r. ⌜ Left (libraryFor paired ranged lib (now (graph .entry)) (now (arrivals .entry)) (length (now (work .entry)))
+        (length (now (text .entry)))) (now (work .entry)) (now (text .entry)) r (now (work .exit)) (now (text .exit)) ⌝ }
 {
     if paired {
         return map_pairs(graph, arrivals, lib, ranged, work, text);
@@ -321,10 +337,7 @@ fn map_cells(
 }
 
 // A library text, a graph text in either form and an arrivals' text mapped, with pairs of cells where the call wants them: the netlist at the start of text
-// memory, or the first refusal that applies. The clauses carry the names of the demands; `fits` says that the netlist's length is within text memory, `twins` that texts which mean the
-// same graph have the same outcome, `sequenced` that 13 to 15 refuse no binary text, `ends` that "texts alike but for line ends" have the same,
-// `untimed` that an empty third text is none, `listed` that each listed input arrives as its line says and the others at 0, `former` that under the shorter
-// names line everything is as it was before there were ranges. `values` has the promise on timing lines. How cuts are stored is in no clause:
+// memory, or the first refusal that applies. `model.Promised` is the page of what is promised. How cuts are stored is in no field of it:
 // `Unseen.store-unseen` says so.
 pub fn map_texts(
     cells: &[u8],
@@ -334,17 +347,8 @@ pub fn map_texts(
     work: &mut [u16],
     text: &mut [u8],
 ) -> Answer
-    ensures memory { λ r. ⌜ Memory (callOf paired (now (cells .entry)) (now (graph .entry)) (now (arrivals .entry)) (now (work .entry)) (now (text .entry))) (now (work .entry)) (now (text .entry)) r (now (work .exit)) (now (text .exit)) ⌝ }
-    ensures values { λ _. ⌜ Values (callOf paired (now (cells .entry)) (now (graph .entry)) (now (arrivals .entry)) (now (work .entry)) (now (text .entry))) ⌝ }
-    ensures earliest { λ _. ⌜ Earliest (callOf paired (now (cells .entry)) (now (graph .entry)) (now (arrivals .entry)) (now (work .entry)) (now (text .entry))) ⌝ }
-    ensures fits { λ r. ⌜ Fits r (length (now (text .entry))) ⌝ }
-    ensures twins { λ _. ⌜ Twins (callOf paired (now (cells .entry)) (now (graph .entry)) (now (arrivals .entry)) (now (work .entry)) (now (text .entry))) ⌝ }
-    ensures sequenced { λ _. ⌜ Sequenced (callOf paired (now (cells .entry)) (now (graph .entry)) (now (arrivals .entry)) (now (work .entry)) (now (text .entry))) ⌝ }
-    ensures ends { λ _. ⌜ EitherEnd (callOf paired (now (cells .entry)) (now (graph .entry)) (now (arrivals .entry)) (now (work .entry)) (now (text .entry))) ⌝ }
-    ensures untimed { λ _. ⌜ Untimed (callOf paired (now (cells .entry)) (now (graph .entry)) (now (arrivals .entry)) (now (work .entry)) (now (text .entry))) ⌝ }
-    ensures listed { λ _. ⌜ Listed (callOf paired (now (cells .entry)) (now (graph .entry)) (now (arrivals .entry)) (now (work .entry)) (now (text .entry))) ⌝ }
-    ensures former { λ _. ⌜ Former (callOf paired (now (cells .entry)) (now (graph .entry)) (now (arrivals .entry)) (now (work .entry)) (now (text .entry))) ⌝ }
-    ensures shuffles { λ _. ⌜ Shuffles (callOf paired (now (cells .entry)) (now (graph .entry)) (now (arrivals .entry)) (now (work .entry)) (now (text .entry))) ⌝ }
+    ensures { λ r. ⌜ Mapping paired (now (cells .entry)) (now (graph .entry)) (now (arrivals .entry)) (now (work .entry)) (now (text .entry))
+        r (now (work .exit)) (now (text .exit)) ⌝ }
 {
     if cells.len() > 65536 {
         return Answer::Refused(1, 0);

@@ -4,14 +4,13 @@
 --     runs-next           one run of orders more
 -- Assumes nothing.
 use Prim.Native.Nat.{ℕ, _+_, _-_, _*_, _%_, _^_, _<_, _≤_}
-use mathlib.Core.Path.{_≡_, sym, ap, ap₂, subst, _∙_}
-use mathlib.Core.Bool.{false}
+use mathlib.Core.Path.{_≡_, sym, ap, ap₂, _∙_}
 use mathlib.Core.List.{List}
 use native.Mathlib.Omega.{arith}
 use lib.Pow.{pow-mono}
 use Rattle.truth.specs.Variant.{placesOf, variantTable, turned}
 use Rattle.truth.proofs.Turning.{turned-variant}
-use Rattle.matching.specs.Variants.{lineOf, orderOf, maskOf, runOf, fresh}
+use Rattle.matching.specs.Variants.{runOf, fresh}
 use Rattle.matching.specs.Sheet.{pickOf, masked, wordOf, pushed, placed, passed}
 use Rattle.matching.proofs.Fresh.{line-is, order-is, mask-is, fresh-one, fresh-mask, fresh-run, run-fits}
 use Rattle.matching.proofs.Linking.{placed-fresh, passed-down, passed-stale, passed-append}

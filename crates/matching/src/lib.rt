@@ -17,7 +17,8 @@ ghost use Rattle.model.specs.declared.Cell.{Cell};
 ghost use Rattle.truth.specs.Variant.{placesOf, turned};
 ghost use Rattle.pairs.specs.Codes.{cellsBy, Coded};
 ghost use Rattle.matching.specs.Variants.{Usable, matchOf, runOf};
-ghost use Rattle.matching.specs.Sheet.{pickAddr, sheetLong, pickPin, pickOf, masked, delayOf, pushed, passed, timed, cellMatched, listMatched, SheetOf, isListed, Blank};
+ghost use Rattle.matching.specs.Sheet.{pickAddr, sheetLong, pickPin, pickOf, masked, delayOf, pushed, passed, timed, cellMatched, listMatched};
+ghost use Rattle.matching.specs.Sheet.{SheetOf, isListed, Blank};
 ghost use Rattle.matching.specs.Best.{never, Timely, waits, Triable, swiftAt, better, bestUnder, phaseAs};
 ghost use Rattle.matching.specs.Inverters.{quicker, tried, inverterOf};
 

@@ -1,8 +1,9 @@
 -- Each case of an answer has document 01's number and values. Assumes nothing.
-use Prim.Native.Nat.{ℕ}
+use Prim.Native.Nat.{ℕ, zero, suc, _^_}
 use mathlib.Core.Path.{_≡_, refl, ap, _∙_}
 use mathlib.Core.Option.{Option, none, some}
 use mathlib.Core.List.{List}
+use lib.ListN.{length}
 use Rattle.model.specs.Base.{lowest}
 use Rattle.model.specs.Reading.{Read, holds, fault, verdictOf, refusedAt, firstOf, rulingOf, rulingAt, verdictRuling}
 use Rattle.model.specs.Cells.{libraryAnswer}
@@ -12,11 +13,18 @@ use Rattle.model.specs.Cuts.{crowded}
 use Rattle.model.specs.Choice.{chosen}
 use Rattle.model.specs.Netlist.{Outcome, refused, mapped, uncovered, placingVerdict, cutsVerdict, coverVerdict}
 use Rattle.model.specs.Mapper.{answerOf, returned, returnedBy}
+use Rattle.model.specs.Genlib.{writtenAnswer, writtenPair, writtenBy}
+use Rattle.model.specs.Tally.{countedAnswer}
+use Rattle.model.specs.Check.{Edited, inputNets, settled, wrongAt, compareFrom, checkRead, toldOf, toldFrom, toldBy}
 use Rattle.model.specs.declared.Cell.{Cell}
 use Rattle.model.specs.declared.Header.{Header}
 use Rattle.model.specs.declared.HeaderAnswer.{HeaderAnswer}
 use Rattle.model.specs.declared.LibraryAnswer.{LibraryAnswer}
 use Rattle.model.specs.declared.Verdict.{Verdict}
+use Rattle.model.specs.declared.Checked.the-variants.{Differs}
+use Rattle.model.specs.declared.Written.{Written}
+use Rattle.model.specs.declared.Tally.{Tally}
+use Rattle.model.specs.declared.Counted.{Counted}
 
 -- the verdict on what is read
 pub verdict-rules : {A : Type 0} (r : Read A) → verdictRuling (verdictOf r) ≡ rulingOf r
@@ -66,6 +74,38 @@ unfolding returned answerOf returnedBy
 answer-returns (refused n k) = refl
 answer-returns (mapped t f) = refl
 
+-- what a call that writes a text returns
+pub written-returns : (r : Read (List ℕ)) → writtenPair (writtenAnswer r) ≡ writtenBy r
+unfolding writtenPair writtenAnswer writtenBy
+written-returns (holds t) = refl
+written-returns (fault n k) = refl
+
+-- what a check returns
+pub compare-tells : (n s : ℕ) (wrong : ℕ → Option ℕ) → toldOf (compareFrom n s wrong) ≡ toldFrom n s wrong
+unfolding toldOf compareFrom toldFrom
+compare-tells zero s wrong = refl
+compare-tells (suc n) s wrong = told-by (wrong s) (compare-tells n (suc s) wrong)
+  where
+    told-by : (o : Option ℕ) → toldOf (compareFrom n (suc s) wrong) ≡ toldFrom n (suc s) wrong
+        → toldOf (elim o [ none ↦ compareFrom n (suc s) wrong | some k ↦ Differs s k ])
+        ≡ elim o [ none ↦ toldFrom n (suc s) wrong | some k ↦ record { verdict = 1; first = s; second = k } ]
+    told-by none e = e
+    told-by (some k) e = unfold toldOf in refl
+
+pub check-tells : (r : Read Edited) → toldOf (checkRead r) ≡ toldBy r
+unfolding toldOf checkRead toldBy
+check-tells (fault n k) = refl
+check-tells (holds e) =
+    let g = e .graph in
+    let ds = e .drivers in
+    compare-tells (2 ^ length (g .inputs)) 0 (wrongAt g (settled (length ds) (inputNets g) ds))
+
+-- the verdict on a netlist that is counted
+pub counted-rules : (t : Tally) (r : Read Tally) → verdictRuling (countedAnswer t r .verdict) ≡ rulingOf r
+unfolding verdictRuling countedAnswer rulingOf
+counted-rules t (holds u) = refl
+counted-rules t (fault n k) = refl
+
 -- ---- both said of an answer of the code: the answer itself, and its number and values
 
 pub library-ruled : (r : LibraryAnswer) (q : Read (List Cell)) → r ≡ libraryAnswer q → (r ≡ libraryAnswer q) × (verdictRuling (r .verdict) ≡ rulingOf q)
@@ -76,3 +116,9 @@ header-ruled r q e = (e, ap headerRuling e ∙ header-rules q, ap headerValues e
 
 pub verdict-ruled : {A : Type 0} (v : Verdict) (q : Read A) → v ≡ verdictOf q → verdictRuling v ≡ rulingOf q
 verdict-ruled v q e = ap verdictRuling e ∙ verdict-rules q
+
+pub written-ruled : (w : Written) (q : Read (List ℕ)) → w ≡ writtenAnswer q → writtenPair w ≡ writtenBy q
+written-ruled w q e = ap writtenPair e ∙ written-returns q
+
+pub counted-ruled : (t : Tally) (r : Counted) (q : Read Tally) → r ≡ countedAnswer t q → verdictRuling (r .verdict) ≡ rulingOf q
+counted-ruled t r q e = ap (λ (x : Counted). verdictRuling (x .verdict)) e ∙ counted-rules t q

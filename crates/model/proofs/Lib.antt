@@ -1,10 +1,2 @@
 pub mod Answers
-pub mod Cases
-pub mod RangeCases
-pub mod TallyCases
-pub mod CheckCases
-pub mod GenlibCases
 pub mod GenlibTables
-pub mod PairCases
-pub mod ShuffleCases
-pub mod TwoCases

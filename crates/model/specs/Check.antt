@@ -1,6 +1,6 @@
 -- Request N14, "Netlists edited by the layout group": a netlist's text read, its nets judged, and its outputs compared with the graph's. Assumes nothing.
 use Prim.Native.Nat.{ℕ, zero, suc, _+_, _*_, _^_}
-use mathlib.Core.Bool.{Bool, true, false, not, cond, _&&_, _||_, Bool·beq}
+use mathlib.Core.Bool.{Bool, false, not, cond, _&&_, _||_, Bool·beq}
 use mathlib.Core.Option.{Option, none, some}
 use mathlib.Core.List.{List, [], _∷_, _++_, map}
 use lib.Dec.{eqb, leb}
@@ -318,6 +318,22 @@ unfoldable pub toldOf : Checked → Told
 toldOf Accepted = record { verdict = 0; first = 0; second = 0 }
 toldOf (Differs s k) = record { verdict = 1; first = s; second = k }
 toldOf (Refused n k) = record { verdict = 2; first = n; second = k }
+
+-- the same of what was read: what the interface returns, whatever the answer is made of
+unfoldable pub toldFrom : ℕ → ℕ → (ℕ → Option ℕ) → Told
+toldFrom zero s wrong = record { verdict = 0; first = 0; second = 0 }
+toldFrom (suc n) s wrong = elim (wrong s) [
+  | none ↦ toldFrom n (suc s) wrong
+  | some k ↦ record { verdict = 1; first = s; second = k }
+]
+
+unfoldable pub toldBy : Read Edited → Told
+unfolding toldFrom wrongAt settled inputNets
+toldBy (fault n k) = record { verdict = 2; first = n; second = k }
+toldBy (holds e) =
+    let g = e .graph in
+    let ds = e .drivers in
+    toldFrom (2 ^ length (g .inputs)) 0 (wrongAt g (settled (length ds) (inputNets g) ds))
 
 -- "Work memory is unchanged by every refusal tried up to 10, and all zero after a later one and after success."
 unfoldable pub checkedWork : Checked → List ℕ → List ℕ

@@ -17,7 +17,8 @@ use Rattle.model.specs.Reading.{Read, holds, fault, next, unless}
 use Rattle.model.specs.Cells.{nameOf, cellAt}
 use Rattle.model.specs.Graph.{Graph, literal, varOf, negated, unplaced, placingOrder, literalValue, GraphValues}
 use Rattle.model.specs.LibraryText.{isRanged}
-use Rattle.model.specs.Pairs.{pairAt}
+use Rattle.model.specs.Pairs.{pairAt, cellsFor}
+use Rattle.model.specs.PairDemands.{PairsKept}
 use Rattle.model.specs.FormerLibrary.{formerLibrary}
 use Rattle.model.specs.GraphText.{readHeader, readGraph, asciiText}
 use Rattle.model.specs.ArrivalsText.{Late, readArrivals}
@@ -140,13 +141,14 @@ pub record SameValues (listed cells : List Cell) (g : Graph) (f : Figures) (n : 
 
 -- "the figures equal those of the printed text": nets have arrivals, from those of the graph's inputs on, and with any such arrivals, an output's
 -- "read at its `o` name", the figures are the text's.
--- "the gate bound becomes 4(M+1)"
+-- "Gates number at most 2(M+1)." With pairs "the gate bound becomes 4(M+1)"
 pub record SameFigures (listed cells : List Cell) (g : Graph) (f : Figures) (n : Blif) : Type 0 where
   pub hasArrivals : (at : List ℕ → ℕ) × NetArrivals listed n (map (g .late) (g .inputs)) at
   pub count : f .gates ≡ length (n .gates)
   pub area : f .area ≡ sum (map (λ (t : GateLine). named listed (t .cell) .area) (n .gates))
   pub arrival : (at : List ℕ → ℕ) → NetArrivals listed n (map (g .late) (g .inputs)) at → f .arrival ≡ largest (map at (n .outputs))
   pub bound : f .gates ≤ 4 * suc (g .size)
+  pub boundListed : cells ≡ listed → f .gates ≤ 2 * suc (g .size)
 
 -- ---- Demand 3: "for each net of the printed netlist, every cover of the outputs that has this net gives it an arrival no earlier".
 -- "A cover has a net if it needs that net's phase". "The earliest-arrival promise, for `p` and `m` nets, .. range over covers with pairs too". Both arrivals start from the inputs' own: "no cover so timed gives a printed net earlier"
@@ -268,8 +270,13 @@ pub record Values (c : Call) : Type 0 where
   pub figures : OfPrinted SameFigures c
   pub ranges : Ranges c
 
+-- "Pairs follow the listed cells, and all pairs are kept", where the call wants them: the cells that the covers range over
+abbrev pub KeepsPairs : Call → Type 0
+KeepsPairs c = (d : Design) → readTexts c ≡ holds d → (d .cells ≡ cellsFor (c .paired) (d .listed)) × PairsKept (d .listed)
+
 -- Demand 3
 pub record Earliest (c : Call) : Type 0 where
+  pub pairs : KeepsPairs c
   pub earliest : OfPrinted NoEarlier c
   pub outputs : OfPrinted OutputsNoEarlier c
   pub timed : OfMappable CoversTimed c

@@ -1,11 +1,11 @@
 -- A genlib text, read: the cell text that is written for it, or the first refusal of 1, 22 to 24 and 18. Assumes nothing.
-use Prim.Native.Nat.{ℕ, zero, suc, _+_, _-_, _*_, _/_, _%_, _^_, max}
-use mathlib.Core.Bool.{Bool, true, false, not, cond, _&&_, _||_}
+use Prim.Native.Nat.{ℕ, _+_, _/_, _%_, _^_, max}
+use mathlib.Core.Bool.{Bool, true, false, cond, _&&_, _||_}
 use mathlib.Core.Option.{Option, none, some}
 use mathlib.Core.List.{List, [], _∷_, _++_, map}
 use lib.Dec.{eqb, leb, ltb}
-use lib.ListN.{length, take, drop, getD, replicate}
-use Rattle.model.specs.Base.{all, any, each, keep, same, andThen}
+use lib.ListN.{length, drop, getD}
+use Rattle.model.specs.Base.{all, each, keep, same, andThen}
 use Rattle.model.specs.Text.{Line, text, decimal, linesFrom, ended, isNameByte}
 use Rattle.model.specs.Reading.{Read, holds, fault, next, unless, from?}
 use Rattle.model.specs.GenlibWords.{tokens, isBlank, isSign, isWord, isFigure, thousandths, span}
@@ -20,7 +20,7 @@ unfoldable pub firstName : List ℕ → List ℕ
 unfolding span isBlank isNameByte
 firstName w = span isNameByte (drop (length (span isBlank w)) w)
 
--- a line whose first word is GATE; it starts a group "even if it is broken"
+-- a line whose first word is GATE; it starts a group even if it is broken
 unfoldable pub startsGate : Line → Bool
 unfolding same firstName text
 startsGate l = same (firstName (l .bytes)) (text "GATE")
@@ -230,6 +230,11 @@ writtenAnswer (fault n k) = Refused n k
 unfoldable pub writtenPair : Written → ℕ × ℕ
 writtenPair (Length n) = (0, n)
 writtenPair (Refused n k) = (n, k)
+
+-- the same of what is written: what a call returns, whatever its answer is made of
+unfoldable pub writtenBy : Read (List ℕ) → ℕ × ℕ
+writtenBy (holds t) = (0, length t)
+writtenBy (fault n k) = (n, k)
 
 -- "a refusal leaves it unchanged"; success "keeps the bytes after the text"
 unfoldable pub writtenAfter : Read (List ℕ) → List ℕ → List ℕ

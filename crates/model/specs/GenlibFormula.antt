@@ -4,8 +4,8 @@ use mathlib.Core.Bool.{Bool, true, false, not, cond, _&&_, _||_}
 use mathlib.Core.Option.{Option, none, some}
 use mathlib.Core.List.{List, [], _∷_, _++_}
 use lib.Dec.{eqb, leb, ltb}
-use lib.ListN.{length, drop}
-use Rattle.model.specs.Base.{bit, one, flip, any, keep, same, andThen}
+use lib.ListN.{drop}
+use Rattle.model.specs.Base.{bit, one, flip, any, same, andThen}
 use Rattle.model.specs.Text.{text}
 use Rattle.model.specs.GenlibWords.{isSign, isWord}
 use Rattle.model.specs.declared.Scan.{Scan}

@@ -5,7 +5,7 @@ use mathlib.Core.Option.{Option}
 use mathlib.Core.List.{List, [], _∷_, _++_}
 use lib.Dec.{eqb, leb}
 use lib.ListN.{length, take, drop, replicate}
-use Rattle.model.specs.Base.{all, same, only}
+use Rattle.model.specs.Base.{all, only}
 use Rattle.model.specs.Text.{between, isNameByte, onto, asDigits}
 
 -- ---- words and signs

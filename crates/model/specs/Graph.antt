@@ -72,6 +72,10 @@ placeF zero ands placed = []
 placeF (suc fuel) ands placed =
     andOn (lowest (map (λ (a : And). a .var) (keep (ready placed) ands))) (λ v. placeF fuel ands (v ∷ placed))
 
+-- the variables of the ANDs
+abbrev pub andVars : Graph → List ℕ
+andVars g = map (λ (a : And). a .var) (g .ands)
+
 -- "variable 0 and the inputs first, then again and again the lowest-numbered AND whose operands are both placed"
 unfoldable pub placingOrder : Graph → List ℕ
 unfolding placeF
@@ -84,7 +88,7 @@ span g = suc (length (g .inputs) + length (g .ands))
 -- "Some AND can't be placed"
 unfoldable pub unplaced : Graph → List ℕ
 unfolding keep elem placingOrder
-unplaced g = let placed = placingOrder g in keep (λ (v : ℕ). not (elem v placed)) (map (λ (a : And). a .var) (g .ands))
+unplaced g = let placed = placingOrder g in keep (λ (v : ℕ). not (elem v placed)) (andVars g)
 
 -- ---- values
 

@@ -10,6 +10,7 @@ pub mod Matching
 pub mod Choice
 pub mod Cover
 pub mod Pairs
+pub mod PairDemands
 pub mod Netlist
 pub mod Timing
 pub mod Blif
@@ -20,8 +21,8 @@ pub mod ArrivalsText
 pub mod Mapper
 pub mod Channels
 pub mod Demands
+pub mod OrderDemands
 pub mod ShuffleDemands
-pub mod TwoDemands
 pub mod NetlistLines
 pub mod Tally
 pub mod GenlibWords

@@ -1,5 +1,5 @@
 -- The whole: three texts, the lent words and bytes, the answer "in checking order", and what the lent memory then holds. Assumes nothing.
-use Prim.Native.Nat.{ℕ, _+_}
+use Prim.Native.Nat.{ℕ}
 use mathlib.Core.Bool.{Bool, cond, _&&_, _||_}
 use mathlib.Core.List.{List, _++_}
 use lib.Dec.{eqb, leb}

@@ -9,7 +9,7 @@ use Rattle.model.specs.Base.{keep, each, find, elem, below, lowest}
 use Rattle.model.specs.Text.{text, decimal}
 use Rattle.model.specs.Reading.{refusedAt, firstOf}
 use Rattle.model.specs.Cells.{nameOf, cellAt}
-use Rattle.model.specs.Pairs.{splice, Pair, pairAt}
+use Rattle.model.specs.Pairs.{splice, pairAt}
 use Rattle.model.specs.Graph.{Graph, placingOrder, unplaced, varOf, negated, literal}
 use Rattle.model.specs.Cuts.{cutsOf, crowded}
 use Rattle.model.specs.Choice.{Phases, noPhases, phaseOf, feeds, absent, choices, chosen}

@@ -51,10 +51,13 @@ pub record Shuffled (c : Call) (library : List ℕ) (d d′ : Design) : Type 0 w
 
 -- they "agree on the earliest arrival of every `p` and `m` net, on whether 16 or 17 occurs and its place, and, where both print, on the printed arrival".
 -- "Where pairs are formed, both libraries form theirs": the covers of each are over its own cells and pairs. And a `p` or `m` net that both print arrives
--- at the same time in both netlists
+-- at the same time in both netlists. A net that some cover has, has an earliest arrival, and no two: so `earliest` compares times that are there
 pub record Agree (c : Call) (library : List ℕ) (d d′ : Design) : Type 0 where
   pub graphs : d .graph ≡ d′ .graph
   pub earliest : (l t : ℕ) → EarliestAt (d .cells) (d .graph) l t ↔ EarliestAt (d′ .cells) (d′ .graph) l t
+  pub reachable : (outs : List ℕ) (v : Cover (d .cells) (d .graph) outs) (l : ℕ) → Needed (d .cells) (d .graph) outs (v .source) l
+      → (t : ℕ) × EarliestAt (d .cells) (d .graph) l t
+  pub one : (l t u : ℕ) → EarliestAt (d .cells) (d .graph) l t → EarliestAt (d′ .cells) (d′ .graph) l u → t ≡ u
   pub sixteen : (k : ℕ) → (mapTexts c ≡ refused 16 k) ↔ (mapTexts (onLibrary c library) ≡ refused 16 k)
   pub seventeen : (k : ℕ) → (mapTexts c ≡ refused 17 k) ↔ (mapTexts (onLibrary c library) ≡ refused 17 k)
   pub arrival : (t t′ : List ℕ) (f f′ : Figures) → mapTexts c ≡ mapped t f → mapTexts (onLibrary c library) ≡ mapped t′ f′ → f .arrival ≡ f′ .arrival

@@ -2,7 +2,7 @@
 use Prim.Native.Nat.{ℕ, zero, suc, _+_, _*_, _/_}
 use mathlib.Core.Bool.{Bool}
 use mathlib.Core.List.{List, [], _∷_, map}
-use Rattle.model.specs.Base.{bit, one, flip, each, below, from}
+use Rattle.model.specs.Base.{bit, one, flip, each, below}
 
 -- "bit r is the cell's value in row r"
 unfoldable pub value : ℕ → ℕ → Bool

@@ -3,7 +3,6 @@
 use Prim.Native.Nat.{ℕ, suc}
 use mathlib.Core.Bool.{Bool, true, false, cond}
 use mathlib.Core.List.{List, [], _∷_, _++_, map}
-use lib.ListN.{length}
 use Rattle.model.specs.Base.{find, run}
 use Rattle.model.specs.Text.{text, decimal}
 use Rattle.model.specs.Graph.{Graph, placingOrder, varOf, negated, literal}

@@ -1,6 +1,6 @@
 // The types that code and meaning share. What they mean stands in specs/.
 
-// A cell of the library: "cell pins table area d0 d1 d2 d3" and, in the longer form, "l0 l1 l2 l3"; in the shorter the lowest delays are the
+// A cell of the library: "cell pins table area d0 d1 d2 d3" and, in the longer form, `l0` to `l3`; in the shorter the lowest delays are the
 // delays. Its name is the first `len` bytes of `name`, and the bytes after them are 0.
 pub struct Cell {
     pub name: [u8; 8],

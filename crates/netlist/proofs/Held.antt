@@ -58,7 +58,7 @@ use Rattle.theory.proofs.Gates.{line-bound}
 use Rattle.pairs.specs.Codes.{pairOfCode, cellsBy}
 use Rattle.text.specs.Writing.{Wrote}
 use Rattle.text.proofs.Progress.{put-front}
-use Rattle.book.specs.Bytes.{codeBytes, listedBytes, bookOf, countIn, lineCell, codeIn}
+use Rattle.book.specs.Bytes.{codeBytes, listedBytes, bookOf, lineCell, codeIn}
 use Rattle.book.proofs.Looking.{booked, booked-name, booked-pins, booked-area, listed-length, line-is, line-within, code-is, code-within}
 use Rattle.drivers.specs.Gates.{pinsBy, gatesUnder, rootIn, innerIn, LineReady, PairReady, NumberReady}
 use Rattle.netlist.specs.Lines.{SourceReady, Gated, matchedGates, invertedGates, gateBy, gateAt, gatesFrom, Named, inputNet, inputNamesFrom, outputNamesFrom, spaced, wireLinesFrom, latestFrom, frameText, figuresText, allGates, figuresIn, textIn, measuredIn}
@@ -268,9 +268,6 @@ module _ (w : List ℕ) (lib : Library) (codes : List ℕ) (h : Header) (g : Gra
 
   line-ready : (i : ℕ) → i < length listed → LineReady book i
   line-ready i l = record { within = line-within listed more i l; pins = omega (arith, line-pins i l, listed-pins i l) }
-
-  count-held : countIn book ≡ length listed
-  count-held = refl
 
   code-held : (c : ℕ) → length listed ≤ c → c < length cells → codeIn book c ≡ codeOf c
   code-held c l b = code-is listed codes rest c l (there c l b)

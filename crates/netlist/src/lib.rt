@@ -10,8 +10,8 @@ use model::Library;
 use model::Match;
 use model::Source;
 ghost use mathlib.Core.Path.{_≡_};
-ghost use mathlib.Core.List.{List, _∷_, [], _++_};
-ghost use Prim.Native.Nat.{ℕ, _+_, _-_, _*_, _/_, _≤_, _<_, max};
+ghost use mathlib.Core.List.{_∷_, [], _++_};
+ghost use Prim.Native.Nat.{_+_, _-_, _*_, _/_, _≤_, _<_, max};
 ghost use lib.ListN.{length, take, drop};
 ghost use Rattle.model.specs.Base.{each};
 ghost use Rattle.model.specs.Text.{decimal};
@@ -21,7 +21,9 @@ ghost use Rattle.words.specs.Layout.{Room, RoomFor, outputAt};
 ghost use Rattle.words.specs.Phases.{phaseAt};
 ghost use Rattle.text.specs.Writing.{Wrote};
 ghost use Rattle.drivers.specs.Gates.{netOf, gateOf, gatesOf, FewPins, LineReady, Drives};
-ghost use Rattle.netlist.specs.Lines.{netWords, lineOf, MatchReady, SourceReady, Gated, matchedGates, invertedGates, gateBy, gateAt, isGateAt, gateFrom, gatesFrom, tallied, noTally, Bounded, Roomy, Grown, Named, inputNet, inputNamesFrom, outputNamesFrom, spaced, wireLinesFrom, latestFrom, frameText, figuresText, textIn, measuredIn, Small};
+ghost use Rattle.netlist.specs.Lines.{netWords, lineOf, MatchReady, SourceReady, Gated, matchedGates, invertedGates, gateBy, gateAt, isGateAt};
+ghost use Rattle.netlist.specs.Lines.{gateFrom, gatesFrom, tallied, noTally, Bounded, Roomy, Grown, Named, inputNet, inputNamesFrom, outputNamesFrom};
+ghost use Rattle.netlist.specs.Lines.{spaced, wireLinesFrom, latestFrom, frameText, figuresText, textIn, measuredIn, Small};
 ghost use Rattle.netlist.specs.Mapped.{Mapped, textFor, measuredFor};
 
 // "A walk over the mapped gates holds the lent words and the next gate": `next` is the gate's phase, as a literal, past the last phase at the
@@ -593,7 +595,8 @@ fn measure_words(work: &[u16], book: &[u8], h: Header) -> Measured
 }
 
 fn write_words(work: &[u16], book: &[u8], h: Header, f: Figures, out: &mut [u8]) -> usize
-    requires { ⌜ Gated (now work) (now book) (h .size) × Named (now work) (h .size) (h .inputs) (h .outputs) × (length (textIn (now work) (now book) h f) ≤ length (now out)) ⌝ }
+    requires { ⌜ Gated (now work) (now book) (h .size) × Named (now work) (h .size) (h .inputs) (h .outputs) ×
+        (length (textIn (now work) (now book) h f) ≤ length (now out)) ⌝ }
     ensures { λ r. ⌜ Wrote (now (out .entry)) (now (out .exit)) 0 r (textIn (now (work .entry)) (now (book .entry)) h f) ⌝ }
 {
     let a = put_frame(work, h.size, h.inputs, h.outputs, out);
@@ -622,7 +625,8 @@ pub fn write(
     out: &mut [u8],
 ) -> usize
     requires { ⌜ ((g : Graph) × Mapped (now work) lib (now codes) h g × (length (textFor lib (now codes) g f) ≤ length (now out))) ⌝ }
-    ensures { λ r. ⌜ ((g : Graph) → Mapped (now (work .entry)) lib (now (codes .entry)) h g → (r ≡ length (textFor lib (now (codes .entry)) g f)) × (now (out .exit) ≡ textFor lib (now (codes .entry)) g f ++ drop (length (textFor lib (now (codes .entry)) g f)) (now (out .entry)))) ⌝ }
+    ensures { λ r. ⌜ ((g : Graph) → Mapped (now (work .entry)) lib (now (codes .entry)) h g → (r ≡ length (textFor lib (now (codes .entry)) g f)) ×
+        (now (out .exit) ≡ textFor lib (now (codes .entry)) g f ++ drop (length (textFor lib (now (codes .entry)) g f)) (now (out .entry)))) ⌝ }
 {
     let mut book = [0u8; 833];
     book::put_book(&mut book, lib, codes);

@@ -1,18 +1,17 @@
 -- The words of a gate's line bound one by one, and a cell looked up by its name. Assumes nothing.
-use Prim.Native.Nat.{ℕ, zero, suc, _+_, _-_, _*_, _≤_, _<_}
+use Prim.Native.Nat.{ℕ, suc, _+_, _-_, _≤_, _<_}
 use native.Mathlib.Numerals.{add-one}
 use native.Mathlib.Nat.{add-zero, zero-add}
 use native.Mathlib.Omega.{arith}
-use mathlib.Core.Path.{_≡_, refl, sym, _∙_, ap, ap₂, subst}
-use mathlib.Core.Bool.{Bool, true, false, cond, _&&_}
+use mathlib.Core.Path.{_≡_, refl, sym, _∙_, ap, ap₂}
+use mathlib.Core.Bool.{Bool, true, false}
 use mathlib.Core.Option.{Option, none, some}
-use mathlib.Core.List.{List, [], _∷_, _++_, map, append-assoc, append-nil}
-use lib.Dec.{eqb, T}
+use mathlib.Core.List.{List, [], _∷_, _++_, map, append-assoc}
 use lib.ListN.{length, take, drop, getD, set, replicate, length-append}
 use lib.Seq.{take-append-seam, getD-append-add, getD-take, drop-cons, drop-length, length-take-le}
 use Rattle.model.specs.Base.{andThen, from, same}
 use Rattle.model.specs.Cells.{nameOf, noCell, cellsOf}
-use Rattle.model.specs.Check.{pinNet, boundNets, cellNamed}
+use Rattle.model.specs.Check.{boundNets}
 use Rattle.model.specs.declared.Cell.{Cell}
 use Rattle.model.specs.declared.Library.{Library}
 use Rattle.theory_graph.proofs.Distinct.{length-map}
@@ -20,7 +19,6 @@ use Rattle.netnames.specs.Codes.{code, pickN}
 use Rattle.netnames.specs.Fields.{fieldsFrom}
 use Rattle.netnames.specs.Bound.{pinAt, letters, netsOf, ownNets, cellIndex}
 use Rattle.netnames.specs.declared.Pin.{Pin}
-use Rattle.netnames.specs.declared.Nets.{Nets}
 use Rattle.netnames.proofs.Pins.{Word, broken, good, word-is}
 
 -- ---- the output's word

@@ -7,24 +7,21 @@ use borrow.Author.Tests.{eqb-true, eqb-false}
 use mathlib.Core.Bool.{Bool, true, false, cond, _&&_, true≢false}
 use mathlib.Core.Option.{Option, none, some}
 use mathlib.Core.List.{List, [], _∷_, _++_, map}
-use lib.Dec.{eqb, T}
+use lib.Dec.{eqb}
 use lib.ListN.{length, take, drop, getD, replicate, length-append}
 use lib.Seq.{length-take-le, getD-take}
 use Rattle.model.specs.Base.{andThen, from, below, same}
 use Rattle.model.specs.Text.{fields}
 use Rattle.model.specs.Cells.{nameOf, noCell, cellsOf}
-use Rattle.model.specs.Check.{Driver, isNet, pinNet, boundNets, cellNamed, gateOfFields}
+use Rattle.model.specs.Check.{Driver, pinNet, boundNets, cellNamed, gateOfFields}
 use Rattle.model.specs.declared.Cell.{Cell}
 use Rattle.model.specs.declared.Library.{Library}
-use Rattle.theory_graph.proofs.Lists.{is-true}
 use Rattle.theory_graph.proofs.Distinct.{length-map, length-from}
-use Rattle.text.proofs.Bytes.{same-eq, same-refl, not-same}
 use Rattle.netnames.specs.Codes.{code, pickN}
 use Rattle.netnames.specs.Fields.{spaceFrom, fieldsFrom}
 use Rattle.netnames.specs.Bound.{letters, netsOf, gateWith, gateOf, cellIndex}
-use Rattle.netnames.specs.declared.Gate.{Gate}
 use Rattle.netnames.specs.declared.Nets.{Nets}
-use Rattle.netnames.proofs.Parting.{fields-there, fields-none, fields-part, space-fits}
+use Rattle.netnames.proofs.Parting.{fields-there, fields-none, fields-part}
 use Rattle.netnames.proofs.Pins.{pin-named, code-some}
 
 -- ---- nets that are bound

@@ -1,11 +1,11 @@
 -- Names as numbers: a name byte by byte, how large its number is, and no two names of one number. Assumes nothing.
 use Prim.Native.Nat.{ℕ, zero, suc, _+_, _-_, _*_, _^_, _≤_, _<_}
-use native.Mathlib.Nat.{pow-suc, not-suc-le-zero}
+use native.Mathlib.Nat.{pow-suc}
 use native.Mathlib.Omega.{arith}
-use mathlib.Core.Path.{_≡_, refl, sym, _∙_, ap, ap₂, subst}
-use mathlib.Core.Bool.{Bool, true, false, cond, _&&_, _||_}
+use mathlib.Core.Path.{_≡_, refl, sym, _∙_, ap, subst}
+use mathlib.Core.Bool.{Bool, true, false, _||_}
 use mathlib.Core.List.{List, [], _∷_}
-use lib.Dec.{T, eqb, leb, le→leb, leb→le}
+use lib.Dec.{eqb, leb}
 use lib.ListN.{length, drop, getD, length-drop}
 use lib.Seq.{drop-cons, getD-drop}
 use native.Mathlib.Numerals.{add-one}
@@ -14,7 +14,7 @@ use Rattle.model.specs.Text.{between, isLetter, isNameByte}
 use Rattle.model.specs.Check.{isNet}
 use mir.Facts.{no-eqb}
 use borrow.Author.Tests.{leb-true, le-leb, lt-leb}
-use Rattle.theory_graph.proofs.Lists.{is-true, is-false}
+use Rattle.theory_graph.proofs.Lists.{is-false}
 use Rattle.text.proofs.Bytes.{and-left, and-right, and-false}
 use Rattle.netnames.specs.Codes.{isNetByte, code, pickN, netCode}
 

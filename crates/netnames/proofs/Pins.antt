@@ -1,18 +1,17 @@
 -- A word `A=net` by its bytes, and the words of a gate's line one by one. Assumes nothing.
 use Prim.Native.Nat.{ℕ, zero, suc, _+_, _-_, _*_, _≤_, _<_}
-use native.Mathlib.Numerals.{add-one}
 use native.Mathlib.Omega.{arith}
 use mathlib.Core.Path.{_≡_, refl, sym, _∙_, ap, ap₂, subst}
 use native.Mathlib.Decide.{decLe}
 use native.Mathlib.Nat.{lt-of-not-le}
 use mathlib.Core.Bool.{Bool, true, false, _&&_, _||_, true≢false}
 use mathlib.Core.Option.{Option, none, some}
-use mathlib.Core.List.{List, [], _∷_, _++_, map}
+use mathlib.Core.List.{List, [], _∷_}
 use lib.Dec.{eqb, leb}
 use lib.ListN.{length, take, drop, getD, length-drop}
 use lib.Seq.{take-all}
 use mir.Facts.{yes-eqb, no-eqb}
-use Rattle.model.specs.Base.{all, andThen, only, from}
+use Rattle.model.specs.Base.{all, andThen, only}
 use Rattle.model.specs.Text.{between, isLetter}
 use Rattle.model.specs.Check.{isNet, pinNet, boundNets}
 use Rattle.theory_graph.proofs.Lists.{is-true, is-false}
@@ -20,7 +19,7 @@ use Rattle.text.proofs.Bytes.{and-left, and-right}
 use Rattle.netnames.proofs.Parting.{fields-none, fields-part}
 use Rattle.netnames.specs.Codes.{isNetByte, code, pickN, netCode}
 use Rattle.netnames.specs.Fields.{spaceFrom, fieldsFrom}
-use Rattle.netnames.specs.Bound.{optCode, pinOf, pinAt, letters}
+use Rattle.netnames.specs.Bound.{optCode, pinOf, pinAt}
 use Rattle.netnames.specs.declared.Pin.{Pin}
 
 -- all that is left of a list

@@ -6,7 +6,7 @@ use lib.ListN.{length, take, getD, replicate}
 use Rattle.model.specs.Base.{from, same}
 use Rattle.model.specs.Cells.{nameOf}
 use Rattle.model.specs.Netlist.{outName}
-use Rattle.model.specs.Check.{Driver, pinNet, boundNets}
+use Rattle.model.specs.Check.{Driver, pinNet}
 use Rattle.model.specs.declared.Cell.{Cell}
 use Rattle.netnames.specs.Codes.{pickN, code, netCode}
 use Rattle.netnames.specs.Fields.{spaceFrom, fieldsFrom}

@@ -1,7 +1,6 @@
 -- Names of nets as numbers. Assumes nothing.
 use Prim.Native.Nat.{ℕ, _+_, _*_}
 use mathlib.Core.Bool.{Bool, true, false, _||_}
-use mathlib.Core.Option.{Option, none, some}
 use mathlib.Core.List.{List, [], _∷_}
 use Rattle.model.specs.Text.{between, isLetter}
 use Rattle.model.specs.Check.{isNet}

@@ -3,11 +3,14 @@ use Prim.Native.Nat.{ℕ, _+_, _-_, _*_, _≤_, _<_}
 use native.Mathlib.Nat.{le-refl}
 use native.Mathlib.Omega.{arith}
 use mathlib.Core.Path.{_≡_, refl, sym, ap, subst, _∙_}
-use mathlib.Core.Bool.{true, false, true≢false, false≢true}
+use mathlib.Core.Bool.{true, false, cond, not, true≢false, false≢true}
 use mathlib.Core.List.{List}
+use lib.Dec.{eqb, ltb}
 use lib.ListN.{length, getD, set, replicate}
 use lib.Seq.{getD-set-same, getD-set-other}
+use borrow.Author.Tests.{lt-ltb, le-ltb, eq-eqb, ne-eqb}
 use Rattle.theory_graph.proofs.Lists.{by-eqb}
+use Rattle.ordering.specs.Orders.{fedBy}
 use Rattle.ordering.specs.Lists.{Pinned, FeedsAt, Ready, Stuck, Fed, Arranged, Placed, Swept, Settled}
 use Rattle.ordering.proofs.Listing.{listed-none, listed-room, listed-next}
 
@@ -18,14 +21,18 @@ pub feeder-below : (refs : List ℕ) (n : ℕ) → Pinned refs n → (i j k : �
 feeder-below refs n p i j k h f = omega (arith, f .0, f .1, p .most (4 * i + j) (omega (arith, f .0)))
 
 module _ (refs marks : List ℕ) (i j x : ℕ) (lt : j < 4) (e : x ≡ getD refs (4 * i + j) 0) where
+  as-is : fedBy refs marks i j ≡ cond (ltb x 12) true (not (eqb (getD marks (x - 12) 0) 0))
+  unfolding fedBy
+  as-is = ap (λ (y : ℕ). cond (ltb y 12) true (not (eqb (getD marks (y - 12) 0) 0))) (sym e)
+
   pub fed-input : x < 12 → Fed refs marks i j true
-  fed-input h = record { fed = λ q k f z. absurd (omega (arith, f .1)); waits = λ q. absurd (true≢false q) }
+  fed-input h = record { is = sym (as-is ∙ rw (lt-ltb x 12 h)); fed = λ q k f z. absurd (omega (arith, f .1)); waits = λ q. absurd (true≢false q) }
 
   pub fed-marked : 12 ≤ x → (getD marks (x - 12) 0 ≡ 0 → ⊥) → Fed refs marks i j true
-  fed-marked h ne = record { fed = λ q k f z. ne (ap (λ (y : ℕ). getD marks y 0) (let s : x - 12 ≡ k = omega (arith, f .1) in s) ∙ z); waits = λ q. absurd (true≢false q) }
+  fed-marked h ne = record { is = sym (as-is ∙ rw (le-ltb x 12 h, ne-eqb (getD marks (x - 12) 0) 0 ne)); fed = λ q k f z. ne (ap (λ (y : ℕ). getD marks y 0) (let s : x - 12 ≡ k = omega (arith, f .1) in s) ∙ z); waits = λ q. absurd (true≢false q) }
 
   pub fed-waits : 12 ≤ x → getD marks (x - 12) 0 ≡ 0 → Fed refs marks i j false
-  fed-waits h z = record { fed = λ q. absurd (false≢true q); waits = λ q. (j, x - 12, (lt, omega arith), z) }
+  fed-waits h z = record { is = sym (as-is ∙ rw (le-ltb x 12 h, eq-eqb (getD marks (x - 12) 0) 0 z)); fed = λ q. absurd (false≢true q); waits = λ q. (j, x - 12, (lt, omega arith), z) }
 
 -- ---- the order
 

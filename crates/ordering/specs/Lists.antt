@@ -8,6 +8,7 @@ use mathlib.Core.List.{List}
 use lib.Dec.{eqb}
 use lib.ListN.{length, getD}
 use Rattle.ordering.specs.declared.Walk.{Walk}
+use Rattle.ordering.specs.Orders.{fedBy, readyFrom}
 
 -- the numbers at the pins of n drivers
 pub record Pinned (refs : List ℕ) (n : ℕ) : Type 0 where
@@ -48,11 +49,13 @@ Stuck refs marks i = (j : ℕ) × (k : ℕ) × FeedsAt refs i j k × (getD marks
 
 -- pin j of driver i is fed by an input or a marked driver, or not
 pub record Fed (refs marks : List ℕ) (i j : ℕ) (r : Bool) : Type 0 where
+  pub is : r ≡ fedBy refs marks i j
   pub fed : r ≡ true → (k : ℕ) → FeedsAt refs i j k → getD marks k 0 ≡ 0 → ⊥
   pub waits : r ≡ false → Stuck refs marks i
 
 -- a driver can be listed, or not
 pub record Tried (refs marks : List ℕ) (i : ℕ) (r : Bool) : Type 0 where
+  pub is : r ≡ readyFrom refs marks i 0 4
   pub ready : r ≡ true → Ready refs marks i
   pub stuck : r ≡ false → Stuck refs marks i
 
@@ -126,7 +129,7 @@ pub record Turns (refs : List ℕ) (i : ℕ) (r : Bool) : Type 0 where
   pub none : r ≡ false → Back refs i i → ⊥
 
 -- the same of a driver that is not marked
-pub record Judged (refs marks : List ℕ) (i : ℕ) (r : Bool) : Type 0 where
+pub record LeftTurns (refs marks : List ℕ) (i : ℕ) (r : Bool) : Type 0 where
   pub circle : r ≡ true → Back refs i i
   pub none : r ≡ false → getD marks i 0 ≡ 0 → Back refs i i → ⊥
 

@@ -1,12 +1,14 @@
-// The drivers of an edited netlist in an order, each behind those that feed it, and the first on a circle where there is none. A sweep lists each driver whose pins are fed by
-// inputs and listed drivers alone, so that what is listed is in order whatever was tried first; a walk from each driver down to what feeds it tries them so
-// that without a circle all are listed at once. Where a sweep lists none, what is left is stuck behind a circle.
+// The drivers of an edited netlist in an order, each behind those that feed it. A sweep lists each driver whose pins are fed by inputs and listed drivers
+// alone,
+// so that what is listed is in order whatever was tried first; a walk from each driver down to what feeds it tries them so that without a circle all are
+// listed at once. Where a sweep lists none, what is left is stuck behind a circle.
 use edited::DRIVERS;
 use wires::PINS;
 ghost use mathlib.Core.Path.{_≡_};
-ghost use Prim.Native.Nat.{_*_, _≤_, _<_};
+ghost use Prim.Native.Nat.{suc, _*_, _≤_, _<_};
 ghost use lib.ListN.{getD, set};
-ghost use Rattle.ordering.specs.Lists.{Pinned, Fed, Tried, Arranged, Placed, Swept, Settled, Walking, Behind, Reached, Stepped, Spread, Turns, Judged, Circled};
+ghost use Rattle.ordering.specs.Orders.{Made, made, placeOf, sweepFrom, settleFrom, down, flat, descendOf, stepOf, diveOf, divesFrom, arrangeOf};
+ghost use Rattle.ordering.specs.Lists.{Pinned, Fed, Tried, Arranged, Placed, Swept, Settled, Walking};
 
 // How deep the walk down is, and how many drivers are listed.
 pub struct Walk {
@@ -22,7 +24,7 @@ fn wide(x: u16) -> usize
 }
 
 // What stands at a pin.
-fn pin(refs: &[u16; PINS], at: usize) -> usize
+pub fn pin(refs: &[u16; PINS], at: usize) -> usize
     requires { ⌜ at < 43692 ⌝ }
     ensures { λ r. ⌜ r ≡ getD (now (refs .entry)) at 0 ⌝ }
 {
@@ -30,7 +32,7 @@ fn pin(refs: &[u16; PINS], at: usize) -> usize
 }
 
 // A driver at a place of a list.
-fn listed(list: &[u16; DRIVERS], p: usize) -> usize
+pub fn listed(list: &[u16; DRIVERS], p: usize) -> usize
     requires { ⌜ p < 10923 ⌝ }
     ensures { λ r. ⌜ r ≡ getD (now (list .entry)) p 0 ⌝ }
 {
@@ -38,15 +40,13 @@ fn listed(list: &[u16; DRIVERS], p: usize) -> usize
 }
 
 // A driver listed at place m, and marked.
-fn append(marks: &mut [u8; DRIVERS], list: &mut [u16; DRIVERS], m: usize, i: usize)
+pub fn append(marks: &mut [u8; DRIVERS], list: &mut [u16; DRIVERS], m: usize, i: usize)
     requires { ⌜ (m < 10923) × (i < 10923) ⌝ }
     ensures { λ _. ⌜ (now (marks .exit) ≡ set (now (marks .entry)) i 1) × (now (list .exit) ≡ set (now (list .entry)) m i) ⌝ }
 {
     list[m] = i as u16;
     marks[i] = 1;
 }
-
-// ---- the order
 
 // Pin j of driver i is fed by an input or a listed driver.
 fn is_fed(refs: &[u16; PINS], n: usize, marks: &[u8; DRIVERS], i: usize, j: usize) -> bool
@@ -89,6 +89,7 @@ fn place(
 ) -> usize
     requires { ⌜ Pinned (now refs) n × (i < n) × Arranged (now refs) n (now marks) (now order) m ⌝ }
     ensures { λ r. ⌜ Placed (now (refs .entry)) n i m (now (marks .entry)) r (now (marks .exit)) (now (order .exit)) ⌝ }
+    ensures { λ r. ⌜ made r (now (marks .exit)) (now (order .exit)) ≡ placeOf (now (refs .entry)) (made m (now (marks .entry)) (now (order .entry))) i ⌝ }
 {
     if marks[i] != 0 {
         return m;
@@ -110,6 +111,7 @@ fn sweep(
 ) -> usize
     requires { ⌜ Pinned (now refs) n × Arranged (now refs) n (now marks) (now order) m ⌝ }
     ensures { λ r. ⌜ Swept (now (refs .entry)) n n m (now (marks .entry)) r (now (marks .exit)) (now (order .exit)) ⌝ }
+    ensures { λ r. ⌜ made r (now (marks .exit)) (now (order .exit)) ≡ sweepFrom (now (refs .entry)) 0 n (made m (now (marks .entry)) (now (order .entry))) ⌝ }
 {
     let mut r = m;
     let mut i = 0;
@@ -130,6 +132,8 @@ fn settle(
 ) -> usize
     requires { ⌜ Pinned (now refs) n × Arranged (now refs) n (now marks) (now order) m ⌝ }
     ensures { λ r. ⌜ Settled (now (refs .entry)) n r (now (marks .exit)) (now (order .exit)) ⌝ }
+    ensures { λ r. ⌜ made r (now (marks .exit)) (now (order .exit)) ≡ settleFrom (now (refs .entry)) n (suc n)
+        (made m (now (marks .entry)) (now (order .entry))) ⌝ }
 {
     let mut from = m;
     let mut r = sweep(refs, n, marks, order, from);
@@ -150,7 +154,8 @@ fn descend(
     at: usize,
 ) -> usize
     requires { ⌜ Pinned (now refs) n × (at < 4 * n) × (depth ≤ n) ⌝ }
-    ensures { λ r. ⌜ r ≤ n ⌝ }
+    ensures { λ r. ⌜ (r ≤ n) × ((l : Made) → down r l (now (passed .entry)) (now (stack .exit)) ≡ descendOf (now (refs .entry)) n
+        (down depth l (now (passed .entry)) (now (stack .entry))) at) ⌝ }
 {
     let x = pin(refs, at);
     if x < 12 {
@@ -179,6 +184,9 @@ fn step(
 ) -> Walk
     requires { ⌜ Pinned (now refs) n × Walking (now refs) n w (now marks) (now order) × (0 < w .depth) ⌝ }
     ensures { λ r. ⌜ Walking (now (refs .entry)) n r (now (marks .exit)) (now (order .exit)) ⌝ }
+    ensures { λ r. ⌜ down (r .depth) (made (r .count) (now (marks .exit)) (now (order .exit))) (now (passed .exit)) (now (stack .exit))
+        ≡ stepOf (now (refs .entry)) n (down (w .depth) (made (w .count) (now (marks .entry)) (now (order .entry)))
+        (now (passed .entry)) (now (stack .entry))) ⌝ }
 {
     let depth = w.depth;
     let count = w.count;
@@ -212,6 +220,8 @@ fn dive(
 ) -> usize
     requires { ⌜ Pinned (now refs) n × (i < n) × Arranged (now refs) n (now marks) (now order) m ⌝ }
     ensures { λ r. ⌜ Arranged (now (refs .entry)) n (now (marks .exit)) (now (order .exit)) r ⌝ }
+    ensures { λ r. ⌜ down 0 (made r (now (marks .exit)) (now (order .exit))) (now (passed .exit)) (now (stack .exit))
+        ≡ flat (diveOf (now (refs .entry)) n (down 0 (made m (now (marks .entry)) (now (order .entry))) (now (passed .entry)) (now (stack .entry))) i) ⌝ }
 {
     if passed[i] != 0 {
         return m;
@@ -240,6 +250,8 @@ fn dive_all(
 ) -> usize
     requires { ⌜ Pinned (now refs) n × Arranged (now refs) n (now marks) (now order) 0 ⌝ }
     ensures { λ r. ⌜ Arranged (now (refs .entry)) n (now (marks .exit)) (now (order .exit)) r ⌝ }
+    ensures { λ r. ⌜ down 0 (made r (now (marks .exit)) (now (order .exit))) (now (passed .exit)) (now (stack .exit))
+        ≡ divesFrom (now (refs .entry)) n 0 n (down 0 (made 0 (now (marks .entry)) (now (order .entry))) (now (passed .entry)) (now (stack .entry))) ⌝ }
 {
     let mut m = 0;
     let mut i = 0;
@@ -258,127 +270,11 @@ pub fn arrange(
     order: &mut [u16; DRIVERS],
 ) -> usize
     requires { ⌜ Pinned (now refs) n × Arranged (now refs) n (now marks) (now order) 0 ⌝ }
-    ensures { λ r. ⌜ Settled (now (refs .entry)) n r (now (marks .exit)) (now (order .exit)) ⌝ }
+    ensures listed { λ r. ⌜ Settled (now (refs .entry)) n r (now (marks .exit)) (now (order .exit)) ⌝ }
+    ensures answer { λ r. ⌜ made r (now (marks .exit)) (now (order .exit)) ≡ arrangeOf (now (refs .entry)) n (now (marks .entry)) (now (order .entry)) ⌝ }
 {
     let mut passed = [0u8; DRIVERS];
     let mut stack = [0u16; DRIVERS];
     let m = dive_all(refs, n, marks, order, &mut passed, &mut stack);
     settle(refs, n, marks, order, m)
-}
-
-// ---- circles
-
-// What feeds pin j of driver k listed, if it is not yet; 0 where it is driver i.
-fn reach_pin(
-    refs: &[u16; PINS],
-    n: usize,
-    i: usize,
-    seen: &mut [u8; DRIVERS],
-    queue: &mut [u16; DRIVERS],
-    m: usize,
-    k: usize,
-    j: usize,
-) -> usize
-    requires { ⌜ Pinned (now refs) n × Reached (now refs) n i (now seen) (now queue) m × (0 < m) × (k < n) × (j < 4) × Behind (now refs) i k ⌝ }
-    ensures { λ r. ⌜ Stepped (now (refs .entry)) n i k j m (now (seen .entry)) (now (queue .entry)) r (now (seen .exit)) (now (queue .exit)) ⌝ }
-{
-    let x = pin(refs, 4 * k + j);
-    if x < 12 {
-        return m;
-    }
-    let y = x - 12;
-    if y == i {
-        return 0;
-    }
-    if seen[y] != 0 {
-        return m;
-    }
-    append(seen, queue, m, y);
-    m + 1
-}
-
-// The four pins of driver k.
-fn reach(
-    refs: &[u16; PINS],
-    n: usize,
-    i: usize,
-    seen: &mut [u8; DRIVERS],
-    queue: &mut [u16; DRIVERS],
-    m: usize,
-    k: usize,
-) -> usize
-    requires { ⌜ Pinned (now refs) n × Reached (now refs) n i (now seen) (now queue) m × (0 < m) × (k < n) × Behind (now refs) i k ⌝ }
-    ensures { λ r. ⌜ Spread (now (refs .entry)) n i k 4 m (now (seen .entry)) (now (queue .entry)) r (now (seen .exit)) (now (queue .exit)) ⌝ }
-{
-    let mut r = m;
-    let mut j = 0;
-    while j < 4 {
-        r = reach_pin(refs, n, i, seen, queue, r, k, j);
-        if r == 0 {
-            return 0;
-        }
-        j += 1;
-    }
-    r
-}
-
-// The walk back from driver i, which stands first in the queue.
-fn walk_back(
-    refs: &[u16; PINS],
-    n: usize,
-    i: usize,
-    seen: &mut [u8; DRIVERS],
-    queue: &mut [u16; DRIVERS],
-) -> bool
-    requires { ⌜ Pinned (now refs) n × (i < n) × Reached (now refs) n i (now seen) (now queue) 1 × (getD (now seen) i 0 ≡ 1) ⌝ }
-    ensures { λ r. ⌜ Turns (now (refs .entry)) i r ⌝ }
-{
-    let mut m = 1;
-    let mut p = 0;
-    while p < m {
-        let k = listed(queue, p);
-        m = reach(refs, n, i, seen, queue, m, k);
-        if m == 0 {
-            return true;
-        }
-        p += 1;
-    }
-    false
-}
-
-// "a net on a circle": driver i feeds itself.
-fn turns(refs: &[u16; PINS], n: usize, i: usize) -> bool
-    requires { ⌜ Pinned (now refs) n × (i < n) ⌝ }
-    ensures { λ r. ⌜ Turns (now (refs .entry)) i r ⌝ }
-{
-    let mut seen = [0u8; DRIVERS];
-    let mut queue = [0u16; DRIVERS];
-    append(&mut seen, &mut queue, 0, i);
-    walk_back(refs, n, i, &mut seen, &mut queue)
-}
-
-// Whether driver i is on a circle; one that is listed is on none.
-fn on_circle(refs: &[u16; PINS], n: usize, marks: &[u8; DRIVERS], i: usize) -> bool
-    requires { ⌜ Pinned (now refs) n × (i < n) ⌝ }
-    ensures { λ r. ⌜ Judged (now (refs .entry)) (now (marks .entry)) i r ⌝ }
-{
-    if marks[i] != 0 {
-        return false;
-    }
-    turns(refs, n, i)
-}
-
-// The first driver on a circle. A walk for each driver that is not listed: at worst the square of their number, in netlists that are refused alone.
-pub fn first_circle(refs: &[u16; PINS], n: usize, marks: &[u8; DRIVERS]) -> usize
-    requires { ⌜ Pinned (now refs) n ⌝ }
-    ensures { λ r. ⌜ Circled (now (refs .entry)) n (now (marks .entry)) r ⌝ }
-{
-    let mut i = 0;
-    while i < n {
-        if on_circle(refs, n, marks, i) {
-            return i;
-        }
-        i += 1;
-    }
-    i
 }

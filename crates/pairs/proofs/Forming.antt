@@ -10,14 +10,13 @@ use mathlib.Core.Bool.{Bool, true, false, cond}
 use mathlib.Core.List.{List, [], _∷_, _++_, map, append-nil, List·Memᴰ, List·Memᴰ·head, List·Memᴰ·tail, List·Memᴰ·not-nil}
 use native.Mathlib.Nat.{not-suc-le-zero}
 use native.Mathlib.Omega.{arith}
-use lib.Dec.{T}
 use lib.ListN.{length, getD, length-append}
 use Rattle.model.specs.Base.{below, keep, each}
 use Rattle.model.specs.Cells.{cellAt, cellsOf}
 use Rattle.model.specs.Pairs.{Pair, noPair, joins, pairsOf, cellOfPair, withPairs, cellsFor}
 use Rattle.model.specs.declared.Cell.{Cell}
 use Rattle.model.specs.declared.Library.{Library}
-use Rattle.theory_graph.proofs.Lists.{map-out, each-out, keep-out, below-out, map-map, map-same, getD-in, is-true}
+use Rattle.theory_graph.proofs.Lists.{map-out, each-out, keep-out, below-out, map-map, map-same, getD-in}
 use Rattle.theory_graph.proofs.Distinct.{length-from, length-map}
 use Rattle.pairs.specs.Codes.{codeOf, codeOfPair, pairOfCode, codeFor, innerCodes, pinCodes, rootCodes, pairCodes, cellsBy, Joinable, Coded}
 use Rattle.pairs.proofs.Joining.{codes-are, code-back}

@@ -4,7 +4,7 @@ use mathlib.Core.Path.{_≡_}
 use mathlib.Core.Bool.{true, cond}
 use mathlib.Core.List.{List, [], _∷_, _++_, map}
 use lib.ListN.{length, getD}
-use Rattle.model.specs.Base.{below, keep, each}
+use Rattle.model.specs.Base.{below, each}
 use Rattle.model.specs.Cells.{cellAt, cellsOf}
 use Rattle.model.specs.Pairs.{Pair, joins, cellOfPair}
 use Rattle.model.specs.declared.Cell.{Cell}

@@ -195,7 +195,8 @@ fn place_ands(
     links: &mut [u16; USES],
     marks: &mut [u64; marks::WORDS],
 )
-    requires { ⌜ Fit h (now work) × Operands (now work) (h .size) × Passed (h .size) (now work) 1 (now heads) (now links) × Ready (h .size) (now work) (now links) (now marks) ⌝ }
+    requires { ⌜ Fit h (now work) × Operands (now work) (h .size) × Passed (h .size) (now work) 1 (now heads) (now links) × Ready (h .size) (now work)
+        (now links) (now marks) ⌝ }
     ensures { λ _. ⌜ now (work .exit) ≡ placedWords (now (work .entry)) h ⌝ }
 {
     let end = words::placed(h);

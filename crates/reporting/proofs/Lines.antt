@@ -5,7 +5,7 @@ use native.Mathlib.Omega.{arith}
 use mathlib.Core.Path.{_≡_, refl, sym, ap, ap₂, _∙_}
 use mathlib.Core.List.{List, [], _∷_, _++_}
 use lib.ListN.{length, take, getD, length-append}
-use lib.Seq.{take-suc, take-all}
+use lib.Seq.{take-suc}
 use Rattle.model.specs.Base.{each, from, below}
 use Rattle.model.specs.Text.{decimal, text}
 use Rattle.model.specs.Cells.{nameOf, noCell, cellAt, cellsOf}
@@ -66,10 +66,6 @@ pub sum-step : (xs : List ℕ) (i : ℕ) → i < length xs → sum (take (i + 1)
 unfolding sum
 sum-step xs i h =
     ap (λ (k : ℕ). sum (take k xs)) (add-one i) ∙ ap sum (take-suc xs i 0 h) ∙ sum-append (take i xs) (getD xs i 0 ∷ []) ∙ (let z : sum (take i xs) + (getD xs i 0 + 0) ≡ sum (take i xs) + getD xs i 0 = omega arith in z)
-
-pub sum-none : (xs : List ℕ) → 0 ≡ sum (take 0 xs)
-unfolding sum
-sum-none xs = refl
 
 sum-low : (xs : List ℕ) (n : ℕ) → ((i : ℕ) → getD xs i 0 ≤ 2 ^ 40) → sum (take n xs) ≤ n * 2 ^ 40
 unfolding sum

@@ -1,9 +1,9 @@
 -- The page that a report is written on, and the answers, refusal by refusal. Assumes nothing.
-use Prim.Native.Nat.{ℕ, _+_, _^_, _≤_, _<_}
+use Prim.Native.Nat.{ℕ, _^_, _≤_, _<_}
 use native.Mathlib.Omega.{arith}
-use mathlib.Core.Path.{_≡_, refl, sym, ap, _∙_, subst}
-use mathlib.Core.Bool.{Bool, true, false, _&&_}
-use mathlib.Core.List.{List, [], _∷_, _++_}
+use mathlib.Core.Path.{_≡_, sym, ap, _∙_, subst}
+use mathlib.Core.Bool.{true, false, _&&_}
+use mathlib.Core.List.{List}
 use lib.Dec.{leb}
 use lib.ListN.{length, take, drop, getD}
 use lib.Seq.{take-append-seam}
@@ -16,7 +16,6 @@ use Rattle.model.specs.Genlib.{writtenAnswer, writtenAfter}
 use Rattle.model.specs.Tally.{inWidth, reportText, reportOf}
 use Rattle.model.specs.declared.Cell.{Cell}
 use Rattle.model.specs.declared.Tally.{Tally}
-use Rattle.model.specs.declared.Written.{Written}
 use Rattle.model.specs.declared.Written.the-variants.{Length, Refused}
 use Rattle.theory_graph.proofs.Lists.{getD-in}
 use Rattle.theory_text.proofs.ReadLibrary.{library-written}

@@ -1,8 +1,7 @@
 -- A report's lines, and a tally that can be reported. Assumes nothing.
-use Prim.Native.Nat.{ℕ, _+_, _^_, _≤_, _<_}
-use mathlib.Core.Path.{_≡_}
-use mathlib.Core.List.{List, _∷_, _++_}
-use lib.ListN.{length, getD}
+use Prim.Native.Nat.{ℕ}
+use mathlib.Core.List.{List, _∷_}
+use lib.ListN.{length}
 use lib.Dec.{leb}
 use Rattle.model.specs.Base.{each, from}
 use Rattle.model.specs.Reading.{Read, holds, unless}

@@ -1,13 +1,12 @@
 // A tally's report: "a line per cell in library order, as `inv 3 3 2`: its gates, their total area and in how many netlists it occurs; then `total` with gates,
 // area and netlists counted". It is written on a page of its own first, so that a report that does not fit leaves the lent memory as it was.
 ghost use mathlib.Core.Path.{_≡_};
-ghost use mathlib.Core.List.{List, [], _∷_, _++_};
-ghost use Prim.Native.Nat.{ℕ, _+_, _*_, _^_, _≤_, _<_};
+ghost use Prim.Native.Nat.{ℕ, _+_, _^_, _≤_, _<_};
 ghost use lib.ListN.{length, take, getD};
 ghost use Rattle.model.specs.Text.{decimal};
 ghost use Rattle.model.specs.Cells.{cellsOf};
 ghost use Rattle.model.specs.Netlist.{sum};
-ghost use Rattle.model.specs.Genlib.{writtenAnswer, writtenAfter};
+ghost use Rattle.model.specs.Genlib.{writtenAnswer, writtenPair, writtenBy, writtenAfter};
 ghost use Rattle.model.specs.Tally.{reportLine, cellLine, totalLine, reportText, reportOf};
 ghost use Rattle.text.specs.Writing.{Wrote};
 ghost use Rattle.words.specs.Put.{putAt};
@@ -156,6 +155,7 @@ fn report_in(t: Tally, lib: Library, text: &mut [u8]) -> Written
 pub fn report(t: Tally, cells: &[u8], text: &mut [u8]) -> Written
     ensures answer { λ r. ⌜ r ≡ writtenAnswer (reportOf t (now (cells .entry)) (length (now (text .entry)))) ⌝ }
     ensures bytes { λ _. ⌜ now (text .exit) ≡ writtenAfter (reportOf t (now (cells .entry)) (length (now (text .entry)))) (now (text .entry)) ⌝ }
+    ensures ruling { λ r. ⌜ writtenPair r ≡ writtenBy (reportOf t (now (cells .entry)) (length (now (text .entry)))) ⌝ }
 {
     if cells.len() > 65536 {
         return Written::Refused(1, 0);

@@ -1,22 +1,19 @@
 -- The numbers of a tally, column by column, and what a call leaves of them. Assumes nothing.
 use Prim.Native.Nat.{ℕ, _+_, _≤_, _<_}
 use native.Mathlib.Omega.{arith}
-use mathlib.Core.Path.{_≡_, refl, sym, ap, ap₂, _∙_, subst}
-use mathlib.Core.Bool.{Bool, true, false, _&&_}
+use mathlib.Core.Path.{_≡_, refl, sym, ap, ap₂, _∙_}
+use mathlib.Core.Bool.{Bool, true, false}
 use mathlib.Core.List.{List, [], _∷_, _++_, append-nil}
-use lib.Dec.{T, eqb, leb, ltb}
-use lib.ListN.{length, take, drop, getD, set, replicate, length-drop}
+use lib.Dec.{eqb}
+use lib.ListN.{length, take, drop, getD, set, length-drop}
 use lib.Seq.{getD-drop, length-take-le}
 use borrow.Author.Tests.{eq-eqb, ne-eqb, eqb-true}
-use Rattle.model.specs.Reading.{Read, holds, fault, next, unless, verdictOf}
-use Rattle.model.specs.LibraryText.{readLibrary, isRanged}
-use Rattle.model.specs.Tally.{inWidth, readCounted, counted, countText, countedAnswer}
-use Rattle.model.specs.declared.Cell.{Cell}
+use Rattle.model.specs.Reading.{Read, holds, fault, verdictOf}
+use Rattle.model.specs.Tally.{countText, countedAnswer}
 use Rattle.model.specs.declared.Tally.{Tally}
 use Rattle.model.specs.declared.Counted.{Counted}
-use Rattle.model.specs.declared.Verdict.{Verdict}
 use Rattle.model.specs.declared.Verdict.the-variants.{Accepted, Refused}
-use Rattle.theory_tally.proofs.Used.{IsCounted, counted-by}
+use Rattle.theory_tally.proofs.Used.{counted-by}
 use Rattle.text.proofs.Progress.{put-front}
 use Rattle.words.specs.Put.{putAt, zeros}
 use Rattle.words.proofs.Putting.{put-taken, put-one, length-put}

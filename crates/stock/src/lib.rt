@@ -1,14 +1,15 @@
 // A tally lent as 97 numbers: the gates of the 32 cells, their areas, the netlists in which each occurs, and the netlists counted. A slice of another length is
 // refused as a figure over 2^40 is.
 ghost use mathlib.Core.Path.{_≡_};
-ghost use mathlib.Core.List.{_∷_, []};
 ghost use Prim.Native.Nat.{_+_, _≤_};
 ghost use lib.ListN.{length, take, drop};
-ghost use Rattle.model.specs.Reading.{verdictOf};
-ghost use Rattle.model.specs.Genlib.{writtenAnswer, writtenAfter};
+ghost use Rattle.model.specs.Reading.{verdictOf, rulingOf, verdictRuling};
+ghost use Rattle.model.specs.Genlib.{writtenAnswer, writtenPair, writtenBy, writtenAfter};
 ghost use Rattle.model.specs.Tally.{countText, reportOf};
 ghost use Rattle.words.specs.Put.{putAt};
+ghost use Rattle.theory_tally.specs.CountRefusals.{CountRefusals, ReportRefusals};
 ghost use Rattle.stock.specs.Numbers.{overfull, tallyOf, stored, numbersAfter};
+ghost use Rattle.stock.specs.Demands.{CountSums, ReportSums};
 use model::Tally;
 use model::Verdict;
 use model::Written;
@@ -83,7 +84,11 @@ fn store(out: &mut [u64], t: Tally)
 // A netlist counted into a lent tally: a refusal leaves it as it was.
 pub fn count(cells: &[u8], netlist: &[u8], tally: &mut [u64]) -> Verdict
     ensures answer { λ r. ⌜ r ≡ verdictOf (countText (tallyOf (now (tally .entry))) (now (cells .entry)) (now (netlist .entry))) ⌝ }
-    ensures numbers { λ _. ⌜ now (tally .exit) ≡ numbersAfter (countText (tallyOf (now (tally .entry))) (now (cells .entry)) (now (netlist .entry))) (now (tally .entry)) ⌝ }
+    ensures numbers { λ _. ⌜ now (tally .exit) ≡ numbersAfter (countText (tallyOf (now (tally .entry))) (now (cells .entry)) (now (netlist .entry)))
+        (now (tally .entry)) ⌝ }
+    ensures sums { λ r. ⌜ CountSums (now (cells .entry)) (now (netlist .entry)) (now (tally .entry)) (now (tally .exit)) r ⌝ }
+    ensures refusals { λ _. ⌜ CountRefusals (tallyOf (now (tally .entry))) (now (cells .entry)) (now (netlist .entry)) ⌝ }
+    ensures ruling { λ r. ⌜ verdictRuling r ≡ rulingOf (countText (tallyOf (now (tally .entry))) (now (cells .entry)) (now (netlist .entry))) ⌝ }
 {
     let t = load(tally);
     let r = counting::count(t, cells, netlist);
@@ -101,7 +106,11 @@ pub fn count(cells: &[u8], netlist: &[u8], tally: &mut [u64]) -> Verdict
 // The report of a lent tally.
 pub fn report(cells: &[u8], tally: &[u64], text: &mut [u8]) -> Written
     ensures answer { λ r. ⌜ r ≡ writtenAnswer (reportOf (tallyOf (now (tally .entry))) (now (cells .entry)) (length (now (text .entry)))) ⌝ }
-    ensures bytes { λ _. ⌜ now (text .exit) ≡ writtenAfter (reportOf (tallyOf (now (tally .entry))) (now (cells .entry)) (length (now (text .entry)))) (now (text .entry)) ⌝ }
+    ensures bytes { λ _. ⌜ now (text .exit) ≡ writtenAfter (reportOf (tallyOf (now (tally .entry))) (now (cells .entry)) (length (now (text .entry))))
+        (now (text .entry)) ⌝ }
+    ensures sums { λ r. ⌜ ReportSums (now (cells .entry)) (now (tally .entry)) (now (text .exit)) r ⌝ }
+    ensures refusals { λ _. ⌜ ReportRefusals (tallyOf (now (tally .entry))) (now (cells .entry)) (length (now (text .entry))) ⌝ }
+    ensures ruling { λ r. ⌜ writtenPair r ≡ writtenBy (reportOf (tallyOf (now (tally .entry))) (now (cells .entry)) (length (now (text .entry)))) ⌝ }
 {
     reporting::report(load(tally), cells, text)
 }

@@ -1,9 +1,9 @@
 -- A report is within the memory lent to it, and a file's name within its sixteen bytes. Assumes nothing.
 use Prim.Native.Nat.{ℕ, _≤_, _<_}
 use native.Mathlib.Omega.{arith}
-use mathlib.Core.Path.{_≡_, refl, sym, ap, _∙_, subst}
+use mathlib.Core.Path.{_≡_, refl, subst}
 use mathlib.Core.List.{List}
-use lib.Dec.{T, leb}
+use lib.Dec.{leb}
 use lib.ListN.{length}
 use mir.Facts.{leb-yes}
 use Rattle.model.specs.Text.{decimal}
@@ -12,8 +12,7 @@ use Rattle.model.specs.LibraryText.{readLibrary}
 use Rattle.model.specs.Genlib.{writtenAnswer}
 use Rattle.model.specs.Tally.{inWidth, reportText, reportOf}
 use Rattle.model.specs.declared.Tally.{Tally}
-use Rattle.model.specs.declared.Written.{Written}
-use Rattle.model.specs.declared.Written.the-variants.{Length, Refused}
+use Rattle.model.specs.declared.Written.the-variants.{Length}
 use Rattle.theory_text.proofs.Steps.{holds-once, unless-out, next-out}
 use Rattle.text.proofs.Decimal.{dec-below}
 

@@ -1,14 +1,24 @@
-// The program: the netlists `1.blif`, `2.blif` and so on of the current folder, up to the first absent one, counted by the library `cells.txt`; then the report.
+// The program: the netlists `1.blif`, `2.blif` and so on of the current folder, up to the first absent one, counted by the library `cells.txt`; then the
+// report.
 // For a netlist that is refused, and for a report that is, one line of `refused`, number and place is printed in its place.
+use files::Found;
+use files::Loaded;
 use model::Tally;
 use model::Verdict;
 use model::Written;
 ghost use mathlib.Core.Path.{_≡_};
 ghost use lib.ListN.{length};
 
-// The tally so far, and whether there was a file.
+// What the next name led to: a netlist, counted or refused; the end of the netlists; or a file that cannot be read.
+pub enum Turn {
+    Counted,
+    End,
+    Unreadable,
+}
+
+// The tally so far beside it.
 pub struct Next {
-    pub found: bool,
+    pub turn: Turn,
     pub tally: Tally,
 }
 
@@ -26,17 +36,23 @@ fn count_one(cells: &[u8], netlist: &[u8], t: Tally) -> Tally {
 fn count_file(path: &[u8], cells: &[u8], buf: &mut [u8], t: Tally) -> Next
     requires { ⌜ length (now buf) ≡ 65537 ⌝ }
 {
-    let fd = os::open_read(path);
-    if fd < 0 {
-        return Next {
-            found: false,
+    match files::find(b"tally", path, buf) {
+        Found::Bytes(n) => {
+            let tally = count_one(cells, &buf[..n], t);
+            Next {
+                turn: Turn::Counted,
+                tally,
+            }
+        }
+        Found::Absent => Next {
+            turn: Turn::End,
             tally: t,
-        };
+        },
+        Found::Unreadable => Next {
+            turn: Turn::Unreadable,
+            tally: t,
+        },
     }
-    let n = io::read_full(fd, buf);
-    libc::close(fd);
-    let tally = count_one(cells, &buf[..n], t);
-    Next { found: true, tally }
 }
 
 // `1.blif` and so on.
@@ -49,7 +65,8 @@ fn count_next(k: u32, cells: &[u8], buf: &mut [u8], t: Tally) -> Next
     count_file(&name[..end], cells, buf, t)
 }
 
-fn count_all(cells: &[u8], buf: &mut [u8]) -> Tally
+// Where a netlist cannot be read, which `find` has said, the count is none: it would leave out that netlist and those behind it.
+fn count_all(cells: &[u8], buf: &mut [u8]) -> Next
     requires { ⌜ length (now buf) ≡ 65537 ⌝ }
 {
     let mut t = Tally {
@@ -61,13 +78,17 @@ fn count_all(cells: &[u8], buf: &mut [u8]) -> Tally
     let mut k: u32 = 1;
     while k < 1000000 {
         let next = count_next(k, cells, buf, t);
-        if !next.found {
-            return t;
-        }
+        let turn = next.turn;
+        let Turn::Counted = turn else {
+            return next;
+        };
         t = next.tally;
         k += 1;
     }
-    t
+    Next {
+        turn: Turn::End,
+        tally: t,
+    }
 }
 
 // It lends 65,536 bytes.
@@ -84,7 +105,15 @@ fn main() {
     let mut cells = [0u8; 65537];
     let mut buf = [0u8; 65537];
     let mut text = [0u8; 65536];
-    let n = files::load(b"cells.txt", &mut cells);
-    let t = count_all(&cells[..n], &mut buf);
+    let cells_read = files::load(b"tally", b"cells.txt", &mut cells);
+    let Loaded::Bytes(n) = cells_read else {
+        return;
+    };
+    let all = count_all(&cells[..n], &mut buf);
+    let turn = all.turn;
+    let Turn::End = turn else {
+        return;
+    };
+    let t = all.tally;
     show(t, &cells[..n], &mut text);
 }

@@ -19,7 +19,7 @@ use Rattle.text.specs.declared.Cursor.{Cursor}
 use Rattle.text.specs.declared.Number.the-variants.{Value as Found}
 use Rattle.text.specs.Fields.{endOf, stops, wordAt, endAt, isByte, onNumber, numberOf, numberThen}
 use Rattle.text.specs.Lines.{lineAt, pastLine, wordsAt, sepsAt, afterAt, numbersAt}
-use Rattle.text.proofs.Found.{past, pastEnd, thenO, found, number-is, number-end-is}
+use Rattle.text.proofs.Found.{past, pastEnd, thenO, number-is, number-end-is}
 use Rattle.text.proofs.Bridge.{lineFields, ofLength, fields-at, past-at, field-ten}
 use Rattle.text.proofs.Bytes.{and-left, and-right}
 use Rattle.text.proofs.Words.{end-ten}

@@ -7,7 +7,6 @@ use lib.Dec.{ltb}
 use lib.ListN.{length, drop}
 use Rattle.model.specs.Base.{andThen}
 use Rattle.model.specs.Text.{Line, nextOf}
-use Rattle.text.specs.declared.Cursor.{Cursor}
 use Rattle.text.specs.declared.Span.{Span}
 use Rattle.text.specs.Fields.{pickBytes, pickN, endOf, stops, wordAt, endAt, isByte, onNumber, numberThen, numberEnd}
 

@@ -10,7 +10,8 @@ ghost use Rattle.model.specs.Text.{decimal, number, hexDigit, hexFrom, hexTable
 ghost use Rattle.model.specs.LibraryText.{nameBytes};
 ghost use Rattle.words.specs.Put.{putAt};
 ghost use Rattle.text.specs.Writing.{Wrote};
-ghost use Rattle.text.specs.Fields.{endOf, endAt, valueOf, byteAt, lineEndAt, numberAt, tableAt, nameAt, closedAt, thenByte, thenEnd, numberThen, numberEnd, tableThen, differenceAt};
+ghost use Rattle.text.specs.Fields.{endOf, endAt, valueOf, byteAt, lineEndAt, numberAt, tableAt, nameAt, closedAt, thenByte, thenEnd, numberThen};
+ghost use Rattle.text.specs.Fields.{numberEnd, tableThen, differenceAt};
 ghost use Rattle.text.specs.Lines.{spanAt};
 
 // A position in a text. The text itself is a parameter of each method.

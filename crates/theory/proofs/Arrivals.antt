@@ -1,7 +1,6 @@
 -- The arrivals of the printed nets under any choice of pin delays: they exist, and any are those of the phases. With the `d` delays these are the chosen
 -- ones, with any others what `retimed` computes. Assumes nothing.
-use Prim.Native.Nat.{ℕ, zero, suc, _+_, _-_, _*_, _≤_, _<_, max}
-use native.Mathlib.Nat.{not-suc-le-zero, le-of-suc-le-suc}
+use Prim.Native.Nat.{ℕ, zero, suc, _+_, _-_, _≤_, _<_, max}
 use native.Mathlib.Omega.{arith}
 use mathlib.Core.Path.{_≡_, refl, sym, _∙_, ap, ap₂, subst}
 use mathlib.Core.Bool.{Bool, true, false, cond, true≢false}
@@ -10,7 +9,7 @@ use lib.Dec.{ltb}
 use lib.ListN.{length, take, drop, getD, length-take, length-drop}
 use mir.Facts.{yes-ltb, no-ltb}
 use Rattle.model.specs.Cells.{cellAt}
-use Rattle.model.specs.Pairs.{splice, pairPins, pairDelays, pairOf, cellOfPair, pairAt}
+use Rattle.model.specs.Pairs.{splice, pairPins, pairDelays, pairOf, cellOfPair}
 use Rattle.model.specs.Graph.{Graph, varOf, literal}
 use Rattle.model.specs.Cuts.{cutsOf}
 use Rattle.model.specs.Choice.{feeds, cellOf, latest, absent, chosen}

@@ -1,13 +1,14 @@
 -- Two channels: what the channels' needs say of the calls alone, that words beyond the need change no outcome, that neither channel's outcome depends on the
 -- other's texts, and the demands for each. Assumes nothing.
 use Prim.Native.Nat.{ℕ, _+_, _≤_, _<_}
-use native.Mathlib.Nat.{le-refl}
+use native.Mathlib.Nat.{le-refl, lt-of-not-le}
+use native.Mathlib.Decide.{decLe}
 use native.Mathlib.Omega.{arith}
 use mathlib.Core.Path.{_≡_, refl, sym, _∙_, ap, ap₂, subst}
 use mathlib.Core.Bool.{Bool, true, false, not, false≢true, cond}
 use mathlib.Core.List.{List}
-use mathlib.Core.Logic.{_↔_}
-use lib.Dec.{T, leb, le→leb}
+use mathlib.Core.Logic.{_⊎_, inl, inr, ⊎-elim, _↔_}
+use lib.Dec.{T, leb, le→leb, leb→le}
 use lib.ListN.{length, replicate}
 use mir.Facts.{leb-yes, leb-no}
 use Rattle.model.specs.Limits.{need}
@@ -17,10 +18,11 @@ use Rattle.model.specs.ArrivalsText.{readArrivals, timedBy}
 use Rattle.model.specs.Graph.{Graph}
 use Rattle.model.specs.Netlist.{Outcome, refused, mapped, mapGraph}
 use Rattle.model.specs.Timing.{followed}
-use Rattle.model.specs.Mapper.{Call, Design, designOf, short, readListed, readTexts, mapDesign, mapTexts, returnedBy, triedEarly, workAfter}
-use Rattle.model.specs.Channels.{Channel, TwoCall, alone, needOf, Needs, needsOf, Outcomes, mapNeeds, mapTwo, twoWorkAfter}
+use Rattle.model.specs.Mapper.{Call, Design, designOf, short, readListed, readTexts, within, mapDesign, mapTexts, answerOf, returnedBy, triedEarly, workAfter}
+use Rattle.model.specs.Channels.{Channel, TwoCall, alone, needOf, Needs, needsOf, Outcomes, mapNeeds, mapTwo, answersOf, twoWorkAfter}
 use Rattle.model.specs.Demands.{Decided, Means, AlikeTexts}
-use Rattle.model.specs.TwoDemands.{Alone, TogetherRefused, Neither, Independent, Promised, Each, onText, TwinChannels, AlikeChannels, EitherEndTwo}
+use Rattle.promises.specs.Promised.{Fits, Promised}
+use Rattle.promises.specs.TwoDemands.{Alone, TogetherRefused, Neither, Independent, Each, onText, TwinChannels, AlikeChannels, EitherEndTwo, TwoPromised}
 use Rattle.model.specs.declared.Cell.{Cell}
 use Rattle.model.specs.declared.Header.{Header}
 use Rattle.model.specs.declared.Figures.{Figures}
@@ -30,7 +32,8 @@ use Rattle.theory_text.proofs.Faults.{Faults, in-holds, in-unless, in-next, lis
 use Rattle.theory_text.proofs.Arrivals.{texts-listed}
 use Rattle.theory_text.proofs.Ends.{demand-ends}
 use Rattle.theory_text.proofs.Former.{demand-former}
-use Rattle.theory.proofs.Outcomes.{refused-never}
+use Rattle.theory_refusals.proofs.OutcomeForms.{demand-refusals}
+use Rattle.theory_text.proofs.Outcomes.{refused-never}
 use Rattle.theory.proofs.Refusals.{Refusal, within-refusal, followed-refusal, map-refusal}
 use Rattle.theory.proofs.Sequence.{demand-sequenced}
 use Rattle.theory.proofs.Demanded.{demand-values, demand-earliest, demand-untimed, demand-twins, decided}
@@ -162,7 +165,7 @@ module _ (paired : Bool) (library : List ℕ) (ch : Channel) where
       lacks true y z q = absurd (false≢true (sym (alone-late a e words (y tt) 10 0 q)))
       lacks false y z q = z tt
 
-  -- "words beyond the need change no outcome"
+  -- words beyond the need change no outcome
   alone-beyond : (a : ℕ) → needOf paired library ch ≡ holds a → (words : ℕ) → a ≤ words → mapTexts (alone paired library ch words) ≡ mapTexts (alone paired library ch a)
   unfolding mapTexts
   alone-beyond a e words h = let r = read-10 a e in ap (mapDesign (ch .bytes)) (reads-enough a r words h ∙ sym (reads-enough a r a (le-refl a)))
@@ -297,8 +300,28 @@ independent c = record {
 
 -- ---- the demands
 
+-- a printed netlist fits
+within-fits : (bytes : ℕ) (o : Outcome) → Fits (answerOf (within bytes o)) bytes
+unfolding within answerOf
+within-fits bytes (refused n k) = tt
+within-fits bytes (mapped t f) = go (leb (length t) bytes) (leb→le (length t) bytes)
+  where
+    go : (b : Bool) → (T b → length t ≤ bytes) → Fits (answerOf (cond b (mapped t f) (refused 18 (length t)))) bytes
+    go true y = y tt
+    go false y = tt
+
+pub texts-fit : (c : Call) → Fits (answerOf (mapTexts c)) (c .bytes)
+unfolding mapTexts mapDesign
+texts-fit c = go (readTexts c)
+  where
+    go : (r : Read Design) → Fits (answerOf (mapDesign (c .bytes) r)) (c .bytes)
+    go (holds d) = within-fits (c .bytes) (followed (d .ranged) (d .cells) (d .graph) (mapGraph (d .listed) (d .cells) (d .graph)))
+    go (fault n k) = unfold answerOf in tt
+
 pub promised : (c : Call) → Promised c
 promised c = record {
+  refusals = demand-refusals c;
+  fits = texts-fit c;
   values = demand-values c;
   earliest = demand-earliest c;
   twins = demand-twins c;
@@ -470,6 +493,78 @@ neither-alike c d s e = record {
   enough = subst (λ (w : ℕ). e .first + e .second ≤ w) (s .first .words) (e .enough);
 }
 
+-- a refusal tried before 10 of the one is the other's, by the same number
+fault-alike : (pa pb : Bool) (l m : List ℕ) (a b : Channel) → SameAlone pa pb l m a b → (n k : ℕ) → needOf pa l a ≡ fault n k → (j : ℕ) × (needOf pb m b ≡ fault n j)
+unfolding returnedBy
+fault-alike pa pb l m a b alike n k e = go (needOf pb m b) refl
+  where
+    go : (r : Read ℕ) → needOf pb m b ≡ r → (j : ℕ) × (needOf pb m b ≡ fault n j)
+    go (holds x) p =
+        let r = alike .refusal x n k (alone-early pa l a n k e x) in
+        absurd (false≢true (sym (alone-late pb m b x p x (le-refl x) n (r .0) (r .1)) ∙ alone-tried pa l a n k e .0))
+    go (fault i j) p =
+        let r = alike .refusal 0 n k (alone-early pa l a n k e 0) in
+        let s : i ≡ n = ap (λ (o : Outcome). returnedBy o .number) (sym (alone-early pb m b i j p 0) ∙ r .1) in
+        (j, p ∙ ap (λ (x : ℕ). fault x j) s)
+
+-- both calls have a refusal tried up to 10, by the same number
+record BothRefused (c d : TwoCall) : Type 0 where
+  number : ℕ
+  here : ℕ
+  there : ℕ
+  isHere : mapTwo c ≡ record { first = refused number here; second = refused number here }
+  isThere : mapTwo d ≡ record { first = refused number there; second = refused number there }
+
+-- or neither has one
+alike-either : (c d : TwoCall) → AlikeChannels c d → Neither c ⊎ BothRefused c d
+alike-either c d s = first (needOf (c .paired) (c .library) (c .first)) refl
+  where
+    alikeFirst : SameAlone (c .paired) (d .paired) (c .library) (d .library) (c .first) (d .first)
+    alikeFirst = ends-alike (c .paired) (d .paired) (c .library) (d .library) (c .first) (d .first) (c .words) (d .words) (s .first)
+
+    alikeSecond : SameAlone (c .paired) (d .paired) (c .library) (d .library) (c .second) (d .second)
+    alikeSecond = ends-alike (c .paired) (d .paired) (c .library) (d .library) (c .second) (d .second) (c .words) (d .words) (s .second)
+
+    needFirst : (a : ℕ) → needOf (c .paired) (c .library) (c .first) ≡ holds a → needOf (d .paired) (d .library) (d .first) ≡ holds a
+    needFirst = same-need (c .paired) (d .paired) (c .library) (d .library) (c .first) (d .first) alikeFirst
+
+    needSecond : (a : ℕ) → needOf (c .paired) (c .library) (c .second) ≡ holds a → needOf (d .paired) (d .library) (d .second) ≡ holds a
+    needSecond = same-need (c .paired) (d .paired) (c .library) (d .library) (c .second) (d .second) alikeSecond
+
+    lent : (a b : ℕ) → needOf (c .paired) (c .library) (c .first) ≡ holds a → needOf (c .paired) (c .library) (c .second) ≡ holds b → Neither c ⊎ BothRefused c d
+    lent a b p q = elim (decLe (a + b) (c .words)) [
+      | yes le ↦ inl (record { first = a; second = b; needsFirst = p; needsSecond = q; enough = le })
+      | no lt ↦
+          let h : c .words < a + b = lt-of-not-le lt in
+          inr (record {
+            number = 10;
+            here = 0;
+            there = 0;
+            isHere = together-refused c .ten a b p q h;
+            isThere = together-refused d .ten a b (needFirst a p) (needSecond b q) (subst (λ (w : ℕ). w < a + b) (s .first .words) h);
+          })
+    ]
+
+    second : (a : ℕ) → needOf (c .paired) (c .library) (c .first) ≡ holds a → (r : Read ℕ) → needOf (c .paired) (c .library) (c .second) ≡ r → Neither c ⊎ BothRefused c d
+    second a p (holds b) q = lent a b p q
+    second a p (fault n k) q =
+        let f = fault-alike (c .paired) (d .paired) (c .library) (d .library) (c .second) (d .second) alikeSecond n k q in
+        inr (record { number = n; here = k; there = f .0; isHere = together-refused c .second a n k p q; isThere = together-refused d .second a n (f .0) (needFirst a p) (f .1) })
+
+    first : (r : Read ℕ) → needOf (c .paired) (c .library) (c .first) ≡ r → Neither c ⊎ BothRefused c d
+    first (holds a) p = second a p (needOf (c .paired) (c .library) (c .second)) refl
+    first (fault n k) p =
+        let f = fault-alike (c .paired) (d .paired) (c .library) (d .library) (c .first) (d .first) alikeFirst n k p in
+        inr (record { number = n; here = k; there = f .0; isHere = together-refused c .first n k p; isThere = together-refused d .first n (f .0) (f .1) })
+
+-- in either channel
+refused-alike : (c d : TwoCall) (channel : Outcomes → Outcome) → ((m j : ℕ) → channel (record { first = refused m j; second = refused m j }) ≡ refused m j)
+    → (n k : ℕ) → channel (mapTwo c) ≡ refused n k → BothRefused c d → (j : ℕ) × (channel (mapTwo d) ≡ refused n j)
+unfolding returnedBy
+refused-alike c d channel same n k q b =
+    let s : b .number ≡ n = ap (λ (o : Outcome). returnedBy o .number) (sym (same (b .number) (b .here)) ∙ sym (ap channel (b .isHere)) ∙ q) in
+    (b .there, ap channel (b .isThere) ∙ same (b .number) (b .there) ∙ ap (λ (x : ℕ). refused x (b .there)) s)
+
 -- "Texts alike but for line ends, each within the length in 1, give the same netlist."
 pub demand-ends-two : (c : TwoCall) → EitherEndTwo c
 demand-ends-two c = record {
@@ -479,4 +574,38 @@ demand-ends-two c = record {
   second = λ d s t f q.
       let e = second-mapped c t f q in
       second-whole d (neither-alike c d s e) ∙ demand-ends (alone (c .paired) (c .library) (c .second) (c .words)) (alone (d .paired) (d .library) (d .second) (d .words)) (s .second) .printed t f (sym (second-whole c e) ∙ q);
+  refusedFirst = λ d s n k q.
+      let whole : Neither c → (j : ℕ) × (mapTwo d .first ≡ refused n j) = λ e.
+      let r = demand-ends (alone (c .paired) (c .library) (c .first) (c .words)) (alone (d .paired) (d .library) (d .first) (d .words)) (s .first) .refusal n k (sym (first-whole c e) ∙ q) in
+      (r .0, first-whole d (neither-alike c d s e) ∙ r .1) in
+      ⊎-elim whole (λ b. refused-alike c d (λ o. o .first) (λ m j. refl) n k q b) (alike-either c d s);
+  refusedSecond = λ d s n k q.
+      let whole : Neither c → (j : ℕ) × (mapTwo d .second ≡ refused n j) = λ e.
+      let r = demand-ends (alone (c .paired) (c .library) (c .second) (c .words)) (alone (d .paired) (d .library) (d .second) (d .words)) (s .second) .refusal n k (sym (second-whole c e) ∙ q) in
+      (r .0, second-whole d (neither-alike c d s e) ∙ r .1) in
+      ⊎-elim whole (λ b. refused-alike c d (λ o. o .second) (λ m j. refl) n k q b) (alike-either c d s);
+}
+
+-- ---- the whole
+
+-- each netlist is no longer than its text memory
+two-fit : (c : TwoCall) → Fits (answersOf (mapTwo c) .first) (c .first .bytes) × Fits (answersOf (mapTwo c) .second) (c .second .bytes)
+unfolding mapTwo mapNeeds answersOf
+two-fit c = go (needsOf c)
+  where
+    go : (r : Read Needs) → Fits (answersOf (mapNeeds c r) .first) (c .first .bytes) × Fits (answersOf (mapNeeds c r) .second) (c .second .bytes)
+    go (fault n k) = unfold answerOf in (tt, tt)
+    go (holds n) = (texts-fit (alone (c .paired) (c .library) (c .first) (n .first)), texts-fit (alone (c .paired) (c .library) (c .second) (n .second)))
+
+pub two-promised : (c : TwoCall) → TwoPromised c
+two-promised c = record {
+  together = together-refused c;
+  independent = independent c;
+  aloneFirst = channel-alone (c .paired) (c .library) (c .first);
+  aloneSecond = channel-alone (c .paired) (c .library) (c .second);
+  each = demand-each c;
+  fitsFirst = two-fit c .0;
+  fitsSecond = two-fit c .1;
+  twins = demand-twin-channels c;
+  ends = demand-ends-two c;
 }

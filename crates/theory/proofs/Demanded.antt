@@ -19,7 +19,7 @@ use Rattle.model.specs.Cover.{Cover, output}
 use Rattle.model.specs.Netlist.{Gate, Outcome, refused, mapped, mapGraph, gates, figuresOf, netName, outName, sum, largest}
 use Rattle.model.specs.LibraryText.{noLower, isRanged}
 use Rattle.model.specs.Timing.{lowOf, timingLines, followed}
-use Rattle.model.specs.Blif.{GateLine, Wire, Blif, readBlif, readFigures, TimingLine, readTimings, named, drives, NetArrivals}
+use Rattle.model.specs.Blif.{GateLine, Wire, Blif, readBlif, readFigures, readTimings, named, drives, NetArrivals}
 use Rattle.model.specs.Mapper.{Call, Design, readTexts, mapTexts, mapDesign, within}
 use Rattle.model.specs.Demands.{drivenNets, Printed, OfPrinted, Readable, Formed, Gated, SameValues, SameFigures, NoEarlier, OutputsNoEarlier, OfMappable, CoversTimed, Decided, Chosen, choiceText, choiceFigures, printedText, WithinRanges, Ranges, Values, Earliest, Twins, Untimed}
 use Rattle.model.specs.declared.Cell.{Cell}
@@ -33,7 +33,8 @@ use Rattle.theory_cover.proofs.Demand3.{choice-earliest, cover-timed, choice-co
 use Rattle.theory_cover.proofs.Own.{own-chosen}
 use Rattle.theory_cover.proofs.Preference.{choice-preferred}
 use Rattle.theory_text.proofs.ReadBack.{lineOf, inputNames, wiresFrom, blifOf}
-use Rattle.theory_text.proofs.ReadTexts.{Texts, texts-read, design-library, design-written, design-ranged, design-accepted}
+use Rattle.theory_order.proofs.PairOrder.{pairs-kept}
+use Rattle.theory_text.proofs.ReadTexts.{texts-read, design-library, design-written, design-ranged, design-accepted}
 use Rattle.theory_text.proofs.Names.{net-once}
 use Rattle.theory_text.proofs.Twins.{ascii-means, means-outcome}
 use Rattle.theory_text.proofs.Arrivals.{reads-untimed, untimed-zero}
@@ -43,8 +44,8 @@ use Rattle.theory.proofs.Gates.{present, own-net, line-bound, back, fig
 use Rattle.theory.proofs.Wires.{out-net, wire-targets, at-output, at-outputs}
 use Rattle.theory.proofs.Values.{net-value, theValue, the-holds}
 use Rattle.theory.proofs.Arrivals.{theTime, input-time, times-hold, input-at, net-time}
-use Rattle.theory.proofs.Outcomes.{FromChoice, outcome-is, printed-choice, refused-never}
-use Rattle.theory.proofs.Formed.{gate-count, driven-phase, well-formed}
+use Rattle.theory_text.proofs.Outcomes.{FromChoice, outcome-is, printed-choice, refused-never}
+use Rattle.theory.proofs.Formed.{gate-count, gate-count-listed, driven-phase, well-formed}
 use Rattle.theory.proofs.Gated.{gates-gated}
 use Rattle.theory.proofs.Ranges.{within-ranges}
 
@@ -151,6 +152,7 @@ figures = of-printed SameFigures (λ t f d k.
           (λ l m. sym (net-time (d .listed) (d .cells) (k .library) (d .graph) (k .graph) (c .covered) at h l (output m)))
           ∙ sym (at-outputs at (d .graph .outputs) (h .atWires)));
       bound = le-trans (le-of-eq (ap (λ (x : Figures). x .gates) (c .areFigures))) (gate-count (d .listed) (d .cells) (k .library) (d .graph) (k .graph) (c .covered));
+      boundListed = λ e. le-trans (le-of-eq (ap (λ (x : Figures). x .gates) (c .areFigures))) (gate-count-listed (d .listed) (d .cells) (k .library) (d .graph) (k .graph) (c .covered) e);
     })
   where
     areas : (t : List ℕ) (f : Figures) (d : Design) (k : Known t f d) (u : Gate) → List·Memᴰ u (gates (d .listed) (d .cells) (d .graph) (chosen (d .cells) (d .graph)))
@@ -341,6 +343,7 @@ demand-values c = record {
 pub demand-earliest : (c : Call) → Earliest c
 demand-earliest c =
     record {
+      pairs = λ d e. (sym (texts-read c d e .areCells), pairs-kept (d .listed));
       earliest = no-earlier c;
       outputs = outputs-no-earlier c;
       timed = covers-timed c;

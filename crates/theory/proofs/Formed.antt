@@ -1,6 +1,6 @@
 -- The form of the printed netlist: names in the file's order, listed cells with their pins bound, every net driven once and every used net
 -- driven. Assumes nothing.
-use Prim.Native.Nat.{ℕ, suc, _+_, _*_, _≤_}
+use Prim.Native.Nat.{ℕ, suc, _*_, _≤_, _<_}
 use native.Mathlib.Nat.{le-trans, le-of-eq, lt-of-not-le}
 use native.Mathlib.Decide.{decLe}
 use native.Mathlib.Omega.{arith}
@@ -31,7 +31,7 @@ use Rattle.theory_cover.proofs.Own.{own-chosen}
 use Rattle.theory_graph.proofs.Distinct.{map-distinct, keep-distinct, below-distinct, append-distinct, length-keep, length-from}
 use Rattle.theory.proofs.Numbered.{Fitting}
 use Rattle.theory.proofs.Settled.{cellGate, innerGate, rootGate, gates-single, gates-double}
-use Rattle.theory.proofs.Gates.{sourceOf, numberAt, fedAt, NeedsOf, gatesAt, chosenGates, gateNets, gates-are, Gates, net-out, gate-in, gate-out, of-gates, line-bound, own-value, own-source, own-net}
+use Rattle.theory.proofs.Gates.{sourceOf, numberAt, fedAt, NeedsOf, gatesAt, chosenGates, gateNets, gates-are, Gates, net-out, gate-in, gate-out, of-cell, of-gates, line-bound, own-value, own-source, own-net}
 use Rattle.theory.proofs.Wires.{out-once, out-label, wire-targets, wire-sources}
 
 -- ---- the nets of a phase's gates
@@ -99,6 +99,15 @@ unfolding each
 length-each f h [] = omega arith
 length-each f h (l ∷ ls) = let a = length-append (f l) (each f ls) in let b = h l in let c = length-each f h ls in omega (arith, a, b, c)
 
+length-each-one : {A : Type 0} (f : ℕ → List A) (ls : List ℕ) → ((l : ℕ) → List·Memᴰ l ls → length (f l) ≤ 1) → length (each f ls) ≤ length ls
+unfolding each
+length-each-one f [] h = omega arith
+length-each-one f (l ∷ ls) h =
+    let a = length-append (f l) (each f ls) in
+    let b = h l (List·Memᴰ·head refl) in
+    let c = length-each-one f ls (λ k m. h k (List·Memᴰ·tail m)) in
+    omega (arith, a, b, c)
+
 module _ (listed cells : List Cell) (fit : Fitting listed cells) (g : Graph) (ok : Accepted g)
     (present-outputs : (l : ℕ) → List·Memᴰ l (g .outputs) → absent (chosen cells g l .source) ≡ false) where
   pub few-at : (l : ℕ) → Few l (gatesAt listed cells g l)
@@ -112,6 +121,21 @@ module _ (listed cells : List Cell) (fit : Fitting listed cells) (g : Graph) (ok
       le-trans (le-of-eq (ap length (gates-are listed cells g))) (length-each (gatesAt listed cells g) (λ l. few-length l (gatesAt listed cells g l) (few-at l)) (gateNets cells g)) in
       let b : length (gateNets cells g) ≤ 2 * suc (g .size) = le-trans (length-keep _ (below (2 * suc (g .size)))) (le-of-eq (length-from (2 * suc (g .size)) 0)) in
       omega arith
+
+  -- "Gates number at most 2(M+1)": a listed cell is one gate
+  pub gate-count-listed : cells ≡ listed → length (chosenGates listed cells g) ≤ 2 * suc (g .size)
+  unfolding below
+  gate-count-listed e =
+      let a : length (chosenGates listed cells g) ≤ length (gateNets cells g) =
+      le-trans (le-of-eq (ap length (gates-are listed cells g))) (length-each-one (gatesAt listed cells g) (gateNets cells g) one-gate) in
+      let b : length (gateNets cells g) ≤ 2 * suc (g .size) = le-trans (length-keep _ (below (2 * suc (g .size)))) (le-of-eq (length-from (2 * suc (g .size)) 0)) in
+      omega arith
+    where
+      one-gate : (l : ℕ) → List·Memᴰ l (gateNets cells g) → length (gatesAt listed cells g l) ≤ 1
+      one-gate l m =
+          let h : numberAt cells g l < length cells = of-cell listed cells fit g ok present-outputs l (net-out listed cells fit g ok present-outputs l m) .hasNumber in
+          let q : length cells ≡ length listed = ap length e in
+          le-of-eq (ap length (gates-single listed (numberAt cells g l) (fedAt cells g l) l (omega arith)))
 
   -- what the lines drive
   unfoldable pub gateLabels : List (List ℕ)

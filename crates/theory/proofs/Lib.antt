@@ -6,7 +6,6 @@ pub mod Wires
 pub mod Nets
 pub mod Values
 pub mod Arrivals
-pub mod Outcomes
 pub mod Formed
 pub mod Gated
 pub mod Ranges

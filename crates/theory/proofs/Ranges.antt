@@ -1,11 +1,11 @@
 -- "Every choice of pin delays, each within its range and fixed separately per gate, puts the output within these two, and each end is reached by some
 -- choice", of the arrivals that the timing lines say. Assumes nothing.
-use Prim.Native.Nat.{ℕ, zero, suc, _+_, _*_, _≤_, _<_}
+use Prim.Native.Nat.{ℕ, zero, suc, _+_, _≤_, _<_}
 use native.Mathlib.Nat.{le-refl, le-trans, le-of-eq, lt-of-not-le}
 use native.Mathlib.Decide.{decLe}
 use native.Mathlib.Omega.{arith}
 use mathlib.Core.Path.{_≡_, refl, sym, _∙_, ap, ap₂, subst}
-use mathlib.Core.Bool.{Bool, true, false, cond, not, _&&_}
+use mathlib.Core.Bool.{Bool, true, false, cond}
 use mathlib.Core.List.{List, [], _∷_, _++_, map, List·Memᴰ, List·Memᴰ·head, List·Memᴰ·tail, Memᴰ·cast, head-eq-of-cons-eq, tail-eq-of-cons-eq}
 use lib.Dec.{T, leb}
 use lib.ListN.{length, take, getD}
@@ -13,13 +13,12 @@ use mir.Facts.{and-yes, leb-yes}
 use Rattle.model.specs.Base.{from, below, same}
 use Rattle.model.specs.Pairs.{joinDelays, pairDelays, pairOf}
 use Rattle.model.specs.Graph.{Graph, varOf}
-use Rattle.model.specs.Cuts.{cutsOf}
-use Rattle.model.specs.Choice.{feeds, cellOf, latest, absent, chosen}
-use Rattle.model.specs.Cover.{Needed, output, fed}
+use Rattle.model.specs.Choice.{cellOf, absent, chosen}
+use Rattle.model.specs.Cover.{output}
 use Rattle.model.specs.Netlist.{Gate, gatesBy, isOwn, netName, outName}
 use Rattle.model.specs.LibraryText.{noLower}
 use Rattle.model.specs.Timing.{retimed, lowOf}
-use Rattle.model.specs.Blif.{GateLine, TimingLine, named, drives, Delays, NetTimes, InRange}
+use Rattle.model.specs.Blif.{GateLine, TimingLine, named, drives, Delays, NetTimes}
 use Rattle.model.specs.Demands.{Distinct, WithinRanges}
 use Rattle.model.specs.declared.Cell.{Cell}
 use Rattle.theory_graph.proofs.Lists.{map-in, map-out, map-map, map-same, is-true, same-eq, same-refl}

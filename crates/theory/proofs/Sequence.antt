@@ -8,7 +8,7 @@ use lib.Dec.{T, leb, ltb}
 use Rattle.model.specs.Base.{lowest}
 use Rattle.model.specs.Limits.{need}
 use Rattle.model.specs.Reading.{Read, holds, fault, next, unless}
-use Rattle.model.specs.Graph.{And, Graph, varOf, unplaced}
+use Rattle.model.specs.Graph.{And, Graph, varOf, unplaced, andVars}
 use Rattle.model.specs.GraphText.{readHeader, readGraph}
 use Rattle.model.specs.Netlist.{mapGraph}
 use Rattle.model.specs.ArrivalsText.{Late, readArrivals, timedBy}
@@ -18,7 +18,6 @@ use Rattle.model.specs.Demands.{Sequenced}
 use Rattle.model.specs.declared.Cell.{Cell}
 use Rattle.model.specs.declared.Header.{Header}
 use Rattle.theory_graph.proofs.Lists.{each-in, lowest-in}
-use Rattle.theory_graph.specs.Accepted.{andVars}
 use Rattle.theory_graph.proofs.Timed.{timed-unplaced}
 use Rattle.theory_order.proofs.Sequence.{Lower, rising-placed}
 use Rattle.theory_text.proofs.Steps.{holds-once}

@@ -1,26 +1,23 @@
 -- Two accepted libraries of the same cell lines, in any orders, agree on every earliest arrival, on 16 and 17, and on what they print of
 -- arrivals. Assumes nothing.
-use Prim.Native.Nat.{ℕ, suc, _+_}
+use Prim.Native.Nat.{ℕ, suc}
 use native.Mathlib.Omega.{arith}
 use mathlib.Core.Path.{_≡_, refl, sym, _∙_, ap, ap₂, subst}
 use mathlib.Core.Logic.{_⊎_, inl, inr, _↔_}
 use mathlib.Core.Bool.{Bool, true, false, cond}
-use mathlib.Core.List.{List, [], _∷_, _++_, map, List·Memᴰ, List·Memᴰ·head, List·Memᴰ·tail}
-use mathlib.Core.Option.{Option, none, some}
+use mathlib.Core.List.{List, [], _∷_, _++_, map}
 use lib.Dec.{leb}
 use lib.ListN.{length}
 use Rattle.model.specs.Base.{lowest}
-use Rattle.model.specs.Reading.{holds}
-use Rattle.model.specs.GraphText.{readHeader, readGraph}
+use Rattle.model.specs.GraphText.{readGraph}
 use Rattle.model.specs.Graph.{Graph, unplaced}
 use Rattle.model.specs.Cuts.{crowded}
 use Rattle.model.specs.Choice.{absent, chosen}
-use Rattle.model.specs.Netlist.{Outcome, refused, mapped, mapGraph, mapPlaced, mapCut, mapChosen, printed, uncovered, figuresOf, netName, largest}
-use Rattle.model.specs.Blif.{Blif, NetArrivals}
-use Rattle.model.specs.ArrivalsText.{Late, readArrivals, timedBy}
+use Rattle.model.specs.Netlist.{Outcome, refused, mapped, mapGraph, mapPlaced, mapCut, mapChosen, printed, uncovered, figuresOf, largest}
+use Rattle.model.specs.ArrivalsText.{readArrivals, timedBy}
 use Rattle.model.specs.Pairs.{cellsFor}
 use Rattle.model.specs.Timing.{lowOf, timingLines, followed}
-use Rattle.model.specs.Mapper.{Call, Design, readTexts, mapTexts, within}
+use Rattle.model.specs.Mapper.{Call, Design, mapTexts, within}
 use Rattle.model.specs.Demands.{choiceText, choiceFigures}
 use Rattle.model.specs.ShuffleDemands.{EarliestAt, SameCells, onLibrary, Shuffled, Agree, Shuffles}
 use Rattle.model.specs.declared.Cell.{Cell}
@@ -29,12 +26,13 @@ use Rattle.model.specs.declared.Header.{Header}
 use Rattle.model.specs.declared.Figures.{Figures}
 use Rattle.theory_graph.specs.Accepted.{Accepted}
 use Rattle.theory_graph.proofs.Lists.{map-same}
-use Rattle.theory_cover.proofs.Shuffled.{earliest-same, absent-same, arrival-same}
+use Rattle.theory_cover.proofs.Demand3.{choice-earliest, cover-timed}
+use Rattle.theory_cover.proofs.Shuffled.{earliest-same, chosen-earliest, earliest-one, absent-same, arrival-same}
 use Rattle.theory_cover.proofs.ShuffledPairs.{pairs-same}
 use Rattle.theory_text.proofs.Steps.{holds-once}
 use Rattle.theory_text.proofs.ReadTexts.{texts-read, design-accepted}
 use Rattle.theory_text.proofs.CellLines.{lines-cells}
-use Rattle.theory.proofs.Outcomes.{outcome-is, printed-choice, refused-never}
+use Rattle.theory_text.proofs.Outcomes.{outcome-is, printed-choice, refused-never}
 use Rattle.theory.proofs.Demanded.{nets-chosen}
 
 -- ---- the outcome, by what the choice leaves uncovered
@@ -143,11 +141,18 @@ module _ (c : Call) (library : List ℕ) (d d′ : Design) (s : Shuffled c libra
   times : (l : ℕ) → absent (chosen (d .cells) (d .graph) l .source) ≡ false → chosen (d .cells) (d .graph) l .arrival ≡ chosen (d′ .cells) (d′ .graph) l .arrival
   times l h = arrival-same (d .cells) (d′ .cells) (d .graph) ok cells l h ∙ ap (λ (g : Graph). chosen (d′ .cells) g l .arrival) graphs
 
+  earliest-both : (l t : ℕ) → EarliestAt (d .cells) (d .graph) l t ↔ EarliestAt (d′ .cells) (d′ .graph) l t
+  earliest-both l t = subst (λ (g : Graph). EarliestAt (d .cells) (d .graph) l t ↔ EarliestAt (d′ .cells) g l t) graphs (earliest-same (d .cells) (d′ .cells) (d .graph) cells l t)
+
   agree : Agree c library d d′
   unfolding figuresOf
   agree = record {
     graphs = graphs;
-    earliest = λ l t. subst (λ (g : Graph). EarliestAt (d .cells) (d .graph) l t ↔ EarliestAt (d′ .cells) g l t) graphs (earliest-same (d .cells) (d′ .cells) (d .graph) cells l t);
+    earliest = earliest-both;
+    reachable = λ outs v l n.
+        let t = cover-timed (d .cells) (d .graph) ok outs v .has in
+        (chosen (d .cells) (d .graph) l .arrival, chosen-earliest (d .cells) (d .graph) ok l (choice-earliest (d .cells) (d .graph) ok outs v (t .0) (t .1) l n .0));
+    one = λ l t u a b. earliest-one (d .cells) (d .graph) l t u a (earliest-both l u .1 b);
     sixteen = refusals 16 (inl refl);
     seventeen = refusals 17 (inr refl);
     arrival = λ t t′ f f′ e e′.

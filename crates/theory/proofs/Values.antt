@@ -1,16 +1,16 @@
 -- The values of the printed nets: they exist, and any are the graph's. Assumes nothing.
-use Prim.Native.Nat.{ℕ, suc, _*_, _<_}
+use Prim.Native.Nat.{ℕ}
 use mathlib.Core.Path.{_≡_, refl, sym, _∙_, ap, ap₂, subst}
 use mathlib.Core.Bool.{Bool, true, false, true≢false}
 use mathlib.Core.List.{List, [], _∷_, map, head-eq-of-cons-eq, tail-eq-of-cons-eq, List·Memᴰ, List·Memᴰ·head, List·Memᴰ·tail}
 use lib.ListN.{length}
 use Rattle.model.specs.Table.{value, rowOf}
 use Rattle.model.specs.Cells.{cellAt}
-use Rattle.model.specs.Pairs.{splice, pairPins, pairValue, pairTable, pairOf, cellOfPair, pairAt}
+use Rattle.model.specs.Pairs.{splice, pairValue, pairOf, cellOfPair}
 use Rattle.model.specs.Graph.{Graph, varOf, literal, literalValue, valueOf}
 use Rattle.model.specs.Cuts.{cutsOf}
 use Rattle.model.specs.Choice.{feeds, cellOf, absent, chosen}
-use Rattle.model.specs.Cover.{Allowed, output}
+use Rattle.model.specs.Cover.{Allowed}
 use Rattle.model.specs.Netlist.{Gate, isOwn, netName}
 use Rattle.model.specs.Blif.{GateLine, named, NetValues}
 use Rattle.model.specs.declared.Cell.{Cell}
@@ -26,9 +26,9 @@ use Rattle.theory_cover.proofs.Gates.{gate-value, inverter-value}
 use Rattle.theory_cover.proofs.Joined.{pair-value}
 use Rattle.theory_text.proofs.ReadBack.{lineOf, blifOf}
 use Rattle.theory.proofs.Numbered.{Numbered, single, double, Fitting}
-use Rattle.theory.proofs.Settled.{rootCell, innerCell, fedPin, cellGate, whole-single, whole-double, single-bound, inner-bound, root-bound}
+use Rattle.theory.proofs.Settled.{rootCell, innerCell, fedPin, whole-single, whole-double, single-bound, inner-bound, root-bound}
 use Rattle.theory.proofs.Gates.{sourceOf, numberAt, fedAt, NeedsOf, Gates, OfCell, of-cell, number-of, chosenGates, present, input-bound, own-value, own-source, own-net}
-use Rattle.theory.proofs.Nets.{AtLines, made, nets-are, the, the-phase, the-lines, the-wires}
+use Rattle.theory.proofs.Nets.{made, nets-are, the, the-phase, the-lines, the-wires}
 
 module _ (listed cells : List Cell) (fit : Fitting listed cells) (g : Graph) (ok : Accepted g)
     (present-outputs : (l : ℕ) → List·Memᴰ l (g .outputs) → absent (chosen cells g l .source) ≡ false) where

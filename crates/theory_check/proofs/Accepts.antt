@@ -4,7 +4,7 @@ use mathlib.Core.Path.{_≡_, refl, sym, _∙_, ap, ap₂, subst}
 use mathlib.Core.Bool.{Bool, true, false, cond, _&&_}
 use mathlib.Core.Option.{none}
 use mathlib.Core.List.{List, [], _∷_, _++_, map, append-assoc, append-nil, List·Memᴰ, Memᴰ·append-left}
-use lib.Dec.{T, leb, le→leb}
+use lib.Dec.{leb, le→leb}
 use lib.ListN.{length, getD}
 use Rattle.model.specs.Base.{each, same, flip, below, lowest}
 use Rattle.model.specs.Limits.{need}
@@ -21,7 +21,7 @@ use Rattle.model.specs.Netlist.{Net, Gate, netName, label, outName, pinWords, g
 use Rattle.model.specs.Mapper.{Call}
 use Rattle.model.specs.Demands.{choiceText, choiceFigures}
 use Rattle.model.specs.Check.{Driver, gateDriver, isGate, isLine, unlessAt, readNames, readDrivers, pastLines, frameOf, inputNets, outputNets, readNetlist, judgeNets, lineEnds, settingOf, readEdited}
-use Rattle.model.specs.CheckDemands.{Right, AcceptsPrinted}
+use Rattle.model.specs.CheckDemands.{Right, AcceptsPrinted, PrintedAccepted}
 use Rattle.model.specs.declared.Cell.{Cell}
 use Rattle.model.specs.declared.Header.{Header}
 use Rattle.model.specs.declared.Figures.{Figures}
@@ -40,7 +40,7 @@ use Rattle.theory.proofs.Numbered.{Fitting}
 use Rattle.theory.proofs.Gates.{chosenGates}
 use Rattle.theory.proofs.Wires.{at-output}
 use Rattle.theory.proofs.Values.{net-value}
-use Rattle.theory.proofs.Outcomes.{FromChoice, FromDesign, printed-choice}
+use Rattle.theory_text.proofs.Outcomes.{FromChoice, FromDesign, printed-choice}
 use Rattle.theory.proofs.Demanded.{design-fitting, with-timings}
 use Rattle.theory_check.proofs.PrintedLines.{Clear, Clears, AreNets, worded, worded-line, bindWords, Shown, shownWords, shownLine, gatesAt, behindGates, gates-read, namesText, namesAt, names-read, names-fields, out-clear}
 use Rattle.theory_check.proofs.PrintedNets.{shownOf, printedDrivers, outputs-form, gates-fine, drivers-pass, drivers-values}
@@ -317,3 +317,8 @@ accepts-printed c d t f words e o few short enough =
     reads = edited-read (c .library) (c .graph) t words listed (tx .header) g ds (tx .shortLibrary) (tx .shortGraph) short (tx .isLibrary) (tx .isHeader)
         (subst (λ (n : ℕ). n ≤ words) (ap₂ (λ (m k : ℕ). need m k + 8 * lineEnds t) (outs-length .0 ∙ counted .size) (outs-length .2 ∙ counted .outputs)) enough)
         (tx .isGraph) placed (subst (λ (n : ℕ). n ≤ 12) (outs-length .1) few) netlist-read nets-judged
+
+-- so of the texts of one check
+pub printed-accepted : (library graph netlist : List ℕ) (words : ℕ) → PrintedAccepted library graph netlist words
+printed-accepted library graph netlist words paired arrivals lent bytes d f =
+    accepts-printed (record { paired = paired; library = library; graph = graph; arrivals = arrivals; words = lent; bytes = bytes }) d netlist f words

@@ -24,6 +24,7 @@ use Rattle.theory_graph.specs.Accepted.{Accepted}
 use Rattle.theory_graph.proofs.Placing.{defined-placed}
 use Rattle.theory_graph.proofs.GraphValue.{values-exist, values-only}
 use Rattle.theory_check.proofs.Settling.{netsOf, NoCircle, IsOrder, settled-order}
+use Rattle.theory_check.proofs.AllSettings.{setting-numbered, every-setting, right-under-every}
 use Rattle.theory_check.proofs.NetRuns.{nets-stay, runs-follow, runs-only, inputs-set, map-agree}
 
 isSome : Option ℕ → Bool
@@ -321,6 +322,12 @@ module _ (g : Graph) (ds : List Driver) (ok : Sound g ds) where
     netlistHas = λ s. (the s, the-values s);
     accepts = by-answer answer answers;
     differing = λ s k. at-answer s k answer answers;
+    numbered = setting-numbered (g .inputs) (ok .varsOnce);
+    every = every-setting (g .inputs) (ok .varsOnce);
+    accepted = (
+      (λ e. right-under-every g ds (ok .varsOnce) (by-answer answer answers .0 e)),
+      (λ h. by-answer answer answers .1 (λ s b k i. h (settingOf s 0 (g .inputs)) k i)),
+    );
   }
     where
       by-answer : (c : Checked) → Answers c → (c ≡ Equal) ↔ AllRight

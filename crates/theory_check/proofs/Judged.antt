@@ -27,7 +27,7 @@ isSome (some k) = true
 
 -- ---- 33
 
-twice-none : (known : List (List ℕ)) (ds : List Driver) → drivenTwice known ds ≡ none → Distinct (netsOf ds) × ((n : List ℕ) → List·Memᴰ n known → ¬ List·Memᴰ n (netsOf ds))
+pub twice-none : (known : List (List ℕ)) (ds : List Driver) → drivenTwice known ds ≡ none → Distinct (netsOf ds) × ((n : List ℕ) → List·Memᴰ n known → ¬ List·Memᴰ n (netsOf ds))
 unfolding drivenTwice
 twice-none known [] e = (tt, (λ n m. List·Memᴰ·not-nil))
 twice-none known (d ∷ ds) e = go (among (d .net) known) refl e (twice-none (d .net ∷ known) ds)
@@ -64,7 +64,7 @@ any-none nets (u ∷ us) e n m = go (among u nets) refl e m (any-none nets us)
     go false q h i later = absurd (true≢false h)
 
 -- no two drivers of one net
-one-driver : (ds : List Driver) → Distinct (netsOf ds) → (d e : Driver) → List·Memᴰ d ds → List·Memᴰ e ds → d .net ≡ e .net → d ≡ e
+pub one-driver : (ds : List Driver) → Distinct (netsOf ds) → (d e : Driver) → List·Memᴰ d ds → List·Memᴰ e ds → d .net ≡ e .net → d ≡ e
 one-driver (x ∷ ds) once d e (List·Memᴰ·head p) (List·Memᴰ·head q) s = p ∙ sym q
 one-driver (x ∷ ds) once d e (List·Memᴰ·head p) (List·Memᴰ·tail n) s = absurd (once .0 (Memᴰ·cast (sym (ap (λ (y : Driver). y .net) p) ∙ s) (map-in (λ (y : Driver). y .net) n)))
 one-driver (x ∷ ds) once d e (List·Memᴰ·tail m) (List·Memᴰ·head q) s = absurd (once .0 (Memᴰ·cast (sym (ap (λ (y : Driver). y .net) q) ∙ sym s) (map-in (λ (y : Driver). y .net) m)))

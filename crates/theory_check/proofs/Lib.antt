@@ -1,8 +1,17 @@
 pub mod Settling
 pub mod Circles
 pub mod NetRuns
+pub mod AllSettings
 pub mod Comparing
 pub mod Judged
+pub mod CheckNets
+pub mod CheckWords
+pub mod CheckSteps
+pub mod CheckRun
+pub mod CheckExactly
+pub mod CheckCalls
+pub mod CheckTextCases
+pub mod TextMeant
 pub mod Whole
 pub mod PrintedLines
 pub mod PrintedNets

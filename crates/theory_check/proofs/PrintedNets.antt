@@ -26,7 +26,7 @@ use Rattle.model.specs.declared.Cell.{Cell}
 use Rattle.theory_graph.specs.Accepted.{Accepted}
 use Rattle.theory_graph.proofs.Lists.{map-in, map-out, each-in, map-map, map-same}
 use Rattle.theory_graph.proofs.Distinct.{length-map}
-use Rattle.theory_text.proofs.Plain.{net-free, label-free}
+use Rattle.theory_text.proofs.Plain.{label-free}
 use Rattle.theory_text.proofs.ReadBack.{lineOf, inputNames, wiresFrom, blifOf}
 use Rattle.theory_text.proofs.Names.{label-once}
 use Rattle.theory.proofs.Numbered.{Fitting}

@@ -209,11 +209,6 @@ inverter-table : (c : Cell) → T (isInverter c) → c .table ≡ 1
 unfolding isInverter
 inverter-table c t = eqb→eq (c .table) 1 (and-yes (eqb (c .table) 1) (ltb 0 (c .len)) (and-yes (eqb (c .pins) 1) (eqb (c .table) 1 && ltb 0 (c .len)) t .1) .0)
 
--- "The inverter role stays with listed cells": one has a name
-pub inverter-named : (c : Cell) → T (isInverter c) → 0 < c .len
-unfolding isInverter
-inverter-named c t = ltb→lt 0 (c .len) (and-yes (eqb (c .table) 1) (ltb 0 (c .len)) (and-yes (eqb (c .pins) 1) (eqb (c .table) 1 && ltb 0 (c .len)) t .1) .1)
-
 -- an inverter computes its phase
 pub inverter-value : (c : Cell) (w : ℕ → Bool) (l : ℕ) → T (isInverter c) → value (c .table) (rowOf (literalValue w (opposite l) ∷ [])) ≡ literalValue w l
 unfolding value bit rowOf one flip literalValue

@@ -1,6 +1,6 @@
 -- Covers do not know the order of the cell lines: a cover over one library is a cover over any other that holds its cells, with the same
 -- needed phases and the same arrivals. So the earliest arrivals agree. Assumes nothing.
-use Prim.Native.Nat.{ℕ, zero, suc, _+_, _≤_, _<_}
+use Prim.Native.Nat.{ℕ, zero, suc, _≤_, _<_}
 use native.Mathlib.Nat.{le-refl, le-antisymm, lt-of-not-le}
 use native.Mathlib.Decide.{decLe}
 use native.Mathlib.Omega.{arith}

@@ -1,18 +1,18 @@
 -- Libraries of the same cells form the same pairs: "Where pairs are formed, both libraries form theirs." Assumes nothing.
 use Prim.Native.Nat.{ℕ, _<_}
-use mathlib.Core.Path.{_≡_, refl, sym, _∙_, ap, ap₂, subst}
-use mathlib.Core.Logic.{_⊎_, inl, inr, _↔_}
+use mathlib.Core.Path.{_≡_, sym, _∙_, ap, ap₂, subst}
+use mathlib.Core.Logic.{_⊎_, inl, inr}
 use mathlib.Core.Bool.{Bool, true, false}
-use mathlib.Core.List.{List, [], _∷_, _++_, map, List·Memᴰ, List·Memᴰ·append-cases, Memᴰ·append-left, Memᴰ·append-right}
+use mathlib.Core.List.{List, _++_, map, List·Memᴰ, List·Memᴰ·append-cases, Memᴰ·append-left, Memᴰ·append-right}
 use lib.Dec.{T}
 use lib.ListN.{length, getD}
-use Rattle.model.specs.Base.{each, keep, below}
+use Rattle.model.specs.Base.{keep, below}
 use Rattle.model.specs.Cells.{cellAt, noCell}
-use Rattle.model.specs.Pairs.{pairOf, Pair, joins, pairsOf, cellOfPair, withPairs, cellsFor}
+use Rattle.model.specs.Pairs.{pairOf, joins, pairsOf, cellOfPair, withPairs, cellsFor}
 use Rattle.model.specs.ShuffleDemands.{SameCells}
 use Rattle.model.specs.declared.Cell.{Cell}
 use Rattle.theory_graph.proofs.Lists.{map-in, map-out, each-in, each-out, keep-in, keep-out, below-in, below-out, getD-in}
-use Rattle.theory_cover.proofs.Shuffled.{LineOf, line-of, swapped}
+use Rattle.theory_cover.proofs.Shuffled.{line-of, swapped}
 
 -- what a pair is, with no word of lines
 record IsPair (cells : List Cell) (c : Cell) : Type 0 where

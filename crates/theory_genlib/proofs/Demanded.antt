@@ -52,7 +52,7 @@ group-head [] g m = absurd (List·Memᴰ·not-nil m)
 group-head (l ∷ ls) g (List·Memᴰ·head e) = List·Memᴰ·head (ap (λ (x : Group). x .head) e)
 group-head (l ∷ ls) g (List·Memᴰ·tail n) = List·Memᴰ·tail (grouped-heads ls g n)
 
-group-short : (genlib : List ℕ) (g : Group) → List·Memᴰ g (groups (linesFrom 0 [] genlib)) → length (g .head .bytes) ≤ length genlib
+pub group-short : (genlib : List ℕ) (g : Group) → List·Memᴰ g (groups (linesFrom 0 [] genlib)) → length (g .head .bytes) ≤ length genlib
 group-short genlib g m =
     let q : g .head .offset + (length (g .head .bytes) + g .head .ending) ≤ 0 + (0 + length genlib) = lines-inside 0 [] genlib (g .head) (group-head (linesFrom 0 [] genlib) g m) in omega arith
 

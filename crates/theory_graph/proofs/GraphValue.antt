@@ -6,12 +6,12 @@ use mathlib.Core.Bool.{Bool, true, false, cond, _&&_}
 use mathlib.Core.List.{List, [], _∷_, _++_, map, append-nil, List·Memᴰ, List·Memᴰ·head, List·Memᴰ·tail, List·Memᴰ·not-nil, List·Memᴰ·append-cases, Memᴰ·append-right, Memᴰ·cast}
 use lib.Dec.{T, eqb, eqb→eq}
 use lib.ListN.{length}
-use Rattle.model.specs.Base.{elem, each, flip}
-use Rattle.model.specs.Graph.{And, Graph, constant, input, both, findAnd, node, placeF, placingOrder, varOf, negated, literalValue, nodeValue, valueOf, GraphValues}
+use Rattle.model.specs.Base.{elem, flip}
+use Rattle.model.specs.Graph.{And, Graph, constant, input, both, findAnd, node, placeF, placingOrder, varOf, negated, literalValue, nodeValue, valueOf, GraphValues, andVars}
 use Rattle.model.specs.Demands.{Distinct}
 use Rattle.theory_graph.proofs.Lists.{map-in, map-out, each-in, elem-out}
 use Rattle.theory_graph.proofs.Runs.{along, twice-apart}
-use Rattle.theory_graph.specs.Accepted.{Accepted, andVars}
+use Rattle.theory_graph.specs.Accepted.{Accepted}
 use Rattle.theory_graph.proofs.Placing.{distinct-once, order-once, placed-and, defined-placed}
 use Rattle.theory_graph.proofs.Nodes.{node-input}
 use Rattle.theory_graph.proofs.Values.{ands-once, order-closed, operands-before, Closed, valueOf-valuation}

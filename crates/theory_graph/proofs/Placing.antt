@@ -10,9 +10,9 @@ use lib.Dec.{T, leb, leb→le, T-not}
 use lib.ListN.{length}
 use mir.Facts.{and-yes}
 use Rattle.model.specs.Base.{elem, keep, lowest}
-use Rattle.model.specs.Graph.{And, Graph, ready, andOn, placeF, placingOrder, unplaced, varOf}
+use Rattle.model.specs.Graph.{And, Graph, ready, andOn, placeF, placingOrder, unplaced, varOf, andVars}
 use Rattle.theory_graph.proofs.Distinct.{append-distinct}
-use Rattle.theory_graph.specs.Accepted.{Accepted, andVars, distinct}
+use Rattle.theory_graph.specs.Accepted.{Accepted, distinct}
 use Rattle.model.specs.Demands.{Distinct}
 use Rattle.theory_graph.proofs.Lists.{map-in, map-out, keep-in, keep-out, elem-T, elem-out, lowest-in, all-of}
 

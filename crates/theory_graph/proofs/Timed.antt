@@ -2,15 +2,14 @@
 -- Assumes nothing.
 use Prim.Native.Nat.{ℕ, zero, suc, _<_}
 use native.Mathlib.Nat.{not-suc-le-zero, le-of-suc-le-suc}
-use mathlib.Core.Path.{_≡_, refl, sym, _∙_, ap, subst, fun-ext}
-use mathlib.Core.Bool.{Bool, false, cond}
+use mathlib.Core.Path.{_≡_, refl, sym, _∙_, ap, subst}
+use mathlib.Core.Bool.{Bool, cond}
 use mathlib.Core.List.{List, [], _∷_, map, List·Memᴰ, List·Memᴰ·head, List·Memᴰ·tail, Memᴰ·cast}
 use lib.Dec.{eqb, eqb-refl}
 use lib.ListN.{length, getD}
 use mir.Facts.{no-eqb}
-use Rattle.model.specs.Base.{orElse}
-use Rattle.model.specs.Graph.{Graph, node, placingOrder, span, unplaced, nodeValue, GraphValues}
-use Rattle.model.specs.Cuts.{cutsOf, crowded, leafBit, walk, tabulate, cutTable}
+use Rattle.model.specs.Graph.{Graph, node, placingOrder, unplaced, GraphValues}
+use Rattle.model.specs.Cuts.{cutsOf}
 use Rattle.model.specs.ArrivalsText.{Late, lateOf, timedBy}
 use Rattle.model.specs.Demands.{Distinct, Lists, ListedFor}
 use Rattle.theory_graph.specs.Accepted.{Accepted}
@@ -35,19 +34,6 @@ module _ (g : Graph) (es : List Late) where
   unfolding timedBy cutsOf placingOrder node
   timed-cuts v = refl
 
-  timed-walk : (fuel : ℕ) (cut : List ℕ) (r v : ℕ) → walk fuel (timedBy g es) cut r v ≡ walk fuel g cut r v
-  unfolding timedBy walk node
-  timed-walk zero cut r v = refl
-  timed-walk (suc fuel) cut r v = ap (λ (w : ℕ → Bool). orElse (leafBit cut 0 r v) (nodeValue (λ u. false) w v (node g v))) (fun-ext (timed-walk fuel cut r))
-
-  pub timed-table : (cut : List ℕ) (v : ℕ) → cutTable (timedBy g es) cut v ≡ cutTable g cut v
-  unfolding timedBy cutTable span
-  timed-table cut v = ap (λ (f : ℕ → Bool). tabulate f 16) (fun-ext (λ r. timed-walk (span g) cut r v))
-
-  pub timed-crowded : crowded (timedBy g es) ≡ crowded g
-  unfolding timedBy crowded cutsOf placingOrder node
-  timed-crowded = refl
-
   pub timed-values : (setting w : ℕ → Bool) → GraphValues g setting w → GraphValues (timedBy g es) setting w
   unfolding timedBy
   timed-values setting w v = record { atConstant = v .atConstant; atInputs = v .atInputs; atAnds = v .atAnds }
@@ -55,11 +41,6 @@ module _ (g : Graph) (es : List Late) where
   pub timed-accepted : Accepted g → Accepted (timedBy g es)
   unfolding timedBy unplaced placingOrder
   timed-accepted a = record { defined = a .defined; inRange = a .inRange; used = a .used; placed = a .placed }
-
-  -- and the arrivals
-  pub timed-late : timedBy g es .late ≡ lateOf (g .inputs) es
-  unfolding timedBy
-  timed-late = refl
 
 -- "or empty for none": a graph whose inputs arrive at 0 stays as it is
 pub timed-none : (g : Graph) → (λ (v : ℕ). 0) ≡ g .late → timedBy g [] ≡ g
@@ -103,14 +84,6 @@ module _ (inputs : List ℕ) (once : Distinct inputs) where
   late-others (x ∷ es) inside k h n =
       late-past inputs x es (getD inputs k 0) (λ q. n (List·Memᴰ·head (place-once inputs once k (x .index) h (inside (x .index) (List·Memᴰ·head refl)) q)))
       ∙ late-others es (λ j m. inside j (List·Memᴰ·tail m)) k h (λ m. n (List·Memᴰ·tail m))
-
--- nor does a variable that is no input
-pub late-elsewhere : (inputs : List ℕ) (es : List Late) → ((k : ℕ) → Lists es k → k < length inputs) → (v : ℕ) → ¬ List·Memᴰ v inputs → lateOf inputs es v ≡ 0
-unfolding lateOf
-late-elsewhere inputs [] inside v n = refl
-late-elsewhere inputs (x ∷ es) inside v n =
-    late-past inputs x es v (λ q. n (Memᴰ·cast q (getD-in inputs (x .index) 0 (inside (x .index) (List·Memᴰ·head refl)))))
-    ∙ late-elsewhere inputs es (λ k m. inside k (List·Memᴰ·tail m)) v n
 
 pub listed-for : (g : Graph) → Distinct (g .inputs) → (es : List Late) → ((k : ℕ) → Lists es k → k < length (g .inputs)) → Distinct (map (λ (e : Late). e .index) es)
     → ListedFor (timedBy g es) es

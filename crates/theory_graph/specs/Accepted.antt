@@ -2,13 +2,13 @@
 use Prim.Native.Nat.{ℕ, _^_}
 use mathlib.Core.Path.{_≡_}
 use mathlib.Core.Bool.{Bool, true, not, _&&_}
-use mathlib.Core.List.{List, [], _∷_, _++_, map, List·Memᴰ}
+use mathlib.Core.List.{List, [], _∷_, _++_, List·Memᴰ}
 use lib.Dec.{T, eqb, leb, ltb}
 use lib.ListN.{length}
 use Rattle.model.specs.Base.{all, each, elem, same}
 use Rattle.model.specs.Text.{isName}
 use Rattle.model.specs.Cells.{nameOf}
-use Rattle.model.specs.Graph.{And, Graph, varOf, unplaced}
+use Rattle.model.specs.Graph.{And, Graph, varOf, unplaced, andVars}
 use Rattle.model.specs.declared.Cell.{Cell}
 
 -- no number stands twice
@@ -16,10 +16,6 @@ unfoldable pub distinct : List ℕ → Bool
 unfolding elem
 distinct [] = true
 distinct (x ∷ xs) = not (elem x xs) && distinct xs
-
--- the variables of the ANDs
-abbrev pub andVars : Graph → List ℕ
-andVars g = map (λ (a : And). a .var) (g .ands)
 
 -- a graph free of refusals 9 and 12 to 15
 pub record Accepted (g : Graph) : Type 0 where

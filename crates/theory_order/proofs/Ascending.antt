@@ -17,13 +17,9 @@ use borrow.Author.Tests.{leb-true, leb-false, eqb-false, le-leb, ne-eqb, eq-eqb}
 use Rattle.model.specs.Base.{put, insert, union}
 use Rattle.model.specs.Cuts.{after, compareLeaves, compareCuts}
 use Rattle.model.specs.Demands.{Distinct}
+use Rattle.model.specs.OrderDemands.{Ascending}
 use Rattle.theory_graph.proofs.Sets.{insert-only}
 use Rattle.theory_graph.proofs.CutFacts.{compare-found}
-
--- each element is less than all that come after it
-abbrev pub Ascending {ℓ} : {A : Type 0} → (A → A → Type ℓ) → List A → Type ℓ
-Ascending less [] = Unit
-Ascending {A = A} less (x ∷ xs) = ((y : A) → List·Memᴰ y xs → less x y) × Ascending less xs
 
 pub ascending-once : {A : Type 0} (less : A → A → Type 0) → ((x : A) → ¬ less x x) → (xs : List A) → Ascending less xs → Distinct xs
 ascending-once less never [] h = tt

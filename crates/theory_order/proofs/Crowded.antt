@@ -3,7 +3,7 @@
 --     crowded-first-iff           the place of refusal 16
 --     crowded-none-iff            it applies nowhere exactly where no placed variable has too many
 -- Assumes nothing.
-use Prim.Native.Nat.{ℕ, _≤_, _<_}
+use Prim.Native.Nat.{ℕ, _≤_}
 use native.Mathlib.Omega.{arith}
 use mathlib.Core.Path.{_≡_, refl, sym, _∙_, ap, subst}
 use mathlib.Core.Logic.{_⊎_, inl, inr, _↔_}
@@ -17,11 +17,11 @@ use Rattle.model.specs.Limits.{cutLimit}
 use Rattle.model.specs.Reading.{firstOf}
 use Rattle.model.specs.Graph.{Graph, placingOrder}
 use Rattle.model.specs.Cuts.{cutsOf, crowded}
-use Rattle.model.specs.Demands.{Distinct}
+use Rattle.model.specs.OrderDemands.{Many, FirstCrowded}
 use Rattle.theory_graph.specs.Accepted.{Accepted}
 use Rattle.theory_graph.proofs.Lists.{keep-in, keep-out, is-true, is-false}
 use Rattle.theory_order.proofs.Splits.{none-in, no-more}
-use Rattle.theory_order.proofs.Recursion.{IsCut, cuts-exactly, cuts-once}
+use Rattle.theory_order.proofs.Recursion.{cuts-exactly, cuts-once}
 
 -- ---- the first that passes a test
 
@@ -64,21 +64,6 @@ first-out p (x ∷ before) v behind t h =
     ∙ first-out p before v behind t (λ u m. h u (List·Memᴰ·tail m))
 
 -- ---- refusal 16
-
--- "more than 18 cuts": so many different ones
-pub record Many (g : Graph) (v : ℕ) : Type 0 where
-  pub cuts : List (List ℕ)
-  pub once : Distinct cuts
-  pub areCuts : (c : List ℕ) → List·Memᴰ c cuts → IsCut g v c
-  pub over : cutLimit < length cuts
-
--- "place, the first such variable in placing order"
-pub record FirstCrowded (g : Graph) (v : ℕ) : Type 0 where
-  pub before : List ℕ
-  pub behind : List ℕ
-  pub isPlaced : placingOrder g ≡ before ++ (v ∷ behind)
-  pub many : Many g v
-  pub fewBefore : (u : ℕ) → List·Memᴰ u before → ¬ Many g u
 
 module _ (g : Graph) (ok : Accepted g) where
   abbrev test : ℕ → Bool

@@ -14,9 +14,10 @@ use lib.ListN.{length}
 use mir.Facts.{yes-and}
 use Rattle.model.specs.Base.{elem, keep, lowest}
 use Rattle.model.specs.Graph.{And, Graph, varOf, ready, andOn, placeF, placingOrder}
+use Rattle.model.specs.OrderDemands.{Follows}
 use Rattle.theory_graph.proofs.Lists.{map-in, keep-in, elem-T}
 use Rattle.theory_order.proofs.Splits.{cons-tail, keep-length, lowest-none, lowest-least}
-use Rattle.theory_order.proofs.Orders.{Follows, Turn, placedAnds, waiting, in-not, next-turn, fewer-wait}
+use Rattle.theory_order.proofs.Orders.{Turn, placedAnds, waiting, in-not, next-turn, fewer-wait}
 
 -- behind those placed already: nothing, where no AND is left whose operands are placed; else the lowest such AND, and so on behind it
 pub data Greedy (g : Graph) : List ℕ → List ℕ → Type 0 where

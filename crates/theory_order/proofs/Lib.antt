@@ -5,3 +5,4 @@ pub mod Recursion
 pub mod Greedy
 pub mod Crowded
 pub mod Sequence
+pub mod PairOrder

@@ -17,38 +17,13 @@ use lib.Dec.{T, T-not, not-T}
 use lib.ListN.{length}
 use mir.Facts.{and-yes, yes-and}
 use Rattle.model.specs.Base.{elem, keep, lowest}
-use Rattle.model.specs.Graph.{And, Graph, varOf, ready, andOn, placeF, placingOrder, unplaced}
-use Rattle.model.specs.Demands.{Distinct}
-use Rattle.theory_graph.specs.Accepted.{distinct, andVars}
+use Rattle.model.specs.Graph.{And, Graph, varOf, ready, andOn, placeF, placingOrder, unplaced, andVars}
+use Rattle.model.specs.OrderDemands.{Follows, Order, Stands, OrderOfAll}
+use Rattle.theory_graph.specs.Accepted.{distinct}
 use Rattle.theory_graph.proofs.Lists.{map-in, map-out, keep-in, keep-out, elem-out, elem-T, is-true, lowest-in}
 use Rattle.theory_graph.proofs.Runs.{twice-apart}
 use Rattle.theory_graph.proofs.Placing.{next-new}
 use Rattle.theory_order.proofs.Splits.{by-elem, distinct-yes, none-in, nil-split, cons-head, cons-tail, split-append, between-first, first-between, split-once, keep-length, keep-less, lowest-none, lowest-least, lowest-some}
-
--- v is the variable of an AND whose operands' variables are both in the list
-pub record Follows (g : Graph) (before : List ℕ) (v : ℕ) : Type 0 where
-  pub line : And
-  pub isLine : List·Memᴰ line (g .ands)
-  pub isVar : line .var ≡ v
-  pub left : List·Memᴰ (varOf (line .left)) before
-  pub right : List·Memᴰ (varOf (line .right)) before
-
--- an order of ANDs: none twice, and each one's operands are variable 0, inputs, or ANDs that stand before it
-pub record Order (g : Graph) (vs : List ℕ) : Type 0 where
-  pub once : Distinct vs
-  pub follows : (pre : List ℕ) (v : ℕ) (post : List ℕ) → vs ≡ pre ++ (v ∷ post) → Follows g (0 ∷ g .inputs ++ pre) v
-
--- v stands in some order
-pub record Stands (g : Graph) (v : ℕ) : Type 0 where
-  pub order : List ℕ
-  pub isOrder : Order g order
-  pub isIn : List·Memᴰ v order
-
--- an order of all ANDs
-pub record OrderOfAll (g : Graph) : Type 0 where
-  pub order : List ℕ
-  pub isOrder : Order g order
-  pub hasAll : (v : ℕ) → List·Memᴰ v (andVars g) → List·Memᴰ v order
 
 follows-more : {g : Graph} {v : ℕ} (xs ys : List ℕ) → ((x : ℕ) → List·Memᴰ x xs → List·Memᴰ x ys) → Follows g xs v → Follows g ys v
 follows-more xs ys sub f =

@@ -17,10 +17,11 @@ use lib.ListN.{length}
 use mir.Facts.{leb-yes, yes-leb}
 use borrow.Author.Tests.{eq-eqb, ne-eqb}
 use Rattle.model.specs.Base.{elem, each, union, find, run}
-use Rattle.model.specs.Graph.{And, Graph, constant, input, both, findAnd, node, placingOrder, varOf}
+use Rattle.model.specs.Graph.{And, Graph, constant, input, both, findAnd, node, placingOrder, varOf, andVars}
 use Rattle.model.specs.Cuts.{compareCuts, unions, nodeCuts, cutLists, cutsOf}
 use Rattle.model.specs.Demands.{Distinct}
-use Rattle.theory_graph.specs.Accepted.{Accepted, andVars}
+use Rattle.model.specs.OrderDemands.{Ascending, Follows, IsUnion, IsCut, ofConstant, ofInput, ofAnd, ofOperands}
+use Rattle.theory_graph.specs.Accepted.{Accepted}
 use Rattle.theory_graph.proofs.Lists.{map-in, map-out, each-in, each-out, keep-in, keep-out}
 use Rattle.theory_graph.proofs.Sets.{union-left, union-right, union-only}
 use Rattle.theory_graph.proofs.Runs.{along, twice-apart, run-stays, run-split}
@@ -29,21 +30,8 @@ use Rattle.theory_graph.proofs.Nodes.{node-input}
 use Rattle.theory_graph.proofs.Values.{and-once, ands-once}
 use Rattle.theory_graph.proofs.CutFacts.{compare-found, cutStep, cutsKnown, cuts-entry, cuts-none, leaves-before}
 use Rattle.theory_order.proofs.Splits.{by-elem, not-elem, distinct-yes, split-at}
-use Rattle.theory_order.proofs.Ascending.{Ascending, Before, ascending-once, ascending-unique, leaves-ascend, cuts-found, cuts-never, cuts-ascend}
-use Rattle.theory_order.proofs.Orders.{Follows, order-turn}
-
--- z is the union of two sets, as an ascending list
-pub record IsUnion (c d z : List ℕ) : Type 0 where
-  pub ascends : Ascending _<_ z
-  pub has : (x : ℕ) → List·Memᴰ x z ↔ (List·Memᴰ x c ⊎ List·Memᴰ x d)
-
--- a cut of a variable
-pub data IsCut (g : Graph) : ℕ → List ℕ → Type 0 where
-  ofConstant : IsCut g 0 []
-  ofInput : {i : ℕ} → List·Memᴰ i (g .inputs) → IsCut g i (i ∷ [])
-  ofAnd : {a : And} → List·Memᴰ a (g .ands) → IsCut g (a .var) (a .var ∷ [])
-  ofOperands : {a : And} {c d z : List ℕ} → List·Memᴰ a (g .ands) → IsCut g (varOf (a .left)) c → IsCut g (varOf (a .right)) d → IsUnion c d z → length z ≤ 4
-      → IsCut g (a .var) z
+use Rattle.theory_order.proofs.Ascending.{Before, ascending-once, ascending-unique, leaves-ascend, cuts-found, cuts-never, cuts-ascend}
+use Rattle.theory_order.proofs.Orders.{order-turn}
 
 -- ---- unions
 

@@ -5,8 +5,7 @@ use native.Mathlib.Omega.{arith}
 use mathlib.Core.Path.{_≡_}
 use mathlib.Core.Logic.{_⊎_, inl, inr}
 use mathlib.Core.List.{[], _∷_, _++_, List·Memᴰ, List·Memᴰ·append-cases, Memᴰ·append-right, Memᴰ·cast}
-use Rattle.model.specs.Graph.{And, Graph, varOf, placingOrder, unplaced}
-use Rattle.theory_graph.specs.Accepted.{andVars}
+use Rattle.model.specs.Graph.{And, Graph, varOf, placingOrder, unplaced, andVars}
 use Rattle.theory_graph.proofs.Lists.{map-out}
 use Rattle.theory_order.proofs.Splits.{none-in}
 use Rattle.theory_order.proofs.Orders.{ready-placed, first-placed, unplaced-in}

@@ -6,7 +6,7 @@ use mathlib.Core.List.{List, [], _∷_}
 use lib.Dec.{T, eqb}
 use Rattle.model.specs.Base.{all}
 use Rattle.model.specs.Text.{text}
-use Rattle.model.proofs.Cases.{listing}
+use Rattle.cases.proofs.Said.{listing}
 use Rattle.theory_tally.specs.Sums.{GatesLine, figuresIn}
 
 unfoldable pub says : ℕ → ℕ → Option GatesLine → Bool

@@ -27,14 +27,14 @@ use Rattle.theory_tally.proofs.DueMet.{Meets}
 
 -- ---- lines that byte 10 alone ends are the parts between bytes 10
 
-abbrev bytesOf : List Line → List (List ℕ)
+abbrev pub bytesOf : List Line → List (List ℕ)
 bytesOf ls = map (λ (l : Line). l .bytes) ls
 
-abbrev Ten : List Line → Type 0
+abbrev pub Ten : List Line → Type 0
 Ten [] = Unit {0}
 Ten (l ∷ ls) = T (endedByTen l) × Ten ls
 
-ten-append : (ls ms : List Line) → Ten ls → Ten ms → Ten (ls ++ ms)
+pub ten-append : (ls ms : List Line) → Ten ls → Ten ms → Ten (ls ++ ms)
 ten-append [] ms a b = b
 ten-append (l ∷ ls) ms a b = (a .0, ten-append ls ms (a .1) b)
 
@@ -57,7 +57,7 @@ closed at (h ∷ hs) t = go (eqb h 13) t
     go true u = absurd u
     go false u = refl
 
-lines-parts : (at : ℕ) (held s : List ℕ) → Free 10 held → Ten (linesFrom at held s) → bytesOf (linesFrom at held s) ≡ parts 10 (reverse held ++ s)
+pub lines-parts : (at : ℕ) (held s : List ℕ) → Free 10 held → Ten (linesFrom at held s) → bytesOf (linesFrom at held s) ≡ parts 10 (reverse held ++ s)
 lines-parts at [] [] f t = unfold linesFrom parts in refl
 lines-parts at (h ∷ hs) [] f t = unfold linesFrom in absurd (t .0)
 lines-parts at held (b ∷ s) f t =
@@ -111,7 +111,7 @@ apart-same : (v : List ℕ) → Other v → Apart (same v)
 apart-same v o w e = subst Other (same-eq v w (subst T (sym e) tt)) o
 
 -- the keywords that a form's fields begin with
-keys-first : (keys : List (List ℕ)) (ps : List (List ℕ → Bool)) (ws : List (List ℕ)) → ofForm (map same keys ++ ps) ws ≡ true → (vs : List (List ℕ)) × (ws ≡ keys ++ vs)
+pub keys-first : (keys : List (List ℕ)) (ps : List (List ℕ → Bool)) (ws : List (List ℕ)) → ofForm (map same keys ++ ps) ws ≡ true → (vs : List (List ℕ)) × (ws ≡ keys ++ vs)
 unfolding ofForm
 keys-first [] ps ws e = (ws, refl)
 keys-first (k ∷ ks) ps [] e = absurd (subst T (sym e) tt)
@@ -157,13 +157,13 @@ other-gate k (c ∷ cs) w i e = go (ofForm (gateForm c) (fields w)) refl e (othe
 
 -- ---- the lines of a counted netlist
 
-record Due (ps : List (List ℕ → Bool)) (ls ms : List Line) : Type 0 where
-  passed : List Line
-  areThese : ls ≡ passed ++ ms
-  ten : Ten passed
-  met : Meets ps (bytesOf passed)
+pub record Due (ps : List (List ℕ → Bool)) (ls ms : List Line) : Type 0 where
+  pub passed : List Line
+  pub areThese : ls ≡ passed ++ ms
+  pub ten : Ten passed
+  pub met : Meets ps (bytesOf passed)
 
-due-out : (end : ℕ) (ps : List (List ℕ → Bool)) (ls ms : List Line) → dueLines end ps ls ≡ holds ms → Due ps ls ms
+pub due-out : (end : ℕ) (ps : List (List ℕ → Bool)) (ls ms : List Line) → dueLines end ps ls ≡ holds ms → Due ps ls ms
 unfolding dueLines
 due-out end [] ls ms e = record { passed = []; areThese = holds-once e; ten = tt; met = tt }
 due-out end (p ∷ ps) [] ms e = absurd (fault-never e)
@@ -194,7 +194,7 @@ gates-out cells (l ∷ ls) = go (gateIn cells l) refl (gates-out cells ls)
         let g = gate (endedByTen l) i refl e in
         record { passed = l ∷ later .passed; areThese = ap (λ (xs : List Line). l ∷ xs) (later .areThese); ten = (g .0, later .ten); others = (g .1, later .others) }
 
-left-out : (ls ms : List Line) → nothingLeft ls ≡ holds ms → ls ≡ []
+pub left-out : (ls ms : List Line) → nothingLeft ls ≡ holds ms → ls ≡ []
 unfolding nothingLeft
 left-out [] ms e = refl
 left-out (l ∷ ls) ms e = absurd (fault-never e)

@@ -33,7 +33,7 @@ use Rattle.theory_text.proofs.Steps.{holds-once}
 use Rattle.theory_text.proofs.ReadTexts.{texts-read, design-accepted}
 use Rattle.theory.proofs.Numbered.{Fitting}
 use Rattle.theory.proofs.Gates.{chosenGates, gate-listed, line-bound}
-use Rattle.theory.proofs.Outcomes.{printed-choice}
+use Rattle.theory_text.proofs.Outcomes.{printed-choice}
 use Rattle.theory.proofs.Demanded.{design-fitting, readable}
 use Rattle.theory_text.proofs.Names.{named-cell}
 use Rattle.theory_text.proofs.ReadBack.{outputNames}
@@ -191,7 +191,7 @@ module _ (ranged : Bool) (cells : List Cell) (fit : T (libraryFits cells)) (g : 
 -- ---- what the mapper prints
 
 -- no space and no line end stands in a cell's name
-name-clear : (w : List ℕ) → T (isName w) → Clear w
+pub name-clear : (w : List ℕ) → T (isName w) → Clear w
 unfolding isName all
 name-clear [] t s h = absurd t
 name-clear (b ∷ bs) t s h =

@@ -52,7 +52,7 @@ unfolding sum from
 none-first zero k = refl
 none-first (suc n) k = omega (arith, none-first n (suc k))
 
-sum-first : (n : ℕ) (xs : List ℕ) → sum (map (λ (i : ℕ). getD xs i 0) (from 0 n)) ≡ sum (take n xs)
+pub sum-first : (n : ℕ) (xs : List ℕ) → sum (map (λ (i : ℕ). getD xs i 0) (from 0 n)) ≡ sum (take n xs)
 unfolding sum from
 sum-first zero xs = refl
 sum-first (suc n) [] = none-first (suc n) 0
@@ -161,7 +161,7 @@ record Small (t : Tally) : Type 0 where
   occurs : (i : ℕ) → getD (t .occurs) i 0 ≤ t .netlists * 4294967296
   few : t .netlists ≤ 64
 
-none-at : (k i : ℕ) → _≡_ {A = ℕ} (getD (replicate k 0) i 0) 0
+pub none-at : (k i : ℕ) → _≡_ {A = ℕ} (getD (replicate k 0) i 0) 0
 none-at zero i = refl
 none-at (suc k) zero = refl
 none-at (suc k) (suc i) = none-at k i

@@ -1,14 +1,14 @@
 -- The cells of a netlist that is counted: they are listed, and no more than the text has bytes. Assumes nothing.
-use Prim.Native.Nat.{ℕ, zero, suc, _+_, _≤_, _<_}
+use Prim.Native.Nat.{ℕ, suc, _+_, _≤_, _<_}
 use native.Mathlib.Omega.{arith}
-use mathlib.Core.Path.{_≡_, refl, sym, _∙_, ap, subst}
+use mathlib.Core.Path.{_≡_, refl, sym, ap, subst}
 use mathlib.Core.Bool.{Bool, true, false, cond, _&&_}
 use mathlib.Core.Option.{Option, none, some}
 use mathlib.Core.List.{List, [], _∷_, List·Memᴰ, List·Memᴰ·head, List·Memᴰ·tail, List·Memᴰ·not-nil}
 use lib.Dec.{T, eqb, leb, ltb}
 use lib.ListN.{length}
 use Rattle.model.specs.Text.{Line, closing, endedByTen, linesFrom, fields}
-use Rattle.model.specs.Reading.{Read, holds, fault, next, unless}
+use Rattle.model.specs.Reading.{holds}
 use Rattle.model.specs.LibraryText.{readLibrary, isRanged}
 use Rattle.model.specs.NetlistLines.{ofForm, gateForm, gateOf}
 use Rattle.model.specs.Tally.{inWidth, dueLines, nothingLeft, gateIn, gatesIn, afterGates, areaOf, frame, behindGates, outputsOf, readCounted, counted, countText}

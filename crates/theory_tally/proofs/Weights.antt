@@ -42,6 +42,13 @@ added-at f k [] i = omega arith
 added-at f k (n ∷ ns) zero = let z : k + 0 ≡ k = omega arith in omega (arith, ap f z)
 added-at f k (n ∷ ns) (suc i) = let z : k + suc i ≡ suc k + i = omega arith in omega (arith, ap f z, added-at f (suc k) ns i)
 
+-- each place, within the list
+pub added-is : (f : ℕ → ℕ) (k : ℕ) (ns : List ℕ) (i : ℕ) → i < length ns → getD (addEach f k ns) i 0 ≡ getD ns i 0 + f (k + i)
+unfolding addEach
+added-is f k [] i h = absurd (omega arith)
+added-is f k (n ∷ ns) zero h = let z : k ≡ k + 0 = omega arith in ap (λ (j : ℕ). n + f j) z
+added-is f k (n ∷ ns) (suc i) h = let z : suc k + i ≡ k + suc i = omega arith in added-is f (suc k) ns i (omega arith) ∙ ap (λ (j : ℕ). getD ns i 0 + f j) z
+
 sum-plus : (f h : ℕ → ℕ) (ns : List ℕ) → sum (map (λ (i : ℕ). f i + h i) ns) ≡ sum (map f ns) + sum (map h ns)
 unfolding sum
 sum-plus f h [] = refl

@@ -17,7 +17,7 @@ use Rattle.model.specs.Base.{all, each, elem, same, andThen, only}
 use Rattle.model.specs.Text.{Line, ended, text, decimal, linesFrom, fields, numbers}
 use Rattle.model.specs.Limits.{need}
 use Rattle.model.specs.Reading.{Read, holds, fault, next, unless, from?}
-use Rattle.model.specs.Graph.{Graph}
+use Rattle.model.specs.Graph.{Graph, andVars}
 use Rattle.model.specs.GraphText.{readHeader, readGraph, numbersLine}
 use Rattle.model.specs.ArrivalsText.{Late, lateNumbers, readLate, readLateLines, readArrivals, arrivalsText, timedBy}
 use Rattle.model.specs.Mapper.{Call, Design, designOf, readListed, readTexts}
@@ -26,7 +26,6 @@ use Rattle.model.specs.declared.Cell.{Cell}
 use Rattle.model.specs.declared.Header.{Header}
 use Rattle.theory_graph.proofs.Lists.{is-true, elem-T, elem-out}
 use Rattle.theory_graph.proofs.Distinct.{front-distinct}
-use Rattle.theory_graph.specs.Accepted.{andVars}
 use Rattle.theory_graph.proofs.Timed.{timed-none, listed-for}
 use Rattle.theory_text.proofs.Steps.{holds-once, unless-out, from-out, next-out, then-out, numbers-small}
 use Rattle.theory_text.proofs.Plain.{decimal-free}

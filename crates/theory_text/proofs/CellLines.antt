@@ -2,17 +2,16 @@
 -- cells. Assumes nothing.
 use Prim.Native.Nat.{ℕ, suc}
 use native.Mathlib.Omega.{arith}
-use mathlib.Core.Path.{_≡_, refl, sym, _∙_, ap, ap₂, subst}
-use mathlib.Core.Logic.{_↔_}
+use mathlib.Core.Path.{_≡_, refl, sym, _∙_, ap, subst}
 use mathlib.Core.Bool.{Bool, true, false, not, cond, _&&_, _||_}
 use mathlib.Core.Option.{Option, some}
-use mathlib.Core.List.{List, [], _∷_, map, List·Memᴰ, List·Memᴰ·head, List·Memᴰ·tail, List·Memᴰ·not-nil}
-use lib.Dec.{T, eqb, ltb}
+use mathlib.Core.List.{List, [], _∷_, List·Memᴰ, List·Memᴰ·head, List·Memᴰ·tail, List·Memᴰ·not-nil}
+use lib.Dec.{eqb, ltb}
 use lib.ListN.{length, getD}
 use mir.Facts.{and-yes, eqb-yes}
-use Rattle.model.specs.Base.{any, same, only, andThen}
-use Rattle.model.specs.Text.{Line, ended, linesFrom, fields, numbers, hexTable, isName}
-use Rattle.model.specs.Reading.{Read, holds, from?}
+use Rattle.model.specs.Base.{any, same, only}
+use Rattle.model.specs.Text.{Line, ended, linesFrom, fields, isName}
+use Rattle.model.specs.Reading.{holds, from?}
 use Rattle.model.specs.Cells.{nameOf}
 use Rattle.model.specs.LibraryText.{cellOfFields, cellOfLine, isClean, noLower, isShorter, isLonger, readCells, readLibraryLines, rangedLines, readLibrary}
 use Rattle.model.specs.ShuffleDemands.{behindFirst, cellLines, SameLines, SameCells}

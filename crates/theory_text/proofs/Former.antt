@@ -3,19 +3,19 @@ use Prim.Native.Nat.{ℕ, zero, suc, _^_, _≤_}
 use native.Mathlib.Nat.{le-refl, le-of-suc-le-suc, not-suc-le-zero}
 use native.Mathlib.Omega.{arith}
 use mathlib.Core.Path.{_≡_, refl, sym, _∙_, ap, ap₂, subst}
-use mathlib.Core.Bool.{Bool, true, false, not, cond, _&&_, _||_}
+use mathlib.Core.Bool.{Bool, true, false, not, _&&_, _||_}
 use mathlib.Core.Option.{Option, none, some}
-use mathlib.Core.List.{List, [], _∷_, List·Memᴰ}
+use mathlib.Core.List.{List, [], _∷_}
 use lib.Dec.{T, eqb, leb, ltb, le→leb}
 use lib.ListN.{length, getD, take, drop, length-drop}
 use mir.Facts.{and-yes, eqb-yes}
 use Rattle.model.specs.Base.{all, any, same, andThen, only}
 use Rattle.model.specs.Limits.{need}
-use Rattle.model.specs.Text.{Line, ended, text, linesFrom, fields, numbers, hexTable, isName}
+use Rattle.model.specs.Text.{Line, ended, linesFrom, fields, numbers, hexTable, isName}
 use Rattle.model.specs.Reading.{Read, holds, fault, next, unless, from?}
 use Rattle.model.specs.Cells.{nameOf}
 use Rattle.model.specs.Graph.{Graph}
-use Rattle.model.specs.LibraryText.{nameBytes, cellOfFields, cellOfLine, isClean, noLower, isShorter, isLonger, readCells, readLibraryLines, rangedLines, readLibrary, isRanged}
+use Rattle.model.specs.LibraryText.{nameBytes, cellOfFields, cellOfLine, isClean, noLower, isShorter, readCells, readLibraryLines, rangedLines, readLibrary, isRanged}
 use Rattle.model.specs.Pairs.{cellsFor}
 use Rattle.model.specs.FormerLibrary.{formerFields, formerLine, formerClean, formerCells, formerLines, formerLibrary}
 use Rattle.model.specs.GraphText.{readHeader, readGraph}
@@ -25,7 +25,6 @@ use Rattle.model.specs.Timing.{followed}
 use Rattle.model.specs.Mapper.{Call, Design, short, readListed, readTexts, within, mapDesign, mapTexts}
 use Rattle.model.specs.Demands.{readFormer, formerOutcome, Former}
 use Rattle.model.specs.declared.Cell.{Cell}
-use Rattle.model.specs.declared.Header.{Header}
 use Rattle.theory_graph.proofs.Lists.{is-true}
 use Rattle.theory_text.proofs.Steps.{from-out, then-out, only-out, numbers-length}
 use Rattle.theory_text.proofs.ReadTexts.{texts-read, listed-plain}

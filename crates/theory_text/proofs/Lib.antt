@@ -20,3 +20,4 @@ pub mod Arrivals
 pub mod Former
 pub mod Ends
 pub mod Written
+pub mod Outcomes

@@ -12,12 +12,12 @@ use mir.Facts.{and-yes, yes-and, eqb-yes, leb-yes}
 use Rattle.model.specs.Base.{all, elem, keep, each}
 use Rattle.model.specs.Text.{Line, linesFrom}
 use Rattle.model.specs.Reading.{holds, next, from?}
-use Rattle.model.specs.Graph.{And, Graph, varOf, unplaced}
+use Rattle.model.specs.Graph.{And, Graph, varOf, unplaced, andVars}
 use Rattle.model.specs.GraphText.{closed, headerOf, inLimits, inSequence, readHeader, Kind, anInput, anOutput, anAnd, howMany, defines, due, Item, readDue, readBinary, readItems, uses, definedBy, checkUses, sameKind, isKind, graphOf, readGraph}
 use Rattle.model.specs.Demands.{Distinct}
 use Rattle.model.specs.declared.Header.{Header}
 use Rattle.theory_graph.proofs.Lists.{map-out, keep-out, each-out, elem-out, map-map, getD-in, all-of, all-in, is-true, keep-append}
-use Rattle.theory_graph.specs.Accepted.{Accepted, distinct, andVars}
+use Rattle.theory_graph.specs.Accepted.{Accepted, distinct}
 use Rattle.theory_text.specs.Fits.{LowLiterals, GraphFits}
 use Rattle.theory_text.proofs.Steps.{holds-once, unless-out, next-out}
 use Rattle.theory_text.proofs.Items.{head, Good, defined-cons, kindsOf, Lawful, due-lawful}

@@ -102,9 +102,6 @@ module _ (c : Call) (d : Design) (e : readTexts c ≡ holds d) where
   pub design-library : T (libraryFits (d .listed))
   design-library = library-fits (c .library) (d .listed) (texts-read c d e .isLibrary)
 
-  pub design-few : length (d .listed) ≤ 32
-  design-few = library-few (c .library) (d .listed) (texts-read c d e .isLibrary)
-
   pub design-written : (k : Cell) → List·Memᴰ k (d .listed) → Written k × T (isClean k)
   design-written = library-written (c .library) (d .listed) (texts-read c d e .isLibrary)
 

@@ -15,7 +15,7 @@ use mir.Facts.{yes-and, yes-eqb, no-eqb}
 use Rattle.model.specs.Base.{all, elem, keep, each, same, andThen, only}
 use Rattle.model.specs.Text.{Line, nextOf, text, decimal, linesFrom, numbers}
 use Rattle.model.specs.Reading.{Read, holds, next, unless, from?}
-use Rattle.model.specs.Graph.{And, Graph, varOf}
+use Rattle.model.specs.Graph.{And, Graph, varOf, andVars}
 use Rattle.model.specs.GraphText.{closed, headerOfNumbers, headerOf, inLimits, inSequence, readHeader, Kind, anInput, anOutput, anAnd, howMany, defines, due, Item, readDue, readItems, uses, definedBy, checkUses, isKind, sameKind, graphOf, readGraph, numbersLine, asciiText}
 use Rattle.model.specs.ArrivalsText.{readArrivals, timedBy}
 use Rattle.model.specs.Mapper.{Call, Design, designOf, readListed, readTexts, mapDesign, mapTexts}
@@ -24,7 +24,6 @@ use Rattle.model.specs.Limits.{need}
 use Rattle.model.specs.declared.Cell.{Cell}
 use Rattle.model.specs.declared.Header.{Header}
 use Rattle.theory_graph.proofs.Lists.{is-true, all-in, elem-T, map-map, map-in, map-out, each-in, keep-append}
-use Rattle.theory_graph.specs.Accepted.{andVars}
 use Rattle.theory_text.proofs.Plain.{decimal-free}
 use Rattle.theory_text.proofs.LineLaws.{lineOfBytes, line-first, fields-word}
 use Rattle.theory_text.proofs.Items.{head, kindsOf, defined-cons}

@@ -2,7 +2,6 @@
 --     lines-text     a text is its lines' contents, each with its end behind it: reading the lines loses nothing but which end it was
 --     either-end     texts that are the same by bytes but for ends are alike
 --     same-by-bytes  and texts that are alike are so
---     alike-back     calls that are alike are so the other way round
 --     ..-apart       texts that are not alike
 -- Assumes nothing.
 use Prim.Native.Nat.{ℕ, zero, suc, _+_}
@@ -13,10 +12,9 @@ use lib.Dec.{eqb}
 use lib.ListN.{length, getD}
 use lib.Seq.{append-snoc}
 use borrow.Author.Tests.{eqb-true}
-use Rattle.model.specs.Base.{each, same}
-use Rattle.model.specs.Text.{Line, closing, linesFrom, shown, fields, text}
-use Rattle.model.specs.Mapper.{Call}
-use Rattle.model.specs.Demands.{Alike, firstWord, isBinaryText, AlikeTexts}
+use Rattle.model.specs.Base.{each}
+use Rattle.model.specs.Text.{Line, closing, linesFrom, shown, fields}
+use Rattle.model.specs.Demands.{Alike, firstWord}
 use Rattle.theory_text.proofs.Plain.{Free, free-append}
 use Rattle.theory_text.proofs.LineLaws.{lines-step}
 
@@ -248,23 +246,6 @@ same-words [] [] e = refl
 same-words [] (m ∷ ms) e = absurd (nil≢cons e)
 same-words (l ∷ ls) [] e = absurd (cons≢nil e)
 same-words (l ∷ ls) (m ∷ ms) e = ap (λ (p : List ℕ × Bool). getD (fields (p .0)) 0 []) (head-eq-of-cons-eq e)
-
-same-form : (s t : List ℕ) → Alike s t → isBinaryText s ≡ isBinaryText t
-unfolding isBinaryText
-same-form s t e = ap (λ (w : List ℕ). same w (text "aig")) (same-words (linesFrom 0 [] s) (linesFrom 0 [] t) e)
-
-pub alike-back : (c d : Call) → AlikeTexts c d → AlikeTexts d c
-alike-back c d a = record {
-  paired = sym (a .paired);
-  libraries = sym (a .libraries);
-  graphs = sym (a .graphs);
-  arrivals = sym (a .arrivals);
-  binary = λ e. sym (a .binary (same-form (c .graph) (d .graph) (a .graphs) ∙ e));
-  words = sym (a .words);
-  bytes = sym (a .bytes);
-  short = a .shortToo;
-  shortToo = a .short;
-}
 
 -- ---- what is not alike
 

@@ -10,11 +10,11 @@
 use Prim.Native.Nat.{ℕ, zero, suc, _+_, _-_, _*_, _/_, _≤_, _<_, max}
 use native.Mathlib.Omega.{arith}
 use mathlib.Core.Path.{_≡_, refl, sym, ap, ap₂, subst, _∙_}
-use mathlib.Core.Bool.{Bool, true, cond}
+use mathlib.Core.Bool.{Bool, cond}
 use mathlib.Core.List.{List, [], _∷_, map, List·Memᴰ, List·Memᴰ·head, List·Memᴰ·tail}
 use lib.Dec.{leb, le→leb}
 use lib.ListN.{length, getD, set, drop, length-set}
-use lib.Seq.{drop-cons, drop-length, getD-drop, getD-set-same, getD-set-other}
+use lib.Seq.{drop-cons, drop-length, getD-drop, getD-set-other}
 use Rattle.model.specs.Base.{bit}
 use Rattle.model.specs.Limits.{cutLimit}
 use Rattle.model.specs.Graph.{varOf, negated}
@@ -27,14 +27,14 @@ use Rattle.theory_graph.proofs.Literals.{lit-var}
 use Rattle.truth.specs.Variant.{placesOf, pinNet}
 use Rattle.truth.proofs.Variants.{places-four}
 use Rattle.truth.proofs.Nets.{nets-length, nets-get}
-use Rattle.words.specs.Layout.{Room, listsTo, outputAddr, lowAddr, lowAt, lowWords, slotAt, countAt, positiveAddr, negativeAddr}
+use Rattle.words.specs.Layout.{Room, listsTo, outputAddr, lowAt, slotAt, countAt, positiveAddr, negativeAddr}
 use Rattle.words.specs.Record.{leavesOf, leavesAt}
 use Rattle.words.specs.Phases.{sourceOf, phaseIn, phaseAt}
 use Rattle.words.proofs.Lows.{low-length, low-before, low-behind, low-put, low-apart}
 use Rattle.words.proofs.Stored.{cut-same}
 use Rattle.cover.specs.Asked.{SlotsIn, CutsIn}
-use Rattle.cover.proofs.Keeping.{Kept, kept-same, kept-on}
-use Rattle.timing.specs.Retiming.{after, latestLow, ownLow, turnedLow, ownAt, putLow, retimedTurn, retimedUp, InverterIn, Retimable, fourAt}
+use Rattle.cover.proofs.Keeping.{Kept, kept-on}
+use Rattle.timing.specs.Retiming.{after, latestLow, turnedLow, ownAt, putLow, retimedTurn, InverterIn, Retimable, fourAt}
 
 -- ---- sums
 
@@ -250,22 +250,3 @@ module _ (xs : List ℕ) (k : ℕ) (ds : List ℕ) where
 
     three-long : length three ≡ length xs
     three-long = length-set two (4 * k + 2) (getD ds 2 0) ∙ two-long
-
-    pub four-here : (j : ℕ) → j < 4 → getD (fourAt xs k ds) (4 * k + j) 0 ≡ getD ds j 0
-    unfolding fourAt
-    four-here zero h =
-        let z : 4 * k + 0 ≡ 4 * k = omega arith in
-        ap (λ (i : ℕ). getD (fourAt xs k ds) i 0) z
-        ∙ getD-set-other three (4 * k + 3) (4 * k) (getD ds 3 0) 0 (λ e. omega arith)
-        ∙ getD-set-other two (4 * k + 2) (4 * k) (getD ds 2 0) 0 (λ e. omega arith)
-        ∙ getD-set-other one (4 * k + 1) (4 * k) (getD ds 1 0) 0 (λ e. omega arith)
-        ∙ getD-set-same xs (4 * k) (getD ds 0 0) 0 (omega arith)
-    four-here (suc zero) h =
-        getD-set-other three (4 * k + 3) (4 * k + 1) (getD ds 3 0) 0 (λ e. omega arith)
-        ∙ getD-set-other two (4 * k + 2) (4 * k + 1) (getD ds 2 0) 0 (λ e. omega arith)
-        ∙ getD-set-same one (4 * k + 1) (getD ds 1 0) 0 (omega (arith, one-long))
-    four-here (suc (suc zero)) h =
-        getD-set-other three (4 * k + 3) (4 * k + 2) (getD ds 3 0) 0 (λ e. omega arith)
-        ∙ getD-set-same two (4 * k + 2) (getD ds 2 0) 0 (omega (arith, two-long))
-    four-here (suc (suc (suc zero))) h = getD-set-same three (4 * k + 3) (getD ds 3 0) 0 (omega (arith, three-long))
-    four-here (suc (suc (suc (suc j)))) h = absurd (omega arith)

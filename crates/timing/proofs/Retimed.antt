@@ -3,7 +3,7 @@
 use Prim.Native.Nat.{ℕ, zero, suc, _+_, _*_, _/_, _%_, _≤_, _<_, max}
 use native.Mathlib.Omega.{arith}
 use mathlib.Core.Path.{_≡_, refl, sym, ap, ap₂, subst, _∙_}
-use mathlib.Core.Bool.{Bool, true, false, not, cond, true≢false}
+use mathlib.Core.Bool.{Bool, true, false, not, true≢false}
 use mathlib.Core.Logic.{_⊎_, inl, inr}
 use mathlib.Core.List.{List, [], _∷_, _++_, map, List·Memᴰ, List·Memᴰ·head, List·Memᴰ·tail, List·Memᴰ·append-cases, List·Memᴰ·not-nil, List·Memᴰ·eq-of-singleton, Memᴰ·append-right, Memᴰ·cast}
 use lib.Dec.{eqb}
@@ -11,23 +11,19 @@ use lib.ListN.{length, getD, take, drop, take-append-drop}
 use lib.Seq.{take-suc, take-length, drop-cons}
 use borrow.Author.Tests.{eqb-true, eqb-false}
 use Rattle.model.specs.Base.{elem}
-use Rattle.model.specs.Limits.{cutLimit}
-use Rattle.model.specs.Cells.{cellAt, cellsOf}
+use Rattle.model.specs.Cells.{cellAt}
 use Rattle.model.specs.Graph.{Graph, placingOrder, varOf, negated, literal, opposite}
 use Rattle.model.specs.Cuts.{cutsOf, cutAt, crowded}
 use Rattle.model.specs.Matching.{matchNets}
-use Rattle.model.specs.Choice.{Phases, phaseOf, feeds, cellOf, latest, absent, chosen}
-use Rattle.model.specs.Timing.{retimed, lowOf}
+use Rattle.model.specs.Choice.{feeds, cellOf, latest, absent, chosen}
+use Rattle.model.specs.Timing.{lowOf}
 use Rattle.model.specs.Demands.{Distinct}
 use Rattle.model.specs.declared.Cell.{Cell}
-use Rattle.model.specs.declared.Library.{Library}
-use Rattle.model.specs.declared.Match.{Match}
 use Rattle.model.specs.declared.Phase.{Phase}
 use Rattle.model.specs.declared.Source.{Source}
 use Rattle.model.specs.declared.Source.the-variants.{Input, Cell as Matched, Inverter as Inverted, Nothing}
-use Rattle.theory_graph.proofs.Lists.{getD-in, elem-in, elem-out}
-use Rattle.theory_graph.proofs.Literals.{opposite-var, opposite-neg, lit-whole}
-use Rattle.theory_graph.proofs.Runs.{no-twice-behind}
+use Rattle.theory_graph.proofs.Lists.{elem-in, elem-out}
+use Rattle.theory_graph.proofs.Literals.{opposite-var}
 use Rattle.theory_graph.specs.Accepted.{Accepted}
 use Rattle.theory_graph.proofs.Placing.{order-once, order-small}
 use Rattle.theory_cover.proofs.Covers.{Straight}
@@ -37,7 +33,7 @@ use Rattle.theory_cover.proofs.Retime.{timeBy, retimed-rule, retimed-below}
 use Rattle.words.specs.Layout.{Room, listsTo, outputAddr, slotAt, lateAt, lowAt}
 use Rattle.words.specs.Record.{leavesAt}
 use Rattle.words.specs.Phases.{phaseAt}
-use Rattle.cover.proofs.Keeping.{Kept, kept-same, kept-on}
+use Rattle.cover.proofs.Keeping.{kept-same, kept-on}
 use Rattle.cover.proofs.Counting.{few-cuts}
 use Rattle.timing.specs.Retiming.{after, latestLow, matchLow, ownLow, turnedLow, ownAt, retimedTurn, retimedUp}
 use Rattle.timing.proofs.Lowest.{after-is, latest-held, LowsKept, kept-room, lows-phase, lows-leaves, stored, turn-kept, turn-positive, turn-negative, turn-other}

@@ -79,7 +79,8 @@ fn match_low(
     x: Match,
 ) -> u32
     requires { ⌜ ((cells : List Cell) × Matchable cells × MatchIn cells (now work) m v x × PinsOf cells (now pins)) × CutsIn (now work) m × (v ≤ m) ⌝ }
-    ensures { λ r. ⌜ ((cells : List Cell) → Matchable cells → MatchIn cells (now (work .entry)) m v x → PinsOf cells (now (pins .entry)) → LowsOf cells (now (lows .entry)) → r ≡ matchLow cells (now (work .entry)) m v x) ⌝ }
+    ensures { λ r. ⌜ ((cells : List Cell) → Matchable cells → MatchIn cells (now (work .entry)) m v x → PinsOf cells (now (pins .entry)) → LowsOf cells
+        (now (lows .entry)) → r ≡ matchLow cells (now (work .entry)) m v x) ⌝ }
 {
     let cut = words::load_cut(work, m, v, x.cut);
     let leaves = cut.leaves;
@@ -91,7 +92,8 @@ fn match_low(
 // The low arrival of a phase that no inverter drives: an input's is its own.
 fn own_low(work: &[u16], pins: &[u16; 256], lows: &[u32; 1024], m: usize, l: usize) -> u32
     requires { ⌜ ((cells : List Cell) × MatchesIn cells (now work) m × PinsOf cells (now pins)) × (l / 2 ≤ m) ⌝ }
-    ensures { λ r. ⌜ ((cells : List Cell) → MatchesIn cells (now (work .entry)) m → PinsOf cells (now (pins .entry)) → LowsOf cells (now (lows .entry)) → r ≡ ownLow cells (now (work .entry)) m l (phaseAt (now (work .entry)) m l .source)) ⌝ }
+    ensures { λ r. ⌜ ((cells : List Cell) → MatchesIn cells (now (work .entry)) m → PinsOf cells (now (pins .entry)) → LowsOf cells (now (lows .entry)) → r ≡
+        ownLow cells (now (work .entry)) m l (phaseAt (now (work .entry)) m l .source)) ⌝ }
 {
     let p = words::phase(work, m, l);
     let s = p.source;
@@ -128,7 +130,8 @@ fn turned(lows: &[u32; 1024], p: Phase, own: u32, other: u32) -> u32
 // Both phases of v.
 fn retime_variable(work: &mut [u16], pins: &[u16; 256], lows: &[u32; 1024], m: usize, v: usize)
     requires { ⌜ ((cells : List Cell) × Retimable cells (now work) m × PinsOf cells (now pins)) × (v ≤ m) ⌝ }
-    ensures { λ _. ⌜ ((cells : List Cell) → Retimable cells (now (work .entry)) m → PinsOf cells (now (pins .entry)) → LowsOf cells (now (lows .entry)) → now (work .exit) ≡ retimedTurn cells (now (work .entry)) m v) ⌝ }
+    ensures { λ _. ⌜ ((cells : List Cell) → Retimable cells (now (work .entry)) m → PinsOf cells (now (pins .entry)) → LowsOf cells (now (lows .entry)) → now
+        (work .exit) ≡ retimedTurn cells (now (work .entry)) m v) ⌝ }
 {
     let p = own_low(work, pins, lows, m, 2 * v);
     let n = own_low(work, pins, lows, m, 2 * v + 1);
@@ -141,7 +144,8 @@ fn retime_variable(work: &mut [u16], pins: &[u16; 256], lows: &[u32; 1024], m: u
 // In placing order.
 fn retime_variables(work: &mut [u16], pins: &[u16; 256], lows: &[u32; 1024], m: usize, n: usize)
     requires { ⌜ ((cells : List Cell) × Retimable cells (now work) m × PinsOf cells (now pins) × LowsOf cells (now lows)) × SlotsIn (now work) m n ⌝ }
-    ensures { λ _. ⌜ ((cells : List Cell) → Retimable cells (now (work .entry)) m → PinsOf cells (now (pins .entry)) → LowsOf cells (now (lows .entry)) → now (work .exit) ≡ retimedUp cells (now (work .entry)) m n) ⌝ }
+    ensures { λ _. ⌜ ((cells : List Cell) → Retimable cells (now (work .entry)) m → PinsOf cells (now (pins .entry)) → LowsOf cells (now (lows .entry)) → now
+        (work .exit) ≡ retimedUp cells (now (work .entry)) m n) ⌝ }
 {
     let mut i: usize = 0;
     while i < n {

@@ -18,7 +18,7 @@ use Rattle.model.specs.Table.{value, orders, pinRow}
 use Rattle.model.specs.Cuts.{tabulate}
 use Rattle.truth.specs.Variant.{placesOf, variantTable, crossed, crossedAt, turned, leafTable}
 use Rattle.truth.proofs.Tested.{at, pairs, at-pair}
-use Rattle.truth.proofs.Tables.{value-shift, value-tabulate, table-small, tabulate-same, tables-same, value-and, value-or}
+use Rattle.truth.proofs.Tables.{value-shift, value-tabulate, table-small, tables-same, value-and, value-or}
 use Rattle.truth.proofs.Variants.{pin-row, places-four, place-small}
 
 -- ---- rows moved

@@ -35,20 +35,22 @@ pub record Filled (ws ins : List ℕ) (count n i j : ℕ) (before after : List �
   pub long : length after ≡ length before
   pub pins : (k : ℕ) → k < j → Pin ws ins count n i k (getD after (4 * i + k) 0)
   pub kept : (a : ℕ) → a < 4 * i → getD after a 0 ≡ getD before a 0
+  pub behind : (a : ℕ) → 4 * i + 4 ≤ a → getD after a 0 ≡ getD before a 0
 
 module _ (ws ins : List ℕ) (count n i : ℕ) (before : List ℕ) where
   pub filled-none : Filled ws ins count n i 0 before before
-  filled-none = record { long = refl; pins = λ k h. absurd (omega arith); kept = λ a h. refl }
+  filled-none = record { long = refl; pins = λ k h. absurd (omega arith); kept = λ a h. refl; behind = λ a h. refl }
 
-  pub filled-next : (j r : ℕ) (now : List ℕ) → 4 * i + j < length before → Filled ws ins count n i j before now → Pin ws ins count n i j r
+  pub filled-next : (j r : ℕ) (now : List ℕ) → j < 4 → 4 * i + j < length before → Filled ws ins count n i j before now → Pin ws ins count n i j r
       → Filled ws ins count n i (j + 1) before (set now (4 * i + j) r)
-  filled-next j r now inside f p = record {
+  filled-next j r now small inside f p = record {
     long = length-set now (4 * i + j) r ∙ f .long;
     pins = λ k h. by-eqb k j
         (λ e. subst (λ (m : ℕ). Pin ws ins count n i m (getD (set now (4 * i + j) r) (4 * i + m) 0)) (sym e)
         (subst (Pin ws ins count n i j) (sym (getD-set-same now (4 * i + j) r 0 (omega (arith, f .long)))) p))
         (λ ne. subst (Pin ws ins count n i k) (sym (getD-set-other now (4 * i + j) (4 * i + k) r 0 (λ e. ne (omega arith)))) (f .pins k (omega arith)));
     kept = λ a h. getD-set-other now (4 * i + j) a r 0 (λ e. omega arith) ∙ f .kept a h;
+    behind = λ a h. getD-set-other now (4 * i + j) a r 0 (λ e. omega arith) ∙ f .behind a h;
   }
 
 -- the rows of the drivers before stay

@@ -41,8 +41,8 @@ pub record Found (ws links : List ℕ) (h x r : ℕ) : Type 0 where
   pub is : 0 < r → ownAt ws (r - 1) ≡ x
   pub none : r ≡ 0 → (k : ℕ) → On links k h → ownAt ws k ≡ x → ⊥
 
--- an answer of a walk over the inputs: the place of the one with this number, or 12
+-- an answer of a walk over the inputs: the place of the first with this number, or 12
 pub record InputOf (ins : List ℕ) (count x r : ℕ) : Type 0 where
   pub most : r ≤ 12
-  pub is : r < 12 → (r < count) × (getD ins r 0 ≡ x)
+  pub is : r < 12 → (r < count) × (getD ins r 0 ≡ x) × ((k : ℕ) → k < r → getD ins k 0 ≡ x → ⊥)
   pub none : r ≡ 12 → (k : ℕ) → k < count → getD ins k 0 ≡ x → ⊥

@@ -4,8 +4,9 @@ use mathlib.Core.Path.{_≡_}
 use mathlib.Core.Logic.{_⊎_}
 use mathlib.Core.Bool.{Bool, true, false}
 use mathlib.Core.List.{List}
-use lib.ListN.{length, getD}
+use lib.ListN.{length, getD, replicate}
 use Rattle.wires.specs.Chains.{pinsAt, useAt, ownAt}
+use Rattle.wires.specs.Refs.{refusedAt, refsLeft}
 
 -- the numbers of n drivers, eight each
 pub record Drivers (ws : List ℕ) (n count : ℕ) : Type 0 where
@@ -26,16 +27,16 @@ Driven ws ins count i x = ((k : ℕ) × (k < count) × (getD ins k 0 ≡ x)) ⊎
 -- what drives a net of this number: an input, one of the first i drivers, or, at 12 + i, nothing
 pub record Looked (ws ins : List ℕ) (count i x r : ℕ) : Type 0 where
   pub most : r ≤ 12 + i
-  pub input : r < 12 → (r < count) × (getD ins r 0 ≡ x)
+  pub input : r < 12 → (r < count) × (getD ins r 0 ≡ x) × ((k : ℕ) → k < r → getD ins k 0 ≡ x → ⊥)
   pub driver : 12 ≤ r → r < 12 + i → ownAt ws (r - 12) ≡ x
   pub none : r ≡ 12 + i → Undriven ws ins count i x
 
--- r stands at pin j of driver i; past the last pin an input's number stands, which feeds nothing
+-- r stands at pin j of driver i; past the last pin 0 does, which feeds nothing
 pub record Pin (ws ins : List ℕ) (count n i j r : ℕ) : Type 0 where
   pub most : r < 12 + n
-  pub input : j < pinsAt ws i → r < 12 → (r < count) × (getD ins r 0 ≡ useAt ws i j)
+  pub input : j < pinsAt ws i → r < 12 → (r < count) × (getD ins r 0 ≡ useAt ws i j) × ((k : ℕ) → k < r → getD ins k 0 ≡ useAt ws i j → ⊥)
   pub driver : j < pinsAt ws i → 12 ≤ r → ownAt ws (r - 12) ≡ useAt ws i j
-  pub past : pinsAt ws i ≤ j → r < 12
+  pub past : pinsAt ws i ≤ j → r ≡ 0
 
 -- what was found for a pin, or, at 12 + n, nothing
 pub record PinLooked (ws ins : List ℕ) (count n i j r : ℕ) : Type 0 where
@@ -57,6 +58,7 @@ pub record RowLooked (ws ins : List ℕ) (count n i : ℕ) (r : Bool) (before af
   pub long : length after ≡ length before
   pub row : r ≡ true → Row ws ins count n after i
   pub kept : (a : ℕ) → a < 4 * i → getD after a 0 ≡ getD before a 0
+  pub behind : (a : ℕ) → 4 * i + 4 ≤ a → getD after a 0 ≡ getD before a 0
   pub loose : r ≡ false → Loose ws ins count n i
 
 -- the first driver of a net already driven, n where there is none
@@ -71,7 +73,22 @@ pub record Rows (ws ins : List ℕ) (count n r : ℕ) (refs : List ℕ) : Type 0
   pub rows : (i : ℕ) → i < r → Row ws ins count n refs i
   pub loose : r < n → Loose ws ins count n r
 
+-- the pins of the drivers before the first that uses such a net, and the array behind all pins as it was
+pub record Written (ws ins : List ℕ) (count n r : ℕ) (before after : List ℕ) : Type 0 where
+  pub long : length after ≡ length before
+  pub rows : Rows ws ins count n r after
+  pub behind : (a : ℕ) → 4 * n ≤ a → getD after a 0 ≡ getD before a 0
+
 -- the first driver that either part of 33 refuses, n where there is none
-pub data Referred (ws ins : List ℕ) (count n r : ℕ) (refs : List ℕ) : Type 0 where
-  twice : r < n → Once ws ins count n r → Referred ws ins count n r refs
-  once : Once ws ins count n n → Rows ws ins count n r refs → Referred ws ins count n r refs
+pub data First (ws ins : List ℕ) (count n r : ℕ) (refs : List ℕ) : Type 0 where
+  twice : r < n → Once ws ins count n r → First ws ins count n r refs
+  once : Once ws ins count n n → Rows ws ins count n r refs → First ws ins count n r refs
+
+-- `is` and `left` say all; what follows from them is what is asked further on
+pub record Referred (ws ins : List ℕ) (count n r : ℕ) (before after : List ℕ) : Type 0 where
+  pub is : r ≡ refusedAt ws ins count n
+  pub left : after ≡ refsLeft ws ins count n before
+  pub written : List ℕ
+  pub first : First ws ins count n r written
+  pub whole : n ≤ r → after ≡ written
+  pub none : r < n → after ≡ replicate 43692 0

@@ -2,10 +2,10 @@
 // stores them. Names are numbers already, so a net is found by the remainder of its number: the drivers of one remainder are a chain.
 use edited::DRIVERS;
 ghost use mathlib.Core.Path.{_≡_};
-ghost use Prim.Native.Nat.{ℕ, _+_, _*_, _%_, _≤_, _<_};
+ghost use Prim.Native.Nat.{_+_, _*_, _%_, _≤_, _<_};
 ghost use lib.ListN.{length, getD, set};
 ghost use Rattle.wires.specs.Chains.{Falling, ownAt, headOf, Chained, Found, InputOf};
-ghost use Rattle.wires.specs.Pins.{Drivers, Looked, PinLooked, RowLooked, Once, Rows, Referred};
+ghost use Rattle.wires.specs.Pins.{Drivers, Looked, PinLooked, RowLooked, Once, Written, Referred};
 
 // Four for each driver.
 pub const PINS: usize = 43692;
@@ -111,7 +111,8 @@ fn first_twice(
     links: &mut [u16; DRIVERS],
 ) -> usize
     requires { ⌜ Drivers (now nets) n count × Chained (now nets) (now heads) (now links) 0 ⌝ }
-    ensures { λ r. ⌜ Once (now (nets .entry)) (now (inputs .entry)) count n r × (r ≡ n → Chained (now (nets .entry)) (now (heads .exit)) (now (links .exit)) n) ⌝ }
+    ensures { λ r. ⌜ Once (now (nets .entry)) (now (inputs .entry)) count n r ×
+        (r ≡ n → Chained (now (nets .entry)) (now (heads .exit)) (now (links .exit)) n) ⌝ }
 {
     let mut i = 0;
     while i < n {
@@ -182,7 +183,7 @@ fn first_loose(
     refs: &mut [u16; PINS],
 ) -> usize
     requires { ⌜ Drivers (now nets) n count × Chained (now nets) (now heads) (now links) n × (length (now refs) ≡ 43692) ⌝ }
-    ensures { λ r. ⌜ Rows (now (nets .entry)) (now (inputs .entry)) count n r (now (refs .exit)) ⌝ }
+    ensures { λ r. ⌜ Written (now (nets .entry)) (now (inputs .entry)) count n r (now (refs .entry)) (now (refs .exit)) ⌝ }
 {
     let mut i = 0;
     while i < n {
@@ -194,7 +195,7 @@ fn first_loose(
     i
 }
 
-// The first driver that the first part of 33 refuses, else the first that the second does, else n.
+// The first driver that the first part of 33 refuses, else the first that the second does, with zeros left; else n, with every pin's number.
 pub fn refer(
     nets: &[u64],
     n: usize,
@@ -203,13 +204,18 @@ pub fn refer(
     refs: &mut [u16; PINS],
 ) -> usize
     requires { ⌜ Drivers (now nets) n count × (length (now refs) ≡ 43692) ⌝ }
-    ensures { λ r. ⌜ Referred (now (nets .entry)) (now (inputs .entry)) count n r (now (refs .exit)) ⌝ }
+    ensures { λ r. ⌜ Referred (now (nets .entry)) (now (inputs .entry)) count n r (now (refs .entry)) (now (refs .exit)) ⌝ }
 {
     let mut heads = [0u16; CHAINS];
     let mut links = [0u16; DRIVERS];
     let t = first_twice(nets, n, inputs, count, &mut heads, &mut links);
     if t < n {
+        *refs = [0u16; PINS];
         return t;
     }
-    first_loose(nets, n, inputs, count, &heads, &links, refs)
+    let f = first_loose(nets, n, inputs, count, &heads, &links, refs);
+    if f < n {
+        *refs = [0u16; PINS];
+    }
+    f
 }

@@ -7,7 +7,7 @@ use lib.ListN.{length, getD}
 use Rattle.model.specs.Reading.{Read, fault}
 use Rattle.model.specs.Check.{Driver, judgeNets}
 use Rattle.model.specs.declared.Verdict.the-variants.{Accepted}
-use Rattle.wires.specs.Pins.{Once, Rows, Referred, twice, once}
+use Rattle.wires.specs.Pins.{Once, Rows, First, twice, once, Referred}
 use Rattle.ordering.specs.Lists.{Pinned, Settled, Circled}
 use Rattle.wiring.specs.Wired.{noDriver}
 use Rattle.wiring.specs.Judged.{Stored, Judged}
@@ -24,17 +24,23 @@ module _ (inputs : List (List ℕ)) (ds : List Driver) (nets ins : List ℕ) (n 
   pub line-inside : (r : ℕ) → r < n → 8 * r < length nets
   line-inside r h = omega (arith, stored-long ds nets n (st .drivers) (st .first))
 
-  module _ (f : ℕ) (refs : List ℕ) where
-    pub refused : Referred nets ins count n f refs → f < n → judgeNets inputs ds ≡ fault 33 (getD nets (8 * f) 0)
-    refused (twice lt o) h = placed f h (judged-twice inputs ds (getD ds f noDriver .offset) (twice-at inputs ds nets ins n count st f h o))
-    refused (once o rows) h =
-        placed f h (judged-loose inputs ds (getD ds f noDriver .offset) (twice-nowhere inputs ds nets ins n count st o) (loose-at inputs ds nets ins n count st refs f h rows))
+  module _ (f : ℕ) (before refs : List ℕ) where
+    refused-by : (w : List ℕ) → First nets ins count n f w → f < n → judgeNets inputs ds ≡ fault 33 (getD nets (8 * f) 0)
+    refused-by w (twice lt o) h = placed f h (judged-twice inputs ds (getD ds f noDriver .offset) (twice-at inputs ds nets ins n count st f h o))
+    refused-by w (once o rows) h =
+        placed f h (judged-loose inputs ds (getD ds f noDriver .offset) (twice-nowhere inputs ds nets ins n count st o) (loose-at inputs ds nets ins n count st w f h rows))
 
-    passed : Referred nets ins count n f refs → n ≤ f → Once nets ins count n n × Rows nets ins count n n refs
-    passed (twice lt o) le = absurd (omega arith)
-    passed (once o rows) le = (o, subst (λ (x : ℕ). Rows nets ins count n x refs) (let e : f ≡ n = omega (arith, rows .most) in e) rows)
+    pub refused : Referred nets ins count n f before refs → f < n → judgeNets inputs ds ≡ fault 33 (getD nets (8 * f) 0)
+    refused g h = refused-by (g .written) (g .first) h
 
-    module _ (g : Referred nets ins count n f refs) (le : n ≤ f) where
+    passed-by : (w : List ℕ) → First nets ins count n f w → n ≤ f → Once nets ins count n n × Rows nets ins count n n w
+    passed-by w (twice lt o) le = absurd (omega arith)
+    passed-by w (once o rows) le = (o, subst (λ (x : ℕ). Rows nets ins count n x w) (let e : f ≡ n = omega (arith, rows .most) in e) rows)
+
+    passed : Referred nets ins count n f before refs → n ≤ f → Once nets ins count n n × Rows nets ins count n n refs
+    passed g le = let p = passed-by (g .written) (g .first) le in (p .0, subst (Rows nets ins count n n) (sym (g .whole le)) (p .1))
+
+    module _ (g : Referred nets ins count n f before refs) (le : n ≤ f) where
       pub pinned-all : Pinned refs n
       pinned-all = let p = passed g le in pinned inputs ds nets ins n count st refs (p .0) (p .1)
 

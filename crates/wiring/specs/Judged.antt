@@ -26,6 +26,11 @@ pub record Stored (inputs : List (List ℕ)) (ds : List Driver) (nets ins : List
   pub codes : (k : ℕ) → k < count → getD ins k 0 ≡ code (getD inputs k [])
   pub names : (u : List ℕ) → List·Memᴰ u inputs → T (isNet u)
 
+-- what is left in an array of so many numbers: zeros after a refusal
+unfoldable pub leftBy : Verdict → ℕ → List ℕ → List ℕ
+leftBy Accepted size xs = xs
+leftBy (Refused m k) size xs = replicate size 0
+
 -- 33 and its place, with nothing left in what is lent, or the nets wired and the drivers ordered
 unfoldable pub Judged : List (List ℕ) → List Driver → Verdict → List ℕ → List ℕ → Type 0
 unfolding judgeNets

@@ -23,7 +23,7 @@ use Rattle.words.specs.Put.{putAt}
 use Rattle.words.specs.Layout.{Room, kindAddr, leftAddr, rightAddr, neededAt, neededAddr}
 use Rattle.words.specs.Record.{putNode}
 use Rattle.words.specs.Phases.{MatchFits, SourceFits, PhaseFits, matchWord, sourceWords, arrivalWords, phaseWords, matchOf, kindSource, sourceOf, phaseIn, flagOf, withFlag, isNeeded, putNeeded}
-use Rattle.words.proofs.Putting.{length-put, get-put}
+use Rattle.words.proofs.Putting.{length-put}
 use Rattle.words.proofs.Parts.{Apart, OfWords, of-words, read-put, read-apart, word-put, word-apart}
 
 -- ---- nodes

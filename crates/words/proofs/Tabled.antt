@@ -16,7 +16,7 @@ use Rattle.words.specs.Put.{putAt}
 use Rattle.words.specs.Layout.{Room, functionAddr, listsTo, outputAddr}
 use Rattle.words.specs.Record.{functionOf, putFunctions}
 use Rattle.words.proofs.Putting.{length-put, get-put, get-put-below, get-put-above, put-none, put-one, put-taken}
-use Rattle.words.proofs.Parts.{get-apart, put-same}
+use Rattle.words.proofs.Parts.{get-apart}
 
 -- functions stored for the cuts of v from number k on
 module _ (w : List ℕ) (m v k : ℕ) (fs : List ℕ) (fits : Room w m) (inside : v ≤ m) (few : k + length fs ≤ cutLimit) where
@@ -52,12 +52,6 @@ module _ (w : List ℕ) (m v k : ℕ) (fs : List ℕ) (fits : Room w m) (inside 
       (λ i b e.
       let same : u ≡ v = omega arith in
       n i b same (omega arith))
-
-  -- words that are equal stay so
-  pub put-functions-same : (q : List ℕ) → length q ≡ length w → (i : ℕ) → getD q i 0 ≡ getD w i 0
-      → getD (putFunctions q m v k fs) i 0 ≡ getD (putFunctions w m v k fs) i 0
-  unfolding putFunctions
-  put-functions-same q size i e = put-same q w (functionAddr m v k) fs size room-functions i e
 
 pub functions-none : (w : List ℕ) (m v k : ℕ) → putFunctions w m v k [] ≡ w
 unfolding putFunctions

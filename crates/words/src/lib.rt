@@ -12,9 +12,12 @@ ghost use Rattle.model.specs.Limits.{cutLimit, need};
 ghost use Rattle.model.specs.Choice.{absent};
 ghost use Rattle.model.specs.Netlist.{isOwn, isInverted};
 ghost use Rattle.words.specs.Put.{putAt, zeros};
-ghost use Rattle.words.specs.Layout.{placedOf, Room, RoomFor, kindAt, kindAddr, leftAt, leftAddr, rightAt, rightAddr, slotAt, slotAddr, placeAt, placeAddr, countAt, countAddr, neededAt, neededAddr, lateAt, lateAddr, positiveAddr, negativeAddr, cutAddr, listsFrom, outputAt, outputAddr, lowAddr, lowAt, lowWords};
+ghost use Rattle.words.specs.Layout.{placedOf, Room, RoomFor, kindAt, kindAddr, leftAt, leftAddr, rightAt, rightAddr, slotAt, slotAddr, placeAt};
+ghost use Rattle.words.specs.Layout.{placeAddr, countAt, countAddr, neededAt, neededAddr, lateAt, lateAddr, positiveAddr, negativeAddr, cutAddr};
+ghost use Rattle.words.specs.Layout.{listsFrom, outputAt, outputAddr, lowAddr, lowAt, lowWords};
 ghost use Rattle.words.specs.Record.{cutOf, functionOf, putCut, putFunctions, putNode};
-ghost use Rattle.words.specs.Phases.{MatchFits, matchWord, PhaseFits, kindSource, phaseWords, phaseIn, positiveAt, negativeAt, phaseAt, makesGate, isNeeded, putNeeded};
+ghost use Rattle.words.specs.Phases.{MatchFits, matchWord, PhaseFits, kindSource, phaseWords, phaseIn, positiveAt, negativeAt, phaseAt, makesGate};
+ghost use Rattle.words.specs.Phases.{isNeeded, putNeeded};
 
 // "more than 18 cuts": the code's one constant for the cut limit, `cutLimit` of model.
 pub const LIMIT: usize = 18;

@@ -159,7 +159,8 @@ fn read(cells: &[Cell], graph: &Graph, text: &[u8]) -> Result<Netlist, Refusal> 
 /// "each pin in order with `=` and its net, then the output likewise": another order
 /// breaks the form.
 fn gate(cells: &[Cell], line: &str, offset: usize) -> Option<Driver> {
-    let words: Vec<&str> = line.strip_prefix(".gate ")?.split(' ').collect();
+    let words: Vec<&str> =
+        line.strip_prefix(".gate ")?.split(|byte| byte == ' ' || plain_or!(140, false, byte == '\x0c')).collect();
     let (name, words) = words.split_first()?;
     let cell = cells.iter().position(|cell| cell.name == *name)?;
     let words = plain_or!(136, words.to_vec(), by_letter(words));

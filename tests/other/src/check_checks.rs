@@ -7,7 +7,7 @@ use crate::check_gen::{self, Case, Known};
 use crate::checks::Check;
 use crate::gen::{self, Graph, Rng};
 use crate::reference::{self, Refusal};
-use crate::{blif, judge, WORDS_EACH};
+use crate::{blif, gaps, judge, WORDS_EACH};
 use std::collections::BTreeMap;
 
 macro_rules! ensure {
@@ -362,7 +362,7 @@ pub fn damage() -> Check {
     let mut counts = [0usize; 3];
     let names = gen::LISTING.replace("m3", "abcdefgh");
     for text in [gen::LISTING, &names] {
-        for netlist in gen::all_damage(text.as_bytes()) {
+        for netlist in gen::all_damage(text.as_bytes()).into_iter().chain(gaps::every_byte(text.as_bytes())) {
             let case = Case {
                 what: "damaged".into(),
                 cells: small(),

@@ -2,7 +2,7 @@
 //! They are functions and not tests, so that the mutants run through the same.
 
 use crate::gen::{self, Case, Graph, Lent, Rng};
-use crate::{blif, brute, judge, reference, CUT_LIMIT, NUMBERS, WORDS_EACH};
+use crate::{blif, brute, gaps, judge, reference, CUT_LIMIT, NUMBERS, WORDS_EACH};
 use std::collections::{BTreeMap, BTreeSet};
 
 pub type Check = Result<String, String>;
@@ -130,7 +130,7 @@ pub fn faults(cases: usize, seed: u64) -> Check {
     Ok(format!("{cases} cases, by number {counts:?}"))
 }
 
-/// Every damage of small texts against the loose reader.
+/// Every damage of small texts, and every byte at every gap, against the loose reader.
 pub fn damage() -> Check {
     let cells = gen::library_text(&gen::small_library());
     let graph = text(&["aag 5 2 0 2 2", "4", "2", "10", "7", "10 3 4", "6 10 3", "c"]);
@@ -143,6 +143,9 @@ pub fn damage() -> Check {
         (1, gen::all_damage_of_ends(&graph)),
         (1, gen::all_binary_damage()),
         (2, gen::all_damage_of_ends(&arrivals)),
+        (0, gaps::libraries()),
+        (1, gaps::graphs()),
+        (2, gaps::arrivals()),
     ];
     for (which, texts) in all {
         for damaged in texts {

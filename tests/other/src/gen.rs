@@ -39,6 +39,19 @@ impl Rng {
         list[self.below(list.len())]
     }
 
+    /// So many bytes, or other numbers, each by chance.
+    pub fn numbers<T>(&mut self, count: usize, of: impl Fn(u64) -> T) -> Vec<T> {
+        (0..count).map(|_| of(self.word())).collect()
+    }
+
+    pub fn bytes(&mut self, count: usize) -> Vec<u8> {
+        self.numbers(count, |word| word as u8)
+    }
+
+    pub fn words(&mut self, count: usize) -> Vec<u16> {
+        self.numbers(count, |word| word as u16)
+    }
+
     pub fn shuffle<T>(&mut self, list: &mut [T]) {
         for index in (1..list.len()).rev() {
             list.swap(index, self.below(index + 1));

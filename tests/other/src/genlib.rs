@@ -102,7 +102,7 @@ fn lines(text: &[u8]) -> Vec<Line<'_>> {
 }
 
 fn is_blank(byte: u8) -> bool {
-    byte == b' ' || byte == b'\t'
+    byte == b' ' || byte == b'\t' || plain_or!(137, false, byte == 12)
 }
 
 /// "Names are of letters, digits and underscores"

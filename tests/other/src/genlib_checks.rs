@@ -3,6 +3,7 @@
 //! a stack of sums, and has all 16 rows in one word.
 
 use crate::checks::Check;
+use crate::gaps;
 use crate::gen::Rng;
 use crate::genlib;
 use crate::genlib_gen::{self, Case, NAMES_LINE};
@@ -260,7 +261,7 @@ pub fn faults(cases: usize, seed: u64) -> Check {
     Ok(told_counts(counts))
 }
 
-/// Damaged texts, and every damage of a small one.
+/// Damaged texts, every damage of a small one, and every byte at every gap of one.
 pub fn damage(cases: usize, seed: u64) -> Check {
     let mut rng = Rng::new(seed);
     let mut counts = [0; 25];
@@ -269,6 +270,9 @@ pub fn damage(cases: usize, seed: u64) -> Check {
     }
     for case in genlib_gen::all_damage() {
         check(&case, &mut counts)?;
+    }
+    for genlib in gaps::genlibs() {
+        check(&Case { what: "every byte at a gap".into(), genlib, expected: None }, &mut counts)?;
     }
     Ok(told_counts(counts))
 }

@@ -2,6 +2,18 @@
 //! brute force over covers, generators, and the boundary to the mapper under
 //! test. Everything here is written from the documents alone.
 
+// Where no mutants are built in, `plain_or!` leaves expressions that could be shorter.
+#![cfg_attr(
+    not(feature = "mutants"),
+    allow(
+        clippy::assign_op_pattern,
+        clippy::identity_op,
+        clippy::map_identity,
+        clippy::nonminimal_bool,
+        clippy::redundant_locals
+    )
+)]
+
 /// The plain expression; with the feature `mutants`, the other one while that
 /// mutant is switched on.
 #[cfg(not(feature = "mutants"))]
@@ -29,10 +41,6 @@ pub const CUT_LIMIT: usize = 18;
 /// 6 for each of its cuts.
 pub const WORDS_EACH: usize = 16 + 6 * CUT_LIMIT;
 
-/// Whether netlists with pairs of cells are counted. A mapper under test that lacks the
-/// feature `pairs` refuses the nets between them until N12 lands.
-pub const COUNTS_PAIRS: bool = cfg!(any(feature = "pairs", not(feature = "ours")));
-
 /// One more than the highest number of a refusal of mapping.
 pub const NUMBERS: usize = 31;
 
@@ -42,6 +50,9 @@ pub mod check;
 pub mod check_checks;
 pub mod check_gen;
 pub mod checks;
+#[cfg(feature = "boundary")]
+pub mod fuzz;
+pub mod gaps;
 pub mod gen;
 pub mod genlib;
 pub mod genlib_checks;
@@ -52,11 +63,14 @@ pub mod memory;
 pub mod mutants;
 #[cfg(feature = "boundary")]
 pub mod ours;
+pub mod pages;
 pub mod pairs;
 pub mod pairs_checks;
 pub mod reference;
 pub mod shuffled;
 pub mod shuffled_checks;
+#[cfg(feature = "ours")]
+pub mod stack;
 pub mod tally;
 pub mod tally_checks;
 pub mod tally_gen;

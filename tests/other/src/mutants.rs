@@ -22,7 +22,7 @@ pub fn which() -> u32 {
 }
 
 /// Number and what is wrong.
-pub const LIST: [(u32, &str); 63] = [
+pub const LIST: [(u32, &str); 64] = [
     (1, "an AND with a cut too many is accepted"),
     (2, "a tie between cell and inverter goes to the inverter"),
     (3, "a cut's function walks on below a leaf whose operands are leaves too"),
@@ -86,10 +86,11 @@ pub const LIST: [(u32, &str); 63] = [
     (83, "the place of 18 leaves out the timing lines"),
     (84, "a lowest delay that equals its `d` is refused"),
     (85, "a timing line has the latest output's high arrival"),
+    (138, "byte 12 stands between two fields as a space does"),
 ];
 
 /// Those of the reader of genlib.
-pub const GENLIB: [(u32, &str); 14] = [
+pub const GENLIB: [(u32, &str); 15] = [
     (40, "the `'` after a product's last factor stand after the product"),
     (41, "the last PIN line that fits counts"),
     (42, "a pin's delay is its rise block delay"),
@@ -104,6 +105,7 @@ pub const GENLIB: [(u32, &str); 14] = [
     (51, "24 is tried after 22 and 23 of all gates"),
     (52, "text memory of exactly the length is refused"),
     (53, "empty lines are passed over"),
+    (137, "byte 12 is a blank"),
 ];
 
 /// Those of the call on two channels.
@@ -119,7 +121,7 @@ pub const TWO: [(u32, &str); 8] = [
 ];
 
 /// Those of the calls that count and report.
-pub const TALLY: [(u32, &str); 19] = [
+pub const TALLY: [(u32, &str); 20] = [
     (86, "a refused netlist is counted as one"),
     (87, "netlists in which a cell occurs are counted by gates"),
     (88, "the area is that of the next line's cell"),
@@ -139,6 +141,7 @@ pub const TALLY: [(u32, &str); 19] = [
     (102, "a missing line's place is 0"),
     (103, "a gate line may leave out its last pins"),
     (120, "`s` before a net is refused in gate lines"),
+    (139, "byte 12 stands between two words as a space does"),
 ];
 
 /// Those of pairs of cells.
@@ -166,7 +169,7 @@ pub const SHUFFLED: [(u32, &str); 2] = [
 ];
 
 /// Those of the call that checks a netlist.
-pub const CHECK: [(u32, &str); 14] = [
+pub const CHECK: [(u32, &str); 15] = [
     (123, "10 counts the bytes 10 up to `.end` alone"),
     (124, "13 inputs are accepted"),
     (125, "net names may have nine letters"),
@@ -181,4 +184,5 @@ pub const CHECK: [(u32, &str); 14] = [
     (134, "pins may have any letter, in the file's order"),
     (135, "the nets of `.names` lines may be driven by no line"),
     (136, "pins may stand in any order, each by its letter"),
+    (140, "byte 12 stands between two words of a gate line as a space does"),
 ];

@@ -191,7 +191,7 @@ fn uncounted(text: &[u8], Refusal { number, place }: Refusal) -> Refusal {
 /// The fields of a line if there are as many as wanted; two spaces in a row
 /// make an empty field, which no field's form allows.
 fn fields(line: &[u8], wanted: usize) -> Option<Vec<&[u8]>> {
-    let fields: Vec<&[u8]> = line.split(|&byte| byte == b' ').collect();
+    let fields: Vec<&[u8]> = line.split(|&byte| byte == b' ' || plain_or!(138, false, byte == 12)).collect();
     (fields.len() == wanted).then_some(fields)
 }
 

@@ -1,7 +1,6 @@
 //! Which cells netlists use, request N11 of document 02. Quoted sentences are its own.
 
 use crate::reference::{self, Answer, Cell, Library, Refusal};
-use crate::COUNTS_PAIRS;
 
 /// The figures of a tally: the gates of 32 cells, their areas, the netlists in which
 /// each occurs, and the netlists counted.
@@ -125,7 +124,8 @@ impl<'a> Lines<'a> {
     /// offset is the text's length.
     fn due<T>(&mut self, reads: impl FnOnce(&[&[u8]]) -> Option<T>) -> Result<T, Refusal> {
         let line = self.ahead();
-        let words: Option<Vec<&[u8]>> = line.map(|line| line.split(|&byte| byte == b' ').collect());
+        let words: Option<Vec<&[u8]>> =
+            line.map(|line| line.split(|&byte| byte == b' ' || plain_or!(139, false, byte == 12)).collect());
         match words.and_then(|words| reads(&words)) {
             Some(read) => {
                 self.offset += line.map_or(0, |line| line.len() + 1);
@@ -161,7 +161,7 @@ fn gate(cells: &[Cell], words: &[&[u8]]) -> Option<usize> {
     let is_feed = |(feed, pin): (&&[u8], &u8)| match feed {
         // From N12 on "a net `s` followed by the root's net name, which N11 takes in gate lines".
         [is, b'=', net @ ..] => {
-            let root = net.strip_prefix(b"s").filter(|_| plain_or!(120, COUNTS_PAIRS, false));
+            let root = net.strip_prefix(b"s").filter(|_| plain_or!(120, true, false));
             plain_or!(101, is == pin, pins.contains(is)) && is_net(root.unwrap_or(net), b"pm")
         }
         _ => false,

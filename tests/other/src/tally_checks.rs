@@ -2,6 +2,7 @@
 //! netlists against a second reader: it lays a pattern over every line.
 
 use crate::checks::Check;
+use crate::gaps;
 use crate::gen::{self, Rng};
 use crate::reference::{self, Answer};
 use crate::tally::{self, count, empty, report};
@@ -306,7 +307,7 @@ fn against_patterns(library: &Listed, netlist: &[u8]) -> Result<Answer, String> 
     Ok(answer)
 }
 
-/// Every damage of a small netlist with either names line.
+/// Every damage of a small netlist, and every byte at every gap, with either names line.
 pub fn damage() -> Check {
     let mut counts = [0; 2];
     let cells = gen::small_library();
@@ -314,7 +315,7 @@ pub fn damage() -> Check {
         let text = if ranged { gen::ranged_text(&cells) } else { gen::library_text(&cells) };
         let library = Listed { cells: cells.clone(), text };
         let netlist = gen::LISTING.to_string() + if ranged { "# timing o0 30 35\n" } else { "" };
-        for damaged in gen::all_damage(netlist.as_bytes()) {
+        for damaged in gen::all_damage(netlist.as_bytes()).into_iter().chain(gaps::netlists(ranged)) {
             counts[usize::from(against_patterns(&library, &damaged)?.number > 0)] += 1;
         }
     }

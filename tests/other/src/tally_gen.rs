@@ -2,7 +2,7 @@
 //! edited and damaged netlists; tallies handed on and forged ones.
 
 use crate::gen::{self, Cell, Rng};
-use crate::{reference, tally, COUNTS_PAIRS, CUT_LIMIT};
+use crate::{reference, tally, CUT_LIMIT};
 
 /// A library text with the cells that it lists.
 #[derive(Clone, Debug)]
@@ -67,7 +67,7 @@ fn net(rng: &mut Rng, letters: &[u8]) -> String {
 
 /// That of a gate line: sometimes `s` before it.
 fn gate_net(rng: &mut Rng) -> String {
-    let between = if COUNTS_PAIRS && rng.one_in(4) { "s" } else { "" };
+    let between = if rng.one_in(4) { "s" } else { "" };
     format!("{between}{}", net(rng, b"pm"))
 }
 
@@ -132,7 +132,7 @@ pub fn printed(rng: &mut Rng, library: &Listed) -> Option<(reference::Answer, Ve
         let most = rng.pick(&[1, 4, 10, 25]);
         let graph = gen::graph(rng, 6, most, CUT_LIMIT);
         let arrivals = if rng.one_in(3) { gen::arrivals(rng, graph.inputs.len()) } else { Vec::new() };
-        let pairs = COUNTS_PAIRS && library.cells.len() < 8 && rng.one_in(2);
+        let pairs = library.cells.len() < 8 && rng.one_in(2);
         let map = if pairs { reference::map_pairs } else { reference::map };
         let (answer, netlist) = map(&library.text, &graph.text(), &arrivals, graph.words(), 65_536);
         if answer.number == 0 {
@@ -276,13 +276,7 @@ fn edited(rng: &mut Rng, lines: &mut Lines, library: &Listed) -> usize {
                     words.join(" ") + "\n"
                 }
                 6 => text.replacen(" O=", " Q=", 1) + "\n",
-                7 => {
-                    text.replacen(
-                        " O=",
-                        rng.pick(&[" O=o", " O=ss", " O=ps", if COUNTS_PAIRS { " O=S" } else { " O=s" }]),
-                        1,
-                    ) + "\n"
-                }
+                7 => text.replacen(" O=", rng.pick(&[" O=o", " O=ss", " O=ps", " O=S"]), 1) + "\n",
                 8 => format!("{}{}\n", text, rng.pick(&["x", "=", "-", ".", "p1"])),
                 9 => text.replacen(" O=", " o=", 1) + "\n",
                 10 => text.replacen(".gate", ".names", 1) + "\n",

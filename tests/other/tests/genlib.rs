@@ -397,7 +397,7 @@ fn twenty_three() {
     assert_eq!(refused(&gate(&brackets(20_000))), (23, 19));
     // 22 first, at any depth and any number of pins.
     assert_eq!(refused(&gate(&(brackets(17) + "*"))), (22, 19));
-    assert_eq!(refused(&format!("GATE g 1 O=a*b*c*d*e;\nPIN a X 1 1 1 1 1 1\n")), (22, 0));
+    assert_eq!(refused("GATE g 1 O=a*b*c*d*e;\nPIN a X 1 1 1 1 1 1\n"), (22, 0));
     assert_eq!(refused(&(gate(&brackets(17)) + "\n")), (22, 19));
 }
 

@@ -7,15 +7,9 @@ use borrow.Author.Needs.{needs}
 use Rattle.aiger.proofs.all_known.Statement.{statement}
 use Rattle.aiger.proofs.all_known.Tie as tie
 
-outputs-known-requires : tie.Need-outputs-known-requires
-outputs-known-requires c κs = search needs
-
 returns : tie.Need-returns
 unfolding wordsKnown
 returns c = rw (sym (c .before .outputs-known .ensures) ∙ not-true _ (c .if1 .taken))
-
-ands-known-requires : tie.Need-ands-known-requires
-ands-known-requires c κs = search needs
 
 returns-2 : tie.Need-returns-2
 unfolding wordsKnown
@@ -23,4 +17,6 @@ returns-2 c = rw (sym (c .before .before .outputs-known .ensures) ∙ not-false 
 
 pub all-known-spec : {M : Type 1} → statement M
 all-known-spec =
-    tie.close (tie.spec outputs-known-requires returns ands-known-requires returns-2)
+    tie.close
+    (tie.spec
+    (λ c κs. search needs) returns (λ c κs. search needs) returns-2)

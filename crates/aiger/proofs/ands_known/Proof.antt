@@ -19,17 +19,8 @@ abbrev μ-loop : tie.MeasureT-loop
 loop-holds : tie.Need-loop-holds Inv-loop μ-loop
 loop-holds c = passing-first _ _
 
-operands-known-requires : tie.Need-operands-known-requires Inv-loop μ-loop
-operands-known-requires c κs = search needs
-
 returns : tie.Need-returns Inv-loop μ-loop
 returns c = sym (passing-stop _ _ _ (c .before .before .before .loop .inv) (omega arith) (sym (c .before .operands-known .ensures) ∙ not-true _ (c .if1 .taken)))
-
-add-v : tie.Need-add-v Inv-loop μ-loop
-add-v c = search needs
-
-loop-less : tie.Need-loop-less Inv-loop μ-loop
-loop-less c = search needs
 
 loop-again : tie.Need-loop-again Inv-loop μ-loop
 loop-again c = passing-on _ _ _ (c .before .before .before .loop .inv) (omega arith) (sym (c .before .operands-known .ensures) ∙ not-false _ (c .if1 .left))
@@ -41,12 +32,4 @@ pub ands-known-spec : {M : Type 1} → statement M
 ands-known-spec =
     tie.close
     (tie.spec
-    Inv-loop
-    μ-loop
-    loop-holds
-    operands-known-requires
-    returns
-    add-v
-    loop-less
-    loop-again
-    returns-2)
+    Inv-loop μ-loop loop-holds (λ c κs. search needs) returns (λ c. search needs) (λ c. search needs) loop-again returns-2)

@@ -8,18 +8,6 @@ use borrow.Author.Needs.{needs}
 use Rattle.aiger.proofs.check_at.Statement.{statement}
 use Rattle.aiger.proofs.check_at.Tie as tie
 
-due-kind-requires : tie.Need-due-kind-requires
-due-kind-requires c κs = search needs
-
-read-line-requires : tie.Need-read-line-requires
-read-line-requires c κs = search needs
-
-enum-known-l : tie.Need-enum-known-l
-enum-known-l c = search needs
-
-fits-requires : tie.Need-fits-requires
-fits-requires c κs = search needs
-
 returns : tie.Need-returns
 unfolding checkAt
 returns c =
@@ -62,13 +50,5 @@ pub check-at-spec : {M : Type 1} → statement M
 check-at-spec =
     tie.close
     (tie.spec
-    due-kind-requires
-    read-line-requires
-    enum-known-l
-    fits-requires
-    returns
-    uses-known-requires
-    enum-told
-    returns-2
-    returns-3
-    returns-4)
+    (λ c κs. search needs) (λ c κs. search needs) (λ c. search needs) (λ c κs. search needs) returns uses-known-requires enum-told returns-2
+    returns-3 returns-4)

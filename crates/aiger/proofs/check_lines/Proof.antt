@@ -14,23 +14,8 @@ Inv-loop s work h count at₀ k₀ at k = Left s h work k at
 abbrev μ-loop : tie.MeasureT-loop
 μ-loop s work h count at₀ k₀ at k = dueCount h - k
 
-add-count : tie.Need-add-count Inv-loop μ-loop
-add-count c = search needs
-
-add-count-2 : tie.Need-add-count-2 Inv-loop μ-loop
-add-count-2 c = search needs
-
 loop-holds : tie.Need-loop-holds Inv-loop μ-loop
 loop-holds c = left-first _ _ _
-
-check-at-requires : tie.Need-check-at-requires Inv-loop μ-loop
-check-at-requires c κs = search needs
-
-enum-known-next : tie.Need-enum-known-next Inv-loop μ-loop
-enum-known-next c = search needs
-
-enum-known-n : tie.Need-enum-known-n Inv-loop μ-loop
-enum-known-n c = search needs
 
 returns : tie.Need-returns Inv-loop μ-loop
 returns c =
@@ -38,12 +23,6 @@ returns c =
     let at-loop-test = at-check-at .before in
     let at-loop = at-loop-test .before in
     left-stop _ _ _ _ _ (at-loop .loop .inv) (at-loop-test .loop-test .taken) _ _ (sym (at-check-at .check-at .ensures) ∙ c .before .n .given .1)
-
-add-k : tie.Need-add-k Inv-loop μ-loop
-add-k c = search needs
-
-loop-less : tie.Need-loop-less Inv-loop μ-loop
-loop-less c = search needs
 
 loop-again : tie.Need-loop-again Inv-loop μ-loop
 loop-again c =
@@ -59,16 +38,5 @@ pub check-lines-spec : {M : Type 1} → statement M
 check-lines-spec =
     tie.close
     (tie.spec
-    Inv-loop
-    μ-loop
-    add-count
-    add-count-2
-    loop-holds
-    check-at-requires
-    enum-known-next
-    enum-known-n
-    returns
-    add-k
-    loop-less
-    loop-again
-    returns-2)
+    Inv-loop μ-loop (λ c. search needs) (λ c. search needs) loop-holds (λ c κs. search needs) (λ c. search needs) (λ c. search needs) returns
+    (λ c. search needs) (λ c. search needs) loop-again returns-2)

@@ -8,12 +8,6 @@ use borrow.Author.Needs.{needs}
 use Rattle.aiger.proofs.header.Statement.{statement}
 use Rattle.aiger.proofs.header.Tie as tie
 
-header-form-requires : tie.Need-header-form-requires
-header-form-requires c κs = search needs
-
-enum-known-h : tie.Need-enum-known-h
-enum-known-h c = search needs
-
 returns : tie.Need-returns
 unfolding headerAnswer
 returns c =
@@ -22,9 +16,6 @@ returns c =
     let s = at-header-form .before .before .args .s .now in
     let form = sym (at-header-form .header-form .ensures) ∙ at-h .h .given .1 in
     header-told s _ (sym (ap headerAnswer (header-latches s _ form (ne-eqb _ _ (c .if1 .taken)))))
-
-in-limits-requires : tie.Need-in-limits-requires
-in-limits-requires c κs = search needs
 
 returns-2 : tie.Need-returns-2
 unfolding headerAnswer
@@ -82,13 +73,4 @@ pub header-spec : {M : Type 1} → statement M
 header-spec =
     tie.close
     (tie.spec
-    header-form-requires
-    enum-known-h
-    returns
-    in-limits-requires
-    returns-2
-    in-sequence-requires
-    enum-told
-    returns-3
-    returns-4
-    returns-5)
+    (λ c κs. search needs) (λ c. search needs) returns (λ c κs. search needs) returns-2 in-sequence-requires enum-told returns-3 returns-4 returns-5)

@@ -7,9 +7,6 @@ use Rattle.aiger.proofs.Head.{first-from, first-ten, either-end}
 use Rattle.aiger.proofs.header_ends.Statement.{statement}
 use Rattle.aiger.proofs.header_ends.Tie as tie
 
-line-requires : tie.Need-line-requires
-line-requires c κs = search needs
-
 sub-result : tie.Need-sub-result
 sub-result c = first-from _ _ (c .before .line .ensures)
 
@@ -20,4 +17,6 @@ returns-2 : tie.Need-returns-2
 returns-2 c = sym (ap (headerEnds _) (c .if1 .left) ∙ either-end _)
 
 pub header-ends-spec : {M : Type 1} → statement M
-header-ends-spec = tie.close (tie.spec line-requires sub-result returns returns-2)
+header-ends-spec = tie.close
+    (tie.spec
+    (λ c κs. search needs) sub-result returns returns-2)

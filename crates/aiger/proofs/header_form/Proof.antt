@@ -6,18 +6,6 @@ use borrow.Author.Needs.{needs}
 use Rattle.aiger.proofs.header_form.Statement.{statement}
 use Rattle.aiger.proofs.header_form.Tie as tie
 
-tag-requires : tie.Need-tag-requires
-tag-requires c κs = search needs
-
-enum-known-binary : tie.Need-enum-known-binary
-enum-known-binary c = search needs
-
-header-ends-requires : tie.Need-header-ends-requires
-header-ends-requires c κs = search needs
-
-header-numbers-requires : tie.Need-header-numbers-requires
-header-numbers-requires c κs = search needs
-
 enum-told : tie.Need-enum-told
 enum-told c = search needs
 
@@ -42,4 +30,5 @@ returns-3 c = rw (sym (c .before .before .tag .ensures) ∙ c .enum-told .given 
 pub header-form-spec : {M : Type 1} → statement M
 header-form-spec =
     tie.close
-    (tie.spec tag-requires enum-known-binary header-ends-requires header-numbers-requires enum-told returns returns-2 returns-3)
+    (tie.spec
+    (λ c κs. search needs) (λ c. search needs) (λ c κs. search needs) (λ c κs. search needs) enum-told returns returns-2 returns-3)

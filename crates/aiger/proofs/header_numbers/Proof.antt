@@ -6,35 +6,8 @@ use borrow.Author.Needs.{needs}
 use Rattle.aiger.proofs.header_numbers.Statement.{statement}
 use Rattle.aiger.proofs.header_numbers.Tie as tie
 
-number-then-requires : tie.Need-number-then-requires
-number-then-requires c κs = search needs
-
-enum-known-size : tie.Need-enum-known-size
-enum-known-size c = search needs
-
-number-then-requires-2 : tie.Need-number-then-requires-2
-number-then-requires-2 c κs = search needs
-
-enum-known-inputs : tie.Need-enum-known-inputs
-enum-known-inputs c = search needs
-
-read-three-requires : tie.Need-read-three-requires
-read-three-requires c κs = search needs
-
-enum-known-latches : tie.Need-enum-known-latches
-enum-known-latches c = search needs
-
-header-record-requires : tie.Need-header-record-requires
-header-record-requires c κs = search needs
-
 enum-told : tie.Need-enum-told
 enum-told c = search needs
-
-enum-told-2 : tie.Need-enum-told-2
-enum-told-2 c = search needs
-
-enum-told-3 : tie.Need-enum-told-3
-enum-told-3 c = search needs
 
 returns : tie.Need-returns
 unfolding numbersForm
@@ -73,17 +46,5 @@ pub header-numbers-spec : {M : Type 1} → statement M
 header-numbers-spec =
     tie.close
     (tie.spec
-    number-then-requires
-    enum-known-size
-    number-then-requires-2
-    enum-known-inputs
-    read-three-requires
-    enum-known-latches
-    header-record-requires
-    enum-told
-    enum-told-2
-    enum-told-3
-    returns
-    returns-2
-    returns-3
-    returns-4)
+    (λ c κs. search needs) (λ c. search needs) (λ c κs. search needs) (λ c. search needs) (λ c κs. search needs) (λ c. search needs)
+    (λ c κs. search needs) enum-told (λ c. search needs) (λ c. search needs) returns returns-2 returns-3 returns-4)

@@ -5,9 +5,6 @@ use borrow.Author.Needs.{needs}
 use Rattle.aiger.proofs.in_sequence.Statement.{statement}
 use Rattle.aiger.proofs.in_sequence.Tie as tie
 
-add-result : tie.Need-add-result
-add-result c = search needs
-
 returns : tie.Need-returns
 unfolding inSequence
 returns c = rw (c .before .before .if1 .taken)
@@ -17,4 +14,6 @@ unfolding inSequence
 returns-2 c = rw (c .if1 .left)
 
 pub in-sequence-spec : {M : Type 1} → statement M
-in-sequence-spec = tie.close (tie.spec add-result returns returns-2)
+in-sequence-spec = tie.close
+    (tie.spec
+    (λ c. search needs) returns returns-2)

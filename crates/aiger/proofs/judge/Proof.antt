@@ -9,24 +9,12 @@ use borrow.Author.Needs.{needs}
 use Rattle.aiger.proofs.judge.Statement.{statement}
 use Rattle.aiger.proofs.judge.Tie as tie
 
-read-line-requires : tie.Need-read-line-requires
-read-line-requires c κs = search needs
-
-enum-known-l : tie.Need-enum-known-l
-enum-known-l c = search needs
-
-fits-requires : tie.Need-fits-requires
-fits-requires c κs = search needs
-
 returns : tie.Need-returns
 unfolding judgedAt
 returns c =
     let at-l = c .before .before .before in
     let at-read-line = at-l .before .before in
     rw (sym (at-read-line .read-line .ensures) ∙ at-l .l .given .1, sym (c .before .fits2 .ensures) ∙ not-true _ (c .if1 .taken))
-
-may-define-requires : tie.Need-may-define-requires
-may-define-requires c κs = search needs
 
 returns-2 : tie.Need-returns-2
 unfolding judgedAt
@@ -71,14 +59,5 @@ pub judge-spec : {M : Type 1} → statement M
 judge-spec =
     tie.close
     (tie.spec
-    read-line-requires
-    enum-known-l
-    fits-requires
-    returns
-    may-define-requires
-    returns-2
-    taken-requires
-    returns-3
-    enum-told
-    returns-4
-    returns-5)
+    (λ c κs. search needs) (λ c. search needs) (λ c κs. search needs) returns (λ c κs. search needs) returns-2 taken-requires returns-3 enum-told
+    returns-4 returns-5)

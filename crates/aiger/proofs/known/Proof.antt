@@ -5,12 +5,11 @@ use borrow.Author.Needs.{needs}
 use Rattle.aiger.proofs.known.Statement.{statement}
 use Rattle.aiger.proofs.known.Tie as tie
 
-kind-requires : tie.Need-kind-requires
-kind-requires c κs = search needs
-
 returns : tie.Need-returns
 unfolding isKnown
 returns c = rw (c .kind .ensures)
 
 pub known-spec : {M : Type 1} → statement M
-known-spec = tie.close (tie.spec kind-requires returns)
+known-spec = tie.close
+    (tie.spec
+    (λ c κs. search needs) returns)

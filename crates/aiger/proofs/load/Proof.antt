@@ -21,9 +21,6 @@ load-ascii-requires c κs =
     let start = at-if1 .before .before .before in
     (header-fit (start .args .s .now) (start .args .h) (start .args .work .now) (start .pre .0) (start .pre .1), at-if1 .if1 .left)
 
-same-length : tie.Need-same-length
-same-length c = search needs
-
 returns : tie.Need-returns
 returns c =
     let at-load-binary = c .before .before in
@@ -31,9 +28,6 @@ returns c =
     let args = at-if1 .before .before .before .args in
     let r = at-load-binary .load-binary .ensures in
     (r .0, (r .1 .0 ∙ sym (words-binary (args .work .now) (args .s .now) (args .h) (at-if1 .if1 .taken)), r .1 .1))
-
-same-length-2 : tie.Need-same-length-2
-same-length-2 c = search needs
 
 returns-2 : tie.Need-returns-2
 returns-2 c =
@@ -45,4 +39,6 @@ returns-2 c =
 
 pub load-spec : {M : Type 1} → statement M
 load-spec =
-    tie.close (tie.spec load-binary-requires load-ascii-requires same-length returns same-length-2 returns-2)
+    tie.close
+    (tie.spec
+    load-binary-requires load-ascii-requires (λ c. search needs) returns (λ c. search needs) returns-2)

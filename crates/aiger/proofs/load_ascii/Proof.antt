@@ -34,12 +34,6 @@ check-lines-requires c κs =
     let start = at-enum-told .before .before .before .before .before .before .before .before .before .before .before .before in
     fit-length _ _ _ (start .pre .0) (search needs)
 
-enum-known-n : tie.Need-enum-known-n
-enum-known-n c = search needs
-
-same-length : tie.Need-same-length
-same-length c = search needs
-
 returns : tie.Need-returns
 returns c =
     let at-enum-told = c .before .before .before in
@@ -48,9 +42,6 @@ returns c =
     let start = at-open-words .before .before .before .before in
     ascii-known (start .args .s .now) (start .args .h) (start .args .work .now) (start .pre .0) (start .pre .1) _ _ _ (at-open-words .open-words .ensures) (at-read-lines .read-lines .ensures .1) (at-read-lines .read-lines .ensures .0) (at-enum-told .enum-told .given .1) (sym (c .before .all-known .ensures) ∙ c .if1 .taken)
 
-same-length-2 : tie.Need-same-length-2
-same-length-2 c = search needs
-
 returns-2 : tie.Need-returns-2
 returns-2 c =
     let at-enum-told = c .before .before .before .before .before in
@@ -58,9 +49,6 @@ returns-2 c =
     let at-open-words = at-read-lines .before .before .before .before in
     let start = at-open-words .before .before .before .before in
     ascii-done (start .args .s .now) (start .args .h) (start .args .work .now) (start .pre .0) (start .pre .1) _ _ _ (at-open-words .open-words .ensures) (at-read-lines .read-lines .ensures .1) (at-read-lines .read-lines .ensures .0) (at-enum-told .enum-told .given .1) _ (c .check-lines .ensures)
-
-same-length-3 : tie.Need-same-length-3
-same-length-3 c = search needs
 
 returns-3 : tie.Need-returns-3
 returns-3 c =
@@ -73,15 +61,5 @@ pub load-ascii-spec : {M : Type 1} → statement M
 load-ascii-spec =
     tie.close
     (tie.spec
-    open-words-requires
-    read-lines-requires
-    enum-told
-    all-known-requires
-    check-lines-requires
-    enum-known-n
-    same-length
-    returns
-    same-length-2
-    returns-2
-    same-length-3
-    returns-3)
+    open-words-requires read-lines-requires enum-told all-known-requires check-lines-requires (λ c. search needs) (λ c. search needs) returns
+    (λ c. search needs) returns-2 (λ c. search needs) returns-3)

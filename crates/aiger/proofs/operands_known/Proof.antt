@@ -9,15 +9,9 @@ use borrow.Author.Needs.{needs}
 use Rattle.aiger.proofs.operands_known.Statement.{statement}
 use Rattle.aiger.proofs.operands_known.Tie as tie
 
-kind-requires : tie.Need-kind-requires
-kind-requires c κs = search needs
-
 returns : tie.Need-returns
 unfolding operandsKnown
 returns c = rw (sym (c .before .kind .ensures), ne-eqb _ andKind (c .if1 .taken))
-
-left-requires : tie.Need-left-requires
-left-requires c κs = search needs
 
 known-requires : tie.Need-known-requires
 known-requires c κs =
@@ -33,9 +27,6 @@ returns-2 c =
     let at-kind = at-if1 .before in
     let start = at-kind .before .before in
     rw (sym (at-kind .kind .ensures), eq-eqb _ andKind (at-if1 .if1 .left), ap (isKnown (start .args .work .now) (start .args .m)) (sym (at-left .left .ensures)) ∙ sym (c .before .known .ensures) ∙ not-true _ (c .if2 .taken))
-
-right-requires : tie.Need-right-requires
-right-requires c κs = search needs
 
 known-requires-2 : tie.Need-known-requires-2
 known-requires-2 c κs =
@@ -59,11 +50,4 @@ pub operands-known-spec : {M : Type 1} → statement M
 operands-known-spec =
     tie.close
     (tie.spec
-    kind-requires
-    returns
-    left-requires
-    known-requires
-    returns-2
-    right-requires
-    known-requires-2
-    returns-3)
+    (λ c κs. search needs) returns (λ c κs. search needs) known-requires returns-2 (λ c κs. search needs) known-requires-2 returns-3)

@@ -6,12 +6,6 @@ use borrow.Author.Needs.{needs}
 use Rattle.aiger.proofs.read_line.Statement.{statement}
 use Rattle.aiger.proofs.read_line.Tie as tie
 
-read-and-requires : tie.Need-read-and-requires
-read-and-requires c κs = search needs
-
-read-one-requires : tie.Need-read-one-requires
-read-one-requires c κs = search needs
-
 returns : tie.Need-returns
 unfolding lineRead
 returns c = rw (eq-eqb _ _ (c .before .if1 .taken)) (c .read-and .ensures)
@@ -21,4 +15,6 @@ unfolding lineRead
 returns-2 c = rw (ne-eqb _ _ (c .before .if1 .left)) (c .read-one .ensures)
 
 pub read-line-spec : {M : Type 1} → statement M
-read-line-spec = tie.close (tie.spec read-and-requires read-one-requires returns returns-2)
+read-line-spec = tie.close
+    (tie.spec
+    (λ c κs. search needs) (λ c κs. search needs) returns returns-2)

@@ -16,12 +16,6 @@ Inv-loop s work₀ h count at₀ k₀ work at k = Rest s h work₀ k at work
 abbrev μ-loop : tie.MeasureT-loop
 μ-loop s work₀ h count at₀ k₀ work at k = dueCount h - k
 
-add-count : tie.Need-add-count Inv-loop μ-loop
-add-count c = search needs
-
-add-count-2 : tie.Need-add-count-2 Inv-loop μ-loop
-add-count-2 c = search needs
-
 loop-holds : tie.Need-loop-holds Inv-loop μ-loop
 loop-holds c = rest-first _ _ _
 
@@ -31,27 +25,12 @@ turn-at-requires c κs =
     let start = at-loop .before .before .before .before .before in
     (fit-length (start .args .h) (start .args .work .now) _ (start .pre) (at-loop .loop .inv .long), omega arith)
 
-enum-known-next : tie.Need-enum-known-next Inv-loop μ-loop
-enum-known-next c = search needs
-
-enum-known-n : tie.Need-enum-known-n Inv-loop μ-loop
-enum-known-n c = search needs
-
-same-length : tie.Need-same-length Inv-loop μ-loop
-same-length c = search needs
-
 returns : tie.Need-returns Inv-loop μ-loop
 returns c =
     let at-turn-at = c .before .before .before .before .before in
     let at-loop-test = at-turn-at .before .before in
     let at-loop = at-loop-test .before in
     rest-stop _ _ _ _ _ _ (at-loop .loop .inv) (at-loop-test .loop-test .taken) _ _ _ (sym (at-turn-at .turn-at .ensures .0) ∙ c .before .n .given .1) (at-turn-at .turn-at .ensures .1)
-
-add-k : tie.Need-add-k Inv-loop μ-loop
-add-k c = search needs
-
-loop-less : tie.Need-loop-less Inv-loop μ-loop
-loop-less c = search needs
 
 loop-again : tie.Need-loop-again Inv-loop μ-loop
 loop-again c =
@@ -60,9 +39,6 @@ loop-again c =
     let at-loop = at-loop-test .before in
     rest-on _ _ _ _ _ _ (at-loop .loop .inv) (at-loop-test .loop-test .taken) _ _ (sym (at-turn-at .turn-at .ensures .0) ∙ c .before .next .given .1) (at-turn-at .turn-at .ensures .1) (search needs)
 
-same-length-2 : tie.Need-same-length-2 Inv-loop μ-loop
-same-length-2 c = search needs
-
 returns-2 : tie.Need-returns-2 Inv-loop μ-loop
 returns-2 c = rest-end _ _ _ _ _ _ (c .before .loop .inv) (c .loop-test .left)
 
@@ -70,18 +46,5 @@ pub read-lines-spec : {M : Type 1} → statement M
 read-lines-spec =
     tie.close
     (tie.spec
-    Inv-loop
-    μ-loop
-    add-count
-    add-count-2
-    loop-holds
-    turn-at-requires
-    enum-known-next
-    enum-known-n
-    same-length
-    returns
-    add-k
-    loop-less
-    loop-again
-    same-length-2
-    returns-2)
+    Inv-loop μ-loop (λ c. search needs) (λ c. search needs) loop-holds turn-at-requires (λ c. search needs) (λ c. search needs) (λ c. search needs)
+    returns (λ c. search needs) (λ c. search needs) loop-again (λ c. search needs) returns-2)

@@ -6,15 +6,6 @@ use borrow.Author.Needs.{needs}
 use Rattle.aiger.proofs.read_one.Statement.{statement}
 use Rattle.aiger.proofs.read_one.Tie as tie
 
-number-end-requires : tie.Need-number-end-requires
-number-end-requires c κs = search needs
-
-enum-known-first : tie.Need-enum-known-first
-enum-known-first c = search needs
-
-cast-t9 : tie.Need-cast-t9
-cast-t9 c = search needs
-
 enum-told : tie.Need-enum-told
 enum-told c = search needs
 
@@ -28,4 +19,6 @@ returns-2 c = rw (sym (c .before .before .number-end .ensures) ∙ c .enum-told 
 
 pub read-one-spec : {M : Type 1} → statement M
 read-one-spec =
-    tie.close (tie.spec number-end-requires enum-known-first cast-t9 enum-told returns returns-2)
+    tie.close
+    (tie.spec
+    (λ c κs. search needs) (λ c. search needs) (λ c. search needs) enum-told returns returns-2)

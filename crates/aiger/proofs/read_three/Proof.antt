@@ -6,32 +6,8 @@ use borrow.Author.Needs.{needs}
 use Rattle.aiger.proofs.read_three.Statement.{statement}
 use Rattle.aiger.proofs.read_three.Tie as tie
 
-number-then-requires : tie.Need-number-then-requires
-number-then-requires c κs = search needs
-
-enum-known-a : tie.Need-enum-known-a
-enum-known-a c = search needs
-
-number-then-requires-2 : tie.Need-number-then-requires-2
-number-then-requires-2 c κs = search needs
-
-enum-known-b : tie.Need-enum-known-b
-enum-known-b c = search needs
-
-number-end-requires : tie.Need-number-end-requires
-number-end-requires c κs = search needs
-
-enum-known-d : tie.Need-enum-known-d
-enum-known-d c = search needs
-
 enum-told : tie.Need-enum-told
 enum-told c = search needs
-
-enum-told-2 : tie.Need-enum-told-2
-enum-told-2 c = search needs
-
-enum-told-3 : tie.Need-enum-told-3
-enum-told-3 c = search needs
 
 returns : tie.Need-returns
 unfolding threeAt
@@ -69,16 +45,5 @@ pub read-three-spec : {M : Type 1} → statement M
 read-three-spec =
     tie.close
     (tie.spec
-    number-then-requires
-    enum-known-a
-    number-then-requires-2
-    enum-known-b
-    number-end-requires
-    enum-known-d
-    enum-told
-    enum-told-2
-    enum-told-3
-    returns
-    returns-2
-    returns-3
-    returns-4)
+    (λ c κs. search needs) (λ c. search needs) (λ c κs. search needs) (λ c. search needs) (λ c κs. search needs) (λ c. search needs) enum-told
+    (λ c. search needs) (λ c. search needs) returns returns-2 returns-3 returns-4)

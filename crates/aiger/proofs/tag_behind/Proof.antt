@@ -6,12 +6,6 @@ use borrow.Author.Needs.{needs}
 use Rattle.aiger.proofs.tag_behind.Statement.{statement}
 use Rattle.aiger.proofs.tag_behind.Tie as tie
 
-byte-requires : tie.Need-byte-requires
-byte-requires c κs = search needs
-
-enum-known-d : tie.Need-enum-known-d
-enum-known-d c = search needs
-
 enum-told : tie.Need-enum-told
 enum-told c = search needs
 
@@ -24,4 +18,6 @@ unfolding tagBehind
 returns-2 c = rw (sym (c .before .before .byte .ensures) ∙ c .enum-told .given .1)
 
 pub tag-behind-spec : {M : Type 1} → statement M
-tag-behind-spec = tie.close (tie.spec byte-requires enum-known-d enum-told returns returns-2)
+tag-behind-spec = tie.close
+    (tie.spec
+    (λ c κs. search needs) (λ c. search needs) enum-told returns returns-2)

@@ -13,23 +13,8 @@ returns c =
     let start = c .before .before .before in
     let t = turn-none (start .args .s .now) (start .args .at) (start .args .work .now) (start .args .h) (start .args .k) (c .if1 .taken) in (sym (t .0), sym (t .1))
 
-due-kind-requires : tie.Need-due-kind-requires
-due-kind-requires c κs = search needs
-
-judge-requires : tie.Need-judge-requires
-judge-requires c κs = search needs
-
-enum-known-l : tie.Need-enum-known-l
-enum-known-l c = search needs
-
 store-line-requires : tie.Need-store-line-requires
 store-line-requires c κs = (search needs, search needs, fit-known _ _ (judged-good _ _ _ _ _ _ (sym (c .before .before .before .before .judge .ensures) ∙ c .before .before .l .given .1) .1))
-
-enum-known-n : tie.Need-enum-known-n
-enum-known-n c = search needs
-
-same-length : tie.Need-same-length
-same-length c = search needs
 
 returns-2 : tie.Need-returns-2
 returns-2 c =
@@ -42,9 +27,6 @@ returns-2 c =
     let e = ap (judgedAt (start .args .s .now) (start .args .at) (start .args .work .now) (start .args .h .size)) (sym (at-due-kind .due-kind .ensures)) ∙ sym (at-judge .judge .ensures) ∙ at-l .l .given .1 in
     let t = turn-good (start .args .s .now) (start .args .at) (start .args .work .now) (start .args .h) (start .args .k) _ (at-if1 .if1 .left) e in
     (sym (t .0), at-store-line .store-line .ensures ∙ sym (t .1))
-
-same-length-2 : tie.Need-same-length-2
-same-length-2 c = search needs
 
 returns-3 : tie.Need-returns-3
 returns-3 c =
@@ -60,13 +42,5 @@ pub turn-at-spec : {M : Type 1} → statement M
 turn-at-spec =
     tie.close
     (tie.spec
-    returns
-    due-kind-requires
-    judge-requires
-    enum-known-l
-    store-line-requires
-    enum-known-n
-    same-length
-    returns-2
-    same-length-2
-    returns-3)
+    returns (λ c κs. search needs) (λ c κs. search needs) (λ c. search needs) store-line-requires (λ c. search needs) (λ c. search needs) returns-2
+    (λ c. search needs) returns-3)

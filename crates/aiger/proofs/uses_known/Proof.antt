@@ -7,22 +7,13 @@ use borrow.Author.Needs.{needs}
 use Rattle.aiger.proofs.uses_known.Statement.{statement}
 use Rattle.aiger.proofs.uses_known.Tie as tie
 
-known-requires : tie.Need-known-requires
-known-requires c κs = search needs
-
 returns : tie.Need-returns
 unfolding usesKnown
 returns c = rw (eq-eqb _ _ (c .before .if1 .taken)) (c .known .ensures)
 
-known-requires-2 : tie.Need-known-requires-2
-known-requires-2 c κs = search needs
-
 returns-2 : tie.Need-returns-2
 unfolding usesKnown
 returns-2 c = rw (ne-eqb _ _ (c .before .before .if1 .left), sym (c .before .known2 .ensures) ∙ not-true _ (c .if2 .taken))
-
-known-requires-3 : tie.Need-known-requires-3
-known-requires-3 c κs = search needs
 
 returns-3 : tie.Need-returns-3
 unfolding usesKnown
@@ -35,4 +26,5 @@ returns-3 c =
 pub uses-known-spec : {M : Type 1} → statement M
 uses-known-spec =
     tie.close
-    (tie.spec known-requires returns known-requires-2 returns-2 known-requires-3 returns-3)
+    (tie.spec
+    (λ c κs. search needs) returns (λ c κs. search needs) returns-2 (λ c κs. search needs) returns-3)

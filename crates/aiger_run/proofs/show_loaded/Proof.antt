@@ -7,9 +7,6 @@ use borrow.Author.Needs.{needs}
 use Rattle.aiger_run.proofs.show_loaded.Statement.{statement}
 use Rattle.aiger_run.proofs.show_loaded.Tie as tie
 
-load-requires : tie.Need-load-requires
-load-requires c κs = search needs
-
 enum-told : tie.Need-enum-told
 enum-told c = search needs
 
@@ -22,34 +19,9 @@ show-placed-requires c κs =
     let fit = header-fit (args .text .now) (args .h) (args .work .now) (start .pre .0) (start .pre .1) in
     place-asks (args .work .now) (args .text .now) (args .h) _ fit (sym (at-load .load .ensures .0) ∙ at-enum-told .enum-told .given .1) (at-load .load .ensures .1 .0)
 
-enum-known-n : tie.Need-enum-known-n
-enum-known-n c = search needs
-
-refused-requires : tie.Need-refused-requires
-refused-requires c κs = search needs
-
-same-length : tie.Need-same-length
-same-length c = search needs
-
-returns : tie.Need-returns
-returns c = search needs
-
-same-length-2 : tie.Need-same-length-2
-same-length-2 c = search needs
-
-returns-2 : tie.Need-returns-2
-returns-2 c = search needs
-
 pub show-loaded-spec : {M : Type 1} → statement M
 show-loaded-spec =
     tie.close
     (tie.spec
-    load-requires
-    enum-told
-    show-placed-requires
-    enum-known-n
-    refused-requires
-    same-length
-    returns
-    same-length-2
-    returns-2)
+    (λ c κs. search needs) enum-told show-placed-requires (λ c. search needs) (λ c κs. search needs) (λ c. search needs) (λ c. search needs)
+    (λ c. search needs) (λ c. search needs))

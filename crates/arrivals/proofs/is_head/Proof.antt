@@ -18,12 +18,6 @@ slice-aggregate-same-bytes c =
     let a = c .before .before .before .before in
     sym (length-take-le (a .args .first .stop) (a .args .s .now) (a .pre))
 
-slice-aggregate-same-bytes-2 : tie.Need-slice-aggregate-same-bytes-2
-slice-aggregate-same-bytes-2 c = search needs
-
-same-bytes-requires : tie.Need-same-bytes-requires
-same-bytes-requires c κs = search needs
-
 returns-2 : tie.Need-returns-2
 unfolding isHead headLine text
 returns-2 c = rw (lt-ltb _ _ (c .before .before .before .if1 .left)) (c .same-bytes .ensures)
@@ -32,8 +26,4 @@ pub is-head-spec : {M : Type 1} → statement M
 is-head-spec =
     tie.close
     (tie.spec
-    returns
-    slice-aggregate-same-bytes
-    slice-aggregate-same-bytes-2
-    same-bytes-requires
-    returns-2)
+    returns slice-aggregate-same-bytes (λ c. search needs) (λ c κs. search needs) returns-2)

@@ -8,23 +8,11 @@ use Rattle.arrivals.proofs.Lines.{judged-over, judged-again, judged-fre
 use Rattle.arrivals.proofs.judge.Statement.{statement}
 use Rattle.arrivals.proofs.judge.Tie as tie
 
-read-late-requires : tie.Need-read-late-requires
-read-late-requires c κs = search needs
-
-enum-known-index : tie.Need-enum-known-index
-enum-known-index c = search needs
-
-wide-requires : tie.Need-wide-requires
-wide-requires c κs = search needs
-
 returns : tie.Need-returns
 returns c =
     let at-wide = c .before in
     let at-index = at-wide .before .before in
     judged-over _ _ _ _ _ _ _ (sym (at-index .before .before .read-late .ensures) ∙ at-index .index .given .1) _ (at-wide .wide .ensures) (c .if1 .taken)
-
-element-copy-out-if2 : tie.Need-element-copy-out-if2
-element-copy-out-if2 c = search needs
 
 enum-told : tie.Need-enum-told
 enum-told c = search needs
@@ -51,12 +39,4 @@ pub judge-spec : {M : Type 1} → statement M
 judge-spec =
     tie.close
     (tie.spec
-    read-late-requires
-    enum-known-index
-    wide-requires
-    returns
-    element-copy-out-if2
-    enum-told
-    returns-2
-    returns-3
-    returns-4)
+    (λ c κs. search needs) (λ c. search needs) (λ c κs. search needs) returns (λ c. search needs) enum-told returns-2 returns-3 returns-4)

@@ -22,17 +22,8 @@ returns c =
     let args = c .before .before .before .args in
     told _ _ (none-listed (args .h .inputs) (args .h .size) (args .s .now) (args .work .now) (omega arith))
 
-line-requires : tie.Need-line-requires
-line-requires c κs = search needs
-
 is-head-requires : tie.Need-is-head-requires
 is-head-requires c κs = first-fits 0 (c .before .before .before .before .args .s .now) (omega arith) _ (c .line .ensures)
-
-read-lines-requires : tie.Need-read-lines-requires
-read-lines-requires c κs = search needs
-
-same-length : tie.Need-same-length
-same-length c = search needs
 
 returns-2 : tie.Need-returns-2
 returns-2 c =
@@ -54,10 +45,4 @@ pub read-spec : {M : Type 1} → statement M
 read-spec =
     tie.close
     (tie.spec
-    returns
-    line-requires
-    is-head-requires
-    read-lines-requires
-    same-length
-    returns-2
-    returns-3)
+    returns (λ c κs. search needs) is-head-requires (λ c κs. search needs) (λ c. search needs) returns-2 returns-3)

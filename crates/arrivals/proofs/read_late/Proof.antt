@@ -6,23 +6,8 @@ use borrow.Author.Needs.{needs}
 use Rattle.arrivals.proofs.read_late.Statement.{statement}
 use Rattle.arrivals.proofs.read_late.Tie as tie
 
-number-then-requires : tie.Need-number-then-requires
-number-then-requires c κs = search needs
-
-enum-known-index : tie.Need-enum-known-index
-enum-known-index c = search needs
-
-number-end-requires : tie.Need-number-end-requires
-number-end-requires c κs = search needs
-
-enum-known-time : tie.Need-enum-known-time
-enum-known-time c = search needs
-
 enum-told : tie.Need-enum-told
 enum-told c = search needs
-
-enum-told-2 : tie.Need-enum-told-2
-enum-told-2 c = search needs
 
 returns : tie.Need-returns
 unfolding entryAt
@@ -48,12 +33,4 @@ pub read-late-spec : {M : Type 1} → statement M
 read-late-spec =
     tie.close
     (tie.spec
-    number-then-requires
-    enum-known-index
-    number-end-requires
-    enum-known-time
-    enum-told
-    enum-told-2
-    returns
-    returns-2
-    returns-3)
+    (λ c κs. search needs) (λ c. search needs) (λ c κs. search needs) (λ c. search needs) enum-told (λ c. search needs) returns returns-2 returns-3)

@@ -16,9 +16,6 @@ Inv-loop s from h work₀ marks₀ at₀ work marks at = SoFar s from (h .size) 
 abbrev μ-loop : tie.MeasureT-loop
 μ-loop s from h work₀ marks₀ at₀ work marks at = length s - at
 
-no-marks-requires : tie.Need-no-marks-requires Inv-loop μ-loop
-no-marks-requires c κs = search needs
-
 loop-holds : tie.Need-loop-holds Inv-loop μ-loop
 loop-holds c =
     let start = c .before .before .before in
@@ -27,9 +24,6 @@ loop-holds c =
 judge-requires : tie.Need-judge-requires Inv-loop μ-loop
 judge-requires c κs = let f = c .before .before .loop .inv in omega (arith, f .ready .few, f .ready .room .small)
 
-enum-known-index : tie.Need-enum-known-index Inv-loop μ-loop
-enum-known-index c = search needs
-
 store-late-requires : tie.Need-store-late-requires Inv-loop μ-loop
 store-late-requires c κs =
     let at-index = c .before .before in
@@ -37,9 +31,6 @@ store-late-requires c κs =
     let f = at-judge .before .before .before .loop .inv in
     let g = judged-good _ _ _ _ _ _ _ (sym (at-judge .judge .ensures) ∙ at-index .index .given .1) in
     (f .ready .room, omega (arith, g .0, f .ready .few), f .ready .within _ (g .0))
-
-wide-requires : tie.Need-wide-requires Inv-loop μ-loop
-wide-requires c κs = search needs
 
 array-write-marks : tie.Need-array-write-marks Inv-loop μ-loop
 array-write-marks c =
@@ -67,9 +58,6 @@ loop-again c =
     (at-judge .before .before .loop-test .taken) _ _ _ (sym (at-judge .judge .ensures) ∙ at-index .index .given .1) _ _ (at-store .store-late .ensures)
     (ap (λ (i : ℕ). set (at-loop .loop .marks) i 1) (c .wide .ensures))
 
-enum-known-number : tie.Need-enum-known-number Inv-loop μ-loop
-enum-known-number c = search needs
-
 same-length : tie.Need-same-length Inv-loop μ-loop
 same-length c = c .before .before .before .before .before .before .loop .inv .long
 
@@ -95,19 +83,5 @@ pub read-lines-spec : {M : Type 1} → statement M
 read-lines-spec =
     tie.close
     (tie.spec
-    Inv-loop
-    μ-loop
-    no-marks-requires
-    loop-holds
-    judge-requires
-    enum-known-index
-    store-late-requires
-    wide-requires
-    array-write-marks
-    loop-less
-    loop-again
-    enum-known-number
-    same-length
-    returns
-    same-length-2
-    returns-2)
+    Inv-loop μ-loop (λ c κs. search needs) loop-holds judge-requires (λ c. search needs) store-late-requires (λ c κs. search needs) array-write-marks
+    loop-less loop-again (λ c. search needs) same-length returns same-length-2 returns-2)

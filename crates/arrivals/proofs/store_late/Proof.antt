@@ -11,24 +11,12 @@ use Rattle.arrivals.specs.Storing.{putLate}
 use Rattle.arrivals.proofs.store_late.Statement.{statement}
 use Rattle.arrivals.proofs.store_late.Tie as tie
 
-wide-requires : tie.Need-wide-requires
-wide-requires c κs = search needs
-
-add-slot : tie.Need-add-slot
-add-slot c = search needs
-
-slot-requires : tie.Need-slot-requires
-slot-requires c κs = search needs
-
 set-late-requires : tie.Need-set-late-requires
 set-late-requires c κs =
     let at-slot = c .before in
     let start = at-slot .before .before .before .before in
     let e = at-slot .slot .ensures ∙ ap (λ (i : ℕ). slotAt (start .args .work .now) (start .args .m) (i + 1)) (at-slot .before .before .wide .ensures) in
     (start .pre .0, omega (arith, e, start .pre .2))
-
-same-length : tie.Need-same-length
-same-length c = search needs
 
 returns : tie.Need-returns
 unfolding putLate
@@ -41,4 +29,6 @@ returns c =
 
 pub store-late-spec : {M : Type 1} → statement M
 store-late-spec =
-    tie.close (tie.spec wide-requires add-slot slot-requires set-late-requires same-length returns)
+    tie.close
+    (tie.spec
+    (λ c κs. search needs) (λ c. search needs) (λ c κs. search needs) set-late-requires (λ c. search needs) returns)

@@ -6,33 +6,12 @@ use borrow.Author.Needs.{needs}
 use Rattle.binary.proofs.gate_turn.Statement.{statement}
 use Rattle.binary.proofs.gate_turn.Tie as tie
 
-sub-read-gate : tie.Need-sub-read-gate
-sub-read-gate c = search needs
-
-add-read-gate : tie.Need-add-read-gate
-add-read-gate c = search needs
-
-mul-read-gate : tie.Need-mul-read-gate
-mul-read-gate c = search needs
-
-read-gate-requires : tie.Need-read-gate-requires
-read-gate-requires c κs = search needs
-
-enum-known-l : tie.Need-enum-known-l
-enum-known-l c = search needs
-
 store-line-requires : tie.Need-store-line-requires
 store-line-requires c κs =
     let at-l = c .before .before in
     let at-read-gate = at-l .before .before in
     let start = at-read-gate .before .before .before .before in
     (search needs, search needs, gate-fit (start .args .s .now) (start .args .h) (start .args .k) (start .args .at) (start .args .work .now) (start .args .work .now) (start .pre .0) (start .pre .1) (start .pre .2) _ (sym (at-read-gate .read-gate .ensures) ∙ at-l .l .given .1))
-
-enum-known-n : tie.Need-enum-known-n
-enum-known-n c = search needs
-
-same-length : tie.Need-same-length
-same-length c = search needs
 
 returns : tie.Need-returns
 returns c =
@@ -55,13 +34,5 @@ pub gate-turn-spec : {M : Type 1} → statement M
 gate-turn-spec =
     tie.close
     (tie.spec
-    sub-read-gate
-    add-read-gate
-    mul-read-gate
-    read-gate-requires
-    enum-known-l
-    store-line-requires
-    enum-known-n
-    same-length
-    returns
-    returns-2)
+    (λ c. search needs) (λ c. search needs) (λ c. search needs) (λ c κs. search needs) (λ c. search needs) store-line-requires (λ c. search needs)
+    (λ c. search needs) returns returns-2)

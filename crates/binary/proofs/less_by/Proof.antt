@@ -9,30 +9,15 @@ use Rattle.binary.proofs.less_by.Statement.{statement}
 use Rattle.binary.proofs.less_by.Tie as tie
 use Rattle.text.proofs.Cursor.difference.Reads as difference-reads
 
-difference-requires : tie.Need-difference-requires
-difference-requires c κs = search needs
-
-enum-known-d : tie.Need-enum-known-d
-enum-known-d c = search needs
-
 returns : tie.Need-returns
 returns c =
     let at-d = c .before .before .before in
     less-zero _ _ _ _ _ _ (sym (at-d .before .before .difference .ensures) ∙ at-d .d .given .1) (c .before .if1 .taken) (c .if2 .taken)
 
-cast-if3 : tie.Need-cast-if3
-cast-if3 c = search needs
-
 returns-2 : tie.Need-returns-2
 returns-2 c =
     let at-d = c .before .before .before in
     less-over _ _ _ _ _ _ (sym (at-d .before .before .difference .ensures) ∙ at-d .d .given .1) (c .if3 .taken)
-
-cast-t12 : tie.Need-cast-t12
-cast-t12 c = search needs
-
-sub-t13 : tie.Need-sub-t13
-sub-t13 c = search needs
 
 enum-told : tie.Need-enum-told
 enum-told c = search needs
@@ -50,13 +35,5 @@ pub less-by-spec : {M : Type 1} → statement M
 less-by-spec =
     tie.close
     (tie.spec
-    difference-requires
-    enum-known-d
-    returns
-    cast-if3
-    returns-2
-    cast-t12
-    sub-t13
-    enum-told
-    returns-3
+    (λ c κs. search needs) (λ c. search needs) returns (λ c. search needs) returns-2 (λ c. search needs) (λ c. search needs) enum-told returns-3
     returns-4)

@@ -21,20 +21,11 @@ read-outputs-requires c κs =
     let start = c .before .before .before .before .before .before .before .before .before .before .before in
     fit-length _ _ _ (header-fit (start .args .s .now) (start .args .h) (start .args .work .now) (start .pre .0) (start .pre .2)) (search needs)
 
-enum-known-at : tie.Need-enum-known-at
-enum-known-at c = search needs
-
 read-gates-requires : tie.Need-read-gates-requires
 read-gates-requires c κs =
     let at-read-outputs = c .before .before .before .before .before .before in
     let start = at-read-outputs .before .before .before .before .before .before .before .before .before .before .before .before in
     fit-length _ _ _ (header-fit (start .args .s .now) (start .args .h) (start .args .work .now) (start .pre .0) (start .pre .2)) (search needs)
-
-enum-known-n : tie.Need-enum-known-n
-enum-known-n c = search needs
-
-same-length : tie.Need-same-length
-same-length c = search needs
 
 returns : tie.Need-returns
 returns c =
@@ -45,9 +36,6 @@ returns c =
     let at-open-words = at-store-inputs .before .before .before .before in
     let start = at-open-words .before .before .before .before in
     load-done (start .args .s .now) (start .args .h) (start .pre .1) (start .args .work .now) (header-fit (start .args .s .now) (start .args .h) (start .args .work .now) (start .pre .0) (start .pre .2)) (start .pre .0) _ _ _ _ (at-open-words .open-words .ensures) (at-store-inputs .store-inputs .ensures) (at-read-outputs .read-outputs .ensures .0) (at-read-outputs .read-outputs .ensures .1) _ (at-at .at .given .1) _ _ (at-read-gates .read-gates .ensures .0) (at-read-gates .read-gates .ensures .1)
-
-same-length-2 : tie.Need-same-length-2
-same-length-2 c = search needs
 
 returns-2 : tie.Need-returns-2
 returns-2 c =
@@ -62,13 +50,5 @@ pub load-binary-spec : {M : Type 1} → statement M
 load-binary-spec =
     tie.close
     (tie.spec
-    open-words-requires
-    store-inputs-requires
-    read-outputs-requires
-    enum-known-at
-    read-gates-requires
-    enum-known-n
-    same-length
-    returns
-    same-length-2
-    returns-2)
+    open-words-requires store-inputs-requires read-outputs-requires (λ c. search needs) read-gates-requires (λ c. search needs) (λ c. search needs)
+    returns (λ c. search needs) returns-2)

@@ -14,18 +14,6 @@ returns c =
     let t = turn-missing (start .args .s .now) (start .args .h) (start .args .k) (start .args .at) (start .args .work .now) (c .if1 .taken) in
     (sym (t .0), sym (t .1))
 
-number-then-requires : tie.Need-number-then-requires
-number-then-requires c κs = search needs
-
-enum-known-n : tie.Need-enum-known-n
-enum-known-n c = search needs
-
-cast-t15 : tie.Need-cast-t15
-cast-t15 c = search needs
-
-fits-requires : tie.Need-fits-requires
-fits-requires c κs = search needs
-
 returns-2 : tie.Need-returns-2
 returns-2 c =
     let at-fits2 = c .before in
@@ -41,9 +29,6 @@ store-line-requires c κs = (search needs, search needs, fit-known _ _ (sym (c .
 
 enum-told : tie.Need-enum-told
 enum-told c = search needs
-
-same-length : tie.Need-same-length
-same-length c = search needs
 
 returns-3 : tie.Need-returns-3
 returns-3 c =
@@ -69,14 +54,5 @@ pub output-turn-spec : {M : Type 1} → statement M
 output-turn-spec =
     tie.close
     (tie.spec
-    returns
-    number-then-requires
-    enum-known-n
-    cast-t15
-    fits-requires
-    returns-2
-    store-line-requires
-    enum-told
-    same-length
-    returns-3
-    returns-4)
+    returns (λ c κs. search needs) (λ c. search needs) (λ c. search needs) (λ c κs. search needs) returns-2 store-line-requires enum-told
+    (λ c. search needs) returns-3 returns-4)

@@ -6,24 +6,6 @@ use borrow.Author.Needs.{needs}
 use Rattle.binary.proofs.read_gate.Statement.{statement}
 use Rattle.binary.proofs.read_gate.Tie as tie
 
-less-by-requires : tie.Need-less-by-requires
-less-by-requires c κs = search needs
-
-enum-known-first : tie.Need-enum-known-first
-enum-known-first c = search needs
-
-less-by-requires-2 : tie.Need-less-by-requires-2
-less-by-requires-2 c κs = search needs
-
-enum-known-second : tie.Need-enum-known-second
-enum-known-second c = search needs
-
-enum-known-n : tie.Need-enum-known-n
-enum-known-n c = search needs
-
-enum-known-n-2 : tie.Need-enum-known-n-2
-enum-known-n-2 c = search needs
-
 returns : tie.Need-returns
 unfolding gateAt
 returns c =
@@ -50,12 +32,5 @@ pub read-gate-spec : {M : Type 1} → statement M
 read-gate-spec =
     tie.close
     (tie.spec
-    less-by-requires
-    enum-known-first
-    less-by-requires-2
-    enum-known-second
-    enum-known-n
-    enum-known-n-2
-    returns
-    returns-2
+    (λ c κs. search needs) (λ c. search needs) (λ c κs. search needs) (λ c. search needs) (λ c. search needs) (λ c. search needs) returns returns-2
     returns-3)

@@ -16,15 +16,6 @@ Inv-loop s from work₀ h end at₀ k₀ work at k = Rest (gateTurn s h) (gateLe
 abbrev μ-loop : tie.MeasureT-loop
 μ-loop s from work₀ h end at₀ k₀ work at k = h .inputs + h .outputs + h .ands - k
 
-add-end : tie.Need-add-end Inv-loop μ-loop
-add-end c = search needs
-
-add-end-2 : tie.Need-add-end-2 Inv-loop μ-loop
-add-end-2 c = search needs
-
-add-k : tie.Need-add-k Inv-loop μ-loop
-add-k c = search needs
-
 loop-holds : tie.Need-loop-holds Inv-loop μ-loop
 loop-holds c = rest-first _ _ _ _ _ _
 
@@ -34,15 +25,6 @@ gate-turn-requires c κs =
     let start = at-loop .before .before .before .before .before .before in
     (fit-length (start .args .h) (start .args .work .now) _ (start .pre) (at-loop .loop .inv .long), at-loop .loop .inv .since, omega arith)
 
-enum-known-next : tie.Need-enum-known-next Inv-loop μ-loop
-enum-known-next c = search needs
-
-enum-known-n : tie.Need-enum-known-n Inv-loop μ-loop
-enum-known-n c = search needs
-
-same-length : tie.Need-same-length Inv-loop μ-loop
-same-length c = search needs
-
 returns : tie.Need-returns Inv-loop μ-loop
 returns c =
     let at-turn = c .before .before .before .before .before in
@@ -51,21 +33,12 @@ returns c =
     let r = rest-stop _ _ _ _ _ _ _ _ _ (at-loop .loop .inv) (at-loop-test .loop-test .taken) _ _ _ (sym (at-turn .gate-turn .ensures .0) ∙ c .before .n .given .1) (at-turn .gate-turn .ensures .1) in
     (ap asVerdict (r .0), r .1)
 
-add-k-2 : tie.Need-add-k-2 Inv-loop μ-loop
-add-k-2 c = search needs
-
-loop-less : tie.Need-loop-less Inv-loop μ-loop
-loop-less c = search needs
-
 loop-again : tie.Need-loop-again Inv-loop μ-loop
 loop-again c =
     let at-turn = c .before .before .before .before .before in
     let at-loop-test = at-turn .before .before in
     let at-loop = at-loop-test .before in
     rest-on _ _ _ _ _ _ _ _ _ (at-loop .loop .inv) (at-loop-test .loop-test .taken) _ _ (sym (at-turn .gate-turn .ensures .0) ∙ c .before .next .given .1) (at-turn .gate-turn .ensures .1) (search needs)
-
-same-length-2 : tie.Need-same-length-2 Inv-loop μ-loop
-same-length-2 c = search needs
 
 returns-2 : tie.Need-returns-2 Inv-loop μ-loop
 returns-2 c =
@@ -76,19 +49,5 @@ pub read-gates-spec : {M : Type 1} → statement M
 read-gates-spec =
     tie.close
     (tie.spec
-    Inv-loop
-    μ-loop
-    add-end
-    add-end-2
-    add-k
-    loop-holds
-    gate-turn-requires
-    enum-known-next
-    enum-known-n
-    same-length
-    returns
-    add-k-2
-    loop-less
-    loop-again
-    same-length-2
-    returns-2)
+    Inv-loop μ-loop (λ c. search needs) (λ c. search needs) (λ c. search needs) loop-holds gate-turn-requires (λ c. search needs) (λ c. search needs)
+    (λ c. search needs) returns (λ c. search needs) (λ c. search needs) loop-again (λ c. search needs) returns-2)

@@ -16,9 +16,6 @@ Inv-loop s work₀ h end at₀ k₀ work at k = Rest (outputTurn s h) (outputLef
 abbrev μ-loop : tie.MeasureT-loop
 μ-loop s work₀ h end at₀ k₀ work at k = h .inputs + h .outputs - k
 
-add-end : tie.Need-add-end Inv-loop μ-loop
-add-end c = search needs
-
 loop-holds : tie.Need-loop-holds Inv-loop μ-loop
 loop-holds c = rest-first _ _ _ _ _ _
 
@@ -28,15 +25,6 @@ output-turn-requires c κs =
     let start = at-loop .before .before .before .before in
     (fit-length (start .args .h) (start .args .work .now) _ (start .pre) (at-loop .loop .inv .long), omega arith)
 
-enum-known-next : tie.Need-enum-known-next Inv-loop μ-loop
-enum-known-next c = search needs
-
-enum-known-n : tie.Need-enum-known-n Inv-loop μ-loop
-enum-known-n c = search needs
-
-same-length : tie.Need-same-length Inv-loop μ-loop
-same-length c = search needs
-
 returns : tie.Need-returns Inv-loop μ-loop
 returns c =
     let at-turn = c .before .before .before .before .before in
@@ -44,21 +32,12 @@ returns c =
     let at-loop = at-loop-test .before in
     rest-stop _ _ _ _ _ _ _ _ _ (at-loop .loop .inv) (at-loop-test .loop-test .taken) _ _ _ (sym (at-turn .output-turn .ensures .0) ∙ c .before .n .given .1) (at-turn .output-turn .ensures .1)
 
-add-k : tie.Need-add-k Inv-loop μ-loop
-add-k c = search needs
-
-loop-less : tie.Need-loop-less Inv-loop μ-loop
-loop-less c = search needs
-
 loop-again : tie.Need-loop-again Inv-loop μ-loop
 loop-again c =
     let at-turn = c .before .before .before .before .before in
     let at-loop-test = at-turn .before .before in
     let at-loop = at-loop-test .before in
     rest-on _ _ _ _ _ _ _ _ _ (at-loop .loop .inv) (at-loop-test .loop-test .taken) _ _ (sym (at-turn .output-turn .ensures .0) ∙ c .before .next .given .1) (at-turn .output-turn .ensures .1) (search needs)
-
-same-length-2 : tie.Need-same-length-2 Inv-loop μ-loop
-same-length-2 c = search needs
 
 returns-2 : tie.Need-returns-2 Inv-loop μ-loop
 returns-2 c =
@@ -68,17 +47,5 @@ pub read-outputs-spec : {M : Type 1} → statement M
 read-outputs-spec =
     tie.close
     (tie.spec
-    Inv-loop
-    μ-loop
-    add-end
-    loop-holds
-    output-turn-requires
-    enum-known-next
-    enum-known-n
-    same-length
-    returns
-    add-k
-    loop-less
-    loop-again
-    same-length-2
-    returns-2)
+    Inv-loop μ-loop (λ c. search needs) loop-holds output-turn-requires (λ c. search needs) (λ c. search needs) (λ c. search needs) returns
+    (λ c. search needs) (λ c. search needs) loop-again (λ c. search needs) returns-2)

@@ -21,20 +21,11 @@ abbrev μ-loop : tie.MeasureT-loop
 loop-holds : tie.Need-loop-holds Inv-loop μ-loop
 loop-holds c = rest-first _ _ _ _ _ _
 
-input-literals-requires : tie.Need-input-literals-requires Inv-loop μ-loop
-input-literals-requires c κs = search needs
-
 store-line-requires : tie.Need-store-line-requires Inv-loop μ-loop
 store-line-requires c κs =
     let at-loop = c .before .before .before .before in
     let start = at-loop .before .before in
     (fit-length (start .args .h) (start .args .work .now) _ (start .pre) (at-loop .loop .inv .long), omega arith, subst (LiteralsFit (start .args .h .size)) (sym (c .input-literals .ensures)) (record { first = omega (arith, start .pre .lines); left = omega arith; right = omega arith }))
-
-add-k : tie.Need-add-k Inv-loop μ-loop
-add-k c = search needs
-
-loop-less : tie.Need-loop-less Inv-loop μ-loop
-loop-less c = search needs
 
 loop-again : tie.Need-loop-again Inv-loop μ-loop
 unfolding inputLeft
@@ -45,9 +36,6 @@ loop-again c =
     let at-loop = at-if1 .before .before in
     rest-on _ _ _ _ _ _ _ _ _ (at-loop .loop .inv) (omega arith) _ _ refl (at-store-line .store-line .ensures ∙ ap (storedLine _ _ _) (at-input-literals .input-literals .ensures)) (search needs)
 
-same-length : tie.Need-same-length Inv-loop μ-loop
-same-length c = search needs
-
 returns : tie.Need-returns Inv-loop μ-loop
 returns c = rest-end _ _ _ _ _ _ _ _ _ (c .before .before .loop .inv) (omega arith) .1
 
@@ -55,13 +43,5 @@ pub store-inputs-spec : {M : Type 1} → statement M
 store-inputs-spec =
     tie.close
     (tie.spec
-    Inv-loop
-    μ-loop
-    loop-holds
-    input-literals-requires
-    store-line-requires
-    add-k
-    loop-less
-    loop-again
-    same-length
+    Inv-loop μ-loop loop-holds (λ c κs. search needs) store-line-requires (λ c. search needs) (λ c. search needs) loop-again (λ c. search needs)
     returns)

@@ -1,6 +1,6 @@
 -- `book::put_book` meets its contract: the listed cells, then the pairs' numbers. 833 bytes hold 32 cells and 224 pairs, and fewer cells with more pairs.
 -- Assumes nothing.
-use mathlib.Core.Path.{_≡_, refl, sym}
+use mathlib.Core.Path.{refl, sym}
 use mathlib.Core.List.{List, [], append-nil}
 use Prim.Native.Nat.{ℕ, _+_, _≤_}
 use native.Mathlib.Omega.{arith}
@@ -31,18 +31,12 @@ one c =
     step (fits (s .args .lib) codes (s .pre .0) (s .args .book .now) (s .pre .1)) (begin (s .args .book .now) 0 refl) (c .put-listed .last .0) (c .put-listed .result) (listedBytes (cellsOf (s .args .lib))) (each codeBytes codes) refl
     (c .put-listed .ensures)
 
-put-listed-requires : tie.Need-put-listed-requires
-put-listed-requires c κs = search needs
-
 put-codes-requires : tie.Need-put-codes-requires
 put-codes-requires c κs =
     let q = c .before .before .before in
     let s = q .before .before .before .before in
     let codes = s .args .codes .now in
     room (fits (s .args .lib) codes (s .pre .0) (s .args .book .now) (s .pre .1)) (one q) (each codeBytes codes) [] (sym (append-nil (each codeBytes codes)))
-
-same-length : tie.Need-same-length
-same-length c = search needs
 
 returns : tie.Need-returns
 returns c =
@@ -51,4 +45,6 @@ returns c =
     finish (fits (s .args .lib) (s .args .codes .now) (s .pre .0) (s .args .book .now) (s .pre .1)) (one q) (c .before .before .put-codes .ensures)
 
 pub put-book-spec : {M : Type 1} → statement M
-put-book-spec = tie.close (tie.spec put-listed-requires put-codes-requires same-length returns)
+put-book-spec = tie.close
+    (tie.spec
+    (λ c κs. search needs) put-codes-requires (λ c. search needs) returns)

@@ -2,7 +2,7 @@
 -- Assumes nothing.
 use mathlib.Core.Path.{_≡_, refl, sym, ap, _∙_}
 use mathlib.Core.List.{List, _∷_, [], append-nil}
-use Prim.Native.Nat.{ℕ, _%_, _/_, _+_, _≤_}
+use Prim.Native.Nat.{ℕ, _%_, _/_}
 use native.Mathlib.Omega.{arith}
 use lib.ListN.{length, take}
 use lib.Seq.{length-take-le}
@@ -34,32 +34,11 @@ named c =
     step (s .pre .1) (begin (s .args .book .now) (s .args .at) (cell-is x (n .result) eight long)) (c .before .before .before .put-bytes .last .0) (c .before .before .before .put-bytes .result) (x .name) (figures c) refl
     (c .before .before .before .put-bytes .ensures)
 
-slice-aggregate-put-bytes : tie.Need-slice-aggregate-put-bytes
-slice-aggregate-put-bytes c = search needs
-
 put-bytes-requires : tie.Need-put-bytes-requires
 put-bytes-requires c κs =
     let s = c .before .before .before .before in
     let eight : length (s .args .c .name) ≡ 8 = search needs in
     omega (arith, s .pre .1, cell-bytes-length (s .args .c))
-
-name-len-requires : tie.Need-name-len-requires
-name-len-requires c κs = search needs
-
-cast-t12 : tie.Need-cast-t12
-cast-t12 c = search needs
-
-cast-t13 : tie.Need-cast-t13
-cast-t13 c = search needs
-
-cast-t15 : tie.Need-cast-t15
-cast-t15 c = search needs
-
-cast-t17 : tie.Need-cast-t17
-cast-t17 c = search needs
-
-slice-aggregate-put-bytes-2 : tie.Need-slice-aggregate-put-bytes-2
-slice-aggregate-put-bytes-2 c = search needs
 
 put-bytes-requires-2 : tie.Need-put-bytes-requires-2
 put-bytes-requires-2 c κs =
@@ -67,9 +46,6 @@ put-bytes-requires-2 c κs =
     let s = n .before .before .before .before .before .before .before .before in
     let p : Partly (s .args .book .now) (n .before .before .before .put-bytes .last .0) (s .args .at) (n .before .before .before .put-bytes .result) (cellBytes (s .args .c)) (figures n) = named n in
     room (s .pre .1) p (figures n) [] (sym (append-nil (figures n)))
-
-same-length : tie.Need-same-length
-same-length c = search needs
 
 returns : tie.Need-returns
 returns c =
@@ -81,14 +57,5 @@ pub put-cell-spec : {M : Type 1} → statement M
 put-cell-spec =
     tie.close
     (tie.spec
-    slice-aggregate-put-bytes
-    put-bytes-requires
-    name-len-requires
-    cast-t12
-    cast-t13
-    cast-t15
-    cast-t17
-    slice-aggregate-put-bytes-2
-    put-bytes-requires-2
-    same-length
-    returns)
+    (λ c. search needs) put-bytes-requires (λ c κs. search needs) (λ c. search needs) (λ c. search needs) (λ c. search needs) (λ c. search needs)
+    (λ c. search needs) put-bytes-requires-2 (λ c. search needs) returns)

@@ -5,7 +5,7 @@ use mathlib.Core.List.{_++_}
 use Prim.Native.Nat.{ℕ, _+_, _-_, _≤_, _<_}
 use native.Mathlib.Omega.{arith}
 use borrow.Author.Needs.{needs}
-use lib.ListN.{length, take, drop, getD}
+use lib.ListN.{take, drop, getD}
 use lib.Seq.{getD-take}
 use Rattle.model.specs.Base.{each}
 use Rattle.model.specs.Cells.{noCell, cellsOf}
@@ -52,12 +52,6 @@ put-cell-requires c κs =
       room (s .pre .1) (l .inv .1) (cellBytes (getD (s .args .lib .cells) (l .i) noCell)) (each cellBytes (drop (l .i + 1) (take (s .args .lib .n) (s .args .lib .cells)))) (next-one (s .args .lib) (s .pre .0) (l .i) h),
     )
 
-add-i : tie.Need-add-i Inv-loop μ-loop
-add-i c = search needs
-
-loop-less : tie.Need-loop-less Inv-loop μ-loop
-loop-less c = omega arith
-
 loop-again : tie.Need-loop-again Inv-loop μ-loop
 unfolding cellsOf
 loop-again c =
@@ -83,14 +77,4 @@ pub put-cells-spec : {M : Type 1} → statement M
 put-cells-spec =
     tie.close
     (tie.spec
-    Inv-loop
-    μ-loop
-    loop-holds
-    mul-c
-    array-copy-out-c
-    put-cell-requires
-    add-i
-    loop-less
-    loop-again
-    same-length
-    returns)
+    Inv-loop μ-loop loop-holds mul-c array-copy-out-c put-cell-requires (λ c. search needs) (λ c. omega arith) loop-again same-length returns)

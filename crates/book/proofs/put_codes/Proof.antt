@@ -1,8 +1,7 @@
 -- `book::put_codes` meets its contract. The invariant: the numbers before number i are written. The measure is how many are left.
 -- Assumes nothing.
-use mathlib.Core.Path.{_≡_, refl}
-use mathlib.Core.List.{_++_}
-use Prim.Native.Nat.{ℕ, _+_, _-_, _≤_, _<_}
+use mathlib.Core.Path.{refl}
+use Prim.Native.Nat.{_+_, _-_, _≤_, _<_}
 use native.Mathlib.Omega.{arith}
 use borrow.Author.Needs.{needs}
 use lib.ListN.{length, drop, getD}
@@ -22,23 +21,11 @@ abbrev μ-loop : tie.MeasureT-loop
 loop-holds : tie.Need-loop-holds Inv-loop μ-loop
 loop-holds c = (omega arith, begin (c .before .before .args .book .now) (c .before .before .args .at) refl)
 
-mul-k : tie.Need-mul-k Inv-loop μ-loop
-mul-k c = search needs
-
-shared-slice-read-k : tie.Need-shared-slice-read-k Inv-loop μ-loop
-shared-slice-read-k c = search needs
-
 put-code-requires : tie.Need-put-code-requires Inv-loop μ-loop
 put-code-requires c κs =
     let s = c .before .before .before .before .before .before in
     let l = c .before .before .before .loop in
     room (s .pre) (l .inv .1) (codeBytes (getD (s .args .codes .now) (l .i) 0)) (each codeBytes (drop (l .i + 1) (s .args .codes .now))) (next-code (s .args .codes .now) (l .i) (c .before .before .loop-test .taken))
-
-add-i : tie.Need-add-i Inv-loop μ-loop
-add-i c = search needs
-
-loop-less : tie.Need-loop-less Inv-loop μ-loop
-loop-less c = omega arith
 
 loop-again : tie.Need-loop-again Inv-loop μ-loop
 loop-again c =
@@ -60,14 +47,5 @@ pub put-codes-spec : {M : Type 1} → statement M
 put-codes-spec =
     tie.close
     (tie.spec
-    Inv-loop
-    μ-loop
-    loop-holds
-    mul-k
-    shared-slice-read-k
-    put-code-requires
-    add-i
-    loop-less
-    loop-again
-    same-length
-    returns)
+    Inv-loop μ-loop loop-holds (λ c. search needs) (λ c. search needs) put-code-requires (λ c. search needs) (λ c. omega arith) loop-again
+    same-length returns)

@@ -1,6 +1,6 @@
 -- `book::put_listed` meets its contract: how many there are, then each.
 -- Assumes nothing.
-use mathlib.Core.Path.{_≡_, refl, sym, ap}
+use mathlib.Core.Path.{refl, sym, ap}
 use mathlib.Core.List.{List, [], _∷_, append-nil}
 use Prim.Native.Nat.{ℕ, _+_, _≤_}
 use native.Mathlib.Omega.{arith}
@@ -28,21 +28,12 @@ one c =
     step (fits (s .args .lib) (s .pre .0) (s .args .book .now) (s .pre .1)) (begin (s .args .book .now) 0 (ap (λ (n : ℕ). n ∷ each cellBytes cells) (s .pre .0 .whole))) (c .put-byte .last .0) (c .put-byte .result)
     (s .args .lib .n ∷ []) (each cellBytes cells) refl (c .put-byte .ensures)
 
-cast-put-byte : tie.Need-cast-put-byte
-cast-put-byte c = search needs
-
-put-byte-requires : tie.Need-put-byte-requires
-put-byte-requires c κs = search needs
-
 put-cells-requires : tie.Need-put-cells-requires
 put-cells-requires c κs =
     let q = c .before .before .before in
     let s = q .before .before .before .before in
     let cells = cellsOf (s .args .lib) in
     (s .pre .0, room (fits (s .args .lib) (s .pre .0) (s .args .book .now) (s .pre .1)) (one q) (each cellBytes cells) [] (sym (append-nil (each cellBytes cells))))
-
-same-length : tie.Need-same-length
-same-length c = search needs
 
 returns : tie.Need-returns
 returns c =
@@ -52,4 +43,6 @@ returns c =
 
 pub put-listed-spec : {M : Type 1} → statement M
 put-listed-spec =
-    tie.close (tie.spec cast-put-byte put-byte-requires put-cells-requires same-length returns)
+    tie.close
+    (tie.spec
+    (λ c. search needs) (λ c κs. search needs) put-cells-requires (λ c. search needs) returns)

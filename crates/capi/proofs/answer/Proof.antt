@@ -7,15 +7,6 @@ use borrow.Author.Needs.{needs}
 use Rattle.capi.proofs.answer.Statement.{statement}
 use Rattle.capi.proofs.answer.Tie as tie
 
-enum-known-a : tie.Need-enum-known-a
-enum-known-a c = search needs
-
-enum-known-a-2 : tie.Need-enum-known-a-2
-enum-known-a-2 c = search needs
-
-plain-requires : tie.Need-plain-requires
-plain-requires c κs = search needs
-
 returns : tie.Need-returns
 unfolding returned
 returns c = sym (ap (λ (x : Answer). answered (returned x)) (c .before .a .given .1))
@@ -25,4 +16,6 @@ unfolding returned
 returns-2 c = c .plain .ensures ∙ sym (ap (λ (x : Answer). answered (returned x)) (c .before .before .a2 .given .1))
 
 pub answer-spec : {M : Type 1} → statement M
-answer-spec = tie.close (tie.spec enum-known-a enum-known-a-2 plain-requires returns returns-2)
+answer-spec = tie.close
+    (tie.spec
+    (λ c. search needs) (λ c. search needs) (λ c κs. search needs) returns returns-2)

@@ -10,21 +10,6 @@ use Rattle.capi.proofs.checked_answer.Tie as tie
 enum-told : tie.Need-enum-told
 enum-told c = search needs
 
-checked-requires : tie.Need-checked-requires
-checked-requires c κs = search needs
-
-enum-known-c : tie.Need-enum-known-c
-enum-known-c c = search needs
-
-checked-requires-2 : tie.Need-checked-requires-2
-checked-requires-2 c κs = search needs
-
-enum-known-c-2 : tie.Need-enum-known-c-2
-enum-known-c-2 c = search needs
-
-checked-requires-3 : tie.Need-checked-requires-3
-checked-requires-3 c κs = search needs
-
 returns : tie.Need-returns
 unfolding toldOf
 returns c = c .checked .ensures ∙ sym (ap (λ (x : Checked). checkedAnswer (toldOf x)) (c .before .enum-told .given .1))
@@ -41,12 +26,5 @@ pub checked-answer-spec : {M : Type 1} → statement M
 checked-answer-spec =
     tie.close
     (tie.spec
-    enum-told
-    checked-requires
-    enum-known-c
-    checked-requires-2
-    enum-known-c-2
-    checked-requires-3
-    returns
-    returns-2
+    enum-told (λ c κs. search needs) (λ c. search needs) (λ c κs. search needs) (λ c. search needs) (λ c κs. search needs) returns returns-2
     returns-3)

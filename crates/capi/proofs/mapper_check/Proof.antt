@@ -7,15 +7,6 @@ use borrow.Author.Needs.{needs}
 use Rattle.capi.proofs.mapper_check.Statement.{statement}
 use Rattle.capi.proofs.mapper_check.Tie as tie
 
-check-texts-requires : tie.Need-check-texts-requires
-check-texts-requires c κs = search needs
-
-checked-answer-requires : tie.Need-checked-answer-requires
-checked-answer-requires c κs = search needs
-
-same-length : tie.Need-same-length
-same-length c = search needs
-
 returns : tie.Need-returns
 returns c =
     let e = c .before .before .before .check-texts .ensures in
@@ -23,4 +14,6 @@ returns c =
 
 pub mapper-check-spec : {M : Type 1} → statement M
 mapper-check-spec =
-    tie.close (tie.spec check-texts-requires checked-answer-requires same-length returns)
+    tie.close
+    (tie.spec
+    (λ c κs. search needs) (λ c κs. search needs) (λ c. search needs) returns)

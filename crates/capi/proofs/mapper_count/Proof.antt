@@ -1,24 +1,38 @@
 -- `capi::mapper_count` meets its contract, thin over `stock::count`. Assumes nothing.
-use mathlib.Core.Path.{ap, _∙_}
+use mathlib.Core.Path.{_≡_, refl, sym, ap, subst, _∙_}
 use Rattle.model.specs.declared.Verdict.{Verdict}
+use Rattle.model.specs.declared.Verdict.the-variants.{Accepted, Refused}
+use Rattle.stock.specs.Demands.{CountReturned, numberOf}
+use Rattle.stock.proofs.Returned.{count-returned}
 use Rattle.capi.specs.Answers.{answeredText, verdictPair}
+use Rattle.capi.specs.declared.MapperAnswer.{MapperAnswer}
 use borrow.Author.Needs.{needs}
 use Rattle.capi.proofs.mapper_count.Statement.{statement}
 use Rattle.capi.proofs.mapper_count.Tie as tie
 
-count-requires : tie.Need-count-requires
-count-requires c κs = search needs
-
-verdict-answer-requires : tie.Need-verdict-answer-requires
-verdict-answer-requires c κs = search needs
-
-same-length : tie.Need-same-length
-same-length c = search needs
+-- the number that is answered is the verdict's
+number-told : (v : Verdict) → verdictPair v .0 ≡ numberOf v
+unfolding verdictPair numberOf
+number-told Accepted = refl
+number-told (Refused n k) = refl
 
 returns : tie.Need-returns
 returns c =
-    let e = c .before .before .before .count .ensures in
-    (c .verdict-answer .ensures ∙ ap (λ (x : Verdict). answeredText (verdictPair x)) (e .0), e .1)
+    let a = c .before .before .before .before .before .before .before .before .args in
+    let r = c .before .before .before .count in
+    let e = r .ensures in (
+      c .verdict-answer .ensures ∙ ap (λ (x : Verdict). answeredText (verdictPair x)) (e .0),
+      (
+        e .1 .0,
+        (
+          subst (CountReturned (a .cells .now) (a .netlist .now) (a .tally .now) (r .last .1 .1 .0)) (sym (ap (λ (x : MapperAnswer). x .number) (c .verdict-answer .ensures) ∙ number-told (r .result)))
+              (count-returned (a .cells .now) (a .netlist .now) (a .tally .now) (r .last .1 .1 .0) (r .result) (e .0) (e .1 .1 .0)),
+          e .1 .1 .1 .0,
+        ),
+      ),
+    )
 
 pub mapper-count-spec : {M : Type 1} → statement M
-mapper-count-spec = tie.close (tie.spec count-requires verdict-answer-requires same-length returns)
+mapper-count-spec = tie.close
+    (tie.spec
+    (λ c κs. search needs) (λ c κs. search needs) (λ c. search needs) returns)

@@ -1,25 +1,33 @@
 -- `capi::mapper_report` meets its contract, thin over `stock::report`. Assumes nothing.
-use mathlib.Core.Path.{ap, _∙_}
+use mathlib.Core.Path.{sym, ap, subst, _∙_}
+use lib.ListN.{length}
 use Rattle.model.specs.Genlib.{writtenPair}
 use Rattle.model.specs.declared.Written.{Written}
+use Rattle.stock.specs.Demands.{ReportReturned}
+use Rattle.stock.proofs.Returned.{report-returned}
 use Rattle.capi.specs.Answers.{answeredText}
+use Rattle.capi.specs.declared.MapperAnswer.{MapperAnswer}
 use borrow.Author.Needs.{needs}
 use Rattle.capi.proofs.mapper_report.Statement.{statement}
 use Rattle.capi.proofs.mapper_report.Tie as tie
 
-report-requires : tie.Need-report-requires
-report-requires c κs = search needs
-
-text-answer-requires : tie.Need-text-answer-requires
-text-answer-requires c κs = search needs
-
-same-length : tie.Need-same-length
-same-length c = search needs
-
 returns : tie.Need-returns
 returns c =
-    let e = c .before .before .before .report .ensures in
-    (c .text-answer .ensures ∙ ap (λ (x : Written). answeredText (writtenPair x)) (e .0), e .1)
+    let a = c .before .before .before .before .before .before .before .before .args in
+    let r = c .before .before .before .report in
+    let e = r .ensures in (
+      c .text-answer .ensures ∙ ap (λ (x : Written). answeredText (writtenPair x)) (e .0),
+      (
+        e .1 .0,
+        (
+          subst (λ (x : MapperAnswer). ReportReturned (a .cells .now) (a .tally .now) (r .last .1 .1 .0) (x .number) (x .value)) (sym (c .text-answer .ensures))
+              (report-returned (a .cells .now) (a .tally .now) (r .last .1 .1 .0) (length (a .text .now)) (r .result) (e .0) (e .1 .1 .0)),
+          e .1 .1 .1 .0,
+        ),
+      ),
+    )
 
 pub mapper-report-spec : {M : Type 1} → statement M
-mapper-report-spec = tie.close (tie.spec report-requires text-answer-requires same-length returns)
+mapper-report-spec = tie.close
+    (tie.spec
+    (λ c κs. search needs) (λ c κs. search needs) (λ c. search needs) returns)

@@ -9,15 +9,6 @@ use Rattle.capi.proofs.verdict_answer.Tie as tie
 enum-told : tie.Need-enum-told
 enum-told c = search needs
 
-plain-requires : tie.Need-plain-requires
-plain-requires c κs = search needs
-
-enum-known-v : tie.Need-enum-known-v
-enum-known-v c = search needs
-
-plain-requires-2 : tie.Need-plain-requires-2
-plain-requires-2 c κs = search needs
-
 returns : tie.Need-returns
 unfolding verdictPair
 returns c = c .plain .ensures ∙ sym (ap (λ (x : Verdict). answeredText (verdictPair x)) (c .before .enum-told .given .1))
@@ -27,4 +18,6 @@ unfolding verdictPair
 returns-2 c = c .plain2 .ensures ∙ sym (ap (λ (x : Verdict). answeredText (verdictPair x)) (c .before .before .v .given .1))
 
 pub verdict-answer-spec : {M : Type 1} → statement M
-verdict-answer-spec = tie.close (tie.spec enum-told plain-requires enum-known-v plain-requires-2 returns returns-2)
+verdict-answer-spec = tie.close
+    (tie.spec
+    enum-told (λ c κs. search needs) (λ c. search needs) (λ c κs. search needs) returns returns-2)

@@ -5,9 +5,6 @@ use borrow.Author.Needs.{needs}
 use Rattle.celltext.proofs.field_len.Statement.{statement}
 use Rattle.celltext.proofs.field_len.Tie as tie
 
-number-len-requires : tie.Need-number-len-requires
-number-len-requires c κs = search needs
-
 add-result : tie.Need-add-result
 add-result c = omega (arith, five-digits (c .before .args .n) (omega arith))
 
@@ -15,4 +12,6 @@ returns : tie.Need-returns
 returns c = let n = c .before .args .n in (omega (arith, field-length n), omega (arith, five-digits n (omega arith)))
 
 pub field-len-spec : {M : Type 1} → statement M
-field-len-spec = tie.close (tie.spec number-len-requires add-result returns)
+field-len-spec = tie.close
+    (tie.spec
+    (λ c κs. search needs) add-result returns)

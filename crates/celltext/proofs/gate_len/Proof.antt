@@ -5,30 +5,6 @@ use borrow.Author.Needs.{needs}
 use Rattle.celltext.proofs.gate_len.Statement.{statement}
 use Rattle.celltext.proofs.gate_len.Tie as tie
 
-sub-result : tie.Need-sub-result
-sub-result c = search needs
-
-field-len-requires : tie.Need-field-len-requires
-field-len-requires c κs = search needs
-
-add-result : tie.Need-add-result
-add-result c = search needs
-
-field-len-requires-2 : tie.Need-field-len-requires-2
-field-len-requires-2 c κs = search needs
-
-add-result-2 : tie.Need-add-result-2
-add-result-2 c = search needs
-
-delays-len-requires : tie.Need-delays-len-requires
-delays-len-requires c κs = search needs
-
-add-result-3 : tie.Need-add-result-3
-add-result-3 c = search needs
-
-add-result-4 : tie.Need-add-result-4
-add-result-4 c = search needs
-
 returns : tie.Need-returns
 returns c =
     let area = c .before in
@@ -43,12 +19,5 @@ pub gate-len-spec : {M : Type 1} → statement M
 gate-len-spec =
     tie.close
     (tie.spec
-    sub-result
-    field-len-requires
-    add-result
-    field-len-requires-2
-    add-result-2
-    delays-len-requires
-    add-result-3
-    add-result-4
-    returns)
+    (λ c. search needs) (λ c κs. search needs) (λ c. search needs) (λ c κs. search needs) (λ c. search needs) (λ c κs. search needs)
+    (λ c. search needs) (λ c. search needs) returns)

@@ -8,18 +8,6 @@ use borrow.Author.Tests.{lt-ltb, le-ltb}
 use Rattle.celltext.proofs.hex_byte.Statement.{statement}
 use Rattle.celltext.proofs.hex_byte.Tie as tie
 
-cast-result : tie.Need-cast-result
-cast-result c = search needs
-
-add-result : tie.Need-add-result
-add-result c = search needs
-
-cast-result-2 : tie.Need-cast-result-2
-cast-result-2 c = search needs
-
-add-result-2 : tie.Need-add-result-2
-add-result-2 c = search needs
-
 returns : tie.Need-returns
 unfolding hexByte
 returns c = let d = c .before .args .d in sym (ap (λ (b : Bool). cond b (48 + d) (87 + d)) (lt-ltb d 10 (c .if1 .taken)))
@@ -30,4 +18,6 @@ returns-2 c = let d = c .before .args .d in sym (ap (λ (b : Bool). cond b (48 +
 
 pub hex-byte-spec : {M : Type 1} → statement M
 hex-byte-spec =
-    tie.close (tie.spec cast-result add-result cast-result-2 add-result-2 returns returns-2)
+    tie.close
+    (tie.spec
+    (λ c. search needs) (λ c. search needs) (λ c. search needs) (λ c. search needs) returns returns-2)

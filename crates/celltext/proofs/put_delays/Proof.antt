@@ -75,9 +75,6 @@ put-field-requires-4 c κs = let p = c .before .before .before in let s = start3
 put-byte-requires : tie.Need-put-byte-requires
 put-byte-requires c κs = let p = c .before .before .before in omega (arith, room (start4 p .pre) (four p) (10 ∷ []) [] refl)
 
-same-length : tie.Need-same-length
-same-length c = search needs
-
 returns : tie.Need-returns
 returns c =
     let p = c .before .before .before .before .before .before in
@@ -87,10 +84,4 @@ pub put-delays-spec : {M : Type 1} → statement M
 put-delays-spec =
     tie.close
     (tie.spec
-    put-field-requires
-    put-field-requires-2
-    put-field-requires-3
-    put-field-requires-4
-    put-byte-requires
-    same-length
-    returns)
+    put-field-requires put-field-requires-2 put-field-requires-3 put-field-requires-4 put-byte-requires (λ c. search needs) returns)

@@ -63,15 +63,6 @@ area c =
     let s = start4 c in
     step (s .pre .1) (table (c .before .before .before .before)) (c .put-field2 .last .0) (c .put-field2 .result) (numberText (s .args .g .area)) (delays s) refl (c .put-field2 .ensures)
 
-sub-put-bytes : tie.Need-sub-put-bytes
-sub-put-bytes c = search needs
-
-part-put-bytes-start : tie.Need-part-put-bytes-start
-part-put-bytes-start c = search needs
-
-part-put-bytes-end : tie.Need-part-put-bytes-end
-part-put-bytes-end c = search needs
-
 put-bytes-requires : tie.Need-put-bytes-requires
 put-bytes-requires c κs = let s = c .before .before .before .before in room (s .pre .1) (none s) (nameIn (s .args .s .now) (s .args .g)) (behindName (s .args .g)) refl
 
@@ -87,9 +78,6 @@ put-field-requires-2 c κs = let p = c .before .before .before in let s = start3
 put-delays-requires : tie.Need-put-delays-requires
 put-delays-requires c κs = let p = c .before .before .before in let s = start4 p in room (s .pre .1) (area p) (delays s) [] (sym (append-nil (delays s)))
 
-same-length : tie.Need-same-length
-same-length c = search needs
-
 returns : tie.Need-returns
 returns c =
     let p = c .before .before .before .before .before .before in
@@ -99,13 +87,5 @@ pub put-gate-spec : {M : Type 1} → statement M
 put-gate-spec =
     tie.close
     (tie.spec
-    sub-put-bytes
-    part-put-bytes-start
-    part-put-bytes-end
-    put-bytes-requires
-    put-field-requires
-    put-hex-requires
-    put-field-requires-2
-    put-delays-requires
-    same-length
-    returns)
+    (λ c. search needs) (λ c. search needs) (λ c. search needs) put-bytes-requires put-field-requires put-hex-requires put-field-requires-2
+    put-delays-requires (λ c. search needs) returns)

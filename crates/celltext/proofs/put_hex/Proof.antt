@@ -8,27 +8,6 @@ use borrow.Author.Needs.{needs}
 use Rattle.celltext.proofs.put_hex.Statement.{statement}
 use Rattle.celltext.proofs.put_hex.Tie as tie
 
-hex-byte-requires : tie.Need-hex-byte-requires
-hex-byte-requires c κs = search needs
-
-hex-byte-requires-2 : tie.Need-hex-byte-requires-2
-hex-byte-requires-2 c κs = search needs
-
-hex-byte-requires-3 : tie.Need-hex-byte-requires-3
-hex-byte-requires-3 c κs = search needs
-
-hex-byte-requires-4 : tie.Need-hex-byte-requires-4
-hex-byte-requires-4 c κs = search needs
-
-slice-aggregate-put-bytes : tie.Need-slice-aggregate-put-bytes
-slice-aggregate-put-bytes c = search needs
-
-put-bytes-requires : tie.Need-put-bytes-requires
-put-bytes-requires c κs = search needs
-
-same-length : tie.Need-same-length
-same-length c = search needs
-
 returns : tie.Need-returns
 unfolding hexText
 returns c =
@@ -43,11 +22,5 @@ pub put-hex-spec : {M : Type 1} → statement M
 put-hex-spec =
     tie.close
     (tie.spec
-    hex-byte-requires
-    hex-byte-requires-2
-    hex-byte-requires-3
-    hex-byte-requires-4
-    slice-aggregate-put-bytes
-    put-bytes-requires
-    same-length
-    returns)
+    (λ c κs. search needs) (λ c κs. search needs) (λ c κs. search needs) (λ c κs. search needs) (λ c. search needs) (λ c κs. search needs)
+    (λ c. search needs) returns)

@@ -6,12 +6,6 @@ use borrow.Author.Needs.{needs}
 use Rattle.channels.proofs.map_both_joined.Statement.{statement}
 use Rattle.channels.proofs.map_both_joined.Tie as tie
 
-no-paired-sheet-requires : tie.Need-no-paired-sheet-requires
-no-paired-sheet-requires c κs = search needs
-
-slice-aggregate-map-both-on : tie.Need-slice-aggregate-map-both-on
-slice-aggregate-map-both-on c = search needs
-
 map-both-on-requires : tie.Need-map-both-on-requires
 map-both-on-requires c κs =
     let m = c .before .before .before .before in
@@ -26,26 +20,8 @@ map-both-on-requires c κs =
       record { long = omega (arith, b .long, by-length (cellsOf (a .lib)) (a .codes .now), s .pre .0 .read .usable .whole, s .pre .0 .coded .few); empty = b .empty },
     )
 
-same-length : tie.Need-same-length
-same-length c = search needs
-
-same-length-2 : tie.Need-same-length-2
-same-length-2 c = search needs
-
-same-length-3 : tie.Need-same-length-3
-same-length-3 c = search needs
-
-returns : tie.Need-returns
-returns c = search needs
-
 pub map-both-joined-spec : {M : Type 1} → statement M
 map-both-joined-spec =
     tie.close
     (tie.spec
-    no-paired-sheet-requires
-    slice-aggregate-map-both-on
-    map-both-on-requires
-    same-length
-    same-length-2
-    same-length-3
-    returns)
+    (λ c κs. search needs) (λ c. search needs) map-both-on-requires (λ c. search needs) (λ c. search needs) (λ c. search needs) (λ c. search needs))

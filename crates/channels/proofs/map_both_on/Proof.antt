@@ -43,21 +43,6 @@ load-graph-requires-2 c κs =
     let long : length (first .load-graph .last .1 .1 .1 .1 .1 .1 .1 .0) ≡ length (s .args .work .now) = omega (arith, first .load-graph .kept .1 .1 .1 .1 .1 .1 .1 .0) in
     (s .pre .0, s .pre .2, omega (arith, long, s .pre .4), sheeted m)
 
-clear-all-requires : tie.Need-clear-all-requires
-clear-all-requires c κs = search needs
-
-same-length : tie.Need-same-length
-same-length c = search needs
-
-same-length-2 : tie.Need-same-length-2
-same-length-2 c = search needs
-
-same-length-3 : tie.Need-same-length-3
-same-length-3 c = search needs
-
-same-length-4 : tie.Need-same-length-4
-same-length-4 c = search needs
-
 returns : tie.Need-returns
 returns c =
     let at-clear-all = c .before .before in
@@ -75,12 +60,5 @@ pub map-both-on-spec : {M : Type 1} → statement M
 map-both-on-spec =
     tie.close
     (tie.spec
-    match-library-requires
-    load-graph-requires
-    load-graph-requires-2
-    clear-all-requires
-    same-length
-    same-length-2
-    same-length-3
-    same-length-4
-    returns)
+    match-library-requires load-graph-requires load-graph-requires-2 (λ c κs. search needs) (λ c. search needs) (λ c. search needs)
+    (λ c. search needs) (λ c. search needs) returns)

@@ -10,33 +10,12 @@ use borrow.Author.Needs.{needs}
 use Rattle.channels.proofs.map_first.Statement.{statement}
 use Rattle.channels.proofs.map_first.Tie as tie
 
-header-requires : tie.Need-header-requires
-header-requires c κs = search needs
-
-enum-known-h1 : tie.Need-enum-known-h1
-enum-known-h1 c = search needs
-
 map-second-requires : tie.Need-map-second-requires
 map-second-requires c κs =
     let at-h = c .before .before .before .before in
     let at-header = at-h .before .before in
     let start = at-header .before .before .before .before .before .before .before .before .before in
     (start .pre, header-read _ _ (sym (at-header .header .ensures .0) ∙ at-h .h1 .given .1))
-
-enum-known-number : tie.Need-enum-known-number
-enum-known-number c = search needs
-
-both-requires : tie.Need-both-requires
-both-requires c κs = search needs
-
-same-length : tie.Need-same-length
-same-length c = search needs
-
-same-length-2 : tie.Need-same-length-2
-same-length-2 c = search needs
-
-same-length-3 : tie.Need-same-length-3
-same-length-3 c = search needs
 
 returns : tie.Need-returns
 returns c =
@@ -61,13 +40,5 @@ pub map-first-spec : {M : Type 1} → statement M
 map-first-spec =
     tie.close
     (tie.spec
-    header-requires
-    enum-known-h1
-    map-second-requires
-    enum-known-number
-    both-requires
-    same-length
-    same-length-2
-    same-length-3
-    returns
-    returns-2)
+    (λ c κs. search needs) (λ c. search needs) map-second-requires (λ c. search needs) (λ c κs. search needs) (λ c. search needs) (λ c. search needs)
+    (λ c. search needs) returns returns-2)

@@ -27,9 +27,6 @@ add-if1 c =
     let g = header-fits (start .args .graph2 .now) (start .args .h2) (start .pre .2) in
     omega (arith, c .before .need-words .ensures, c .need-words2 .ensures, need-small (start .args .h1 .size) (start .args .h1 .outputs) (f .size) (f .outputs), need-small (start .args .h2 .size) (start .args .h2 .outputs) (g .size) (g .outputs))
 
-both-requires : tie.Need-both-requires
-both-requires c κs = search needs
-
 returns : tie.Need-returns
 returns c =
     let at-need = c .before .before in
@@ -37,18 +34,6 @@ returns c =
     let a = channelOf (s .graph1 .now) (s .arrivals1 .now) (s .text1 .now) in
     let b = channelOf (s .graph2 .now) (s .arrivals2 .now) (s .text2 .now) in
     pair-early (s .ranged) (s .lib) (s .codes .now) a b _ 10 0 (sum-short (length (s .work .now)) (s .h1) (s .h2) (omega (arith, at-need .before .need-words .ensures, at-need .need-words2 .ensures))) (s .work .now) (s .text1 .now) (s .text2 .now) (c .both .result) (c .both .ensures)
-
-map-both-requires : tie.Need-map-both-requires
-map-both-requires c κs = search needs
-
-same-length : tie.Need-same-length
-same-length c = search needs
-
-same-length-2 : tie.Need-same-length-2
-same-length-2 c = search needs
-
-same-length-3 : tie.Need-same-length-3
-same-length-3 c = search needs
 
 returns-2 : tie.Need-returns-2
 returns-2 c =
@@ -61,13 +46,5 @@ pub map-pair-spec : {M : Type 1} → statement M
 map-pair-spec =
     tie.close
     (tie.spec
-    need-words-requires
-    need-words-requires-2
-    add-if1
-    both-requires
-    returns
-    map-both-requires
-    same-length
-    same-length-2
-    same-length-3
-    returns-2)
+    need-words-requires need-words-requires-2 add-if1 (λ c κs. search needs) returns (λ c κs. search needs) (λ c. search needs) (λ c. search needs)
+    (λ c. search needs) returns-2)

@@ -22,9 +22,6 @@ use Rattle.channels.proofs.map_pairs.Tie as tie
 codes-are : (f : tie.After-form) → let a = f .before .before .before .before .before .before .before .before .before .args in take (f .form .result) (f .form .last .0) ≡ pairCodes (cellsOf (a .lib))
 codes-are f = let a = f .before .before .before .before .before .before .before .before .before .args in ap (take (f .form .result)) (f .form .ensures .leaves) ∙ formed-are _ (pairCodes (cellsOf (a .lib))) (f .form .result) (f .form .ensures .ends)
 
-slice-aggregate-form : tie.Need-slice-aggregate-form
-slice-aggregate-form c = search needs
-
 form-requires : tie.Need-form-requires
 form-requires c κs = let s = c .before .before .before .before .before .before .before .before in (joinable-of (s .args .lib) (s .pre), codes-few (s .args .lib) (joinable-of (s .args .lib) (s .pre)))
 
@@ -33,9 +30,6 @@ add-if1 c =
     let f = c .before .before in
     let s = f .before .before .before .before .before .before .before .before .before in
     omega (arith, f .form .ensures .ends, codes-few (s .args .lib) (joinable-of (s .args .lib) (s .pre)), s .pre .usable .few)
-
-both-requires : tie.Need-both-requires
-both-requires c κs = search needs
 
 returns : tie.Need-returns
 returns c =
@@ -48,9 +42,6 @@ returns c =
     two-early true (a .ranged) (a .lib) (pairCodes (cellsOf (a .lib))) (with-all (a .lib) (joinable-of (a .lib) (s .pre))) x y (a .work .now) (a .text1 .now) (a .text2 .now) _
     (omega (arith, many, f .form .ensures .ends, s .pre .usable .whole, c .before .if1 .taken)) (c .both .ensures)
 
-array-share-prefix-codes : tie.Need-array-share-prefix-codes
-array-share-prefix-codes c = search needs
-
 slice-aggregate-map-first : tie.Need-slice-aggregate-map-first
 slice-aggregate-map-first c =
     let f = c .before .before .before .before in
@@ -62,15 +53,6 @@ map-first-requires c κs =
     let f = c .before .before .before .before .before .before .before in
     let s = f .before .before .before .before .before .before .before .before .before in
     subst (LibraryOk (s .args .lib)) (sym (codes-are f)) (joined-ok (s .args .lib) (s .pre) (omega (arith, f .form .ensures .ends, c .before .before .before .before .if1 .left)))
-
-same-length : tie.Need-same-length
-same-length c = search needs
-
-same-length-2 : tie.Need-same-length-2
-same-length-2 c = search needs
-
-same-length-3 : tie.Need-same-length-3
-same-length-3 c = search needs
 
 returns-2 : tie.Need-returns-2
 returns-2 c =
@@ -90,15 +72,5 @@ pub map-pairs-spec : {M : Type 1} → statement M
 map-pairs-spec =
     tie.close
     (tie.spec
-    slice-aggregate-form
-    form-requires
-    add-if1
-    both-requires
-    returns
-    array-share-prefix-codes
-    slice-aggregate-map-first
-    map-first-requires
-    same-length
-    same-length-2
-    same-length-3
-    returns-2)
+    (λ c. search needs) form-requires add-if1 (λ c κs. search needs) returns (λ c. search needs) slice-aggregate-map-first map-first-requires
+    (λ c. search needs) (λ c. search needs) (λ c. search needs) returns-2)

@@ -11,18 +11,12 @@ use borrow.Author.Needs.{needs}
 use Rattle.channels.proofs.map_second.Statement.{statement}
 use Rattle.channels.proofs.map_second.Tie as tie
 
-both-requires : tie.Need-both-requires
-both-requires c κs = search needs
-
 returns : tie.Need-returns
 returns c =
     let s = c .before .before .before .before .before .before .before .before .before .before .args in
     let a = channelOf (s .graph1 .now) (s .arrivals1 .now) (s .text1 .now) in
     let b = channelOf (s .graph2 .now) (s .arrivals2 .now) (s .text2 .now) in
     pair-early (s .ranged) (s .lib) (s .codes .now) a b _ 1 0 (second-long (length (s .work .now)) b (s .h1) (λ x y. omega arith)) (s .work .now) (s .text1 .now) (s .text2 .now) (c .both .result) (c .both .ensures)
-
-both-requires-2 : tie.Need-both-requires-2
-both-requires-2 c κs = search needs
 
 returns-2 : tie.Need-returns-2
 returns-2 c =
@@ -31,33 +25,12 @@ returns-2 c =
     let b = channelOf (s .graph2 .now) (s .arrivals2 .now) (s .text2 .now) in
     pair-early (s .ranged) (s .lib) (s .codes .now) a b _ 1 0 (second-long (length (s .work .now)) b (s .h1) (λ x y. omega arith)) (s .work .now) (s .text1 .now) (s .text2 .now) (c .both2 .result) (c .both2 .ensures)
 
-header-requires : tie.Need-header-requires
-header-requires c κs = search needs
-
-enum-known-h2 : tie.Need-enum-known-h2
-enum-known-h2 c = search needs
-
 map-pair-requires : tie.Need-map-pair-requires
 map-pair-requires c κs =
     let at-h = c .before .before .before .before in
     let at-header = at-h .before .before in
     let start = at-header .before .before .before .before .before .before .before .before .before .before .before in
     (start .pre .0, start .pre .1, header-read _ _ (sym (at-header .header .ensures .0) ∙ at-h .h2 .given .1))
-
-enum-known-number : tie.Need-enum-known-number
-enum-known-number c = search needs
-
-both-requires-3 : tie.Need-both-requires-3
-both-requires-3 c κs = search needs
-
-same-length : tie.Need-same-length
-same-length c = search needs
-
-same-length-2 : tie.Need-same-length-2
-same-length-2 c = search needs
-
-same-length-3 : tie.Need-same-length-3
-same-length-3 c = search needs
 
 returns-3 : tie.Need-returns-3
 returns-3 c =
@@ -81,17 +54,5 @@ pub map-second-spec : {M : Type 1} → statement M
 map-second-spec =
     tie.close
     (tie.spec
-    both-requires
-    returns
-    both-requires-2
-    returns-2
-    header-requires
-    enum-known-h2
-    map-pair-requires
-    enum-known-number
-    both-requires-3
-    same-length
-    same-length-2
-    same-length-3
-    returns-3
-    returns-4)
+    (λ c κs. search needs) returns (λ c κs. search needs) returns-2 (λ c κs. search needs) (λ c. search needs) map-pair-requires (λ c. search needs)
+    (λ c κs. search needs) (λ c. search needs) (λ c. search needs) (λ c. search needs) returns-3 returns-4)

@@ -7,15 +7,6 @@ use lib.ListN.{length, replicate}
 use Rattle.checking.proofs.check_graph.Statement.{statement}
 use Rattle.checking.proofs.check_graph.Tie as tie
 
-load-graph-requires : tie.Need-load-graph-requires
-load-graph-requires c κs = search needs
-
-clear-all-requires : tie.Need-clear-all-requires
-clear-all-requires c κs = search needs
-
-same-length : tie.Need-same-length
-same-length c = search needs
-
 returns : tie.Need-returns
 returns c =
     let z = c .before .before in
@@ -25,4 +16,6 @@ returns c =
     (l .load-graph .ensures, z .clear-all .ensures ∙ ap (λ (n : ℕ). replicate n 0) long)
 
 pub check-graph-spec : {M : Type 1} → statement M
-check-graph-spec = tie.close (tie.spec load-graph-requires clear-all-requires same-length returns)
+check-graph-spec = tie.close
+    (tie.spec
+    (λ c κs. search needs) (λ c κs. search needs) (λ c. search needs) returns)

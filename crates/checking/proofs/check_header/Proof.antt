@@ -1,7 +1,6 @@
 -- `checking::check_header` meets its contract: 7 to 10 and 19 leave the words as they were, and whatever comes later leaves them zero. Assumes nothing.
 use borrow.Author.Needs.{needs}
-use mathlib.Core.Path.{_≡_, sym, _∙_}
-use Prim.Native.Nat.{ℕ, _+_, _*_}
+use mathlib.Core.Path.{sym, _∙_}
 use native.Mathlib.Omega.{arith}
 use Rattle.model.specs.Limits.{need}
 use Rattle.theory_text.proofs.ReadGraph.{header-fits}
@@ -10,12 +9,6 @@ use Rattle.checking.proofs.Steps.{header-stops, header-short, header-do
 use Rattle.checking.proofs.check_header.Statement.{statement}
 use Rattle.checking.proofs.check_header.Tie as tie
 
-header-requires : tie.Need-header-requires
-header-requires c κs = search needs
-
-enum-known-h : tie.Need-enum-known-h
-enum-known-h c = search needs
-
 need-words-requires : tie.Need-need-words-requires
 need-words-requires c κs =
     let k = c .before in
@@ -23,9 +16,6 @@ need-words-requires c κs =
     let s = r .before .before .before .before in
     let f = header-fits (s .args .graph .now) (k .h .given .0 .0) (header-read _ _ (sym (r .header .ensures .0) ∙ k .h .given .1)) in
     (omega (arith, f .size), omega (arith, f .outputs))
-
-line-ends-requires : tie.Need-line-ends-requires
-line-ends-requires c κs = search needs
 
 mul-if1 : tie.Need-mul-if1
 mul-if1 c =
@@ -60,12 +50,6 @@ check-graph-requires c κs =
     let s = r .before .before .before .before in
     (header-read _ _ (sym (r .header .ensures .0) ∙ k .h .given .1), omega (arith, n .need-words .ensures, c .before .if1 .left), s .pre .0, s .pre .1)
 
-enum-known-number : tie.Need-enum-known-number
-enum-known-number c = search needs
-
-same-length : tie.Need-same-length
-same-length c = search needs
-
 returns-2 : tie.Need-returns-2
 returns-2 c =
     let g = c .before .before in
@@ -89,15 +73,5 @@ pub check-header-spec : {M : Type 1} → statement M
 check-header-spec =
     tie.close
     (tie.spec
-    header-requires
-    enum-known-h
-    need-words-requires
-    line-ends-requires
-    mul-if1
-    add-if1
-    returns
-    check-graph-requires
-    enum-known-number
-    same-length
-    returns-2
-    returns-3)
+    (λ c κs. search needs) (λ c. search needs) need-words-requires (λ c κs. search needs) mul-if1 add-if1 returns check-graph-requires
+    (λ c. search needs) (λ c. search needs) returns-2 returns-3)

@@ -1,6 +1,6 @@
 -- `checking::check_netlist` meets its contract: the netlist read, then its nets, or 32. Assumes nothing.
 use borrow.Author.Needs.{needs}
-use mathlib.Core.Path.{_≡_, _∙_}
+use mathlib.Core.Path.{_∙_}
 use Prim.Native.Nat.{ℕ, _≤_}
 use native.Mathlib.Omega.{arith}
 use lib.ListN.{length, replicate, length-replicate}
@@ -8,9 +8,6 @@ use Rattle.checking.proofs.Inputs.{placed-frame}
 use Rattle.checking.proofs.Steps.{read-stops, read-goes, read-wireable}
 use Rattle.checking.proofs.check_netlist.Statement.{statement}
 use Rattle.checking.proofs.check_netlist.Tie as tie
-
-slice-aggregate-read : tie.Need-slice-aggregate-read
-slice-aggregate-read c = search needs
 
 read-requires : tie.Need-read-requires
 read-requires c κs =
@@ -25,9 +22,6 @@ returns c = λ g p.
     let s = r .before .before .before .before in
     let a = s .args in
     read-stops (a .work .now) (a .h) g p (a .lib) (s .pre .1) (a .netlist .now) (r .read .result) _ _ (r .read .ensures g (placed-frame (a .work .now) (a .h) g p)) (c .if1 .taken)
-
-slice-aggregate-check-nets : tie.Need-slice-aggregate-check-nets
-slice-aggregate-check-nets c = search needs
 
 check-nets-requires : tie.Need-check-nets-requires
 check-nets-requires c κs =
@@ -53,9 +47,4 @@ pub check-netlist-spec : {M : Type 1} → statement M
 check-netlist-spec =
     tie.close
     (tie.spec
-    slice-aggregate-read
-    read-requires
-    returns
-    slice-aggregate-check-nets
-    check-nets-requires
-    returns-2)
+    (λ c. search needs) read-requires returns (λ c. search needs) check-nets-requires returns-2)

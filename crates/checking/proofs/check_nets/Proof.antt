@@ -1,7 +1,6 @@
 -- `checking::check_nets` meets its contract: the nets judged, then the comparison, or 33. Assumes nothing.
 use borrow.Author.Needs.{needs}
-use mathlib.Core.Path.{_≡_, _∙_}
-use native.Mathlib.Omega.{arith}
+use mathlib.Core.Path.{_∙_}
 use lib.ListN.{length-replicate}
 use Prim.Native.Nat.{ℕ}
 use Rattle.model.specs.Check.{inputNets}
@@ -36,10 +35,7 @@ compare-requires c κs =
     let g = s .pre .0 in
     let ds = s .pre .1 in
     let asks = wire-asks (a .work .now) (a .h) (a .nets .now) (a .n) g ds (s .pre .2) (i .input-codes .result) (i .input-codes .ensures) in
-    (g, ds, wired-comparable (a .work .now) (a .h) (a .nets .now) (a .n) g ds (s .pre .2) (w .wire .result) _ _ (w .wire .ensures (inputNets g) ds asks) (t .enum-told .given .1))
-
-enum-known-number : tie.Need-enum-known-number
-enum-known-number c = search needs
+    (g, ds, wired-comparable (a .work .now) (a .h) (a .nets .now) (a .n) g ds (s .pre .2) (w .wire .result) _ _ (w .wire .ensures .0 (inputNets g) ds asks) (t .enum-told .given .1))
 
 returns : tie.Need-returns
 returns c = λ g ds x.
@@ -49,7 +45,7 @@ returns c = λ g ds x.
     let s = i .before .before .before in
     let a = s .args in
     let asks = wire-asks (a .work .now) (a .h) (a .nets .now) (a .n) g ds x (i .input-codes .result) (i .input-codes .ensures) in
-    let j = w .wire .ensures (inputNets g) ds asks in
+    let j = w .wire .ensures .0 (inputNets g) ds asks in
     c .compare .ensures g ds (wired-comparable (a .work .now) (a .h) (a .nets .now) (a .n) g ds x (w .wire .result) _ _ j (t .enum-told .given .1))
     ∙ wired-answer (a .work .now) (a .h) (a .nets .now) (a .n) g ds x (w .wire .result) _ _ j (t .enum-told .given .1)
 
@@ -61,16 +57,10 @@ returns-2 c = λ g ds x.
     let s = i .before .before .before in
     let a = s .args in
     let asks = wire-asks (a .work .now) (a .h) (a .nets .now) (a .n) g ds x (i .input-codes .result) (i .input-codes .ensures) in
-    wired-stops (a .work .now) (a .h) (a .nets .now) (a .n) g ds x (w .wire .result) _ _ (w .wire .ensures (inputNets g) ds asks) _ _ (k .number .given .1)
+    wired-stops (a .work .now) (a .h) (a .nets .now) (a .n) g ds x (w .wire .result) _ _ (w .wire .ensures .0 (inputNets g) ds asks) _ _ (k .number .given .1)
 
 pub check-nets-spec : {M : Type 1} → statement M
 check-nets-spec =
     tie.close
     (tie.spec
-    input-codes-requires
-    wire-requires
-    enum-told
-    compare-requires
-    enum-known-number
-    returns
-    returns-2)
+    input-codes-requires wire-requires enum-told compare-requires (λ c. search needs) returns returns-2)

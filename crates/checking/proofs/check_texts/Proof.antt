@@ -1,30 +1,44 @@
 -- `checking::check_texts` meets its contract: demand 1 from the functions below it, what the answer means from the definitions' law. Assumes nothing.
 use borrow.Author.Needs.{needs}
-use mathlib.Core.Path.{_≡_}
+use Prim.Native.Nat.{ℕ}
 use native.Mathlib.Omega.{arith}
+use mathlib.Core.List.{List}
 use lib.ListN.{length}
-use Rattle.theory_check.proofs.Whole.{edited-compared}
+use Rattle.model.specs.CheckDemands.{CheckPromised}
+use Rattle.theory_check.specs.CheckRefusals.{CheckRefusals}
+use Rattle.theory_check.proofs.CheckCalls.{check-exactly}
+use Rattle.theory_check.proofs.Whole.{edited-compared, edited-meant, edited-equal}
+use Rattle.theory_check.proofs.Accepts.{printed-accepted}
 use Rattle.checking.proofs.Steps.{long-text, library-stops, library-read}
 use Rattle.checking.proofs.check_texts.Statement.{statement}
 use Rattle.checking.proofs.check_texts.Tie as tie
 
+-- what is promised of the definitions' answer, whatever is returned
+said : (library graph netlist : List ℕ) (words : ℕ) → CheckPromised library graph netlist words × CheckRefusals library graph netlist words
+said library graph netlist words = (
+  record {
+    compared = edited-compared library graph netlist words;
+    meant = edited-meant library graph netlist words;
+    equal = edited-equal library graph netlist words;
+    accepts = printed-accepted library graph netlist words;
+  },
+  check-exactly library graph netlist words,
+)
+
 returns : tie.Need-returns
 returns c =
     let a = c .before .before .before .before .before .args in
-    (long-text (a .cells .now) (a .graph .now) (a .netlist .now) (a .work .now) (λ x y z. omega arith), edited-compared (a .cells .now) (a .graph .now) (a .netlist .now) (length (a .work .now)))
+    (long-text (a .cells .now) (a .graph .now) (a .netlist .now) (a .work .now) (λ x y z. omega arith), said (a .cells .now) (a .graph .now) (a .netlist .now) (length (a .work .now)))
 
 returns-2 : tie.Need-returns-2
 returns-2 c =
     let a = c .before .before .before .before .before .before .args in
-    (long-text (a .cells .now) (a .graph .now) (a .netlist .now) (a .work .now) (λ x y z. omega arith), edited-compared (a .cells .now) (a .graph .now) (a .netlist .now) (length (a .work .now)))
+    (long-text (a .cells .now) (a .graph .now) (a .netlist .now) (a .work .now) (λ x y z. omega arith), said (a .cells .now) (a .graph .now) (a .netlist .now) (length (a .work .now)))
 
 returns-3 : tie.Need-returns-3
 returns-3 c =
     let a = c .before .before .before .before .before .before .before .args in
-    (long-text (a .cells .now) (a .graph .now) (a .netlist .now) (a .work .now) (λ x y z. omega arith), edited-compared (a .cells .now) (a .graph .now) (a .netlist .now) (length (a .work .now)))
-
-read-requires : tie.Need-read-requires
-read-requires c κs = search needs
+    (long-text (a .cells .now) (a .graph .now) (a .netlist .now) (a .work .now) (λ x y z. omega arith), said (a .cells .now) (a .graph .now) (a .netlist .now) (length (a .work .now)))
 
 enum-told : tie.Need-enum-told
 enum-told c = search needs
@@ -36,12 +50,6 @@ check-header-requires c κs =
     let a = l .before .before .before .before .before .before .before .before .args in
     (library-read (a .cells .now) (a .graph .now) (a .netlist .now) (a .work .now) (omega arith) (omega arith) (omega arith) (l .read .result) (l .read .ensures .0) (t .enum-told .given .1) .fitting, omega arith)
 
-enum-known-v : tie.Need-enum-known-v
-enum-known-v c = search needs
-
-same-length : tie.Need-same-length
-same-length c = search needs
-
 returns-4 : tie.Need-returns-4
 returns-4 c =
     let h = c .before .before in
@@ -49,7 +57,7 @@ returns-4 c =
     let l = t .before .before in
     let a = l .before .before .before .before .before .before .before .before .args in (
       library-read (a .cells .now) (a .graph .now) (a .netlist .now) (a .work .now) (omega arith) (omega arith) (omega arith) (l .read .result) (l .read .ensures .0) (t .enum-told .given .1) .goes _ _ (h .check-header .ensures),
-      edited-compared (a .cells .now) (a .graph .now) (a .netlist .now) (length (a .work .now)),
+      said (a .cells .now) (a .graph .now) (a .netlist .now) (length (a .work .now)),
     )
 
 returns-5 : tie.Need-returns-5
@@ -58,20 +66,11 @@ returns-5 c =
     let l = k .before .before in
     let a = l .before .before .before .before .before .before .before .before .args in (
       library-stops (a .cells .now) (a .graph .now) (a .netlist .now) (a .work .now) (omega arith) (omega arith) (omega arith) (l .read .result) (l .read .ensures .0) _ _ (k .v .given .1),
-      edited-compared (a .cells .now) (a .graph .now) (a .netlist .now) (length (a .work .now)),
+      said (a .cells .now) (a .graph .now) (a .netlist .now) (length (a .work .now)),
     )
 
 pub check-texts-spec : {M : Type 1} → statement M
 check-texts-spec =
     tie.close
     (tie.spec
-    returns
-    returns-2
-    returns-3
-    read-requires
-    enum-told
-    check-header-requires
-    enum-known-v
-    same-length
-    returns-4
-    returns-5)
+    returns returns-2 returns-3 (λ c κs. search needs) enum-told check-header-requires (λ c. search needs) (λ c. search needs) returns-4 returns-5)

@@ -1,17 +1,15 @@
 -- `checking::input_codes` meets its contract. The invariant: the numbers of the first i inputs' nets are stored; the measure is how many are left. Assumes nothing.
-use mathlib.Core.Path.{_≡_, refl, sym, _∙_, ap}
-use mathlib.Core.List.{List, _∷_, map}
+use mathlib.Core.Path.{_≡_, sym, _∙_, ap}
+use mathlib.Core.List.{_∷_, map}
 use Prim.Native.Nat.{ℕ, _+_, _-_, _≤_}
 use native.Mathlib.Omega.{arith}
-use lib.ListN.{length, length-replicate}
 use Rattle.model.specs.Base.{from}
 use Rattle.model.specs.Text.{decimal}
 use Rattle.words.specs.Put.{putAt, zeros}
 use Rattle.words.specs.Layout.{slotAddr}
-use Rattle.words.proofs.Putting.{length-put}
 use Rattle.netnames.specs.Codes.{code}
 use Rattle.checking.specs.Stages.{inputCode}
-use Rattle.checking.proofs.Inputs.{map-long, codes-none, codes-more, code-is}
+use Rattle.checking.proofs.Inputs.{codes-none, codes-more, code-is}
 use Rattle.checking.proofs.input_codes.Statement.{statement}
 use Rattle.checking.proofs.input_codes.Tie as tie
 
@@ -23,9 +21,6 @@ abbrev μ-loop : tie.MeasureT-loop
 
 loop-holds : tie.Need-loop-holds Inv-loop μ-loop
 loop-holds c = let a = c .before .args in (omega arith, codes-none (inputCode (a .work .now) (a .m)))
-
-add-slot : tie.Need-add-slot Inv-loop μ-loop
-add-slot c = omega arith
 
 slot-requires : tie.Need-slot-requires Inv-loop μ-loop
 slot-requires c κs = let s = c .before .before .before in (s .pre .0, omega (arith, s .pre .1, c .loop-test .taken))
@@ -41,12 +36,6 @@ mul-codes c = let t = c .before .before in omega (arith, t .before .before .befo
 
 array-write-codes : tie.Need-array-write-codes Inv-loop μ-loop
 array-write-codes c = let t = c .before .before in omega (arith, t .before .before .before .pre .2, t .loop-test .taken)
-
-add-i : tie.Need-add-i Inv-loop μ-loop
-add-i c = omega arith
-
-loop-less : tie.Need-loop-less Inv-loop μ-loop
-loop-less c = omega arith
 
 loop-again : tie.Need-loop-again Inv-loop μ-loop
 loop-again c =
@@ -69,15 +58,5 @@ pub input-codes-spec : {M : Type 1} → statement M
 input-codes-spec =
     tie.close
     (tie.spec
-    Inv-loop
-    μ-loop
-    loop-holds
-    add-slot
-    slot-requires
-    label-code-requires
-    mul-codes
-    array-write-codes
-    add-i
-    loop-less
-    loop-again
-    returns)
+    Inv-loop μ-loop loop-holds (λ c. omega arith) slot-requires label-code-requires mul-codes array-write-codes (λ c. omega arith) (λ c. omega arith)
+    loop-again returns)

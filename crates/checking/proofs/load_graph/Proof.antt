@@ -1,13 +1,10 @@
 -- `checking::load_graph` meets its contract: the graph behind its header, then the placing order, or 11 to 14, 20 and 21. Assumes nothing.
 use borrow.Author.Needs.{needs}
-use mathlib.Core.Path.{_≡_, _∙_}
+use mathlib.Core.Path.{_∙_}
 use Rattle.binary.proofs.Loads.{header-fit}
 use Rattle.checking.proofs.Steps.{reading-loaded, reading-stops}
 use Rattle.checking.proofs.load_graph.Statement.{statement}
 use Rattle.checking.proofs.load_graph.Tie as tie
-
-load-requires : tie.Need-load-requires
-load-requires c κs = search needs
 
 enum-told : tie.Need-enum-told
 enum-told c = search needs
@@ -22,12 +19,6 @@ place-graph-requires c κs =
     let d = reading-loaded (a .lib) (a .graph .now) (a .h) (a .netlist .now) (a .work .now) fit (s .pre .0) (l .load .result) (l .load .ensures .0) (t .enum-told .given .1) _ (l .load .ensures .1 .0) in
     ((d .graph, d .loaded), s .pre .2, s .pre .3)
 
-enum-known-number : tie.Need-enum-known-number
-enum-known-number c = search needs
-
-same-length : tie.Need-same-length
-same-length c = search needs
-
 returns : tie.Need-returns
 returns c =
     let p = c .before .before in
@@ -38,9 +29,6 @@ returns c =
     let fit = header-fit (a .graph .now) (a .h) (a .work .now) (s .pre .0) (s .pre .1) in
     let d = reading-loaded (a .lib) (a .graph .now) (a .h) (a .netlist .now) (a .work .now) fit (s .pre .0) (l .load .result) (l .load .ensures .0) (t .enum-told .given .1) _ (l .load .ensures .1 .0) in
     p .place-graph .ensures (d .graph) (d .loaded) ∙ d .goes
-
-same-length-2 : tie.Need-same-length-2
-same-length-2 c = search needs
 
 returns-2 : tie.Need-returns-2
 returns-2 c =
@@ -55,11 +43,4 @@ pub load-graph-spec : {M : Type 1} → statement M
 load-graph-spec =
     tie.close
     (tie.spec
-    load-requires
-    enum-told
-    place-graph-requires
-    enum-known-number
-    same-length
-    returns
-    same-length-2
-    returns-2)
+    (λ c κs. search needs) enum-told place-graph-requires (λ c. search needs) (λ c. search needs) returns (λ c. search needs) returns-2)

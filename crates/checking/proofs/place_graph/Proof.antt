@@ -1,7 +1,6 @@
 -- `checking::place_graph` meets its contract: the placing order, then the netlist, or 15 or 31. Assumes nothing.
 use borrow.Author.Needs.{needs}
-use mathlib.Core.Path.{_≡_, _∙_}
-use native.Mathlib.Omega.{arith}
+use mathlib.Core.Path.{_∙_}
 use Rattle.checking.proofs.Steps.{place-asks, placing-stops, many-stop, few-go, few-placed}
 use Rattle.checking.proofs.place_graph.Statement.{statement}
 use Rattle.checking.proofs.place_graph.Tie as tie
@@ -13,9 +12,6 @@ place-requires c κs =
 
 enum-told : tie.Need-enum-told
 enum-told c = search needs
-
-same-length : tie.Need-same-length
-same-length c = search needs
 
 returns : tie.Need-returns
 returns c = λ g l.
@@ -34,12 +30,6 @@ check-netlist-requires c κs =
     let g = s .pre .0 .0 in
     ((g, few-placed (a .work .now) (a .h) g (s .pre .0 .1) (a .lib) (a .netlist .now) (p .place .result) (p .place .ensures .0) (t .enum-told .given .1) (e .if1 .left) _ (p .place .ensures .1)), s .pre .1, s .pre .2)
 
-enum-known-number : tie.Need-enum-known-number
-enum-known-number c = search needs
-
-same-length-2 : tie.Need-same-length-2
-same-length-2 c = search needs
-
 returns-2 : tie.Need-returns-2
 returns-2 c = λ g l.
     let e = c .before .before in
@@ -49,9 +39,6 @@ returns-2 c = λ g l.
     let a = s .args in
     c .check-netlist .ensures g (few-placed (a .work .now) (a .h) g l (a .lib) (a .netlist .now) (p .place .result) (p .place .ensures .0) (t .enum-told .given .1) (e .if1 .left) _ (p .place .ensures .1))
     ∙ few-go (a .work .now) (a .h) g l (a .lib) (a .netlist .now) (p .place .result) (p .place .ensures .0) (t .enum-told .given .1) (e .if1 .left)
-
-same-length-3 : tie.Need-same-length-3
-same-length-3 c = search needs
 
 returns-3 : tie.Need-returns-3
 returns-3 c = λ g l.
@@ -64,13 +51,5 @@ pub place-graph-spec : {M : Type 1} → statement M
 place-graph-spec =
     tie.close
     (tie.spec
-    place-requires
-    enum-told
-    same-length
-    returns
-    check-netlist-requires
-    enum-known-number
-    same-length-2
-    returns-2
-    same-length-3
+    place-requires enum-told (λ c. search needs) returns check-netlist-requires (λ c. search needs) (λ c. search needs) returns-2 (λ c. search needs)
     returns-3)

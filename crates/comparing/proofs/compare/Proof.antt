@@ -63,12 +63,6 @@ returns c = λ g ds q.
     ∙ stop-at wrong s (settings .settings-of .result - s) (omega arith) (found .first-wrong .result)
     (some-wrong g ds s (reached .reach .last .1 .1 .1 .1 .1 .1 .1 .0) (a .h .outputs) (q .holding .outs) (reached .reach .ensures .1 g ds q) (found .first-wrong .result) (found .first-wrong .ensures) (c .if1 .taken)))
 
-add-s : tie.Need-add-s Inv-loop μ-loop
-add-s c = search needs
-
-loop-less : tie.Need-loop-less Inv-loop μ-loop
-loop-less c = omega arith
-
 loop-again : tie.Need-loop-again Inv-loop μ-loop
 loop-again c =
     let found = c .before in
@@ -104,14 +98,5 @@ pub compare-spec : {M : Type 1} → statement M
 compare-spec =
     tie.close
     (tie.spec
-    Inv-loop
-    μ-loop
-    settings-of-requires
-    loop-holds
-    reach-requires
-    first-wrong-requires
-    returns
-    add-s
-    loop-less
-    loop-again
+    Inv-loop μ-loop settings-of-requires loop-holds reach-requires first-wrong-requires returns (λ c. search needs) (λ c. omega arith) loop-again
     returns-2)

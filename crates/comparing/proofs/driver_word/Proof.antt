@@ -4,39 +4,12 @@ use mathlib.Core.List.{[], _∷_}
 use Rattle.settings.specs.Settings.{gateWord}
 use Rattle.comparing.specs.Filling.{tableOf, pinWord, driverWord}
 use mathlib.Core.Path.{ap, _∙_}
-use Prim.Native.Nat.{ℕ, _-_}
+use Prim.Native.Nat.{ℕ}
 use native.Mathlib.Omega.{arith}
 use lib.ListN.{getD}
 use borrow.Author.Needs.{needs}
 use Rattle.comparing.proofs.driver_word.Statement.{statement}
 use Rattle.comparing.proofs.driver_word.Tie as tie
-
-mul-table : tie.Need-mul-table
-mul-table c = search needs
-
-add-table : tie.Need-add-table
-add-table c = search needs
-
-mul-table-2 : tie.Need-mul-table-2
-mul-table-2 c = search needs
-
-shared-slice-read-table : tie.Need-shared-slice-read-table
-shared-slice-read-table c = search needs
-
-mul-narrow : tie.Need-mul-narrow
-mul-narrow c = search needs
-
-add-narrow : tie.Need-add-narrow
-add-narrow c = search needs
-
-mul-narrow-2 : tie.Need-mul-narrow-2
-mul-narrow-2 c = search needs
-
-shared-slice-read-narrow : tie.Need-shared-slice-read-narrow
-shared-slice-read-narrow c = search needs
-
-narrow-requires : tie.Need-narrow-requires
-narrow-requires c κs = search needs
 
 pin-word-requires : tie.Need-pin-word-requires
 pin-word-requires c κs =
@@ -62,9 +35,6 @@ pin-word-requires-4 c κs =
     let pre = narrow .before .before .before .before .pre in
     (pre .few, omega arith, λ h. pre .pins 3 (omega arith) (omega (arith, h, narrow .narrow .ensures)))
 
-gate-word-requires : tie.Need-gate-word-requires
-gate-word-requires c κs = search needs
-
 returns : tie.Need-returns
 unfolding driverWord
 returns c =
@@ -83,18 +53,6 @@ pub driver-word-spec : {M : Type 1} → statement M
 driver-word-spec =
     tie.close
     (tie.spec
-    mul-table
-    add-table
-    mul-table-2
-    shared-slice-read-table
-    mul-narrow
-    add-narrow
-    mul-narrow-2
-    shared-slice-read-narrow
-    narrow-requires
-    pin-word-requires
-    pin-word-requires-2
-    pin-word-requires-3
-    pin-word-requires-4
-    gate-word-requires
+    (λ c. search needs) (λ c. search needs) (λ c. search needs) (λ c. search needs) (λ c. search needs) (λ c. search needs) (λ c. search needs)
+    (λ c. search needs) (λ c κs. search needs) pin-word-requires pin-word-requires-2 pin-word-requires-3 pin-word-requires-4 (λ c κs. search needs)
     returns)

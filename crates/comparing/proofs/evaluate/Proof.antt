@@ -12,9 +12,6 @@ use borrow.Author.Needs.{needs}
 use Rattle.comparing.proofs.evaluate.Statement.{statement}
 use Rattle.comparing.proofs.evaluate.Tie as tie
 
-placed-requires : tie.Need-placed-requires
-placed-requires c κs = search needs
-
 fill-slots-requires : tie.Need-fill-slots-requires
 fill-slots-requires c κs =
     let start = c .before .before .before .before in
@@ -73,9 +70,4 @@ pub evaluate-spec : {M : Type 1} → statement M
 evaluate-spec =
     tie.close
     (tie.spec
-    placed-requires
-    fill-slots-requires
-    fill-drivers-requires
-    sub-first
-    fill-differences-requires
-    returns)
+    (λ c κs. search needs) fill-slots-requires fill-drivers-requires sub-first fill-differences-requires returns)

@@ -21,32 +21,11 @@ abbrev μ-loop : tie.MeasureT-loop
 loop-holds : tie.Need-loop-holds Inv-loop μ-loop
 loop-holds c = (omega arith, (λ j h. absurd (omega arith)), c .before .pre .4)
 
-add-y : tie.Need-add-y Inv-loop μ-loop
-add-y c = search needs
-
-mul-y : tie.Need-mul-y Inv-loop μ-loop
-mul-y c = search needs
-
-element-copy-out-y : tie.Need-element-copy-out-y Inv-loop μ-loop
-element-copy-out-y c = search needs
-
 difference-requires : tie.Need-difference-requires Inv-loop μ-loop
 difference-requires c κs =
     let at-loop = c .before .before in
     let start = at-loop .before .before in
     (start .pre .0, omega arith, start .pre .3 (at-loop .loop .k) (omega arith))
-
-mul-wrong : tie.Need-mul-wrong Inv-loop μ-loop
-mul-wrong c = search needs
-
-element-write-wrong : tie.Need-element-write-wrong Inv-loop μ-loop
-element-write-wrong c = search needs
-
-add-k : tie.Need-add-k Inv-loop μ-loop
-add-k c = search needs
-
-loop-less : tie.Need-loop-less Inv-loop μ-loop
-loop-less c = search needs
 
 loop-again : tie.Need-loop-again Inv-loop μ-loop
 loop-again c =
@@ -68,16 +47,5 @@ pub fill-differences-spec : {M : Type 1} → statement M
 fill-differences-spec =
     tie.close
     (tie.spec
-    Inv-loop
-    μ-loop
-    loop-holds
-    add-y
-    mul-y
-    element-copy-out-y
-    difference-requires
-    mul-wrong
-    element-write-wrong
-    add-k
-    loop-less
-    loop-again
-    returns)
+    Inv-loop μ-loop loop-holds (λ c. search needs) (λ c. search needs) (λ c. search needs) difference-requires (λ c. search needs)
+    (λ c. search needs) (λ c. search needs) (λ c. search needs) loop-again returns)

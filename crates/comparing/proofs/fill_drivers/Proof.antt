@@ -20,15 +20,6 @@ abbrev μ-loop : tie.MeasureT-loop
 loop-holds : tie.Need-loop-holds Inv-loop μ-loop
 loop-holds c = (omega arith, (λ values t j h. absurd (omega arith)), c .before .pre .2)
 
-mul-wide : tie.Need-mul-wide Inv-loop μ-loop
-mul-wide c = search needs
-
-element-copy-out-wide : tie.Need-element-copy-out-wide Inv-loop μ-loop
-element-copy-out-wide c = search needs
-
-wide-requires : tie.Need-wide-requires Inv-loop μ-loop
-wide-requires c κs = search needs
-
 driver-word-requires : tie.Need-driver-word-requires Inv-loop μ-loop
 driver-word-requires c κs =
     let at-loop = c .before .before .before .before in
@@ -44,12 +35,6 @@ element-write-drivers : tie.Need-element-write-drivers Inv-loop μ-loop
 element-write-drivers c =
     let at-loop = c .before .before .before .before .before in
     omega (arith, c .before .before .wide .ensures, at-loop .before .before .pre .1 (at-loop .loop .p) (omega arith) .few)
-
-add-p : tie.Need-add-p Inv-loop μ-loop
-add-p c = search needs
-
-loop-less : tie.Need-loop-less Inv-loop μ-loop
-loop-less c = search needs
 
 loop-again : tie.Need-loop-again Inv-loop μ-loop
 loop-again c =
@@ -79,16 +64,5 @@ pub fill-drivers-spec : {M : Type 1} → statement M
 fill-drivers-spec =
     tie.close
     (tie.spec
-    Inv-loop
-    μ-loop
-    loop-holds
-    mul-wide
-    element-copy-out-wide
-    wide-requires
-    driver-word-requires
-    mul-drivers
-    element-write-drivers
-    add-p
-    loop-less
-    loop-again
-    returns)
+    Inv-loop μ-loop loop-holds (λ c. search needs) (λ c. search needs) (λ c κs. search needs) driver-word-requires mul-drivers element-write-drivers
+    (λ c. search needs) (λ c. search needs) loop-again returns)

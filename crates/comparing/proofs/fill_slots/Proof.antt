@@ -26,9 +26,6 @@ slot-word-requires c κs =
     let start = c .before .before .before .before in
     slots-less (start .args .work .now) (start .args .m) (start .args .inputs) (start .args .n) (c .before .before .loop .i + 1) (start .pre .0) (omega arith)
 
-slot-requires : tie.Need-slot-requires Inv-loop μ-loop
-slot-requires c κs = search needs
-
 mul-variables : tie.Need-mul-variables Inv-loop μ-loop
 mul-variables c =
     let at-loop = c .before .before .before .before in
@@ -40,12 +37,6 @@ element-write-variables c =
     let at-loop = c .before .before .before .before in
     let start = at-loop .before .before in
     omega (arith, c .slot .ensures, start .pre .0 .slots (at-loop .loop .i) (omega arith), start .pre .0 .room .small)
-
-add-i : tie.Need-add-i Inv-loop μ-loop
-add-i c = search needs
-
-loop-less : tie.Need-loop-less Inv-loop μ-loop
-loop-less c = search needs
 
 loop-again : tie.Need-loop-again Inv-loop μ-loop
 loop-again c =
@@ -72,14 +63,5 @@ pub fill-slots-spec : {M : Type 1} → statement M
 fill-slots-spec =
     tie.close
     (tie.spec
-    Inv-loop
-    μ-loop
-    loop-holds
-    slot-word-requires
-    slot-requires
-    mul-variables
-    element-write-variables
-    add-i
-    loop-less
-    loop-again
-    returns)
+    Inv-loop μ-loop loop-holds slot-word-requires (λ c κs. search needs) mul-variables element-write-variables (λ c. search needs)
+    (λ c. search needs) loop-again returns)

@@ -20,27 +20,12 @@ abbrev μ-loop : tie.MeasureT-loop
 loop-holds : tie.Need-loop-holds Inv-loop μ-loop
 loop-holds c = (omega arith, ap (λ (n : ℕ). seek (λ j. bit (getD (c .args .wrong .now) j 0) (c .args .t)) n 0) (let e : c .args .outputs ≡ c .args .outputs - 0 = omega arith in e))
 
-mul-is-set : tie.Need-mul-is-set Inv-loop μ-loop
-mul-is-set c = search needs
-
-element-copy-out-is-set : tie.Need-element-copy-out-is-set Inv-loop μ-loop
-element-copy-out-is-set c = search needs
-
-is-set-requires : tie.Need-is-set-requires Inv-loop μ-loop
-is-set-requires c κs = search needs
-
 returns : tie.Need-returns Inv-loop μ-loop
 returns c =
     let at-loop = c .before .before .before .before in
     let a = at-loop .before .args in
     sym (at-loop .loop .inv .1
     ∙ seek-here (λ j. bit (getD (a .wrong .now) j 0) (a .t)) _ (a .outputs - (at-loop .loop .first + 1)) _ (omega arith) (sym (c .before .is-set .ensures) ∙ c .if1 .taken))
-
-add-first : tie.Need-add-first Inv-loop μ-loop
-add-first c = search needs
-
-loop-less : tie.Need-loop-less Inv-loop μ-loop
-loop-less c = search needs
 
 loop-again : tie.Need-loop-again Inv-loop μ-loop
 loop-again c =
@@ -60,14 +45,5 @@ pub first-wrong-spec : {M : Type 1} → statement M
 first-wrong-spec =
     tie.close
     (tie.spec
-    Inv-loop
-    μ-loop
-    loop-holds
-    mul-is-set
-    element-copy-out-is-set
-    is-set-requires
-    returns
-    add-first
-    loop-less
-    loop-again
-    returns-2)
+    Inv-loop μ-loop loop-holds (λ c. search needs) (λ c. search needs) (λ c κs. search needs) returns (λ c. search needs) (λ c. search needs)
+    loop-again returns-2)

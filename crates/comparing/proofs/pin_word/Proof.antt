@@ -2,7 +2,6 @@
 -- Assumes nothing.
 use Rattle.comparing.proofs.Turns.{pin-none, pin-driver, pin-input}
 use mathlib.Core.Path.{_∙_}
-use Prim.Native.Nat.{_-_}
 use native.Mathlib.Omega.{arith}
 use lib.ListN.{getD}
 use borrow.Author.Needs.{needs}
@@ -13,21 +12,6 @@ returns : tie.Need-returns
 returns c =
     let a = c .before .args in
     pin-none (a .refs .now) (a .count) (a .b) (λ u. getD (a .drivers .now) u 0) (a .i) (a .j) (c .if1 .taken)
-
-mul-wide : tie.Need-mul-wide
-mul-wide c = search needs
-
-add-wide : tie.Need-add-wide
-add-wide c = search needs
-
-mul-wide-2 : tie.Need-mul-wide-2
-mul-wide-2 c = search needs
-
-element-copy-out-wide : tie.Need-element-copy-out-wide
-element-copy-out-wide c = search needs
-
-wide-requires : tie.Need-wide-requires
-wide-requires c κs = search needs
 
 mul-result : tie.Need-mul-result
 mul-result c =
@@ -46,9 +30,6 @@ returns-2 c =
     let a = other .before .args in
     pin-driver (a .refs .now) (a .count) (a .b) (λ u. getD (a .drivers .now) u 0) (a .i) (a .j) (other .if1 .left) (wide .wide .result) (wide .wide .ensures) (c .before .if2 .taken)
 
-input-word-requires : tie.Need-input-word-requires
-input-word-requires c κs = search needs
-
 returns-3 : tie.Need-returns-3
 returns-3 c =
     let wide = c .before .before in
@@ -61,14 +42,5 @@ pub pin-word-spec : {M : Type 1} → statement M
 pin-word-spec =
     tie.close
     (tie.spec
-    returns
-    mul-wide
-    add-wide
-    mul-wide-2
-    element-copy-out-wide
-    wide-requires
-    mul-result
-    element-copy-out-result
-    returns-2
-    input-word-requires
-    returns-3)
+    returns (λ c. search needs) (λ c. search needs) (λ c. search needs) (λ c. search needs) (λ c κs. search needs) mul-result element-copy-out-result
+    returns-2 (λ c κs. search needs) returns-3)

@@ -7,12 +7,6 @@ use borrow.Author.Needs.{needs}
 use Rattle.comparing.proofs.reach.Statement.{statement}
 use Rattle.comparing.proofs.reach.Tie as tie
 
-block-of-requires : tie.Need-block-of-requires
-block-of-requires c κs = search needs
-
-evaluate-requires : tie.Need-evaluate-requires
-evaluate-requires c κs = search needs
-
 returns : tie.Need-returns
 returns c = (c .evaluate .ensures .0, λ g ds q k l. c .evaluate .ensures .1 g ds q k l ∙ ap (λ (x : ℕ). wrongWord g ds x k) (c .before .before .block-of .ensures))
 
@@ -22,4 +16,6 @@ returns-2 c =
     (start .pre .0 .1, λ g ds q. start .pre .1 g ds q (c .if1 .left))
 
 pub reach-spec : {M : Type 1} → statement M
-reach-spec = tie.close (tie.spec block-of-requires evaluate-requires returns returns-2)
+reach-spec = tie.close
+    (tie.spec
+    (λ c κs. search needs) (λ c κs. search needs) returns returns-2)

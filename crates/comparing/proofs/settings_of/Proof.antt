@@ -7,11 +7,10 @@ use borrow.Author.Needs.{needs}
 use Rattle.comparing.proofs.settings_of.Statement.{statement}
 use Rattle.comparing.proofs.settings_of.Tie as tie
 
-shl-result : tie.Need-shl-result
-shl-result c = search needs
-
 returns : tie.Need-returns
 returns c = shl-exact 1 (c .args .inputs) 64 (omega arith) (omega arith) ∙ omega arith
 
 pub settings-of-spec : {M : Type 1} → statement M
-settings-of-spec = tie.close (tie.spec shl-result returns)
+settings-of-spec = tie.close
+    (tie.spec
+    (λ c. search needs) returns)

@@ -3,7 +3,7 @@
 use Rattle.comparing.specs.Filling.{andAt}
 use Rattle.comparing.proofs.Turns.{slot-zero, slot-input, slot-and}
 use mathlib.Core.Path.{ap, _∙_}
-use Prim.Native.Nat.{_-_, _≤_}
+use Prim.Native.Nat.{_≤_}
 use native.Mathlib.Omega.{arith}
 use lib.ListN.{getD}
 use borrow.Author.Needs.{needs}
@@ -15,20 +15,11 @@ returns c =
     let a = c .before .before .args in
     slot-zero (a .work .now) (a .m) (a .inputs) (a .b) (λ u. getD (a .variables .now) u 0) (a .i) (c .if1 .taken)
 
-sub-input-word : tie.Need-sub-input-word
-sub-input-word c = search needs
-
-input-word-requires : tie.Need-input-word-requires
-input-word-requires c κs = search needs
-
 returns-2 : tie.Need-returns-2
 returns-2 c =
     let a = c .before .before .before .before .args in
     c .input-word .ensures
     ∙ slot-input (a .work .now) (a .m) (a .inputs) (a .b) (λ u. getD (a .variables .now) u 0) (a .i) (c .before .before .if1 .left) (c .before .if2 .taken)
-
-slot-requires : tie.Need-slot-requires
-slot-requires c κs = search needs
 
 and-at-requires : tie.Need-and-at-requires
 and-at-requires c κs =
@@ -46,10 +37,4 @@ pub slot-word-spec : {M : Type 1} → statement M
 slot-word-spec =
     tie.close
     (tie.spec
-    returns
-    sub-input-word
-    input-word-requires
-    returns-2
-    slot-requires
-    and-at-requires
-    returns-3)
+    returns (λ c. search needs) (λ c κs. search needs) returns-2 (λ c κs. search needs) and-at-requires returns-3)

@@ -56,12 +56,6 @@ add-next c =
     let few = s .pre .0 .sound (s .args .v) (s .pre .0 .inside) .few in
     omega (arith, l .loop .inv .5, l .loop .inv .0, l .loop .inv .1, s .pre .2, few)
 
-add-k : tie.Need-add-k Inv-loop μ-loop
-add-k c = search needs
-
-loop-less : tie.Need-loop-less Inv-loop μ-loop
-loop-less c = search needs
-
 loop-again : tie.Need-loop-again Inv-loop μ-loop
 loop-again c =
     let done = c .before .before in
@@ -79,9 +73,6 @@ loop-again c =
       omega (arith, inv .5),
     )
 
-same-length : tie.Need-same-length Inv-loop μ-loop
-same-length c = search needs
-
 returns : tie.Need-returns Inv-loop μ-loop
 returns c =
     let l = c .before in
@@ -96,14 +87,5 @@ pub fill-node-spec : {M : Type 1} → statement M
 fill-node-spec =
     tie.close
     (tie.spec
-    Inv-loop
-    μ-loop
-    count-requires
-    loop-holds
-    fill-one-requires
-    add-next
-    add-k
-    loop-less
-    loop-again
-    same-length
+    Inv-loop μ-loop count-requires loop-holds fill-one-requires add-next (λ c. search needs) (λ c. search needs) loop-again (λ c. search needs)
     returns)

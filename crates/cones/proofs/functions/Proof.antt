@@ -12,11 +12,7 @@ fill-requires c κs =
     let s = c .before .before .before in
     (s .pre, record { long = length-replicate {A = ℕ} 4096 0; before = λ u h. omega (arith, getD-replicate {A = ℕ} 4096 u 0 0 (omega (arith, s .pre .placed .room .small))) })
 
-same-length : tie.Need-same-length
-same-length c = search needs
-
-returns : tie.Need-returns
-returns c = search needs
-
 pub functions-spec : {M : Type 1} → statement M
-functions-spec = tie.close (tie.spec fill-requires same-length returns)
+functions-spec = tie.close
+    (tie.spec
+    fill-requires (λ c. search needs) (λ c. search needs))

@@ -16,12 +16,6 @@ use Rattle.cones.proofs.is_cut.Tie as tie
 never : (false ≡ true) → ⊥
 never e = let z : _≡_ {A = ℕ} 0 1 = cc in omega arith
 
-load-cut-requires : tie.Need-load-cut-requires
-load-cut-requires c κs = search needs
-
-same-leaves-requires : tie.Need-same-leaves-requires
-same-leaves-requires c κs = search needs
-
 returns : tie.Need-returns
 returns c = λ e.
     let t = c .before in
@@ -37,4 +31,6 @@ returns-2 : tie.Need-returns-2
 returns-2 c = λ e. absurd (never e)
 
 pub is-cut-spec : {M : Type 1} → statement M
-is-cut-spec = tie.close (tie.spec load-cut-requires same-leaves-requires returns returns-2)
+is-cut-spec = tie.close
+    (tie.spec
+    (λ c κs. search needs) (λ c κs. search needs) returns returns-2)

@@ -6,12 +6,11 @@ use borrow.Author.Needs.{needs}
 use Rattle.cones.proofs.literal_word.Statement.{statement}
 use Rattle.cones.proofs.literal_word.Tie as tie
 
-in-phase-requires : tie.Need-in-phase-requires
-in-phase-requires c κs = search needs
-
 returns : tie.Need-returns
 unfolding literalWord negated
 returns c = c .in-phase .ensures
 
 pub literal-word-spec : {M : Type 1} → statement M
-literal-word-spec = tie.close (tie.spec in-phase-requires returns)
+literal-word-spec = tie.close
+    (tie.spec
+    (λ c κs. search needs) returns)

@@ -27,27 +27,6 @@ loop-holds c =
     let n : length (take (c .args .n) (c .args .t3)) ≡ c .args .n = counted c in
     (omega arith, leaf-begin (take (c .args .n) (c .args .t3)) (c .args .n) (c .args .base) (c .args .notes .now) (omega arith))
 
-sub-i : tie.Need-sub-i Inv-loop μ-loop
-sub-i c = search needs
-
-mul-wide : tie.Need-mul-wide Inv-loop μ-loop
-mul-wide c = search needs
-
-array-read-wide : tie.Need-array-read-wide Inv-loop μ-loop
-array-read-wide c = search needs
-
-wide-requires : tie.Need-wide-requires Inv-loop μ-loop
-wide-requires c κs = search needs
-
-pattern-requires : tie.Need-pattern-requires Inv-loop μ-loop
-pattern-requires c κs = search needs
-
-wide-requires-2 : tie.Need-wide-requires-2 Inv-loop μ-loop
-wide-requires-2 c κs = search needs
-
-add-notes : tie.Need-add-notes Inv-loop μ-loop
-add-notes c = search needs
-
 mul-notes : tie.Need-mul-notes Inv-loop μ-loop
 mul-notes c =
     let u = c .before .before in
@@ -61,9 +40,6 @@ element-write-notes c =
     let l = u .before .before in
     let s = l .before in
     omega (arith, u .wide .ensures, s .pre .2 (l .loop .i - 1) (omega (arith, u .before .loop-test .taken)))
-
-loop-less : tie.Need-loop-less Inv-loop μ-loop
-loop-less c = search needs
 
 loop-again : tie.Need-loop-again Inv-loop μ-loop
 loop-again c =
@@ -89,18 +65,5 @@ pub note-leaves-spec : {M : Type 1} → statement M
 note-leaves-spec =
     tie.close
     (tie.spec
-    Inv-loop
-    μ-loop
-    loop-holds
-    sub-i
-    mul-wide
-    array-read-wide
-    wide-requires
-    pattern-requires
-    wide-requires-2
-    add-notes
-    mul-notes
-    element-write-notes
-    loop-less
-    loop-again
-    returns)
+    Inv-loop μ-loop loop-holds (λ c. search needs) (λ c. search needs) (λ c. search needs) (λ c κs. search needs) (λ c κs. search needs)
+    (λ c κs. search needs) (λ c. search needs) mul-notes element-write-notes (λ c. search needs) loop-again returns)

@@ -1,6 +1,6 @@
 -- `cones::recall` meets its contract: what is noted already stays, and a function that is stored is what the walk would find.
 -- Assumes nothing.
-use mathlib.Core.Path.{_≡_, _∙_}
+use mathlib.Core.Path.{_∙_}
 use mathlib.Core.List.{List}
 use Prim.Native.Nat.{ℕ, _<_}
 use native.Mathlib.Omega.{arith}
@@ -20,31 +20,10 @@ small c =
     let a = g .before .args in
     omega (arith, c .function .ensures, function-fits (a .work .now) (a .m) (a .u) (k .same-cut .result) 65536 (λ i. omega (arith, g .shared-slice-known .given i)))
 
-mul-if1 : tie.Need-mul-if1
-mul-if1 c = search needs
-
-element-copy-out-if1 : tie.Need-element-copy-out-if1
-element-copy-out-if1 c = search needs
-
-returns : tie.Need-returns
-returns c = search needs
-
-same-cut-requires : tie.Need-same-cut-requires
-same-cut-requires c κs = search needs
-
-function-requires : tie.Need-function-requires
-function-requires c κs = search needs
-
 add-notes : tie.Need-add-notes
 add-notes c =
     let s = c .before .before .before .before .before .before in
     omega (arith, small c, s .pre .4)
-
-mul-notes : tie.Need-mul-notes
-mul-notes c = search needs
-
-element-write-notes : tie.Need-element-write-notes
-element-write-notes c = search needs
 
 returns-2 : tie.Need-returns-2
 returns-2 c =
@@ -63,20 +42,9 @@ returns-2 c =
       early-more w (a .m) (a .base) (a .u) x (a .notes .now) room (s .pre .2) (small c),
     )
 
-returns-3 : tie.Need-returns-3
-returns-3 c = search needs
-
 pub recall-spec : {M : Type 1} → statement M
 recall-spec =
     tie.close
     (tie.spec
-    mul-if1
-    element-copy-out-if1
-    returns
-    same-cut-requires
-    function-requires
-    add-notes
-    mul-notes
-    element-write-notes
-    returns-2
-    returns-3)
+    (λ c. search needs) (λ c. search needs) (λ c. search needs) (λ c κs. search needs) (λ c κs. search needs) add-notes (λ c. search needs)
+    (λ c. search needs) returns-2 (λ c. search needs))

@@ -19,18 +19,6 @@ all-leaves c =
     let four : length (a .leaves) ≡ 4 = search needs in
     take-all (a .n) (a .leaves) (omega (arith, c .if1 .left))
 
-returns : tie.Need-returns
-returns c = search needs
-
-kind-requires : tie.Need-kind-requires
-kind-requires c κs = search needs
-
-left-requires : tie.Need-left-requires
-left-requires c κs = search needs
-
-right-requires : tie.Need-right-requires
-right-requires c κs = search needs
-
 recall-requires : tie.Need-recall-requires
 recall-requires c κs =
     let l = c .before .before in
@@ -84,18 +72,9 @@ returns-2 c =
       c .recall2 .ensures .1,
     )
 
-returns-3 : tie.Need-returns-3
-returns-3 c = search needs
-
 pub recall-operands-spec : {M : Type 1} → statement M
 recall-operands-spec =
     tie.close
     (tie.spec
-    returns
-    kind-requires
-    left-requires
-    right-requires
-    recall-requires
-    recall-requires-2
-    returns-2
-    returns-3)
+    (λ c. search needs) (λ c κs. search needs) (λ c κs. search needs) (λ c κs. search needs) recall-requires recall-requires-2 returns-2
+    (λ c. search needs))

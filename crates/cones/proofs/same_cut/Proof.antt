@@ -13,34 +13,13 @@ Inv-loop work m u leaves k₀ k = k ≤ countAt work m u
 abbrev μ-loop : tie.MeasureT-loop
 μ-loop work m u leaves k₀ k = k
 
-count-requires : tie.Need-count-requires Inv-loop μ-loop
-count-requires c κs = search needs
-
-loop-holds : tie.Need-loop-holds Inv-loop μ-loop
-loop-holds c = search needs
-
-sub-k : tie.Need-sub-k Inv-loop μ-loop
-sub-k c = search needs
-
-is-past-requires : tie.Need-is-past-requires Inv-loop μ-loop
-is-past-requires c κs = search needs
-
 returns : tie.Need-returns Inv-loop μ-loop
 returns c = record { listed = λ h. absurd (omega arith); same = λ h. absurd (omega arith) }
-
-is-cut-requires : tie.Need-is-cut-requires Inv-loop μ-loop
-is-cut-requires c κs = search needs
 
 returns-2 : tie.Need-returns-2 Inv-loop μ-loop
 returns-2 c =
     let l = c .before .before .before .before .before in
     record { listed = λ h. omega (arith, l .loop .inv, l .before .count .ensures, c .before .before .before .before .loop-test .taken); same = λ h. c .before .is-cut .ensures (c .if2 .taken) }
-
-loop-less : tie.Need-loop-less Inv-loop μ-loop
-loop-less c = search needs
-
-loop-again : tie.Need-loop-again Inv-loop μ-loop
-loop-again c = search needs
 
 returns-3 : tie.Need-returns-3 Inv-loop μ-loop
 returns-3 c = record { listed = λ h. absurd (omega arith); same = λ h. absurd (omega arith) }
@@ -49,15 +28,5 @@ pub same-cut-spec : {M : Type 1} → statement M
 same-cut-spec =
     tie.close
     (tie.spec
-    Inv-loop
-    μ-loop
-    count-requires
-    loop-holds
-    sub-k
-    is-past-requires
-    returns
-    is-cut-requires
-    returns-2
-    loop-less
-    loop-again
-    returns-3)
+    Inv-loop μ-loop (λ c κs. search needs) (λ c. search needs) (λ c. search needs) (λ c κs. search needs) returns (λ c κs. search needs) returns-2
+    (λ c. search needs) (λ c. search needs) returns-3)

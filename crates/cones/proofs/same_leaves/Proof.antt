@@ -1,7 +1,7 @@
 -- `cones::same_leaves` meets its contract: equal one by one.
 -- Assumes nothing.
 use mathlib.Core.Path.{_≡_}
-use mathlib.Core.Bool.{Bool, true, false}
+use mathlib.Core.Bool.{true, false}
 use Prim.Native.Nat.{ℕ}
 use native.Mathlib.Omega.{arith}
 use lib.ListN.{length}
@@ -14,38 +14,14 @@ use Rattle.cones.proofs.same_leaves.Tie as tie
 never : (false ≡ true) → ⊥
 never e = let z : _≡_ {A = ℕ} 0 1 = cc in omega arith
 
-array-read-if1 : tie.Need-array-read-if1
-array-read-if1 c = search needs
-
-array-read-if1-2 : tie.Need-array-read-if1-2
-array-read-if1-2 c = search needs
-
 returns : tie.Need-returns
 returns c = λ e. absurd (never e)
-
-array-read-if2 : tie.Need-array-read-if2
-array-read-if2 c = search needs
-
-array-read-if2-2 : tie.Need-array-read-if2-2
-array-read-if2-2 c = search needs
 
 returns-2 : tie.Need-returns-2
 returns-2 c = λ e. absurd (never e)
 
-array-read-if3 : tie.Need-array-read-if3
-array-read-if3 c = search needs
-
-array-read-if3-2 : tie.Need-array-read-if3-2
-array-read-if3-2 c = search needs
-
 returns-3 : tie.Need-returns-3
 returns-3 c = λ e. absurd (never e)
-
-array-read-result : tie.Need-array-read-result
-array-read-result c = search needs
-
-array-read-result-2 : tie.Need-array-read-result-2
-array-read-result-2 c = search needs
 
 returns-4 : tie.Need-returns-4
 returns-4 c = λ e.
@@ -58,15 +34,5 @@ pub same-leaves-spec : {M : Type 1} → statement M
 same-leaves-spec =
     tie.close
     (tie.spec
-    array-read-if1
-    array-read-if1-2
-    returns
-    array-read-if2
-    array-read-if2-2
-    returns-2
-    array-read-if3
-    array-read-if3-2
-    returns-3
-    array-read-result
-    array-read-result-2
-    returns-4)
+    (λ c. search needs) (λ c. search needs) returns (λ c. search needs) (λ c. search needs) returns-2 (λ c. search needs) (λ c. search needs)
+    returns-3 (λ c. search needs) (λ c. search needs) returns-4)

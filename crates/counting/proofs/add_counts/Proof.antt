@@ -2,9 +2,8 @@
 -- Assumes nothing.
 use borrow.Author.Needs.{needs}
 use native.Mathlib.Omega.{arith}
-use mathlib.Core.Path.{_≡_, refl, ap, sym, _∙_}
-use Prim.Native.Nat.{ℕ, _+_, _-_, _≤_}
-use Rattle.model.specs.declared.Tally.{Tally}
+use mathlib.Core.Path.{_≡_, refl, ap, _∙_}
+use Prim.Native.Nat.{ℕ, _-_, _≤_}
 use Rattle.counting.specs.Adding.{addUpTo, addedUpTo}
 use Rattle.counting.proofs.Places.{tally-low, tally-step}
 use Rattle.counting.proofs.add_counts.Statement.{statement}
@@ -20,39 +19,12 @@ loop-holds : tie.Need-loop-holds Inv-loop μ-loop
 unfolding addUpTo
 loop-holds c = (omega arith, refl)
 
-mul-cell : tie.Need-mul-cell Inv-loop μ-loop
-mul-cell c = omega arith
-
-element-copy-out-cell : tie.Need-element-copy-out-cell Inv-loop μ-loop
-element-copy-out-cell c = omega arith
-
-mul-long : tie.Need-mul-long Inv-loop μ-loop
-mul-long c = omega arith
-
-element-copy-out-long : tie.Need-element-copy-out-long Inv-loop μ-loop
-element-copy-out-long c = omega arith
-
-long-requires : tie.Need-long-requires Inv-loop μ-loop
-long-requires c κs = search needs
-
-wide-requires : tie.Need-wide-requires Inv-loop μ-loop
-wide-requires c κs = search needs
-
-long-requires-2 : tie.Need-long-requires-2 Inv-loop μ-loop
-long-requires-2 c κs = search needs
-
 add-place-requires : tie.Need-add-place-requires Inv-loop μ-loop
 add-place-requires c κs =
     let st = c .before .before .before .before .before .before .before in
     let p = c .before .before .before .before .before .before .loop in
     let low = tally-low (st .args .t2) (st .args .t3) (st .args .from) (st .pre) (p .i) (p .t) (p .inv .1) in
     (omega arith, c .before .before .long .ensures .1, omega (arith, c .long2 .ensures .0, c .before .wide .ensures .1), low .0, low .1, low .2)
-
-add-i : tie.Need-add-i Inv-loop μ-loop
-add-i c = omega arith
-
-loop-less : tie.Need-loop-less Inv-loop μ-loop
-loop-less c = omega arith
 
 loop-again : tie.Need-loop-again Inv-loop μ-loop
 loop-again c =
@@ -73,18 +45,5 @@ pub add-counts-spec : {M : Type 1} → statement M
 add-counts-spec =
     tie.close
     (tie.spec
-    Inv-loop
-    μ-loop
-    loop-holds
-    mul-cell
-    element-copy-out-cell
-    mul-long
-    element-copy-out-long
-    long-requires
-    wide-requires
-    long-requires-2
-    add-place-requires
-    add-i
-    loop-less
-    loop-again
-    returns)
+    Inv-loop μ-loop loop-holds (λ c. omega arith) (λ c. omega arith) (λ c. omega arith) (λ c. omega arith) (λ c κs. search needs)
+    (λ c κs. search needs) (λ c κs. search needs) add-place-requires (λ c. omega arith) (λ c. omega arith) loop-again returns)

@@ -1,8 +1,7 @@
 -- `counting::count_in` meets its contract: 28, then 29.
 -- Assumes nothing.
 use native.Mathlib.Omega.{arith}
-use mathlib.Core.Path.{_≡_, sym, ap, _∙_}
-use mathlib.Core.Bool.{true, false}
+use mathlib.Core.Path.{sym, ap, _∙_}
 use borrow.Author.Tests.{not-true, not-false}
 use Rattle.model.specs.Cells.{cellsOf}
 use Rattle.model.specs.Tally.{countedAnswer}
@@ -11,34 +10,19 @@ use borrow.Author.Needs.{needs}
 use Rattle.counting.proofs.count_in.Statement.{statement}
 use Rattle.counting.proofs.count_in.Tie as tie
 
-refused-requires : tie.Need-refused-requires
-refused-requires c κs = search needs
-
 returns : tie.Need-returns
 returns c =
     let a = c .before .before .before .before .args in
     c .refused .ensures ∙ sym (ap (countedAnswer (a .t)) (count-many (a .t) (a .ranged) (cellsOf (a .lib)) (a .s .now) (omega arith)))
-
-in-width-requires : tie.Need-in-width-requires
-in-width-requires c κs = search needs
-
-refused-requires-2 : tie.Need-refused-requires-2
-refused-requires-2 c κs = search needs
 
 returns-2 : tie.Need-returns-2
 returns-2 c =
     let a = c .before .before .before .before .before .before .args in
     c .refused2 .ensures ∙ sym (ap (countedAnswer (a .t)) (count-over (a .t) (a .ranged) (cellsOf (a .lib)) (a .s .now) (sym (c .before .before .in-width .ensures .0) ∙ not-true _ (c .before .if2 .taken))))
 
-read-netlist-requires : tie.Need-read-netlist-requires
-read-netlist-requires c κs = search needs
-
 counted-requires : tie.Need-counted-requires
 counted-requires c κs =
     (c .before .before .before .before .in-width .ensures .1 (not-false _ (c .before .before .before .if2 .left)), omega arith)
-
-refused-requires-3 : tie.Need-refused-requires-3
-refused-requires-3 c κs = search needs
 
 returns-3 : tie.Need-returns-3
 returns-3 c =
@@ -61,13 +45,5 @@ pub count-in-spec : {M : Type 1} → statement M
 count-in-spec =
     tie.close
     (tie.spec
-    refused-requires
-    returns
-    in-width-requires
-    refused-requires-2
-    returns-2
-    read-netlist-requires
-    counted-requires
-    refused-requires-3
-    returns-3
-    returns-4)
+    (λ c κs. search needs) returns (λ c κs. search needs) (λ c κs. search needs) returns-2 (λ c κs. search needs) counted-requires
+    (λ c κs. search needs) returns-3 returns-4)

@@ -1,16 +1,13 @@
 -- `counting::due` meets its contract: by the line at the place.
 -- Assumes nothing.
 use native.Mathlib.Omega.{arith}
-use mathlib.Core.Path.{_≡_, sym, ap, _∙_}
+use mathlib.Core.Path.{sym, _∙_}
 use Rattle.counting.specs.Forms.{formTest}
-use Rattle.counting.proofs.DueLines.{Ten, ten-line, span-bounds, part-short, due-yes, due-no, due-out}
+use Rattle.counting.proofs.DueLines.{ten-line, span-bounds, part-short, due-yes, due-no, due-out}
 use Prim.Native.Nat.{_-_}
 use borrow.Author.Needs.{needs}
 use Rattle.counting.proofs.due.Statement.{statement}
 use Rattle.counting.proofs.due.Tie as tie
-
-line-requires : tie.Need-line-requires
-line-requires c κs = search needs
 
 add-if1 : tie.Need-add-if1
 add-if1 c =
@@ -60,12 +57,4 @@ pub due-spec : {M : Type 1} → statement M
 due-spec =
     tie.close
     (tie.spec
-    line-requires
-    add-if1
-    returns
-    sub-has-form
-    part-has-form-start
-    part-has-form-end
-    has-form-requires
-    returns-2
-    returns-3)
+    (λ c κs. search needs) add-if1 returns sub-has-form part-has-form-start part-has-form-end has-form-requires returns-2 returns-3)

@@ -1,16 +1,12 @@
 -- `counting::gate_at` meets its contract: by the line at the place.
 -- Assumes nothing.
 use native.Mathlib.Omega.{arith}
-use mathlib.Core.Path.{_≡_, sym, ap, _∙_}
 use Prim.Native.Nat.{_-_}
-use Rattle.counting.proofs.DueLines.{Ten, ten-line, not-ended, span-bounds, part-short}
+use Rattle.counting.proofs.DueLines.{ten-line, not-ended, span-bounds, part-short}
 use Rattle.counting.proofs.Gating.{gate-none, gate-line, gate-other}
 use borrow.Author.Needs.{needs}
 use Rattle.counting.proofs.gate_at.Statement.{statement}
 use Rattle.counting.proofs.gate_at.Tie as tie
-
-line-requires : tie.Need-line-requires
-line-requires c κs = search needs
 
 add-if1 : tie.Need-add-if1
 add-if1 c =
@@ -42,9 +38,6 @@ gate-of-requires c κs =
     let a = c .before .before .before .before .args in
     (omega (arith, part-short (c .before .before .line .result .stop - a .at) (a .at) (a .s .now)), c .before .before .before .before .pre .2)
 
-enum-known-k : tie.Need-enum-known-k
-enum-known-k c = search needs
-
 enum-told : tie.Need-enum-told
 enum-told c = search needs
 
@@ -66,14 +59,5 @@ pub gate-at-spec : {M : Type 1} → statement M
 gate-at-spec =
     tie.close
     (tie.spec
-    line-requires
-    add-if1
-    returns
-    sub-gate-of
-    part-gate-of-start
-    part-gate-of-end
-    gate-of-requires
-    enum-known-k
-    enum-told
-    returns-2
+    (λ c κs. search needs) add-if1 returns sub-gate-of part-gate-of-start part-gate-of-end gate-of-requires (λ c. search needs) enum-told returns-2
     returns-3)

@@ -1,6 +1,6 @@
 -- `counting::has_form` meets its contract: the line is judged by its kind.
 -- Assumes nothing.
-use mathlib.Core.Path.{_≡_, sym, ap, _∙_}
+use mathlib.Core.Path.{sym, ap, _∙_}
 use Rattle.model.specs.Text.{text}
 use Rattle.counting.specs.Forms.{formTest}
 use Rattle.counting.specs.declared.Form.{Form}
@@ -10,66 +10,6 @@ use Rattle.counting.proofs.has_form.Tie as tie
 
 enum-told : tie.Need-enum-told
 enum-told c = search needs
-
-slice-aggregate-same-bytes : tie.Need-slice-aggregate-same-bytes
-slice-aggregate-same-bytes c = search needs
-
-same-bytes-requires : tie.Need-same-bytes-requires
-same-bytes-requires c κs = search needs
-
-enum-told-2 : tie.Need-enum-told-2
-enum-told-2 c = search needs
-
-slice-aggregate-is-name-list : tie.Need-slice-aggregate-is-name-list
-slice-aggregate-is-name-list c = search needs
-
-is-name-list-requires : tie.Need-is-name-list-requires
-is-name-list-requires c κs = search needs
-
-enum-told-3 : tie.Need-enum-told-3
-enum-told-3 c = search needs
-
-slice-aggregate-is-name-list-2 : tie.Need-slice-aggregate-is-name-list-2
-slice-aggregate-is-name-list-2 c = search needs
-
-is-name-list-requires-2 : tie.Need-is-name-list-requires-2
-is-name-list-requires-2 c κs = search needs
-
-enum-told-4 : tie.Need-enum-told-4
-enum-told-4 c = search needs
-
-is-wire-requires : tie.Need-is-wire-requires
-is-wire-requires c κs = search needs
-
-enum-told-5 : tie.Need-enum-told-5
-enum-told-5 c = search needs
-
-slice-aggregate-same-bytes-2 : tie.Need-slice-aggregate-same-bytes-2
-slice-aggregate-same-bytes-2 c = search needs
-
-same-bytes-requires-2 : tie.Need-same-bytes-requires-2
-same-bytes-requires-2 c κs = search needs
-
-enum-told-6 : tie.Need-enum-told-6
-enum-told-6 c = search needs
-
-slice-aggregate-same-bytes-3 : tie.Need-slice-aggregate-same-bytes-3
-slice-aggregate-same-bytes-3 c = search needs
-
-same-bytes-requires-3 : tie.Need-same-bytes-requires-3
-same-bytes-requires-3 c κs = search needs
-
-enum-known-form : tie.Need-enum-known-form
-enum-known-form c = search needs
-
-is-figures-requires : tie.Need-is-figures-requires
-is-figures-requires c κs = search needs
-
-enum-told-7 : tie.Need-enum-told-7
-enum-told-7 c = search needs
-
-is-timing-requires : tie.Need-is-timing-requires
-is-timing-requires c κs = search needs
 
 returns : tie.Need-returns
 unfolding formTest text
@@ -107,32 +47,7 @@ pub has-form-spec : {M : Type 1} → statement M
 has-form-spec =
     tie.close
     (tie.spec
-    enum-told
-    slice-aggregate-same-bytes
-    same-bytes-requires
-    enum-told-2
-    slice-aggregate-is-name-list
-    is-name-list-requires
-    enum-told-3
-    slice-aggregate-is-name-list-2
-    is-name-list-requires-2
-    enum-told-4
-    is-wire-requires
-    enum-told-5
-    slice-aggregate-same-bytes-2
-    same-bytes-requires-2
-    enum-told-6
-    slice-aggregate-same-bytes-3
-    same-bytes-requires-3
-    enum-known-form
-    is-figures-requires
-    enum-told-7
-    is-timing-requires
-    returns
-    returns-2
-    returns-3
-    returns-4
-    returns-5
-    returns-6
-    returns-7
-    returns-8)
+    enum-told (λ c. search needs) (λ c κs. search needs) (λ c. search needs) (λ c. search needs) (λ c κs. search needs) (λ c. search needs)
+    (λ c. search needs) (λ c κs. search needs) (λ c. search needs) (λ c κs. search needs) (λ c. search needs) (λ c. search needs)
+    (λ c κs. search needs) (λ c. search needs) (λ c. search needs) (λ c κs. search needs) (λ c. search needs) (λ c κs. search needs)
+    (λ c. search needs) (λ c κs. search needs) returns returns-2 returns-3 returns-4 returns-5 returns-6 returns-7 returns-8)

@@ -1,6 +1,6 @@
 -- `counting::in_width` meets its contract: figure by figure.
 -- Assumes nothing.
-use mathlib.Core.Path.{_≡_, refl, sym, _∙_}
+use mathlib.Core.Path.{sym, _∙_}
 use borrow.Author.Tests.{not-true, not-false}
 use Rattle.counting.proofs.Reading.{never}
 use Rattle.counting.proofs.Places.{width-gates, width-areas, width-occurs, width-over, width-yes, width-wide}
@@ -8,23 +8,14 @@ use borrow.Author.Needs.{needs}
 use Rattle.counting.proofs.in_width.Statement.{statement}
 use Rattle.counting.proofs.in_width.Tie as tie
 
-all-small-requires : tie.Need-all-small-requires
-all-small-requires c κs = search needs
-
 returns : tie.Need-returns
 returns c = (width-gates _ (sym (c .before .all-small .ensures .0) ∙ not-true _ (c .if1 .taken)), λ e. never e)
-
-all-small-requires-2 : tie.Need-all-small-requires-2
-all-small-requires-2 c κs = search needs
 
 returns-2 : tie.Need-returns-2
 returns-2 c =
     let t = c .before .before .before .before .before .before .args .t in
     let g = sym (c .before .before .before .before .all-small .ensures .0) ∙ not-false _ (c .before .before .before .if1 .left) in
     (width-areas t g (sym (c .before .all-small2 .ensures .0) ∙ not-true _ (c .if2 .taken)), λ e. never e)
-
-all-small-requires-3 : tie.Need-all-small-requires-3
-all-small-requires-3 c κs = search needs
 
 returns-3 : tie.Need-returns-3
 returns-3 c =
@@ -59,11 +50,4 @@ pub in-width-spec : {M : Type 1} → statement M
 in-width-spec =
     tie.close
     (tie.spec
-    all-small-requires
-    returns
-    all-small-requires-2
-    returns-2
-    all-small-requires-3
-    returns-3
-    returns-4
-    returns-5)
+    (λ c κs. search needs) returns (λ c κs. search needs) returns-2 (λ c κs. search needs) returns-3 returns-4 returns-5)

@@ -1,25 +1,16 @@
 -- `counting::outputs` meets its contract: the third line's fields, less the keyword.
 -- Assumes nothing.
 use native.Mathlib.Omega.{arith}
-use mathlib.Core.Path.{_≡_, sym, ap, _∙_}
+use mathlib.Core.Path.{_∙_}
 use Rattle.counting.proofs.DueLines.{span-bounds, outputs-none, outputs-some}
 use borrow.Author.Needs.{needs}
 use Rattle.counting.proofs.outputs.Statement.{statement}
 use Rattle.counting.proofs.outputs.Tie as tie
 
-line-requires : tie.Need-line-requires
-line-requires c κs = search needs
-
-line-requires-2 : tie.Need-line-requires-2
-line-requires-2 c κs = search needs
-
 returns : tie.Need-returns
 returns c =
     let s = c .before .before .before .before .args .s .now in
     outputs-none s (c .before .before .line .result) (c .before .line2 .result) (c .before .before .line .ensures) (c .before .line2 .ensures) (c .if1 .taken)
-
-line-requires-3 : tie.Need-line-requires-3
-line-requires-3 c κs = search needs
 
 sub-names-in : tie.Need-sub-names-in
 sub-names-in c =
@@ -36,9 +27,6 @@ part-names-in-end c =
     let s = c .before .before .before .before .before .args .s .now in
     let b = span-bounds s (c .before .before .line2 .result .next) (omega arith) (c .line3 .result) (c .line3 .ensures) in omega arith
 
-names-in-requires : tie.Need-names-in-requires
-names-in-requires c κs = search needs
-
 returns-2 : tie.Need-returns-2
 returns-2 c =
     let s = c .before .before .before .before .before .before .before .args .s .now in
@@ -50,12 +38,5 @@ pub outputs-spec : {M : Type 1} → statement M
 outputs-spec =
     tie.close
     (tie.spec
-    line-requires
-    line-requires-2
-    returns
-    line-requires-3
-    sub-names-in
-    part-names-in-start
-    part-names-in-end
-    names-in-requires
-    returns-2)
+    (λ c κs. search needs) (λ c κs. search needs) returns (λ c κs. search needs) sub-names-in part-names-in-start part-names-in-end
+    (λ c κs. search needs) returns-2)

@@ -1,7 +1,5 @@
 -- `counting::read_behind` meets its contract: in the order of the lines.
 -- Assumes nothing.
-use mathlib.Core.Path.{_≡_, sym, ap, _∙_}
-use mathlib.Core.Bool.{true}
 use lib.ListN.{length}
 use Rattle.model.specs.Reading.{holds, next}
 use Rattle.counting.specs.Forms.{formTest}
@@ -10,21 +8,6 @@ use Rattle.counting.proofs.DueLines.{behind-is}
 use borrow.Author.Needs.{needs}
 use Rattle.counting.proofs.read_behind.Statement.{statement}
 use Rattle.counting.proofs.read_behind.Tie as tie
-
-read-wires-requires : tie.Need-read-wires-requires
-read-wires-requires c κs = search needs
-
-then-due-requires : tie.Need-then-due-requires
-then-due-requires c κs = search needs
-
-then-due-requires-2 : tie.Need-then-due-requires-2
-then-due-requires-2 c κs = search needs
-
-read-timings-requires : tie.Need-read-timings-requires
-read-timings-requires c κs = search needs
-
-at-end-requires : tie.Need-at-end-requires
-at-end-requires c κs = search needs
 
 returns : tie.Need-returns
 unfolding next formTest
@@ -41,9 +24,4 @@ pub read-behind-spec : {M : Type 1} → statement M
 read-behind-spec =
     tie.close
     (tie.spec
-    read-wires-requires
-    then-due-requires
-    then-due-requires-2
-    read-timings-requires
-    at-end-requires
-    returns)
+    (λ c κs. search needs) (λ c κs. search needs) (λ c κs. search needs) (λ c κs. search needs) (λ c κs. search needs) returns)

@@ -1,6 +1,5 @@
 -- `counting::read_frame` meets its contract: the three lines in order.
 -- Assumes nothing.
-use mathlib.Core.Path.{_≡_, sym, ap, _∙_}
 use lib.ListN.{length}
 use Rattle.model.specs.Tally.{frame}
 use Rattle.counting.specs.Forms.{formTest}
@@ -10,15 +9,6 @@ use borrow.Author.Needs.{needs}
 use Rattle.counting.proofs.read_frame.Statement.{statement}
 use Rattle.counting.proofs.read_frame.Tie as tie
 
-due-requires : tie.Need-due-requires
-due-requires c κs = search needs
-
-then-due-requires : tie.Need-then-due-requires
-then-due-requires c κs = search needs
-
-then-due-requires-2 : tie.Need-then-due-requires-2
-then-due-requires-2 c κs = search needs
-
 returns : tie.Need-returns
 unfolding frame formTest
 returns c =
@@ -26,4 +16,6 @@ returns c =
     (due-three (length s) (linesOf s 0) _ _ _ _ _ _ (c .before .before .due .ensures .0) (c .before .then-due .ensures .0) (c .then-due2 .ensures .0), c .then-due2 .ensures .1)
 
 pub read-frame-spec : {M : Type 1} → statement M
-read-frame-spec = tie.close (tie.spec due-requires then-due-requires then-due-requires-2 returns)
+read-frame-spec = tie.close
+    (tie.spec
+    (λ c κs. search needs) (λ c κs. search needs) (λ c κs. search needs) returns)

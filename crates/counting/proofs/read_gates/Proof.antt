@@ -1,10 +1,9 @@
 -- `counting::read_gates` meets its contract. The invariant: what was counted and what is left are all gates; the measure is what is left of the text.
 -- Assumes nothing.
-use Rattle.counting.specs.Counts.{withGate}
 use borrow.Author.Needs.{needs}
 use native.Mathlib.Omega.{arith}
-use mathlib.Core.Path.{_≡_, refl, sym, ap, subst, _∙_}
-use Prim.Native.Nat.{ℕ, _-_, _<_}
+use mathlib.Core.Path.{sym, ap, subst, _∙_}
+use Prim.Native.Nat.{_-_, _<_}
 use lib.ListN.{length}
 use Rattle.counting.specs.declared.Counts.{Counts}
 use Rattle.counting.proofs.Gating.{SoFar, so-far-first, so-far-last, so-far-listed, so-far-later, so-far-more}
@@ -17,9 +16,6 @@ Inv-loop s from lib c₀ c = SoFar lib s from c
 abbrev μ-loop : tie.MeasureT-loop
 μ-loop s from lib c₀ c = length s - c .at
 
-no-gates-requires : tie.Need-no-gates-requires Inv-loop μ-loop
-no-gates-requires c κs = search needs
-
 loop-holds : tie.Need-loop-holds Inv-loop μ-loop
 loop-holds c =
     let a = c .before .before .args in
@@ -27,9 +23,6 @@ loop-holds c =
 
 gate-at-requires : tie.Need-gate-at-requires Inv-loop μ-loop
 gate-at-requires c κs = (c .loop .inv .inside, omega arith, c .before .before .before .pre .2)
-
-enum-known-k : tie.Need-enum-known-k Inv-loop μ-loop
-enum-known-k c = search needs
 
 mul-cell : tie.Need-mul-cell Inv-loop μ-loop
 mul-cell c =
@@ -42,9 +35,6 @@ element-copy-out-cell c =
     let st = c .before .before .before .before .before .before .before in
     let p = c .before .before .before .before .loop in
     omega (arith, so-far-listed (st .args .t3) (st .pre .2) (st .args .s .now) (st .args .from) (p .c) (p .inv) (c .before .k .given .0 .0) _ (sym (c .before .before .before .gate-at .ensures) ∙ c .before .k .given .1), st .pre .2 .few)
-
-wide-requires : tie.Need-wide-requires Inv-loop μ-loop
-wide-requires c κs = search needs
 
 add-gate-requires : tie.Need-add-gate-requires Inv-loop μ-loop
 add-gate-requires c κs =
@@ -88,17 +78,5 @@ pub read-gates-spec : {M : Type 1} → statement M
 read-gates-spec =
     tie.close
     (tie.spec
-    Inv-loop
-    μ-loop
-    no-gates-requires
-    loop-holds
-    gate-at-requires
-    enum-known-k
-    mul-cell
-    element-copy-out-cell
-    wide-requires
-    add-gate-requires
-    loop-less
-    loop-again
-    enum-told
-    returns)
+    Inv-loop μ-loop (λ c κs. search needs) loop-holds gate-at-requires (λ c. search needs) mul-cell element-copy-out-cell (λ c κs. search needs)
+    add-gate-requires loop-less loop-again enum-told returns)

@@ -1,10 +1,9 @@
 -- `counting::read_timings` meets its contract. The invariant: what is due from here on is what is left of all that is due; the measure is the lines left.
 -- Assumes nothing.
 use native.Mathlib.Omega.{arith}
-use mathlib.Core.Path.{_≡_, refl, sym, ap, _∙_}
+use mathlib.Core.Path.{_≡_, sym, _∙_}
 use mathlib.Core.Logic.{⊎-elim}
-use mathlib.Core.Bool.{Bool, true, false, cond}
-use Prim.Native.Nat.{ℕ, _+_, _-_, _≤_}
+use Prim.Native.Nat.{_-_, _≤_}
 use lib.ListN.{length}
 use Rattle.model.specs.Reading.{next}
 use Rattle.model.specs.Tally.{dueLines, timings}
@@ -34,9 +33,6 @@ then-due-requires c κs = (omega arith, omega arith)
 add-k : tie.Need-add-k Inv-loop μ-loop
 add-k c = ⊎-elim (λ y. omega arith) (λ y. omega arith) (c .before .before .before .if1 .came)
 
-loop-less : tie.Need-loop-less Inv-loop μ-loop
-loop-less c = omega arith
-
 loop-again : tie.Need-loop-again Inv-loop μ-loop
 unfolding formTest
 loop-again c =
@@ -55,4 +51,5 @@ returns c =
 pub read-timings-spec : {M : Type 1} → statement M
 read-timings-spec =
     tie.close
-    (tie.spec Inv-loop μ-loop loop-holds then-due-requires add-k loop-less loop-again returns)
+    (tie.spec
+    Inv-loop μ-loop loop-holds then-due-requires add-k (λ c. omega arith) loop-again returns)

@@ -1,8 +1,8 @@
 -- `counting::read_wires` meets its contract. The invariant: what is due from here on is what is left of all that is due; the measure is the outputs left.
 -- Assumes nothing.
 use native.Mathlib.Omega.{arith}
-use mathlib.Core.Path.{_≡_, sym, ap, _∙_}
-use Prim.Native.Nat.{_+_, _-_, _≤_}
+use mathlib.Core.Path.{_≡_, sym, _∙_}
+use Prim.Native.Nat.{_-_, _≤_}
 use lib.ListN.{length}
 use Rattle.model.specs.Reading.{next}
 use Rattle.model.specs.Tally.{dueLines, wirePairs}
@@ -27,12 +27,6 @@ then-due-requires c κs = (omega arith, omega arith)
 then-due-requires-2 : tie.Need-then-due-requires-2 Inv-loop μ-loop
 then-due-requires-2 c κs = (c .then-due .ensures .1, omega arith)
 
-add-k : tie.Need-add-k Inv-loop μ-loop
-add-k c = omega arith
-
-loop-less : tie.Need-loop-less Inv-loop μ-loop
-loop-less c = omega arith
-
 loop-again : tie.Need-loop-again Inv-loop μ-loop
 unfolding formTest
 loop-again c =
@@ -52,12 +46,4 @@ pub read-wires-spec : {M : Type 1} → statement M
 read-wires-spec =
     tie.close
     (tie.spec
-    Inv-loop
-    μ-loop
-    loop-holds
-    then-due-requires
-    then-due-requires-2
-    add-k
-    loop-less
-    loop-again
-    returns)
+    Inv-loop μ-loop loop-holds then-due-requires then-due-requires-2 (λ c. omega arith) (λ c. omega arith) loop-again returns)

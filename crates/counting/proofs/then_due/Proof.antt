@@ -1,7 +1,7 @@
 -- `counting::then_due` meets its contract: a refusal stays.
 -- Assumes nothing.
 use native.Mathlib.Omega.{arith}
-use mathlib.Core.Path.{_≡_, sym, ap, _∙_}
+use mathlib.Core.Path.{sym, _∙_}
 use mathlib.Core.List.{_∷_, []}
 use lib.ListN.{length}
 use Rattle.model.specs.Tally.{dueLines}
@@ -10,9 +10,6 @@ use Rattle.counting.proofs.DueLines.{read-on, read-off}
 use borrow.Author.Needs.{needs}
 use Rattle.counting.proofs.then_due.Statement.{statement}
 use Rattle.counting.proofs.then_due.Tie as tie
-
-due-requires : tie.Need-due-requires
-due-requires c κs = search needs
 
 returns : tie.Need-returns
 returns c =
@@ -25,4 +22,6 @@ returns-2 c =
     (sym (read-off (a .s .now) (a .r) (dueLines (length (a .s .now)) (formTest (a .form) ∷ [])) (c .if1 .left)), omega arith)
 
 pub then-due-spec : {M : Type 1} → statement M
-then-due-spec = tie.close (tie.spec due-requires returns returns-2)
+then-due-spec = tie.close
+    (tie.spec
+    (λ c κs. search needs) returns returns-2)

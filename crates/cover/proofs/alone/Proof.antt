@@ -9,15 +9,6 @@ use borrow.Author.Needs.{needs}
 use Rattle.cover.proofs.alone.Statement.{statement}
 use Rattle.cover.proofs.alone.Tie as tie
 
-cut-size-requires : tie.Need-cut-size-requires
-cut-size-requires c κs = search needs
-
-leaf-requires : tie.Need-leaf-requires
-leaf-requires c κs = search needs
-
-wide-requires : tie.Need-wide-requires
-wide-requires c κs = search needs
-
 returns : tie.Need-returns
 returns c =
     let first = c .before in
@@ -34,4 +25,6 @@ returns-2 c =
     (λ e. c .if1 .left (c .before .cut-size .ensures ∙ e))
 
 pub alone-spec : {M : Type 1} → statement M
-alone-spec = tie.close (tie.spec cut-size-requires leaf-requires wide-requires returns returns-2)
+alone-spec = tie.close
+    (tie.spec
+    (λ c κs. search needs) (λ c κs. search needs) (λ c κs. search needs) returns returns-2)

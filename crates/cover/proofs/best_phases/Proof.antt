@@ -2,11 +2,10 @@
 use mathlib.Core.Path.{_≡_, sym, ap, _∙_}
 use mathlib.Core.Bool.{Bool, true, false}
 use mathlib.Core.List.{List}
-use Prim.Native.Nat.{ℕ, _-_, _≤_, _<_}
+use Prim.Native.Nat.{ℕ, _-_, _≤_}
 use native.Mathlib.Omega.{arith}
 use Rattle.model.specs.Choice.{noPhase, choose, earlier}
 use Rattle.model.specs.declared.Cell.{Cell}
-use Rattle.model.specs.declared.Phase.{Phase}
 use Rattle.words.specs.Layout.{countAt}
 use Rattle.matching.specs.Sheet.{SheetOf}
 use Rattle.cover.specs.Choosing.{foundAt, foundFrom}
@@ -24,12 +23,6 @@ Inv-loop work m v sheet positive₀ negative₀ k₀ positive negative k =
 abbrev μ-loop : tie.MeasureT-loop
 μ-loop work m v sheet positive₀ negative₀ k₀ positive negative k = k
 
-nothing-requires : tie.Need-nothing-requires Inv-loop μ-loop
-nothing-requires c κs = search needs
-
-nothing-requires-2 : tie.Need-nothing-requires-2 Inv-loop μ-loop
-nothing-requires-2 c κs = search needs
-
 count-requires : tie.Need-count-requires Inv-loop μ-loop
 count-requires c κs = let s = c .before .before .before .before in (s .pre .1 .cuts .room, s .pre .2)
 
@@ -45,9 +38,6 @@ none-yet n neg cells =
 loop-holds : tie.Need-loop-holds Inv-loop μ-loop
 loop-holds c =
     (omega (arith, c .count .ensures), λ cells sheet. (c .before .before .nothing .ensures ∙ none-yet c false cells, c .before .nothing2 .ensures ∙ none-yet c true cells))
-
-sub-k : tie.Need-sub-k Inv-loop μ-loop
-sub-k c = omega arith
 
 cut-phases-requires : tie.Need-cut-phases-requires Inv-loop μ-loop
 cut-phases-requires c κs =
@@ -89,14 +79,5 @@ pub best-phases-spec : {M : Type 1} → statement M
 best-phases-spec =
     tie.close
     (tie.spec
-    Inv-loop
-    μ-loop
-    nothing-requires
-    nothing-requires-2
-    count-requires
-    loop-holds
-    sub-k
-    cut-phases-requires
-    loop-less
-    loop-again
-    returns)
+    Inv-loop μ-loop (λ c κs. search needs) (λ c κs. search needs) count-requires loop-holds (λ c. omega arith) cut-phases-requires loop-less
+    loop-again returns)

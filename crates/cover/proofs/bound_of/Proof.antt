@@ -3,7 +3,6 @@ use mathlib.Core.Path.{_≡_, sym, ap, _∙_}
 use mathlib.Core.Bool.{Bool, cond}
 use Prim.Native.Nat.{ℕ, suc, _+_, _<_, _≤_}
 use native.Mathlib.Omega.{arith}
-use lib.Dec.{ltb}
 use borrow.Author.Tests.{lt-ltb, le-ltb}
 use borrow.Author.Needs.{needs}
 use Rattle.model.specs.declared.Phase.{Phase}
@@ -21,12 +20,6 @@ late : (p : Phase) (t : ℕ) → t ≡ timeOf p → never ≤ t → never ≡ bo
 unfolding boundOf
 late p t e h = sym (ap (λ (b : Bool). cond b (suc (timeOf p)) never) (le-ltb (timeOf p) never (omega arith)))
 
-time-requires : tie.Need-time-requires
-time-requires c κs = search needs
-
-add-result : tie.Need-add-result
-add-result c = search needs
-
 returns : tie.Need-returns
 returns c = let t = c .before .time in early (c .before .before .args .p) (t .result) (t .ensures) (c .if1 .taken)
 
@@ -34,4 +27,6 @@ returns-2 : tie.Need-returns-2
 returns-2 c = let t = c .before .time in late (c .before .before .args .p) (t .result) (t .ensures) (c .if1 .left)
 
 pub bound-of-spec : {M : Type 1} → statement M
-bound-of-spec = tie.close (tie.spec time-requires add-result returns returns-2)
+bound-of-spec = tie.close
+    (tie.spec
+    (λ c κs. search needs) (λ c. search needs) returns returns-2)

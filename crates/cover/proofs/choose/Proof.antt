@@ -8,9 +8,6 @@ use borrow.Author.Needs.{needs}
 use Rattle.cover.proofs.choose.Statement.{statement}
 use Rattle.cover.proofs.choose.Tie as tie
 
-inverter-of-requires : tie.Need-inverter-of-requires
-inverter-of-requires c κs = search needs
-
 -- the sheet and the inverter
 tools : (c : tie.After-inverter-of) →
     let a = c .before .before .before .before .args in
@@ -19,18 +16,12 @@ tools c =
     let s = c .before .before .before .before in
     record { built = s .pre .1; inverter = c .inverter-of .ensures ∙ sym (inverter-by (cellsOf (s .args .lib)) (s .args .codes .now)) }
 
-placed-requires : tie.Need-placed-requires
-placed-requires c κs = search needs
-
 choose-variables-requires : tie.Need-choose-variables-requires
 choose-variables-requires c κs =
     let i = c .before .before in
     let s = i .before .before .before .before in
     let a = s .args in
     ((cellsBy (cellsOf (a .lib)) (a .codes .now), tools i), subst (Unchosen (a .work .now) (a .h .size)) (sym (c .placed .ensures)) (s .pre .2))
-
-same-length : tie.Need-same-length
-same-length c = search needs
 
 returns : tie.Need-returns
 returns c =
@@ -42,4 +33,5 @@ returns c =
 pub choose-spec : {M : Type 1} → statement M
 choose-spec =
     tie.close
-    (tie.spec inverter-of-requires placed-requires choose-variables-requires same-length returns)
+    (tie.spec
+    (λ c κs. search needs) (λ c κs. search needs) choose-variables-requires (λ c. search needs) returns)

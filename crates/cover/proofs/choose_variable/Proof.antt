@@ -30,9 +30,6 @@ invert-requires c κs =
     let f : Fitting (1073741823 + 131071) (directAt (s .pre .0 .0) (a .work .now) (a .m) (a .v) true) = direct-fit (s .pre .0 .0) (s .pre .0 .1 .built .matchable) (a .work .now) (a .m) 1073741823 (s .pre .1 .early) (s .pre .1 .cuts) (s .pre .1 .late) (a .v) (s .pre .2) true in
     omega (arith, ap (λ (p : Phase). p .arrival) (d .direct .ensures (s .pre .0 .0) (s .pre .0 .1 .built) .1), f .soon)
 
-sooner-requires : tie.Need-sooner-requires
-sooner-requires c κs = search needs
-
 invert-requires-2 : tie.Need-invert-requires-2
 invert-requires-2 c κs =
     let d = c .before .before .before .before in
@@ -40,9 +37,6 @@ invert-requires-2 c κs =
     let a = s .args in
     let f : Fitting (1073741823 + 131071) (directAt (s .pre .0 .0) (a .work .now) (a .m) (a .v) false) = direct-fit (s .pre .0 .0) (s .pre .0 .1 .built .matchable) (a .work .now) (a .m) 1073741823 (s .pre .1 .early) (s .pre .1 .cuts) (s .pre .1 .late) (a .v) (s .pre .2) false in
     omega (arith, ap (λ (p : Phase). p .arrival) (d .direct .ensures (s .pre .0 .0) (s .pre .0 .1 .built) .0), f .soon)
-
-sooner-requires-2 : tie.Need-sooner-requires-2
-sooner-requires-2 c κs = search needs
 
 set-positive-requires : tie.Need-set-positive-requires
 set-positive-requires c κs =
@@ -77,9 +71,6 @@ set-negative-requires c κs =
     (i2 .invert2 .result) (t2 .sooner2 .result) (s .pre .0 .1 .inverter) (d .direct .ensures (s .pre .0 .0) (s .pre .0 .1 .built) .1) (d .direct .ensures (s .pre .0 .0) (s .pre .0 .1 .built) .0) (i2 .invert2 .ensures) (t2 .sooner2 .ensures) in
     (r, s .pre .2, subst PhaseFits (sym two) (turn-fit (s .pre .0 .0) (s .pre .0 .1 .built .matchable) (a .work .now) (a .m) 1073741823 (s .pre .1 .cuts) (s .pre .1 .late) (s .pre .1 .early) (a .v) (s .pre .2) true .fit))
 
-same-length : tie.Need-same-length
-same-length c = search needs
-
 returns : tie.Need-returns
 unfolding chosenTurn putPhases joined
 returns c =
@@ -108,12 +99,5 @@ pub choose-variable-spec : {M : Type 1} → statement M
 choose-variable-spec =
     tie.close
     (tie.spec
-    direct-requires
-    invert-requires
-    sooner-requires
-    invert-requires-2
-    sooner-requires-2
-    set-positive-requires
-    set-negative-requires
-    same-length
-    returns)
+    direct-requires invert-requires (λ c κs. search needs) invert-requires-2 (λ c κs. search needs) set-positive-requires set-negative-requires
+    (λ c. search needs) returns)

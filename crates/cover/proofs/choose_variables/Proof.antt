@@ -49,12 +49,6 @@ choose-variable-requires c κs =
           (after-slot (s .pre .0 .0) (s .pre .0 .1 .built .matchable) (a .work .now) (a .m) (a .n) (s .pre .1) (l .loop .i) (c .before .before .before .loop-test .taken) (u .kept)),
     )
 
-add-i : tie.Need-add-i Inv-loop μ-loop
-add-i c = omega arith
-
-loop-less : tie.Need-loop-less Inv-loop μ-loop
-loop-less c = omega arith
-
 loop-again : tie.Need-loop-again Inv-loop μ-loop
 loop-again c =
     let s = c .before .before .before .before .before .before .before .before .before .before in
@@ -87,13 +81,4 @@ pub choose-variables-spec : {M : Type 1} → statement M
 choose-variables-spec =
     tie.close
     (tie.spec
-    Inv-loop
-    μ-loop
-    loop-holds
-    slot-requires
-    choose-variable-requires
-    add-i
-    loop-less
-    loop-again
-    same-length
-    returns)
+    Inv-loop μ-loop loop-holds slot-requires choose-variable-requires (λ c. omega arith) (λ c. omega arith) loop-again same-length returns)

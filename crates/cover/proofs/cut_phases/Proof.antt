@@ -67,9 +67,6 @@ returns-2 c =
           ∙ at-cut cells w (a .m) (a .v) true (a .k) e),
     )
 
-match-cut-requires : tie.Need-match-cut-requires
-match-cut-requires c κs = search needs
-
 returns-3 : tie.Need-returns-3
 returns-3 c =
     let read = c .before .before .before in
@@ -90,10 +87,4 @@ pub cut-phases-spec : {M : Type 1} → statement M
 cut-phases-spec =
     tie.close
     (tie.spec
-    alone-requires
-    returns
-    table-requires
-    is-matched-requires
-    returns-2
-    match-cut-requires
-    returns-3)
+    alone-requires returns table-requires is-matched-requires returns-2 (λ c κs. search needs) returns-3)

@@ -31,17 +31,8 @@ module _ (cells : List Cell) (w : List ℕ) (m v : ℕ) (neg : Bool) where
   unfolding directAt nodeAt directOf
   of-undefined a b c = rw (ne-eqb (kindAt w m v) constantKind a, ne-eqb (kindAt w m v) inputKind b, ne-eqb (kindAt w m v) andKind c)
 
-kind-requires : tie.Need-kind-requires
-kind-requires c κs = search needs
-
-best-phases-requires : tie.Need-best-phases-requires
-best-phases-requires c κs = search needs
-
 own-requires : tie.Need-own-requires
 own-requires c κs = let s = c .before .before .before .before in (s .pre .1 .cuts .room, s .pre .2)
-
-neither-requires : tie.Need-neither-requires
-neither-requires c κs = search needs
 
 returns : tie.Need-returns
 returns c =
@@ -77,10 +68,4 @@ pub direct-spec : {M : Type 1} → statement M
 direct-spec =
     tie.close
     (tie.spec
-    kind-requires
-    best-phases-requires
-    own-requires
-    neither-requires
-    returns
-    returns-2
-    returns-3)
+    (λ c κs. search needs) (λ c κs. search needs) own-requires (λ c κs. search needs) returns returns-2 returns-3)

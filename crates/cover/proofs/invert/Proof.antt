@@ -6,17 +6,8 @@ use borrow.Author.Needs.{needs}
 use Rattle.cover.proofs.invert.Statement.{statement}
 use Rattle.cover.proofs.invert.Tie as tie
 
-enum-known-inv : tie.Need-enum-known-inv
-enum-known-inv c = search needs
-
-inverter-phase-requires : tie.Need-inverter-phase-requires
-inverter-phase-requires c κs = search needs
-
 enum-told : tie.Need-enum-told
 enum-told c = search needs
-
-nothing-requires : tie.Need-nothing-requires
-nothing-requires c κs = search needs
 
 returns : tie.Need-returns
 returns c = let a = c .before .before .before .before .args in c .inverter-phase .ensures ∙ sym (ap (λ (i : Inverter). inverted i (a .from)) (c .before .before .inv .given .1))
@@ -28,4 +19,5 @@ returns-2 c = let a = c .before .before .before .args in c .nothing .ensures ∙
 pub invert-spec : {M : Type 1} → statement M
 invert-spec =
     tie.close
-    (tie.spec enum-known-inv inverter-phase-requires enum-told nothing-requires returns returns-2)
+    (tie.spec
+    (λ c. search needs) (λ c κs. search needs) enum-told (λ c κs. search needs) returns returns-2)

@@ -9,21 +9,12 @@ use borrow.Author.Needs.{needs}
 use Rattle.cover.proofs.inverter_phase.Statement.{statement}
 use Rattle.cover.proofs.inverter_phase.Tie as tie
 
-is-absent-requires : tie.Need-is-absent-requires
-is-absent-requires c κs = search needs
-
-nothing-requires : tie.Need-nothing-requires
-nothing-requires c κs = search needs
-
 returns : tie.Need-returns
 unfolding inverted
 returns c =
     let a = c .before .before .before .args in
     c .nothing .ensures
     ∙ sym (ap (λ (b : Bool). cond b noPhase (record { source = Inverted (a .line); arrival = a .from .arrival + a .d })) (sym (c .before .before .is-absent .ensures) ∙ c .before .if1 .taken))
-
-add-t7 : tie.Need-add-t7
-add-t7 c = search needs
 
 returns-2 : tie.Need-returns-2
 unfolding inverted
@@ -33,4 +24,6 @@ returns-2 c =
 
 pub inverter-phase-spec : {M : Type 1} → statement M
 inverter-phase-spec =
-    tie.close (tie.spec is-absent-requires nothing-requires returns add-t7 returns-2)
+    tie.close
+    (tie.spec
+    (λ c κs. search needs) (λ c κs. search needs) returns (λ c. search needs) returns-2)

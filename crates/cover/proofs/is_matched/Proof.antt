@@ -7,15 +7,6 @@ use borrow.Author.Needs.{needs}
 use Rattle.cover.proofs.is_matched.Statement.{statement}
 use Rattle.cover.proofs.is_matched.Tie as tie
 
-is-listed-requires : tie.Need-is-listed-requires
-is-listed-requires c κs = search needs
-
-in-phase-requires : tie.Need-in-phase-requires
-in-phase-requires c κs = search needs
-
-is-listed-requires-2 : tie.Need-is-listed-requires-2
-is-listed-requires-2 c κs = search needs
-
 returns : tie.Need-returns
 returns c = λ e. absurd (true≢false e)
 
@@ -27,4 +18,6 @@ returns-2 c =
     λ e. (sym (tested .is-listed .ensures) ∙ turned .before .if1 .left, ap (λ (x : ℕ). isListed (a .sheet .now) x) (sym (turned .in-phase .ensures)) ∙ sym (c .is-listed2 .ensures) ∙ e)
 
 pub is-matched-spec : {M : Type 1} → statement M
-is-matched-spec = tie.close (tie.spec is-listed-requires in-phase-requires is-listed-requires-2 returns returns-2)
+is-matched-spec = tie.close
+    (tie.spec
+    (λ c κs. search needs) (λ c κs. search needs) (λ c κs. search needs) returns returns-2)

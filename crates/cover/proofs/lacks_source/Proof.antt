@@ -9,9 +9,6 @@ use borrow.Author.Needs.{needs}
 use Rattle.cover.proofs.lacks_source.Statement.{statement}
 use Rattle.cover.proofs.lacks_source.Tie as tie
 
-output-requires : tie.Need-output-requires
-output-requires c κs = search needs
-
 phase-requires : tie.Need-phase-requires
 phase-requires c κs =
     let a = c .before .before .args in
@@ -20,9 +17,6 @@ phase-requires c κs =
       subst (λ (l : ℕ). l / 2 ≤ a .m) (sym (c .output .ensures)) (p .0 .within (a .k) (p .1)),
     )
 
-is-absent-requires : tie.Need-is-absent-requires
-is-absent-requires c κs = search needs
-
 returns : tie.Need-returns
 returns c =
     let a = c .before .before .before .before .args in
@@ -30,4 +24,6 @@ returns c =
     ∙ ap (λ (x : Phase). absent (x .source)) (c .before .phase .ensures ∙ ap (phaseAt (a .work .now) (a .m)) (c .before .before .output .ensures))
 
 pub lacks-source-spec : {M : Type 1} → statement M
-lacks-source-spec = tie.close (tie.spec output-requires phase-requires is-absent-requires returns)
+lacks-source-spec = tie.close
+    (tie.spec
+    (λ c κs. search needs) phase-requires (λ c κs. search needs) returns)

@@ -12,24 +12,6 @@ use borrow.Author.Needs.{needs}
 use Rattle.cover.proofs.leaf_time.Statement.{statement}
 use Rattle.cover.proofs.leaf_time.Tie as tie
 
-size-requires : tie.Need-size-requires
-size-requires c κs = search needs
-
-mul-wide : tie.Need-mul-wide
-mul-wide c = search needs
-
-array-read-wide : tie.Need-array-read-wide
-array-read-wide c = search needs
-
-wide-requires : tie.Need-wide-requires
-wide-requires c κs = search needs
-
-mul-phase : tie.Need-mul-phase
-mul-phase c = search needs
-
-add-phase : tie.Need-add-phase
-add-phase c = search needs
-
 phase-requires : tie.Need-phase-requires
 phase-requires c κs =
     let s = c .before .before .before .before .before in
@@ -38,9 +20,6 @@ phase-requires c κs =
     let l : getD (leavesOf (a .cut)) (a .i) 0 ≡ getD (a .cut .leaves) (a .i) 0 =
     getD-take (a .cut .count) (a .cut .leaves) (a .i) 0 (omega (arith, length-take (a .cut .count) (a .cut .leaves))) in
     (s .pre .0 .room, omega (arith, c .wide .ensures .0, l, s .pre .0 .within (a .i) h, s .pre .2))
-
-time-requires : tie.Need-time-requires
-time-requires c κs = search needs
 
 returns : tie.Need-returns
 returns c =
@@ -61,13 +40,5 @@ pub leaf-time-spec : {M : Type 1} → statement M
 leaf-time-spec =
     tie.close
     (tie.spec
-    size-requires
-    mul-wide
-    array-read-wide
-    wide-requires
-    mul-phase
-    add-phase
-    phase-requires
-    time-requires
-    returns
-    returns-2)
+    (λ c κs. search needs) (λ c. search needs) (λ c. search needs) (λ c κs. search needs) (λ c. search needs) (λ c. search needs) phase-requires
+    (λ c κs. search needs) returns returns-2)

@@ -14,15 +14,6 @@ use borrow.Author.Needs.{needs}
 use Rattle.cover.proofs.mark.Statement.{statement}
 use Rattle.cover.proofs.mark.Tie as tie
 
-pin-counts-requires : tie.Need-pin-counts-requires
-pin-counts-requires c κs = search needs
-
-mark-outputs-requires : tie.Need-mark-outputs-requires
-mark-outputs-requires c κs = search needs
-
-placed-requires : tie.Need-placed-requires
-placed-requires c κs = search needs
-
 -- what marking the outputs leaves
 after : (c : tie.After-mark-outputs) →
     let s = c .before .before .before .before .before in
@@ -46,9 +37,6 @@ mark-variables-requires c κs =
       subst (SlotsIn (o .mark-outputs .last .0) (a .h .size)) (sym (c .placed .ensures)) (after o .1),
     )
 
-same-length : tie.Need-same-length
-same-length c = search needs
-
 returns : tie.Need-returns
 unfolding marked
 returns c =
@@ -64,9 +52,4 @@ pub mark-spec : {M : Type 1} → statement M
 mark-spec =
     tie.close
     (tie.spec
-    pin-counts-requires
-    mark-outputs-requires
-    placed-requires
-    mark-variables-requires
-    same-length
-    returns)
+    (λ c κs. search needs) (λ c κs. search needs) (λ c κs. search needs) mark-variables-requires (λ c. search needs) returns)

@@ -12,12 +12,6 @@ use borrow.Author.Needs.{needs}
 use Rattle.cover.proofs.mark_feeds.Statement.{statement}
 use Rattle.cover.proofs.mark_feeds.Tie as tie
 
-phase-requires : tie.Need-phase-requires
-phase-requires c κs = search needs
-
-enum-known-s : tie.Need-enum-known-s
-enum-known-s c = search needs
-
 mark-match-requires : tie.Need-mark-match-requires
 mark-match-requires c κs =
     let s = c .before .before .before .before .before .before .before in
@@ -30,23 +24,11 @@ mark-match-requires c κs =
 enum-told : tie.Need-enum-told
 enum-told c = search needs
 
-opposite-requires : tie.Need-opposite-requires
-opposite-requires c κs = search needs
-
 mark-needed-requires : tie.Need-mark-needed-requires
 unfolding varOf
 mark-needed-requires c κs =
     let s = c .before .before .before .before .before .before .before in
     (s .pre .0 .1 .cuts .room, omega (arith, ap (λ (y : ℕ). y / 2) (c .opposite .ensures .0), opposite-var (s .args .l), s .pre .1))
-
-enum-told-2 : tie.Need-enum-told-2
-enum-told-2 c = search needs
-
-enum-told-3 : tie.Need-enum-told-3
-enum-told-3 c = search needs
-
-same-length : tie.Need-same-length
-same-length c = search needs
 
 returns : tie.Need-returns
 returns c cells r pins =
@@ -58,9 +40,6 @@ returns c cells r pins =
     c .before .before .mark-match .ensures cells (r .usable) i pins
     ∙ ap (putAll (a .work .now) (a .m)) (sym (feeds-matched cells (a .work .now) (a .m) (a .l) x i e))
 
-same-length-2 : tie.Need-same-length-2
-same-length-2 c = search needs
-
 returns-2 : tie.Need-returns-2
 unfolding putAll
 returns-2 c cells r pins =
@@ -71,18 +50,12 @@ returns-2 c cells r pins =
     ∙ ap (putNeeded (a .work .now) (a .m)) (c .before .before .before .opposite .ensures .0)
     ∙ ap (putAll (a .work .now) (a .m)) (sym (feeds-inverted cells (a .work .now) (a .m) (a .l) x e))
 
-same-length-3 : tie.Need-same-length-3
-same-length-3 c = search needs
-
 returns-3 : tie.Need-returns-3
 unfolding putAll
 returns-3 c cells r pins =
     let a = c .before .before .before .before .before .args in
     let e = ap (λ (p : Phase). p .source) (sym (c .before .before .phase .ensures)) ∙ c .enum-told2 .given .1 in
     ap (putAll (a .work .now) (a .m)) (sym (feeds-input cells (a .work .now) (a .m) (a .l) e))
-
-same-length-4 : tie.Need-same-length-4
-same-length-4 c = search needs
 
 returns-4 : tie.Need-returns-4
 unfolding putAll
@@ -95,19 +68,5 @@ pub mark-feeds-spec : {M : Type 1} → statement M
 mark-feeds-spec =
     tie.close
     (tie.spec
-    phase-requires
-    enum-known-s
-    mark-match-requires
-    enum-told
-    opposite-requires
-    mark-needed-requires
-    enum-told-2
-    enum-told-3
-    same-length
-    returns
-    same-length-2
-    returns-2
-    same-length-3
-    returns-3
-    same-length-4
-    returns-4)
+    (λ c κs. search needs) (λ c. search needs) mark-match-requires enum-told (λ c κs. search needs) mark-needed-requires (λ c. search needs)
+    (λ c. search needs) (λ c. search needs) returns (λ c. search needs) returns-2 (λ c. search needs) returns-3 (λ c. search needs) returns-4)

@@ -18,15 +18,6 @@ load-cut-requires c κs =
     let s = c .before .before in
     (s .pre .1 .room, s .pre .2, omega (arith, s .pre .0 .2 .cut, s .pre .1 .few (s .args .v) (s .pre .2)))
 
-mul-count : tie.Need-mul-count
-mul-count c = search needs
-
-element-copy-out-count : tie.Need-element-copy-out-count
-element-copy-out-count c = search needs
-
-wide-requires : tie.Need-wide-requires
-wide-requires c κs = search needs
-
 mark-pins-requires : tie.Need-mark-pins-requires
 mark-pins-requires c κs =
     let s = c .before .before .before .before .before .before .before in
@@ -40,9 +31,6 @@ mark-pins-requires c κs =
           (subst (λ (y : Cut). PinsIn (y .leaves) (a .m) (a .x .order) (cellAt cells (a .x .cell) .pins)) (sym (cut .ensures))
           (match-pins cells (a .work .now) (a .m) (a .v) (a .x) (s .pre .0 .1) (s .pre .1) (s .pre .2) (s .pre .0 .2))),
     )
-
-same-length : tie.Need-same-length
-same-length c = search needs
 
 returns : tie.Need-returns
 returns c cells ok i pins =
@@ -61,10 +49,4 @@ pub mark-match-spec : {M : Type 1} → statement M
 mark-match-spec =
     tie.close
     (tie.spec
-    load-cut-requires
-    mul-count
-    element-copy-out-count
-    wide-requires
-    mark-pins-requires
-    same-length
-    returns)
+    load-cut-requires (λ c. search needs) (λ c. search needs) (λ c κs. search needs) mark-pins-requires (λ c. search needs) returns)

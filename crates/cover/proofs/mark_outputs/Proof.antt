@@ -51,12 +51,6 @@ mark-needed-requires c κs =
       subst (λ (x : ℕ). x / 2 ≤ a .m) (sym (c .before .output .ensures)) (i .within (l .loop .k) (c .before .before .before .loop-test .taken)),
     )
 
-add-k : tie.Need-add-k Inv-loop μ-loop
-add-k c = omega arith
-
-loop-less : tie.Need-loop-less Inv-loop μ-loop
-loop-less c = omega arith
-
 loop-again : tie.Need-loop-again Inv-loop μ-loop
 loop-again c =
     let t = c .before .before in
@@ -89,13 +83,4 @@ pub mark-outputs-spec : {M : Type 1} → statement M
 mark-outputs-spec =
     tie.close
     (tie.spec
-    Inv-loop
-    μ-loop
-    loop-holds
-    output-requires
-    mark-needed-requires
-    add-k
-    loop-less
-    loop-again
-    same-length
-    returns)
+    Inv-loop μ-loop loop-holds output-requires mark-needed-requires (λ c. omega arith) (λ c. omega arith) loop-again same-length returns)

@@ -8,15 +8,6 @@ use borrow.Author.Needs.{needs}
 use Rattle.cover.proofs.mark_phase.Statement.{statement}
 use Rattle.cover.proofs.mark_phase.Tie as tie
 
-is-needed-requires : tie.Need-is-needed-requires
-is-needed-requires c κs = search needs
-
-mark-feeds-requires : tie.Need-mark-feeds-requires
-mark-feeds-requires c κs = search needs
-
-same-length : tie.Need-same-length
-same-length c = search needs
-
 returns : tie.Need-returns
 unfolding fedOnce
 returns c cells r pins =
@@ -25,9 +16,6 @@ returns c cells r pins =
     let w : List ℕ = a .work .now in
     let e = sym (c .before .before .before .before .before .is-needed .ensures) ∙ c .before .before .before .before .if1 .taken in
     c .before .before .mark-feeds .ensures cells r pins ∙ sym (ap (λ (b : Bool). cond b (putAll w (a .m) (feedsAt cells w (a .m) (a .l))) w) e)
-
-same-length-2 : tie.Need-same-length-2
-same-length-2 c = search needs
 
 returns-2 : tie.Need-returns-2
 unfolding fedOnce
@@ -40,4 +28,5 @@ returns-2 c cells r pins =
 pub mark-phase-spec : {M : Type 1} → statement M
 mark-phase-spec =
     tie.close
-    (tie.spec is-needed-requires mark-feeds-requires same-length returns same-length-2 returns-2)
+    (tie.spec
+    (λ c κs. search needs) (λ c κs. search needs) (λ c. search needs) returns (λ c. search needs) returns-2)

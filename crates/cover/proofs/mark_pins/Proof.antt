@@ -69,12 +69,6 @@ mark-needed-requires c κs =
           (net-var (a .leaves) (a .order) (a .mask) (l .loop .j) (a .m) (s .pre .1 .within (l .loop .j) (c .before .before .loop-test .taken))),
     )
 
-add-j : tie.Need-add-j Inv-loop μ-loop
-add-j c = omega arith
-
-loop-less : tie.Need-loop-less Inv-loop μ-loop
-loop-less c = omega arith
-
 loop-again : tie.Need-loop-again Inv-loop μ-loop
 loop-again c =
     let t = c .before .before in
@@ -110,13 +104,4 @@ pub mark-pins-spec : {M : Type 1} → statement M
 mark-pins-spec =
     tie.close
     (tie.spec
-    Inv-loop
-    μ-loop
-    loop-holds
-    pin-net-requires
-    mark-needed-requires
-    add-j
-    loop-less
-    loop-again
-    same-length
-    returns)
+    Inv-loop μ-loop loop-holds pin-net-requires mark-needed-requires (λ c. omega arith) (λ c. omega arith) loop-again same-length returns)

@@ -12,24 +12,6 @@ use borrow.Author.Needs.{needs}
 use Rattle.cover.proofs.mark_variable.Statement.{statement}
 use Rattle.cover.proofs.mark_variable.Tie as tie
 
-positive-requires : tie.Need-positive-requires
-positive-requires c κs = search needs
-
-is-inverted-requires : tie.Need-is-inverted-requires
-is-inverted-requires c κs = search needs
-
-mul-mark-phase : tie.Need-mul-mark-phase
-mul-mark-phase c = search needs
-
-mark-phase-requires : tie.Need-mark-phase-requires
-mark-phase-requires c κs = search needs
-
-mul-mark-phase-2 : tie.Need-mul-mark-phase-2
-mul-mark-phase-2 c = search needs
-
-add-mark-phase : tie.Need-add-mark-phase
-add-mark-phase c = search needs
-
 mark-phase-requires-2 : tie.Need-mark-phase-requires-2
 mark-phase-requires-2 c κs =
     let s = c .before .before .before .before .before .before .before .before .before .before in
@@ -41,18 +23,6 @@ mark-phase-requires-2 c κs =
     let i : MatchesIn cells w′ (a .m) = needs-matches (a .m) cells w w′ (once-kept (a .m) cells w (2 * a .v) r (omega arith)) r in
     ((cells, subst (λ (x : List ℕ). MatchesIn cells x (a .m)) (sym (c .before .before .before .mark-phase .ensures cells r (s .pre .0 .2))) i, s .pre .0 .2), omega arith)
 
-mul-mark-phase-3 : tie.Need-mul-mark-phase-3
-mul-mark-phase-3 c = search needs
-
-add-mark-phase-2 : tie.Need-add-mark-phase-2
-add-mark-phase-2 c = search needs
-
-mark-phase-requires-3 : tie.Need-mark-phase-requires-3
-mark-phase-requires-3 c κs = search needs
-
-mul-mark-phase-4 : tie.Need-mul-mark-phase-4
-mul-mark-phase-4 c = search needs
-
 mark-phase-requires-4 : tie.Need-mark-phase-requires-4
 mark-phase-requires-4 c κs =
     let s = c .before .before .before .before .before .before .before .before .before .before in
@@ -63,9 +33,6 @@ mark-phase-requires-4 c κs =
     let w′ : List ℕ = fedOnce cells w (a .m) (2 * a .v + 1) in
     let i : MatchesIn cells w′ (a .m) = needs-matches (a .m) cells w w′ (once-kept (a .m) cells w (2 * a .v + 1) r (omega arith)) r in
     ((cells, subst (λ (x : List ℕ). MatchesIn cells x (a .m)) (sym (c .before .before .before .mark-phase3 .ensures cells r (s .pre .0 .2))) i, s .pre .0 .2), omega arith)
-
-same-length : tie.Need-same-length
-same-length c = search needs
 
 returns : tie.Need-returns
 returns c cells r pins =
@@ -79,9 +46,6 @@ returns c cells r pins =
     c .before .before .mark-phase2 .ensures cells (subst (λ (x : List ℕ). MatchesIn cells x (a .m)) (sym e) i) pins
     ∙ ap (λ (x : List ℕ). fedOnce cells x (a .m) (2 * a .v + 1)) e
     ∙ sym (turn-inverted cells w (a .m) (a .v) (ap (λ (p : Phase). isInverted (p .source)) (sym (c .before .before .before .before .before .before .before .before .before .before .positive .ensures)) ∙ sym (c .before .before .before .before .before .before .before .before .before .is-inverted .ensures) ∙ c .before .before .before .before .before .before .before .before .if1 .taken))
-
-same-length-2 : tie.Need-same-length-2
-same-length-2 c = search needs
 
 returns-2 : tie.Need-returns-2
 returns-2 c cells r pins =
@@ -100,19 +64,6 @@ pub mark-variable-spec : {M : Type 1} → statement M
 mark-variable-spec =
     tie.close
     (tie.spec
-    positive-requires
-    is-inverted-requires
-    mul-mark-phase
-    mark-phase-requires
-    mul-mark-phase-2
-    add-mark-phase
-    mark-phase-requires-2
-    mul-mark-phase-3
-    add-mark-phase-2
-    mark-phase-requires-3
-    mul-mark-phase-4
-    mark-phase-requires-4
-    same-length
-    returns
-    same-length-2
-    returns-2)
+    (λ c κs. search needs) (λ c κs. search needs) (λ c. search needs) (λ c κs. search needs) (λ c. search needs) (λ c. search needs)
+    mark-phase-requires-2 (λ c. search needs) (λ c. search needs) (λ c κs. search needs) (λ c. search needs) mark-phase-requires-4
+    (λ c. search needs) returns (λ c. search needs) returns-2)

@@ -33,9 +33,6 @@ abbrev μ-loop : tie.MeasureT-loop
 loop-holds : tie.Need-loop-holds Inv-loop μ-loop
 loop-holds c = (omega arith, c .before .pre .1, refl, λ cells r p. (r, refl))
 
-sub-i : tie.Need-sub-i Inv-loop μ-loop
-sub-i c = omega arith
-
 slot-requires : tie.Need-slot-requires Inv-loop μ-loop
 slot-requires c κs =
     let l = c .before .before in
@@ -51,9 +48,6 @@ mark-variable-requires c κs =
       (s .pre .0 .0, l .loop .inv .3 (s .pre .0 .0) (s .pre .0 .1) (s .pre .0 .2) .0, s .pre .0 .2),
       subst (λ (x : ℕ). x ≤ a .m) (sym (c .before .slot .ensures)) (l .loop .inv .1 .within (l .loop .i - 1) (omega arith)),
     )
-
-loop-less : tie.Need-loop-less Inv-loop μ-loop
-loop-less c = omega arith
 
 loop-again : tie.Need-loop-again Inv-loop μ-loop
 loop-again c =
@@ -97,13 +91,4 @@ pub mark-variables-spec : {M : Type 1} → statement M
 mark-variables-spec =
     tie.close
     (tie.spec
-    Inv-loop
-    μ-loop
-    loop-holds
-    sub-i
-    slot-requires
-    mark-variable-requires
-    loop-less
-    loop-again
-    same-length
-    returns)
+    Inv-loop μ-loop loop-holds (λ c. omega arith) slot-requires mark-variable-requires (λ c. omega arith) loop-again same-length returns)

@@ -54,9 +54,6 @@ times-requires c κs =
 match-phase-requires : tie.Need-match-phase-requires
 match-phase-requires c κs = (c .before .before .before .before .before .pre .0, timely (c .before))
 
-in-phase-requires : tie.Need-in-phase-requires
-in-phase-requires c κs = search needs
-
 match-phase-requires-2 : tie.Need-match-phase-requires-2
 match-phase-requires-2 c κs = (c .before .before .before .before .before .before .before .before .pre .0, timely (c .before .before .before .before))
 
@@ -84,9 +81,4 @@ pub match-cut-spec : {M : Type 1} → statement M
 match-cut-spec =
     tie.close
     (tie.spec
-    load-cut-requires
-    times-requires
-    match-phase-requires
-    in-phase-requires
-    match-phase-requires-2
-    returns)
+    load-cut-requires times-requires match-phase-requires (λ c κs. search needs) match-phase-requires-2 returns)

@@ -1,22 +1,11 @@
 -- `cover::match_library` meets its contract: the pairs matched and then the listed cells are all cells matched. Assumes nothing.
 use mathlib.Core.Path.{ap, _∙_}
-use mathlib.Core.List.{List}
-use Prim.Native.Nat.{ℕ}
 use Rattle.model.specs.Cells.{cellsOf}
 use Rattle.matching.specs.Sheet.{listMatched}
 use Rattle.matching.proofs.Pairing.{pairs-first}
 use borrow.Author.Needs.{needs}
 use Rattle.cover.proofs.match_library.Statement.{statement}
 use Rattle.cover.proofs.match_library.Tie as tie
-
-build-pairs-requires : tie.Need-build-pairs-requires
-build-pairs-requires c κs = search needs
-
-match-listed-requires : tie.Need-match-listed-requires
-match-listed-requires c κs = search needs
-
-same-length : tie.Need-same-length
-same-length c = search needs
 
 returns : tie.Need-returns
 returns c =
@@ -30,4 +19,6 @@ returns c =
 
 pub match-library-spec : {M : Type 1} → statement M
 match-library-spec =
-    tie.close (tie.spec build-pairs-requires match-listed-requires same-length returns)
+    tie.close
+    (tie.spec
+    (λ c κs. search needs) (λ c κs. search needs) (λ c. search needs) returns)

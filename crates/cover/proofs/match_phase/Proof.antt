@@ -1,6 +1,5 @@
 -- `cover::match_phase` meets its contract: by whether a match is earlier than the bound. Assumes nothing.
-use mathlib.Core.Path.{_≡_, sym, ap, _∙_}
-use Prim.Native.Nat.{ℕ, _<_, _≤_}
+use mathlib.Core.Path.{_≡_, ap, _∙_}
 use native.Mathlib.Omega.{arith}
 use Rattle.matching.specs.declared.Best.{Best}
 use Rattle.matching.specs.Best.{bestUnder, boundOf, phaseAs}
@@ -8,15 +7,6 @@ use Rattle.matching.proofs.Matching.{under-first, under-rest}
 use borrow.Author.Needs.{needs}
 use Rattle.cover.proofs.match_phase.Statement.{statement}
 use Rattle.cover.proofs.match_phase.Tie as tie
-
-bound-of-requires : tie.Need-bound-of-requires
-bound-of-requires c κs = search needs
-
-best-match-requires : tie.Need-best-match-requires
-best-match-requires c κs = search needs
-
-phase-as-requires : tie.Need-phase-as-requires
-phase-as-requires c κs = search needs
 
 returns : tie.Need-returns
 returns c =
@@ -38,4 +28,6 @@ returns-2 c =
     under-rest (a .rest) cells (a .t .now) (a .k) (a .f) (omega (arith, c .if1 .left, ap (λ (z : Best). z .arrival) e, n .ensures))
 
 pub match-phase-spec : {M : Type 1} → statement M
-match-phase-spec = tie.close (tie.spec bound-of-requires best-match-requires phase-as-requires returns returns-2)
+match-phase-spec = tie.close
+    (tie.spec
+    (λ c κs. search needs) (λ c κs. search needs) (λ c κs. search needs) returns returns-2)

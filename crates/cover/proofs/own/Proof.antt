@@ -7,15 +7,11 @@ use borrow.Author.Needs.{needs}
 use Rattle.cover.proofs.own.Statement.{statement}
 use Rattle.cover.proofs.own.Tie as tie
 
-late-requires : tie.Need-late-requires
-late-requires c κs = search needs
-
-nothing-requires : tie.Need-nothing-requires
-nothing-requires c κs = search needs
-
 returns : tie.Need-returns
 unfolding ownPhase
 returns c = (ap (λ (t : ℕ). record { source = Input; arrival = t }) (c .before .late .ensures), c .nothing .ensures)
 
 pub own-spec : {M : Type 1} → statement M
-own-spec = tie.close (tie.spec late-requires nothing-requires returns)
+own-spec = tie.close
+    (tie.spec
+    (λ c κs. search needs) (λ c κs. search needs) returns)

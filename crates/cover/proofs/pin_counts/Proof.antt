@@ -3,18 +3,16 @@
 use mathlib.Core.Path.{_≡_, refl, sym, ap, _∙_}
 use mathlib.Core.Bool.{Bool, true, false}
 use mathlib.Core.List.{List}
-use Prim.Native.Nat.{ℕ, _+_, _-_, _≤_, _<_}
+use Prim.Native.Nat.{ℕ, _+_, _-_, _<_}
 use native.Mathlib.Omega.{arith}
 use lib.Dec.{eqb}
 use lib.ListN.{length, getD, set, length-set}
 use lib.Seq.{getD-set-same, getD-set-other}
-use borrow.Author.Needs.{needs}
 use borrow.Author.Tests.{eqb-true, eqb-false}
 use Rattle.model.specs.Cells.{cellAt, cellsOf}
 use Rattle.model.specs.declared.Cell.{Cell}
 use Rattle.pairs.specs.Codes.{cellsBy}
 use Rattle.pairs.proofs.Cells.{by-length}
-use Rattle.cover.specs.Asked.{PinsOf}
 use Rattle.cover.proofs.pin_counts.Statement.{statement}
 use Rattle.cover.proofs.pin_counts.Tie as tie
 

@@ -5,14 +5,8 @@ use borrow.Author.Needs.{needs}
 use Rattle.cover.proofs.sooner.Statement.{statement}
 use Rattle.cover.proofs.sooner.Tie as tie
 
-is-absent-requires : tie.Need-is-absent-requires
-is-absent-requires c κs = search needs
-
 returns : tie.Need-returns
 returns c = let a = c .before .before .args in sym (earlier-second (a .a) (a .b) (sym (c .before .is-absent .ensures) ∙ c .if1 .taken))
-
-is-absent-requires-2 : tie.Need-is-absent-requires-2
-is-absent-requires-2 c κs = search needs
 
 returns-2 : tie.Need-returns-2
 returns-2 c =
@@ -32,4 +26,5 @@ returns-4 c =
 pub sooner-spec : {M : Type 1} → statement M
 sooner-spec =
     tie.close
-    (tie.spec is-absent-requires returns is-absent-requires-2 returns-2 returns-3 returns-4)
+    (tie.spec
+    (λ c κs. search needs) returns (λ c κs. search needs) returns-2 returns-3 returns-4)

@@ -5,16 +5,12 @@ use borrow.Author.Needs.{needs}
 use Rattle.cover.proofs.table.Statement.{statement}
 use Rattle.cover.proofs.table.Tie as tie
 
-function-requires : tie.Need-function-requires
-function-requires c κs = search needs
-
 cast-result : tie.Need-cast-result
 cast-result c =
     let a = c .before .before .args in
     omega (arith, c .function .ensures, function-fits (a .work .now) (a .m) (a .v) (a .k) 65536 (λ i. omega (arith, c .before .shared-slice-known .given i)))
 
-returns : tie.Need-returns
-returns c = search needs
-
 pub table-spec : {M : Type 1} → statement M
-table-spec = tie.close (tie.spec function-requires cast-result returns)
+table-spec = tie.close
+    (tie.spec
+    (λ c κs. search needs) cast-result (λ c. search needs))

@@ -6,9 +6,6 @@ use borrow.Author.Needs.{needs}
 use Rattle.cover.proofs.time.Statement.{statement}
 use Rattle.cover.proofs.time.Tie as tie
 
-is-absent-requires : tie.Need-is-absent-requires
-is-absent-requires c κs = search needs
-
 returns : tie.Need-returns
 unfolding timeOf
 returns c = let p = c .before .before .args .p in sym (ap (λ (b : Bool). cond b never (p .arrival)) (sym (c .before .is-absent .ensures) ∙ c .if1 .taken))
@@ -18,4 +15,6 @@ unfolding timeOf
 returns-2 c = let p = c .before .before .args .p in sym (ap (λ (b : Bool). cond b never (p .arrival)) (sym (c .before .is-absent .ensures) ∙ c .if1 .left))
 
 pub time-spec : {M : Type 1} → statement M
-time-spec = tie.close (tie.spec is-absent-requires returns returns-2)
+time-spec = tie.close
+    (tie.spec
+    (λ c κs. search needs) returns returns-2)

@@ -5,30 +5,6 @@ use borrow.Author.Needs.{needs}
 use Rattle.cover.proofs.times.Statement.{statement}
 use Rattle.cover.proofs.times.Tie as tie
 
-leaf-time-requires : tie.Need-leaf-time-requires
-leaf-time-requires c κs = search needs
-
-leaf-time-requires-2 : tie.Need-leaf-time-requires-2
-leaf-time-requires-2 c κs = search needs
-
-leaf-time-requires-3 : tie.Need-leaf-time-requires-3
-leaf-time-requires-3 c κs = search needs
-
-leaf-time-requires-4 : tie.Need-leaf-time-requires-4
-leaf-time-requires-4 c κs = search needs
-
-leaf-time-requires-5 : tie.Need-leaf-time-requires-5
-leaf-time-requires-5 c κs = search needs
-
-leaf-time-requires-6 : tie.Need-leaf-time-requires-6
-leaf-time-requires-6 c κs = search needs
-
-leaf-time-requires-7 : tie.Need-leaf-time-requires-7
-leaf-time-requires-7 c κs = search needs
-
-leaf-time-requires-8 : tie.Need-leaf-time-requires-8
-leaf-time-requires-8 c κs = search needs
-
 returns : tie.Need-returns
 unfolding timesAt
 returns c =
@@ -41,12 +17,5 @@ pub times-spec : {M : Type 1} → statement M
 times-spec =
     tie.close
     (tie.spec
-    leaf-time-requires
-    leaf-time-requires-2
-    leaf-time-requires-3
-    leaf-time-requires-4
-    leaf-time-requires-5
-    leaf-time-requires-6
-    leaf-time-requires-7
-    leaf-time-requires-8
-    returns)
+    (λ c κs. search needs) (λ c κs. search needs) (λ c κs. search needs) (λ c κs. search needs) (λ c κs. search needs) (λ c κs. search needs)
+    (λ c κs. search needs) (λ c κs. search needs) returns)

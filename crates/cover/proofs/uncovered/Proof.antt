@@ -51,12 +51,6 @@ returns c =
     sym (sym (c .before .before .before .loop .inv .1) ∙ ap (missingFrom (a .work .now) (a .h .size) k) e
     ∙ found (a .work .now) (a .h .size) k (n - suc k) (sym (c .before .lacks-source .ensures) ∙ c .if1 .taken))
 
-add-k : tie.Need-add-k Inv-loop μ-loop
-add-k c = omega arith
-
-loop-less : tie.Need-loop-less Inv-loop μ-loop
-loop-less c = omega arith
-
 loop-again : tie.Need-loop-again Inv-loop μ-loop
 loop-again c =
     let a = c .before .before .before .before .before .args in
@@ -84,12 +78,4 @@ pub uncovered-spec : {M : Type 1} → statement M
 uncovered-spec =
     tie.close
     (tie.spec
-    Inv-loop
-    μ-loop
-    loop-holds
-    lacks-source-requires
-    returns
-    add-k
-    loop-less
-    loop-again
-    returns-2)
+    Inv-loop μ-loop loop-holds lacks-source-requires returns (λ c. omega arith) (λ c. omega arith) loop-again returns-2)

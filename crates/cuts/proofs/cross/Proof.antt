@@ -29,15 +29,6 @@ Inv-loop work m a b keys₀ ys n₀ i₀ keys n i = (i ≤ countAt work m a) × 
 abbrev μ-loop : tie.MeasureT-loop
 μ-loop work m a b keys₀ ys n₀ i₀ keys n i = i
 
-slice-aggregate-pack-cuts : tie.Need-slice-aggregate-pack-cuts Inv-loop μ-loop
-slice-aggregate-pack-cuts c = search needs
-
-pack-cuts-requires : tie.Need-pack-cuts-requires Inv-loop μ-loop
-pack-cuts-requires c κs = search needs
-
-count-requires : tie.Need-count-requires Inv-loop μ-loop
-count-requires c κs = search needs
-
 loop-holds : tie.Need-loop-holds Inv-loop μ-loop
 loop-holds c =
     let s = c .before .before .before .before .before .before in
@@ -47,9 +38,6 @@ loop-holds c =
 
 sub-i : tie.Need-sub-i Inv-loop μ-loop
 sub-i c = omega (arith, c .loop-test .taken)
-
-load-cut-requires : tie.Need-load-cut-requires Inv-loop μ-loop
-load-cut-requires c κs = search needs
 
 row-requires : tie.Need-row-requires Inv-loop μ-loop
 row-requires c κs =
@@ -106,16 +94,5 @@ pub cross-spec : {M : Type 1} → statement M
 cross-spec =
     tie.close
     (tie.spec
-    Inv-loop
-    μ-loop
-    slice-aggregate-pack-cuts
-    pack-cuts-requires
-    count-requires
-    loop-holds
-    sub-i
-    load-cut-requires
-    row-requires
-    loop-less
-    loop-again
-    same-length
-    returns)
+    Inv-loop μ-loop (λ c. search needs) (λ c κs. search needs) (λ c κs. search needs) loop-holds sub-i (λ c κs. search needs) row-requires loop-less
+    loop-again same-length returns)

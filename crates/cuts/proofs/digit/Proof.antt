@@ -1,19 +1,10 @@
 -- `cuts::digit` meets its contract: by whether there is such a leaf. Assumes nothing.
-use mathlib.Core.Path.{ap, _∙_}
+use mathlib.Core.Path.{ap}
 use Prim.Native.Nat.{ℕ, _-_}
 use native.Mathlib.Omega.{arith}
 use borrow.Author.Needs.{needs}
 use Rattle.cuts.proofs.digit.Statement.{statement}
 use Rattle.cuts.proofs.digit.Tie as tie
-
-mul-wide : tie.Need-mul-wide
-mul-wide c = search needs
-
-array-read-wide : tie.Need-array-read-wide
-array-read-wide c = search needs
-
-wide-requires : tie.Need-wide-requires
-wide-requires c κs = search needs
 
 sub-result : tie.Need-sub-result
 sub-result c = omega (arith, c .wide .ensures, c .before .before .pre .1 (c .before .if1 .taken))
@@ -30,4 +21,6 @@ returns-2 : tie.Need-returns-2
 returns-2 c = record { there = λ h. absurd (omega (arith, h, c .if1 .left)); past = λ h. omega arith; small = omega arith }
 
 pub digit-spec : {M : Type 1} → statement M
-digit-spec = tie.close (tie.spec mul-wide array-read-wide wide-requires sub-result returns returns-2)
+digit-spec = tie.close
+    (tie.spec
+    (λ c. search needs) (λ c. search needs) (λ c κs. search needs) sub-result returns returns-2)

@@ -35,12 +35,6 @@ loop-holds c =
     let s = c .before .before in
     (omega arith, omega (arith, s .pre .fits, c .if1 .left), s .pre .room, s .pre .rising, refl)
 
-mul-y : tie.Need-mul-y Inv-loop μ-loop
-mul-y c = search needs
-
-slice-read-y : tie.Need-slice-read-y Inv-loop μ-loop
-slice-read-y c = search needs
-
 same-length : tie.Need-same-length Inv-loop μ-loop
 same-length c = c .before .before .before .loop .inv .2 ∙ sym (c .before .before .before .before .before .before .pre .room)
 
@@ -55,24 +49,6 @@ returns-2 c =
     let y : getD ks (l .loop .i) 0 ≡ getD (l .loop .keys) (l .loop .i) 0 = getD-take (a .n) (l .loop .keys) (l .loop .i) 0 (c .before .before .loop-test .taken) in
     let same : l .loop .x ≡ getD ks (l .loop .i) 0 = c .if2 .taken ∙ sym y in
     (sym (added-room (s .args .k) (take (a .n) (a .keys .now)) (omega arith) ∙ l .loop .inv .4 ∙ found ks (l .loop .i) (omega arith) (l .loop .inv .3) (l .loop .x) same), s .pre .fits)
-
-low-requires : tie.Need-low-requires Inv-loop μ-loop
-low-requires c κs = search needs
-
-mul-keys : tie.Need-mul-keys Inv-loop μ-loop
-mul-keys c = search needs
-
-slice-write-keys : tie.Need-slice-write-keys Inv-loop μ-loop
-slice-write-keys c = search needs
-
-high-requires : tie.Need-high-requires Inv-loop μ-loop
-high-requires c κs = search needs
-
-add-i : tie.Need-add-i Inv-loop μ-loop
-add-i c = search needs
-
-loop-less : tie.Need-loop-less Inv-loop μ-loop
-loop-less c = search needs
 
 loop-again : tie.Need-loop-again Inv-loop μ-loop
 loop-again c =
@@ -99,15 +75,6 @@ loop-again c =
           ∙ ap (λ (q : List ℕ). take (i + 1) q ++ insert compare (c .high .result) (drop (i + 1) q)) inner,
     )
 
-mul-keys-2 : tie.Need-mul-keys-2 Inv-loop μ-loop
-mul-keys-2 c = search needs
-
-slice-write-keys-2 : tie.Need-slice-write-keys-2 Inv-loop μ-loop
-slice-write-keys-2 c = search needs
-
-add-result : tie.Need-add-result Inv-loop μ-loop
-add-result c = search needs
-
 same-length-2 : tie.Need-same-length-2 Inv-loop μ-loop
 same-length-2 c =
     let l = c .before in
@@ -133,23 +100,6 @@ pub insert-spec : {M : Type 1} → statement M
 insert-spec =
     tie.close
     (tie.spec
-    Inv-loop
-    μ-loop
-    returns
-    loop-holds
-    mul-y
-    slice-read-y
-    same-length
-    returns-2
-    low-requires
-    mul-keys
-    slice-write-keys
-    high-requires
-    add-i
-    loop-less
-    loop-again
-    mul-keys-2
-    slice-write-keys-2
-    add-result
-    same-length-2
-    returns-3)
+    Inv-loop μ-loop returns loop-holds (λ c. search needs) (λ c. search needs) same-length returns-2 (λ c κs. search needs) (λ c. search needs)
+    (λ c. search needs) (λ c κs. search needs) (λ c. search needs) (λ c. search needs) loop-again (λ c. search needs) (λ c. search needs)
+    (λ c. search needs) same-length-2 returns-3)

@@ -23,24 +23,12 @@ room k = k .node-keys .kept .1 .1 .1 .0
 counted : (k : tie.After-node-keys) → length (take (k .node-keys .result) (made k)) ≡ k .node-keys .result
 counted k = length-take-le (k .node-keys .result) (made k) (omega (arith, room k, k .node-keys .ensures .1))
 
-slice-aggregate-node-keys : tie.Need-slice-aggregate-node-keys
-slice-aggregate-node-keys c = search needs
-
-node-keys-requires : tie.Need-node-keys-requires
-node-keys-requires c κs = search needs
-
-same-length : tie.Need-same-length
-same-length c = search needs
-
 returns : tie.Need-returns
 unfolding made
 returns c =
     let k = c .before .before in
     let s = c .before .before .before .before .before .before in
     too-many (s .args .work .now) (s .args .m) (s .args .v) (s .pre .0) (s .pre .1) _ (k .node-keys .ensures .0) (omega (arith, counted k, c .if1 .taken))
-
-slice-aggregate-store-keys : tie.Need-slice-aggregate-store-keys
-slice-aggregate-store-keys c = search needs
 
 store-keys-requires : tie.Need-store-keys-requires
 unfolding made
@@ -57,9 +45,6 @@ store-keys-requires c κs =
           rw e at (keys-small (s .args .work .now) (s .args .m) (s .args .v) (s .pre .0) (s .pre .1) (take n (made k)) (k .node-keys .ensures .0) i (omega (arith, counted k))),
     )
 
-same-length-2 : tie.Need-same-length-2
-same-length-2 c = search needs
-
 returns-2 : tie.Need-returns-2
 unfolding made
 returns-2 c =
@@ -72,11 +57,4 @@ pub list-node-spec : {M : Type 1} → statement M
 list-node-spec =
     tie.close
     (tie.spec
-    slice-aggregate-node-keys
-    node-keys-requires
-    same-length
-    returns
-    slice-aggregate-store-keys
-    store-keys-requires
-    same-length-2
-    returns-2)
+    (λ c. search needs) (λ c κs. search needs) (λ c. search needs) returns (λ c. search needs) store-keys-requires (λ c. search needs) returns-2)

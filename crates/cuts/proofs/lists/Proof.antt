@@ -37,9 +37,6 @@ list-node-requires c κs =
       turn-inside _ _ _ (s .pre) (l .loop .i) (k .before .before .loop-test .taken) (l .loop .inv .1) _ (l .loop .inv .2) _ (k .slot .ensures) _ refl,
     )
 
-same-length : tie.Need-same-length Inv-loop μ-loop
-same-length c = search needs
-
 returns : tie.Need-returns Inv-loop μ-loop
 returns c =
     let done = c .before .before .before in
@@ -48,12 +45,6 @@ returns c =
     let s = l .before .before in
     turn-off _ _ _ (s .pre) (l .loop .i) (k .before .before .loop-test .taken) (l .loop .inv .1) _ (l .loop .inv .2) _ (k .slot .ensures) _ (done .list-node .ensures .1)
     (sym (done .list-node .ensures .0) ∙ not-true _ (c .if1 .taken))
-
-add-i : tie.Need-add-i Inv-loop μ-loop
-add-i c = search needs
-
-loop-less : tie.Need-loop-less Inv-loop μ-loop
-loop-less c = search needs
 
 loop-again : tie.Need-loop-again Inv-loop μ-loop
 loop-again c =
@@ -65,9 +56,6 @@ loop-again c =
     turn-on _ _ _ (s .pre) (l .loop .i) (k .before .before .loop-test .taken) (l .loop .inv .1) _ (l .loop .inv .2) _ (k .slot .ensures) _ (done .list-node .ensures .1)
     (sym (done .list-node .ensures .0) ∙ not-false _ (c .if1 .left)) in
     (omega arith, turn .0, turn .1)
-
-same-length-2 : tie.Need-same-length-2 Inv-loop μ-loop
-same-length-2 c = search needs
 
 returns-2 : tie.Need-returns-2 Inv-loop μ-loop
 returns-2 c =
@@ -84,15 +72,5 @@ pub lists-spec : {M : Type 1} → statement M
 lists-spec =
     tie.close
     (tie.spec
-    Inv-loop
-    μ-loop
-    loop-holds
-    slot-requires
-    list-node-requires
-    same-length
-    returns
-    add-i
-    loop-less
-    loop-again
-    same-length-2
-    returns-2)
+    Inv-loop μ-loop loop-holds slot-requires list-node-requires (λ c. search needs) returns (λ c. search needs) (λ c. search needs) loop-again
+    (λ c. search needs) returns-2)

@@ -35,9 +35,6 @@ Inv-loop work m v ys₀ n i₀ ys i = (n ≡ countAt work m v) × (length ys ≡
 abbrev μ-loop : tie.MeasureT-loop
 μ-loop work m v ys₀ n i₀ ys i = n - i
 
-count-requires : tie.Need-count-requires Inv-loop μ-loop
-count-requires c κs = search needs
-
 loop-holds : tie.Need-loop-holds Inv-loop μ-loop
 loop-holds c = (c .count .ensures, c .before .before .before .pre .3, λ j h. absurd (omega arith))
 
@@ -98,16 +95,5 @@ pub pack-cuts-spec : {M : Type 1} → statement M
 pack-cuts-spec =
     tie.close
     (tie.spec
-    Inv-loop
-    μ-loop
-    count-requires
-    loop-holds
-    load-cut-requires
-    packed-requires
-    mul-ys
-    slice-write-ys
-    add-i
-    loop-less
-    loop-again
-    same-length
+    Inv-loop μ-loop (λ c κs. search needs) loop-holds load-cut-requires packed-requires mul-ys slice-write-ys add-i loop-less loop-again same-length
     returns)

@@ -10,7 +10,7 @@ use lib.ListN.{length, take, drop, getD}
 use lib.Seq.{length-take-le}
 use Rattle.model.specs.Base.{union}
 use Rattle.words.specs.Layout.{countAt}
-use Rattle.words.specs.Record.{leavesOf, leavesAt, cutOf, cutsAt}
+use Rattle.words.specs.Record.{leavesOf, leavesAt, cutsAt}
 use Rattle.words.proofs.Stored.{four-leaves}
 use Rattle.cuts.specs.Keys.{added, key, rowKeys, keyRoom}
 use Rattle.cuts.proofs.Inserting.{row-rising}
@@ -113,12 +113,6 @@ wide-pair l wide =
       t .pairs .inv .2,
       λ X p. t .pairs .inv .3 X p ∙ sym (pair-more y X _ ∙ row-wide X _ _ _ (wide X _ (l .loop .inv X p))),
     )
-
-packed-requires : tie.Need-packed-requires Inv-loop μ-loop Inv-pairs μ-pairs
-packed-requires c κs = search needs
-
-count-requires : tie.Need-count-requires Inv-loop μ-loop Inv-pairs μ-pairs
-count-requires c κs = search needs
 
 pairs-holds : tie.Need-pairs-holds Inv-loop μ-loop Inv-pairs μ-pairs
 pairs-holds c =
@@ -263,38 +257,7 @@ pub row-spec : {M : Type 1} → statement M
 row-spec =
     tie.close
     (tie.spec
-    Inv-loop
-    μ-loop
-    Inv-pairs
-    μ-pairs
-    packed-requires
-    count-requires
-    pairs-holds
-    sub-j
-    cut-size-requires
-    sub-left
-    sub-right
-    mul-b
-    element-copy-out-b
-    loop-holds
-    pairs-less
-    pairs-again
-    sub-left-2
-    further-requires
-    loop-less
-    loop-again
-    pairs-less-2
-    pairs-again-2
-    sub-right-2
-    further-requires-2
-    loop-less-2
-    loop-again-2
-    further-requires-3
-    loop-less-3
-    loop-again-3
-    union-key-requires
-    insert-requires
-    pairs-less-3
-    pairs-again-3
-    same-length
-    returns)
+    Inv-loop μ-loop Inv-pairs μ-pairs (λ c κs. search needs) (λ c κs. search needs) pairs-holds sub-j cut-size-requires sub-left sub-right mul-b
+    element-copy-out-b loop-holds pairs-less pairs-again sub-left-2 further-requires loop-less loop-again pairs-less-2 pairs-again-2 sub-right-2
+    further-requires-2 loop-less-2 loop-again-2 further-requires-3 loop-less-3 loop-again-3 union-key-requires insert-requires pairs-less-3
+    pairs-again-3 same-length returns)

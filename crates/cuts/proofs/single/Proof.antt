@@ -13,14 +13,10 @@ first : (ks : List ℕ) (k : ℕ) → 0 < length ks → take 1 (set ks 0 k) ≡ 
 first [] k h = absurd (omega arith)
 first (x ∷ ks) k h = refl
 
-slice-write-keys : tie.Need-slice-write-keys
-slice-write-keys c = search needs
-
-same-length : tie.Need-same-length
-same-length c = search needs
-
 returns : tie.Need-returns
 returns c = (first (c .args .keys .now) (c .args .k) (omega (arith, c .pre)), omega arith)
 
 pub single-spec : {M : Type 1} → statement M
-single-spec = tie.close (tie.spec slice-write-keys same-length returns)
+single-spec = tie.close
+    (tie.spec
+    (λ c. search needs) (λ c. search needs) returns)

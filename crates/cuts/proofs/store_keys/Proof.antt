@@ -21,33 +21,15 @@ Inv-loop work₀ m v keys n i₀ work i = (i ≤ n) × (length work ≡ length w
 abbrev μ-loop : tie.MeasureT-loop
 μ-loop work₀ m v keys n i₀ work i = n - i
 
-set-count-requires : tie.Need-set-count-requires Inv-loop μ-loop
-set-count-requires c κs = search needs
-
 loop-holds : tie.Need-loop-holds Inv-loop μ-loop
 unfolding putCuts
 loop-holds c = (omega arith, refl, refl)
-
-mul-key-words : tie.Need-mul-key-words Inv-loop μ-loop
-mul-key-words c = search needs
-
-shared-slice-read-key-words : tie.Need-shared-slice-read-key-words Inv-loop μ-loop
-shared-slice-read-key-words c = search needs
 
 key-words-requires : tie.Need-key-words-requires Inv-loop μ-loop
 key-words-requires c κs =
     let l = c .before .before in
     let s = l .before .before .before .before .before .before .before in
     s .pre .4 (l .loop .i) (c .before .loop-test .taken)
-
-store-cut-requires : tie.Need-store-cut-requires Inv-loop μ-loop
-store-cut-requires c κs = search needs
-
-add-i : tie.Need-add-i Inv-loop μ-loop
-add-i c = search needs
-
-loop-less : tie.Need-loop-less Inv-loop μ-loop
-loop-less c = search needs
 
 loop-again : tie.Need-loop-again Inv-loop μ-loop
 loop-again c =
@@ -64,9 +46,6 @@ loop-again c =
           ∙ (λ j. putCut (l .loop .inv .2 j) (s .args .m) (s .args .v) i (words j))
           ∙ keys-more counted (s .args .m) (s .args .v) i keys (omega (arith, s .pre .3)),
     )
-
-same-length : tie.Need-same-length Inv-loop μ-loop
-same-length c = search needs
 
 returns : tie.Need-returns Inv-loop μ-loop
 unfolding putKeys
@@ -85,16 +64,5 @@ pub store-keys-spec : {M : Type 1} → statement M
 store-keys-spec =
     tie.close
     (tie.spec
-    Inv-loop
-    μ-loop
-    set-count-requires
-    loop-holds
-    mul-key-words
-    shared-slice-read-key-words
-    key-words-requires
-    store-cut-requires
-    add-i
-    loop-less
-    loop-again
-    same-length
-    returns)
+    Inv-loop μ-loop (λ c κs. search needs) loop-holds (λ c. search needs) (λ c. search needs) key-words-requires (λ c κs. search needs)
+    (λ c. search needs) (λ c. search needs) loop-again (λ c. search needs) returns)

@@ -1,10 +1,6 @@
 -- `cuts::union_key` meets its contract: by how many leaves there are. Assumes nothing.
-use mathlib.Core.Path.{_≡_, sym}
-use mathlib.Core.List.{List}
-use Prim.Native.Nat.{ℕ, _+_, _-_}
+use mathlib.Core.Path.{sym}
 use native.Mathlib.Omega.{arith}
-use lib.ListN.{length}
-use Rattle.cuts.specs.Packs.{number}
 use Rattle.cuts.proofs.Packing.{key-0, key-1, key-2, key-3, key-4}
 use Rattle.cuts.proofs.union_key.Statement.{statement}
 use Rattle.cuts.proofs.union_key.Tie as tie

@@ -33,12 +33,6 @@ functions-requires c κs =
     subst (λ (q : List ℕ). filling.Ready q (a .h .size) n) (sym (done .lists .ensures .1))
     (ready-filling (a .work .now) (a .h .size) n (subst (λ (i : ℕ). Ready (a .work .now) (a .h .size) i) (sym (p .ensures)) (s .pre)))
 
-enum-known-verdict : tie.Need-enum-known-verdict
-enum-known-verdict c = search needs
-
-same-length : tie.Need-same-length
-same-length c = search needs
-
 returns : tie.Need-returns
 returns c =
     let filled = c .before .before in
@@ -55,9 +49,6 @@ returns c =
           ∙ sym (after-accepted (a .work .now) (a .h .size) n (sym e))
           ∙ ap (enumerated (a .work .now) (a .h .size)) (p .ensures),
     )
-
-same-length-2 : tie.Need-same-length-2
-same-length-2 c = search needs
 
 returns-2 : tie.Need-returns-2
 returns-2 c =
@@ -78,12 +69,4 @@ pub enumerate-spec : {M : Type 1} → statement M
 enumerate-spec =
     tie.close
     (tie.spec
-    placed-requires
-    lists-requires
-    enum-told
-    functions-requires
-    enum-known-verdict
-    same-length
-    returns
-    same-length-2
-    returns-2)
+    placed-requires lists-requires enum-told functions-requires (λ c. search needs) (λ c. search needs) returns (λ c. search needs) returns-2)

@@ -26,20 +26,11 @@ module _ (book : List ℕ) (k : ℕ) (nets : List ℕ) (l : ℕ) where
   unfolding driverBy either
   by-pair h = ap either (le-ltb k (countIn book) h)
 
-count-requires : tie.Need-count-requires
-count-requires c κs = search needs
-
 cell-at-requires : tie.Need-cell-at-requires
 cell-at-requires c κs =
     let s = c .before .before .before in
     let h : s .args .k < countIn (s .args .book .now) = omega (arith, c .if1 .taken, c .before .count .ensures) in
     s .pre .0 .listed h .within
-
-cast-one-gate : tie.Need-cast-one-gate
-cast-one-gate c = search needs
-
-one-gate-requires : tie.Need-one-gate-requires
-one-gate-requires c κs = search needs
 
 code-at-requires : tie.Need-code-at-requires
 code-at-requires c κs =
@@ -73,11 +64,4 @@ pub gates-by-spec : {M : Type 1} → statement M
 gates-by-spec =
     tie.close
     (tie.spec
-    count-requires
-    cell-at-requires
-    cast-one-gate
-    one-gate-requires
-    code-at-requires
-    pair-gates-requires
-    returns
-    returns-2)
+    (λ c κs. search needs) cell-at-requires (λ c. search needs) (λ c κs. search needs) code-at-requires pair-gates-requires returns returns-2)

@@ -7,15 +7,6 @@ use borrow.Author.Needs.{needs}
 use Rattle.drivers.proofs.net_at.Statement.{statement}
 use Rattle.drivers.proofs.net_at.Tie as tie
 
-mul-result : tie.Need-mul-result
-mul-result c = search needs
-
-array-read-result : tie.Need-array-read-result
-array-read-result c = search needs
-
-returns : tie.Need-returns
-returns c = search needs
-
 returns-2 : tie.Need-returns-2
 returns-2 c =
     let a = c .before .args in
@@ -23,4 +14,6 @@ returns-2 c =
     sym (List·getD-eq-default (a .t1) 0 {n = a .j} (omega (arith, c .if1 .left)))
 
 pub net-at-spec : {M : Type 1} → statement M
-net-at-spec = tie.close (tie.spec mul-result array-read-result returns returns-2)
+net-at-spec = tie.close
+    (tie.spec
+    (λ c. search needs) (λ c. search needs) (λ c. search needs) returns-2)

@@ -9,12 +9,6 @@ use borrow.Author.Needs.{needs}
 use Rattle.drivers.proofs.pair_gates.Statement.{statement}
 use Rattle.drivers.proofs.pair_gates.Tie as tie
 
-cell-at-requires : tie.Need-cell-at-requires
-cell-at-requires c κs = search needs
-
-cell-at-requires-2 : tie.Need-cell-at-requires-2
-cell-at-requires-2 c κs = search needs
-
 two-gates-requires : tie.Need-two-gates-requires
 two-gates-requires c κs =
     let s = c .before .before .before in
@@ -27,4 +21,6 @@ returns c =
 
 pub pair-gates-spec : {M : Type 1} → statement M
 pair-gates-spec =
-    tie.close (tie.spec cell-at-requires cell-at-requires-2 two-gates-requires returns)
+    tie.close
+    (tie.spec
+    (λ c κs. search needs) (λ c κs. search needs) two-gates-requires returns)

@@ -8,22 +8,10 @@ use borrow.Author.Needs.{needs}
 use Rattle.drivers.proofs.root_net.Statement.{statement}
 use Rattle.drivers.proofs.root_net.Tie as tie
 
-net-at-requires : tie.Need-net-at-requires
-net-at-requires c κs = search needs
-
 returns : tie.Need-returns
 returns c =
     let a = c .before .before .args in
     c .net-at .ensures ∙ sym (root-before (λ (k : ℕ). getD (a .nets) k 0) (a .inside) (a .pin) (a .n) (a .j) (c .before .if1 .taken))
-
-add-net-at : tie.Need-add-net-at
-add-net-at c = search needs
-
-sub-net-at : tie.Need-sub-net-at
-sub-net-at c = search needs
-
-net-at-requires-2 : tie.Need-net-at-requires-2
-net-at-requires-2 c κs = search needs
 
 returns-2 : tie.Need-returns-2
 returns-2 c =
@@ -38,4 +26,5 @@ returns-3 c =
 pub root-net-spec : {M : Type 1} → statement M
 root-net-spec =
     tie.close
-    (tie.spec net-at-requires returns add-net-at sub-net-at net-at-requires-2 returns-2 returns-3)
+    (tie.spec
+    (λ c κs. search needs) returns (λ c. search needs) (λ c. search needs) (λ c κs. search needs) returns-2 returns-3)

@@ -2,7 +2,7 @@
 use borrow.Author.Needs.{needs}
 use mathlib.Core.Path.{_≡_, sym, _∙_, ap}
 use mathlib.Core.List.{List}
-use Prim.Native.Nat.{ℕ, _+_, _-_}
+use Prim.Native.Nat.{ℕ, _+_}
 use native.Mathlib.Omega.{arith}
 use Rattle.model.specs.Text.{fields}
 use Rattle.model.specs.Cells.{cellsOf}
@@ -16,9 +16,6 @@ use Rattle.edited.proofs.gate_at.Tie as tie
 
 sub-if1 : tie.Need-sub-if1
 sub-if1 c = let s = c .before .before in let a = s .args in omega (arith, stop-next (a .s .now) (a .at) (a .line) (s .pre .2))
-
-no-gate-requires : tie.Need-no-gate-requires
-no-gate-requires c κs = search needs
 
 returns : tie.Need-returns
 returns c =
@@ -54,11 +51,4 @@ pub gate-at-spec : {M : Type 1} → statement M
 gate-at-spec =
     tie.close
     (tie.spec
-    sub-if1
-    no-gate-requires
-    returns
-    sub-gate-line
-    part-gate-line-start
-    part-gate-line-end
-    gate-line-requires
-    returns-2)
+    sub-if1 (λ c κs. search needs) returns sub-gate-line part-gate-line-start part-gate-line-end gate-line-requires returns-2)

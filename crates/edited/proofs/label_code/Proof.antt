@@ -11,15 +11,6 @@ use Rattle.edited.proofs.Naming.{labelBytes, out-long, out-size, out-pu
 use Rattle.edited.proofs.label_code.Statement.{statement}
 use Rattle.edited.proofs.label_code.Tie as tie
 
-array-write-name : tie.Need-array-write-name
-array-write-name c = search needs
-
-slice-aggregate-put-number : tie.Need-slice-aggregate-put-number
-slice-aggregate-put-number c = search needs
-
-cast-put-number : tie.Need-cast-put-number
-cast-put-number c = search needs
-
 put-number-requires : tie.Need-put-number-requires
 put-number-requires c κs = omega (arith, out-long (c .before .args .k) (c .before .pre))
 
@@ -42,11 +33,5 @@ pub label-code-spec : {M : Type 1} → statement M
 label-code-spec =
     tie.close
     (tie.spec
-    array-write-name
-    slice-aggregate-put-number
-    cast-put-number
-    put-number-requires
-    array-share-prefix-name
-    slice-aggregate-code-of
-    code-of-requires
+    (λ c. search needs) (λ c. search needs) (λ c. search needs) put-number-requires array-share-prefix-name slice-aggregate-code-of code-of-requires
     returns)

@@ -30,9 +30,6 @@ part-name-line-start c = let s = c .before .before .before in let a = s .args in
 part-name-line-end : tie.Need-part-name-line-end
 part-name-line-end c = let s = c .before .before .before in let a = s .args in omega (arith, stop-fits (a .s .now) (a .at) (a .line) (s .pre .2) (s .pre .1))
 
-name-line-requires : tie.Need-name-line-requires
-name-line-requires c κs = search needs
-
 returns-2 : tie.Need-returns-2
 returns-2 c =
     let e = c .before .before in
@@ -48,10 +45,4 @@ pub name-at-spec : {M : Type 1} → statement M
 name-at-spec =
     tie.close
     (tie.spec
-    sub-if1
-    returns
-    sub-name-line
-    part-name-line-start
-    part-name-line-end
-    name-line-requires
-    returns-2)
+    sub-if1 returns sub-name-line part-name-line-start part-name-line-end (λ c κs. search needs) returns-2)

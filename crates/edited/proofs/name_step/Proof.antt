@@ -3,16 +3,16 @@ use borrow.Author.Needs.{needs}
 use borrow.Author.Tests.{not-true, not-false}
 use mathlib.Core.Path.{_≡_, refl, sym, _∙_, ap, subst}
 use mathlib.Core.Bool.{true≢false}
-use mathlib.Core.List.{List, _∷_}
+use mathlib.Core.List.{_∷_}
 use Prim.Native.Nat.{ℕ, suc, _+_, _*_, _≤_, _<_}
 use native.Mathlib.Omega.{arith}
 use lib.ListN.{length}
 use Rattle.model.specs.Text.{text}
-use Rattle.model.specs.Reading.{Read, holds, fault, next}
-use Rattle.model.specs.Check.{Driver, isLine, readNames}
+use Rattle.model.specs.Reading.{holds, fault, next}
+use Rattle.model.specs.Check.{isLine, readNames}
 use Rattle.words.specs.Put.{putAt}
 use Rattle.words.proofs.Putting.{length-put}
-use Rattle.text.specs.Lines.{lineAt, pastLine}
+use Rattle.text.specs.Lines.{lineAt}
 use Rattle.edited.specs.Store.{gateWords}
 use Rattle.framing.specs.Frame.{linesAt}
 use Rattle.framing.proofs.Seen.{stop-from, stop-next, line-next, line-long}
@@ -25,9 +25,6 @@ returns : tie.Need-returns
 returns c =
     let a = c .before .before .before .args in
     record { size = refl; refused = λ _. (refl, (λ left. names-missing (a .s .now) (a .k) (a .at) (c .if1 .taken) left)); within = λ q. absurd (true≢false q); due = λ q. absurd (true≢false q) }
-
-line-requires : tie.Need-line-requires
-line-requires c κs = search needs
 
 name-at-requires : tie.Need-name-at-requires
 name-at-requires c κs = let b = c .before .before .before .before in (b .pre .0, omega (arith, c .before .if1 .left), c .line .ensures)
@@ -61,9 +58,6 @@ returns-3 c =
       within = λ q. absurd (true≢false q);
       due = λ q. absurd (true≢false q);
     }
-
-slice-aggregate-is-line : tie.Need-slice-aggregate-is-line
-slice-aggregate-is-line c = search needs
 
 is-line-requires : tie.Need-is-line-requires
 is-line-requires c κs = let t = c .before in omega (arith, t .if3 .left)
@@ -105,15 +99,6 @@ store-requires c κs =
     let b = e .before .before .before in
     omega (arith, b .pre .1, b .pre .2, b .pre .3, e .if1 .left)
 
-add-t10 : tie.Need-add-t10
-add-t10 c = search needs
-
-add-t21 : tie.Need-add-t21
-add-t21 c = search needs
-
-same-length : tie.Need-same-length
-same-length c = search needs
-
 returns-5 : tie.Need-returns-5
 unfolding text lineAt
 returns-5 c =
@@ -154,17 +139,5 @@ pub name-step-spec : {M : Type 1} → statement M
 name-step-spec =
     tie.close
     (tie.spec
-    returns
-    line-requires
-    name-at-requires
-    returns-2
-    returns-3
-    slice-aggregate-is-line
-    is-line-requires
-    returns-4
-    wire-requires
-    store-requires
-    add-t10
-    add-t21
-    same-length
-    returns-5)
+    returns (λ c κs. search needs) name-at-requires returns-2 returns-3 (λ c. search needs) is-line-requires returns-4 wire-requires store-requires
+    (λ c. search needs) (λ c. search needs) (λ c. search needs) returns-5)

@@ -20,27 +20,6 @@ abbrev μ-loop : tie.MeasureT-loop
 loop-holds : tie.Need-loop-holds Inv-loop μ-loop
 loop-holds c = (omega arith, refl, sym (put-none (c .args .nets .now) (c .args .at)))
 
-mul-nets : tie.Need-mul-nets Inv-loop μ-loop
-mul-nets c = omega arith
-
-shared-slice-read-nets : tie.Need-shared-slice-read-nets Inv-loop μ-loop
-shared-slice-read-nets c = omega arith
-
-add-nets : tie.Need-add-nets Inv-loop μ-loop
-add-nets c = omega arith
-
-mul-nets-2 : tie.Need-mul-nets-2 Inv-loop μ-loop
-mul-nets-2 c = omega arith
-
-slice-write-nets : tie.Need-slice-write-nets Inv-loop μ-loop
-slice-write-nets c = omega arith
-
-add-i : tie.Need-add-i Inv-loop μ-loop
-add-i c = omega arith
-
-loop-less : tie.Need-loop-less Inv-loop μ-loop
-loop-less c = omega arith
-
 loop-again : tie.Need-loop-again Inv-loop μ-loop
 loop-again c =
     let l = c .before .before in
@@ -53,9 +32,6 @@ loop-again c =
           ∙ put-taken w at from (l .loop .i) (omega arith) (c .before .loop-test .taken),
     )
 
-same-length : tie.Need-same-length Inv-loop μ-loop
-same-length c = omega arith
-
 returns : tie.Need-returns Inv-loop μ-loop
 returns c =
     c .before .loop .inv .2
@@ -65,16 +41,5 @@ pub put-spec : {M : Type 1} → statement M
 put-spec =
     tie.close
     (tie.spec
-    Inv-loop
-    μ-loop
-    loop-holds
-    mul-nets
-    shared-slice-read-nets
-    add-nets
-    mul-nets-2
-    slice-write-nets
-    add-i
-    loop-less
-    loop-again
-    same-length
-    returns)
+    Inv-loop μ-loop loop-holds (λ c. omega arith) (λ c. omega arith) (λ c. omega arith) (λ c. omega arith) (λ c. omega arith) (λ c. omega arith)
+    (λ c. omega arith) loop-again (λ c. omega arith) returns)

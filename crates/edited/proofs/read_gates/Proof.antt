@@ -11,7 +11,7 @@ use Rattle.model.specs.Base.{same}
 use Rattle.model.specs.Text.{text, fields}
 use Rattle.model.specs.Cells.{cellsOf}
 use Rattle.model.specs.Check.{isGate}
-use Rattle.text.specs.Lines.{lineAt, pastLine}
+use Rattle.text.specs.Lines.{lineAt}
 use Rattle.netnames.proofs.Named.{gate-long}
 use mathlib.Core.Bool.{true}
 use Rattle.words.specs.Put.{putAt}
@@ -31,9 +31,6 @@ abbrev μ-loop : tie.MeasureT-loop
 loop-holds : tie.Need-loop-holds Inv-loop μ-loop
 loop-holds c = let a = c .before .before .args in (omega arith, refl, so-start (a .s .now) (a .lib) (a .from) (a .nets .now))
 
-line-requires : tie.Need-line-requires Inv-loop μ-loop
-line-requires c κs = search needs
-
 sub-is-gate : tie.Need-sub-is-gate Inv-loop μ-loop
 sub-is-gate c = let l = c .before .before in let a = l .before .before .before .args in stop-from (a .s .now) (l .loop .at) (c .line .result) (c .line .ensures)
 
@@ -42,12 +39,6 @@ part-is-gate-start c = let l = c .before .before in let a = l .before .before .b
 
 part-is-gate-end : tie.Need-part-is-gate-end Inv-loop μ-loop
 part-is-gate-end c = let l = c .before .before in let a = l .before .before .before .args in omega (arith, stop-fits (a .s .now) (l .loop .at) (c .line .result) (c .line .ensures) (omega (arith, c .before .loop-test .taken)))
-
-is-gate-requires : tie.Need-is-gate-requires Inv-loop μ-loop
-is-gate-requires c κs = search needs
-
-same-length : tie.Need-same-length Inv-loop μ-loop
-same-length c = omega arith
 
 returns : tie.Need-returns Inv-loop μ-loop
 unfolding isGate
@@ -65,9 +56,6 @@ gate-at-requires c κs =
     let l = n .before .before in
     let s = l .before .before .before in
     (s .pre .0, omega (arith, n .before .loop-test .taken), n .line .ensures)
-
-same-length-2 : tie.Need-same-length-2 Inv-loop μ-loop
-same-length-2 c = omega arith
 
 returns-2 : tie.Need-returns-2 Inv-loop μ-loop
 unfolding isGate
@@ -152,9 +140,6 @@ loop-again c =
           (puts ∙ ap (putAt (l .loop .nets) (8 * l .loop .count)) (d .3)) room),
     )
 
-same-length-3 : tie.Need-same-length-3 Inv-loop μ-loop
-same-length-3 c = omega arith
-
 returns-3 : tie.Need-returns-3 Inv-loop μ-loop
 returns-3 c =
     let l = c .before in
@@ -165,22 +150,5 @@ pub read-gates-spec : {M : Type 1} → statement M
 read-gates-spec =
     tie.close
     (tie.spec
-    Inv-loop
-    μ-loop
-    loop-holds
-    line-requires
-    sub-is-gate
-    part-is-gate-start
-    part-is-gate-end
-    is-gate-requires
-    same-length
-    returns
-    gate-at-requires
-    same-length-2
-    returns-2
-    store-requires
-    add-count
-    loop-less
-    loop-again
-    same-length-3
-    returns-3)
+    Inv-loop μ-loop loop-holds (λ c κs. search needs) sub-is-gate part-is-gate-start part-is-gate-end (λ c κs. search needs) (λ c. omega arith)
+    returns gate-at-requires (λ c. omega arith) returns-2 store-requires add-count loop-less loop-again (λ c. omega arith) returns-3)

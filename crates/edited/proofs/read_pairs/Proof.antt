@@ -1,8 +1,7 @@
 -- `edited::read_pairs` meets its contract. The invariant: the drivers of the outputs so far stand in the array, and the lines from here on are due; the measure is how many
 -- outputs are left. Assumes nothing.
-use borrow.Author.Needs.{needs}
-use mathlib.Core.Path.{_≡_, refl, sym, _∙_, ap}
-use Prim.Native.Nat.{ℕ, _+_, _-_, _*_, _≤_}
+use mathlib.Core.Path.{_≡_, _∙_}
+use Prim.Native.Nat.{_+_, _-_, _*_, _≤_}
 use native.Mathlib.Omega.{arith}
 use lib.ListN.{length}
 use Rattle.edited.proofs.Naming.{Pairs, pairs-start, pairs-broken, pairs-step, pairs-end}

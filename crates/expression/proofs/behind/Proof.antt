@@ -28,12 +28,6 @@ module _ (w : List ℕ) (at b : ℕ) (t : Token) (e : t ≡ tokenAt w at) where
   ended : length w ≤ t .from → at ≡ behindAt w at b
   ended h = rw (le-ltb (fromAt w at) (length w) (subst (λ (n : ℕ). length w ≤ n) (ap (λ (x : Token). x .from) e) h))
 
-next-token-requires : tie.Need-next-token-requires
-next-token-requires c κs = search needs
-
-shared-slice-read-if2 : tie.Need-shared-slice-read-if2
-shared-slice-read-if2 c = search needs
-
 returns : tie.Need-returns
 returns c = there _ _ _ _ (c .before .before .before .next-token .ensures) (c .before .before .if1 .taken) (c .if2 .taken)
 
@@ -45,4 +39,6 @@ returns-3 c = ended _ _ _ _ (c .before .next-token .ensures) (c .if1 .left)
 
 pub behind-spec : {M : Type 1} → statement M
 behind-spec =
-    tie.close (tie.spec next-token-requires shared-slice-read-if2 returns returns-2 returns-3)
+    tie.close
+    (tie.spec
+    (λ c κs. search needs) (λ c. search needs) returns returns-2 returns-3)

@@ -8,9 +8,6 @@ use Rattle.expression.proofs.Values.{close-yes, close-no, quoted-is}
 use Rattle.expression.proofs.close.Statement.{statement}
 use Rattle.expression.proofs.close.Tie as tie
 
-behind-requires : tie.Need-behind-requires
-behind-requires c κs = search needs
-
 returns : tie.Need-returns
 returns c = (tt, sym (close-no _ _ (behind-no _ _ _ _ (c .before .behind .ensures) (c .if1 .taken))))
 
@@ -26,4 +23,6 @@ returns-2 c =
     )
 
 pub close-spec : {M : Type 1} → statement M
-close-spec = tie.close (tie.spec behind-requires returns turn-requires returns-2)
+close-spec = tie.close
+    (tie.spec
+    (λ c κs. search needs) returns turn-requires returns-2)

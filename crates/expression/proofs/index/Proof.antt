@@ -25,26 +25,11 @@ loop-holds c =
     let z : n - 0 ≡ n = omega arith in
     (omega arith, refl, c .before .before .pre, rw (z, zero-add))
 
-mul-from : tie.Need-mul-from Inv-loop μ-loop
-mul-from c = search needs
-
-element-copy-out-from : tie.Need-element-copy-out-from Inv-loop μ-loop
-element-copy-out-from c = search needs
-
-word-is-requires : tie.Need-word-is-requires Inv-loop μ-loop
-word-is-requires c κs = search needs
-
 returns : tie.Need-returns Inv-loop μ-loop
 returns c =
     let l = c .before .before .before .before .loop in
     let z = index-hit (nameAt (c .before .before .before .before .before .before .before .args .w .now) (c .before .before .before .before .before .before .before .args .t2)) (c .before .before .before .before .before .before .before .args .t .now) (l .i) _ (c .before .before .before .loop-test .taken) (sym (c .before .word-is .ensures) ∙ c .if1 .taken) in
     (sym (l .inv .3 ∙ omega (arith, z)), omega arith)
-
-add-i : tie.Need-add-i Inv-loop μ-loop
-add-i c = search needs
-
-loop-less : tie.Need-loop-less Inv-loop μ-loop
-loop-less c = search needs
 
 loop-again : tie.Need-loop-again Inv-loop μ-loop
 loop-again c =
@@ -62,14 +47,5 @@ pub index-spec : {M : Type 1} → statement M
 index-spec =
     tie.close
     (tie.spec
-    Inv-loop
-    μ-loop
-    loop-holds
-    mul-from
-    element-copy-out-from
-    word-is-requires
-    returns
-    add-i
-    loop-less
-    loop-again
-    returns-2)
+    Inv-loop μ-loop loop-holds (λ c. search needs) (λ c. search needs) (λ c κs. search needs) returns (λ c. search needs) (λ c. search needs)
+    loop-again returns-2)

@@ -22,9 +22,6 @@ abbrev μ-loop : tie.MeasureT-loop
 loop-holds : tie.Need-loop-holds Inv-loop μ-loop
 loop-holds c = (c .before .pre, omega arith, refl)
 
-next-token-requires : tie.Need-next-token-requires Inv-loop μ-loop
-next-token-requires c κs = search needs
-
 scan-at-requires : tie.Need-scan-at-requires Inv-loop μ-loop
 scan-at-requires c κs = let k = step _ _ (c .before .before .loop .inv .0) _ (c .next-token .ensures) in (k .ordered, k .within, omega arith)
 
@@ -41,9 +38,6 @@ loop-again c =
       l .inv .2 ∙ scan-turn w (l .at) (c .before .next-token .result) (l .s) k ∙ sym (ap (λ (x : Scan). scan x (restAt w (c .before .next-token .result .to))) (c .scan-at .ensures)),
     )
 
-is-done-requires : tie.Need-is-done-requires Inv-loop μ-loop
-is-done-requires c κs = search needs
-
 returns : tie.Need-returns Inv-loop μ-loop
 unfolding formed scan
 returns c = c .is-done .ensures ∙ sym (ap isDone (c .before .before .loop .inv .2 ∙ ap (scan (c .before .before .loop .s)) (nothing-left _ _ (c .before .loop-test .left))))
@@ -52,12 +46,4 @@ pub is-formed-spec : {M : Type 1} → statement M
 is-formed-spec =
     tie.close
     (tie.spec
-    Inv-loop
-    μ-loop
-    loop-holds
-    next-token-requires
-    scan-at-requires
-    loop-less
-    loop-again
-    is-done-requires
-    returns)
+    Inv-loop μ-loop loop-holds (λ c κs. search needs) scan-at-requires loop-less loop-again (λ c κs. search needs) returns)

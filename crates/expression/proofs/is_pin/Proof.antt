@@ -7,28 +7,13 @@ use borrow.Author.Needs.{needs}
 use Rattle.expression.proofs.is_pin.Statement.{statement}
 use Rattle.expression.proofs.is_pin.Tie as tie
 
-is-word-requires : tie.Need-is-word-requires
-is-word-requires c κs = search needs
-
 returns : tie.Need-returns
 unfolding isPin
 returns c = rw (sym (c .before .is-word .ensures) ∙ not-true _ (c .if1 .taken))
 
-slice-aggregate-same-bytes : tie.Need-slice-aggregate-same-bytes
-slice-aggregate-same-bytes c = search needs
-
-same-bytes-requires : tie.Need-same-bytes-requires
-same-bytes-requires c κs = search needs
-
 returns-2 : tie.Need-returns-2
 unfolding isPin const0 const1 text
 returns-2 c = rw (sym (c .before .before .before .before .is-word .ensures) ∙ not-false _ (c .before .before .before .if1 .left), sym (c .before .same-bytes .ensures) ∙ c .if2 .taken)
-
-slice-aggregate-same-bytes-2 : tie.Need-slice-aggregate-same-bytes-2
-slice-aggregate-same-bytes-2 c = search needs
-
-same-bytes-requires-2 : tie.Need-same-bytes-requires-2
-same-bytes-requires-2 c κs = search needs
 
 returns-3 : tie.Need-returns-3
 unfolding isPin const0 const1 text
@@ -42,12 +27,5 @@ pub is-pin-spec : {M : Type 1} → statement M
 is-pin-spec =
     tie.close
     (tie.spec
-    is-word-requires
-    returns
-    slice-aggregate-same-bytes
-    same-bytes-requires
-    returns-2
-    slice-aggregate-same-bytes-2
-    same-bytes-requires-2
-    returns-3
+    (λ c κs. search needs) returns (λ c. search needs) (λ c κs. search needs) returns-2 (λ c. search needs) (λ c κs. search needs) returns-3
     returns-4)

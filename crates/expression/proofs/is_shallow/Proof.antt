@@ -21,9 +21,6 @@ abbrev μ-loop : tie.MeasureT-loop
 loop-holds : tie.Need-loop-holds Inv-loop μ-loop
 loop-holds c = (c .before .pre, omega arith, refl)
 
-next-token-requires : tie.Need-next-token-requires Inv-loop μ-loop
-next-token-requires c κs = search needs
-
 lead-of-requires : tie.Need-lead-of-requires Inv-loop μ-loop
 lead-of-requires c κs = let k = step _ _ (c .before .before .loop .inv .0) _ (c .next-token .ensures) in (k .ordered, k .within)
 
@@ -59,13 +56,4 @@ pub is-shallow-spec : {M : Type 1} → statement M
 is-shallow-spec =
     tie.close
     (tie.spec
-    Inv-loop
-    μ-loop
-    loop-holds
-    next-token-requires
-    lead-of-requires
-    step-depth-requires
-    returns
-    loop-less
-    loop-again
-    returns-2)
+    Inv-loop μ-loop loop-holds (λ c κs. search needs) lead-of-requires step-depth-requires returns loop-less loop-again returns-2)

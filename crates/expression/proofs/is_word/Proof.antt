@@ -28,11 +28,10 @@ word-all (b ∷ w) ne = span-all isNameByte (b ∷ w) ∙ ap (λ (n : ℕ). eqb 
 returns : tie.Need-returns
 returns c = sym (word-empty _ (c .if1 .taken))
 
-name-end-requires : tie.Need-name-end-requires
-name-end-requires c κs = search needs
-
 returns-2 : tie.Need-returns-2
 returns-2 c = sym (word-all _ (c .before .if1 .left) ∙ ap (λ (n : ℕ). eqb n (length (c .before .before .before .args .w .now))) (sym (c .name-end .ensures)))
 
 pub is-word-spec : {M : Type 1} → statement M
-is-word-spec = tie.close (tie.spec returns name-end-requires returns-2)
+is-word-spec = tie.close
+    (tie.spec
+    returns (λ c κs. search needs) returns-2)

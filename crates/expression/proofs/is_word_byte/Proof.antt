@@ -6,9 +6,6 @@ use Rattle.model.specs.GenlibWords.{isWordByte}
 use Rattle.expression.proofs.is_word_byte.Statement.{statement}
 use Rattle.expression.proofs.is_word_byte.Tie as tie
 
-is-name-byte-requires : tie.Need-is-name-byte-requires
-is-name-byte-requires c κs = search needs
-
 returns : tie.Need-returns
 unfolding isWordByte
 returns c = rw (sym (c .before .is-name-byte .ensures) ∙ c .if1 .taken)
@@ -22,4 +19,6 @@ unfolding isWordByte
 returns-3 c = let b = c .before .before .before .args .b in rw (sym (c .before .before .is-name-byte .ensures) ∙ c .before .if1 .left, ne-eqb b 46 (c .match .rest .1))
 
 pub is-word-byte-spec : {M : Type 1} → statement M
-is-word-byte-spec = tie.close (tie.spec is-name-byte-requires returns returns-2 returns-3)
+is-word-byte-spec = tie.close
+    (tie.spec
+    (λ c κs. search needs) returns returns-2 returns-3)

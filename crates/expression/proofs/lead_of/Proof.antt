@@ -7,9 +7,6 @@ use borrow.Author.Needs.{needs}
 use Rattle.expression.proofs.lead_of.Statement.{statement}
 use Rattle.expression.proofs.lead_of.Tie as tie
 
-shared-slice-read-result : tie.Need-shared-slice-read-result
-shared-slice-read-result c = search needs
-
 returns : tie.Need-returns
 returns c = sym (lead-part _ _ (omega arith) _ (c .before .if1 .taken))
 
@@ -17,4 +14,6 @@ returns-2 : tie.Need-returns-2
 returns-2 c = sym (lead-none (c .before .before .args .w .now) _ _ (c .if1 .left))
 
 pub lead-of-spec : {M : Type 1} → statement M
-lead-of-spec = tie.close (tie.spec shared-slice-read-result returns returns-2)
+lead-of-spec = tie.close
+    (tie.spec
+    (λ c. search needs) returns returns-2)

@@ -4,7 +4,7 @@ use mathlib.Core.Path.{_≡_, sym, ap, subst, _∙_}
 use mathlib.Core.Bool.{Bool, true, false}
 use mathlib.Core.Option.{none}
 use mathlib.Core.List.{List}
-use Prim.Native.Nat.{ℕ, _-_, _≤_, _<_}
+use Prim.Native.Nat.{ℕ, _≤_, _<_}
 use native.Mathlib.Omega.{arith}
 use lib.ListN.{length}
 use Rattle.model.specs.Base.{flip}
@@ -35,9 +35,6 @@ module _ (w : List ℕ) (at : ℕ) (h : at ≤ length w) (t : Token) (e : t ≡ 
     no-name : isWord (part w (t .from) (t .to)) ≡ false → named value odd (restAt w at) ≡ none
     no-name k = name-no w at h value odd (ap isWord (sym bytes) ∙ k)
 
-next-token-requires : tie.Need-next-token-requires
-next-token-requires c κs = search needs
-
 sub-is-word : tie.Need-sub-is-word
 sub-is-word c = omega (arith, bounds _ _ (c .before .before .pre .0) _ (c .next-token .ensures) .1)
 
@@ -47,9 +44,6 @@ part-is-word-start c = omega (arith, bounds _ _ (c .before .before .pre .0) _ (c
 part-is-word-end : tie.Need-part-is-word-end
 part-is-word-end c = omega (arith, bounds _ _ (c .before .before .pre .0) _ (c .next-token .ensures) .2)
 
-is-word-requires : tie.Need-is-word-requires
-is-word-requires c κs = search needs
-
 sub-name-value : tie.Need-sub-name-value
 sub-name-value c = omega (arith, bounds _ _ (c .before .before .before .before .before .pre .0) _ (c .before .before .before .next-token .ensures) .1)
 
@@ -58,12 +52,6 @@ part-name-value-start c = omega (arith, bounds _ _ (c .before .before .before .b
 
 part-name-value-end : tie.Need-part-name-value-end
 part-name-value-end c = omega (arith, bounds _ _ (c .before .before .before .before .before .pre .0) _ (c .before .before .before .next-token .ensures) .2)
-
-name-value-requires : tie.Need-name-value-requires
-name-value-requires c κs = search needs
-
-differ-requires : tie.Need-differ-requires
-differ-requires c κs = search needs
 
 turn-requires : tie.Need-turn-requires
 turn-requires c κs = bounds _ _ (c .before .before .before .before .before .before .before .before .pre .0) _ (c .before .before .before .before .before .before .next-token .ensures) .2
@@ -89,16 +77,5 @@ pub name-spec : {M : Type 1} → statement M
 name-spec =
     tie.close
     (tie.spec
-    next-token-requires
-    sub-is-word
-    part-is-word-start
-    part-is-word-end
-    is-word-requires
-    sub-name-value
-    part-name-value-start
-    part-name-value-end
-    name-value-requires
-    differ-requires
-    turn-requires
-    returns
-    returns-2)
+    (λ c κs. search needs) sub-is-word part-is-word-start part-is-word-end (λ c κs. search needs) sub-name-value part-name-value-start
+    part-name-value-end (λ c κs. search needs) (λ c κs. search needs) turn-requires returns returns-2)

@@ -8,31 +8,13 @@ use Rattle.model.specs.GenlibFormula.{nameValue, const0, const1}
 use Rattle.expression.proofs.name_value.Statement.{statement}
 use Rattle.expression.proofs.name_value.Tie as tie
 
-slice-aggregate-same-bytes : tie.Need-slice-aggregate-same-bytes
-slice-aggregate-same-bytes c = search needs
-
-same-bytes-requires : tie.Need-same-bytes-requires
-same-bytes-requires c κs = search needs
-
 returns : tie.Need-returns
 unfolding nameValue const0 const1 text
 returns c = rw (sym (c .before .same-bytes .ensures) ∙ c .if1 .taken)
 
-slice-aggregate-same-bytes-2 : tie.Need-slice-aggregate-same-bytes-2
-slice-aggregate-same-bytes-2 c = search needs
-
-same-bytes-requires-2 : tie.Need-same-bytes-requires-2
-same-bytes-requires-2 c κs = search needs
-
 returns-2 : tie.Need-returns-2
 unfolding nameValue const0 const1 text
 returns-2 c = rw (sym (c .before .before .before .before .same-bytes .ensures) ∙ c .before .before .before .if1 .left, sym (c .before .same-bytes2 .ensures) ∙ c .if2 .taken)
-
-index-requires : tie.Need-index-requires
-index-requires c κs = search needs
-
-bit-requires : tie.Need-bit-requires
-bit-requires c κs = search needs
 
 returns-3 : tie.Need-returns-3
 unfolding nameValue const0 const1 text value
@@ -42,12 +24,5 @@ pub name-value-spec : {M : Type 1} → statement M
 name-value-spec =
     tie.close
     (tie.spec
-    slice-aggregate-same-bytes
-    same-bytes-requires
-    returns
-    slice-aggregate-same-bytes-2
-    same-bytes-requires-2
-    returns-2
-    index-requires
-    bit-requires
-    returns-3)
+    (λ c. search needs) (λ c κs. search needs) returns (λ c. search needs) (λ c κs. search needs) returns-2 (λ c κs. search needs)
+    (λ c κs. search needs) returns-3)

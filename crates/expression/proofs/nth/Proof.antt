@@ -14,20 +14,8 @@ Inv-loop w k t₀ i₀ t i = (i ≤ k) × Nth w i t
 abbrev μ-loop : tie.MeasureT-loop
 μ-loop w k t₀ i₀ t i = k - i
 
-next-token-requires : tie.Need-next-token-requires Inv-loop μ-loop
-next-token-requires c κs = search needs
-
 loop-holds : tie.Need-loop-holds Inv-loop μ-loop
 loop-holds c = (omega arith, nth-first _ _ (c .next-token .ensures))
-
-next-token-requires-2 : tie.Need-next-token-requires-2 Inv-loop μ-loop
-next-token-requires-2 c κs = search needs
-
-add-i : tie.Need-add-i Inv-loop μ-loop
-add-i c = search needs
-
-loop-less : tie.Need-loop-less Inv-loop μ-loop
-loop-less c = search needs
 
 loop-again : tie.Need-loop-again Inv-loop μ-loop
 loop-again c = (omega arith, nth-next _ _ _ _ (c .before .before .loop .inv .1) (c .next-token2 .ensures))
@@ -39,12 +27,4 @@ pub nth-spec : {M : Type 1} → statement M
 nth-spec =
     tie.close
     (tie.spec
-    Inv-loop
-    μ-loop
-    next-token-requires
-    loop-holds
-    next-token-requires-2
-    add-i
-    loop-less
-    loop-again
-    returns)
+    Inv-loop μ-loop (λ c κs. search needs) loop-holds (λ c κs. search needs) (λ c. search needs) (λ c. search needs) loop-again returns)

@@ -9,9 +9,6 @@ returns : tie.Need-returns
 unfolding afterStep
 returns c = rw (eq-eqb _ _ (c .if1 .taken))
 
-scan-close-requires : tie.Need-scan-close-requires
-scan-close-requires c κs = search needs
-
 returns-2 : tie.Need-returns-2
 unfolding afterStep
 returns-2 c = rw (ne-eqb _ _ (c .before .before .if1 .left), eq-eqb _ _ (c .before .if2 .taken)) (c .scan-close .ensures)
@@ -24,9 +21,6 @@ returns-4 : tie.Need-returns-4
 unfolding afterStep
 returns-4 c = rw (ne-eqb _ _ (c .before .before .before .if1 .left), ne-eqb _ _ (c .before .before .if2 .left), ne-eqb _ _ (c .before .if3 .left), eq-eqb _ _ (c .if4 .taken))
 
-scan-end-requires : tie.Need-scan-end-requires
-scan-end-requires c κs = search needs
-
 returns-5 : tie.Need-returns-5
 unfolding afterStep
 returns-5 c = rw (ne-eqb _ _ (c .before .before .before .before .if1 .left), ne-eqb _ _ (c .before .before .before .if2 .left), ne-eqb _ _ (c .before .before .if3 .left), ne-eqb _ _ (c .before .if4 .left)) (c .scan-end .ensures)
@@ -35,10 +29,4 @@ pub scan-after-spec : {M : Type 1} → statement M
 scan-after-spec =
     tie.close
     (tie.spec
-    returns
-    scan-close-requires
-    returns-2
-    returns-3
-    returns-4
-    scan-end-requires
-    returns-5)
+    returns (λ c κs. search needs) returns-2 returns-3 returns-4 (λ c κs. search needs) returns-5)

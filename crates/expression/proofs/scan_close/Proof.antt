@@ -5,9 +5,6 @@ use borrow.Author.Needs.{needs}
 use Rattle.expression.proofs.scan_close.Statement.{statement}
 use Rattle.expression.proofs.scan_close.Tie as tie
 
-sub-t4 : tie.Need-sub-t4
-sub-t4 c = search needs
-
 returns : tie.Need-returns
 unfolding closeStep
 returns c = rw (lt-ltb _ _ (c .if1 .taken))
@@ -17,4 +14,6 @@ unfolding closeStep
 returns-2 c = rw (le-ltb _ _ (c .if1 .left))
 
 pub scan-close-spec : {M : Type 1} → statement M
-scan-close-spec = tie.close (tie.spec sub-t4 returns returns-2)
+scan-close-spec = tie.close
+    (tie.spec
+    (λ c. search needs) returns returns-2)

@@ -9,9 +9,6 @@ returns : tie.Need-returns
 unfolding dueStep
 returns c = rw (eq-eqb _ _ (c .if1 .taken))
 
-add-t5 : tie.Need-add-t5
-add-t5 c = search needs
-
 returns-2 : tie.Need-returns-2
 unfolding dueStep
 returns-2 c = rw (ne-eqb _ _ (c .before .if1 .left), eq-eqb _ _ (c .if2 .taken))
@@ -25,4 +22,6 @@ unfolding dueStep
 returns-4 c = rw (ne-eqb _ _ (c .before .before .if1 .left), ne-eqb _ _ (c .before .if2 .left), c .if3 .left)
 
 pub scan-due-spec : {M : Type 1} → statement M
-scan-due-spec = tie.close (tie.spec returns add-t5 returns-2 returns-3 returns-4)
+scan-due-spec = tie.close
+    (tie.spec
+    returns (λ c. search needs) returns-2 returns-3 returns-4)

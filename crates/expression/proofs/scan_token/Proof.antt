@@ -7,23 +7,11 @@ use borrow.Author.Needs.{needs}
 use Rattle.expression.proofs.scan_token.Statement.{statement}
 use Rattle.expression.proofs.scan_token.Tie as tie
 
-enum-known-s : tie.Need-enum-known-s
-enum-known-s c = search needs
-
 scan-due-requires : tie.Need-scan-due-requires
 scan-due-requires c κs = omega (arith, ap depthOf (c .before .s .given .1))
 
-enum-known-s-2 : tie.Need-enum-known-s-2
-enum-known-s-2 c = search needs
-
-scan-after-requires : tie.Need-scan-after-requires
-scan-after-requires c κs = search needs
-
 enum-told : tie.Need-enum-told
 enum-told c = search needs
-
-enum-told-2 : tie.Need-enum-told-2
-enum-told-2 c = search needs
 
 returns : tie.Need-returns
 unfolding scanStep
@@ -45,13 +33,5 @@ pub scan-token-spec : {M : Type 1} → statement M
 scan-token-spec =
     tie.close
     (tie.spec
-    enum-known-s
-    scan-due-requires
-    enum-known-s-2
-    scan-after-requires
-    enum-told
-    enum-told-2
-    returns
-    returns-2
-    returns-3
+    (λ c. search needs) scan-due-requires (λ c. search needs) (λ c κs. search needs) enum-told (λ c. search needs) returns returns-2 returns-3
     returns-4)

@@ -6,15 +6,9 @@ use borrow.Author.Needs.{needs}
 use Rattle.expression.proofs.step_depth.Statement.{statement}
 use Rattle.expression.proofs.step_depth.Tie as tie
 
-add-result : tie.Need-add-result
-add-result c = search needs
-
 returns : tie.Need-returns
 unfolding openedBy
 returns c = rw (eq-eqb _ _ (c .if1 .taken))
-
-sub-result : tie.Need-sub-result
-sub-result c = search needs
 
 returns-2 : tie.Need-returns-2
 unfolding openedBy
@@ -29,4 +23,6 @@ unfolding openedBy
 returns-4 c = rw (ne-eqb _ _ (c .before .if1 .left), ne-eqb _ _ (c .if2 .left))
 
 pub step-depth-spec : {M : Type 1} → statement M
-step-depth-spec = tie.close (tie.spec add-result returns sub-result returns-2 returns-3 returns-4)
+step-depth-spec = tie.close
+    (tie.spec
+    (λ c. search needs) returns (λ c. search needs) returns-2 returns-3 returns-4)

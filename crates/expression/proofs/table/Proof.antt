@@ -27,9 +27,6 @@ Inv-loop w from p t₀ r₀ t r = (r ≤ 2 ^ p .n) × (2 ^ p .n ≤ 16) × (t �
 abbrev μ-loop : tie.MeasureT-loop
 μ-loop w from p t₀ r₀ t r = r
 
-rows-requires : tie.Need-rows-requires Inv-loop μ-loop
-rows-requires c κs = search needs
-
 loop-holds : tie.Need-loop-holds Inv-loop μ-loop
 unfolding rowBits
 loop-holds c =
@@ -38,23 +35,14 @@ loop-holds c =
     let z : 2 ^ c .before .before .args .p .n - c .rows .result ≡ 0 = omega (arith, e) in
     (omega (arith, e), rows-most _ (c .before .before .pre .1), sym (ap (rowBits f (c .rows .result)) z))
 
-sub-r : tie.Need-sub-r Inv-loop μ-loop
-sub-r c = search needs
-
 mul-t : tie.Need-mul-t Inv-loop μ-loop
 mul-t c = let b = small _ _ _ _ (c .before .loop .inv .1) (c .before .loop .inv .2) in omega arith
 
 value-in-requires : tie.Need-value-in-requires Inv-loop μ-loop
 value-in-requires c κs = c .before .before .before .before .pre
 
-bit-of-requires : tie.Need-bit-of-requires Inv-loop μ-loop
-bit-of-requires c κs = search needs
-
 add-t : tie.Need-add-t Inv-loop μ-loop
 add-t c = let b = small _ _ _ _ (c .before .before .before .loop .inv .1) (c .before .before .before .loop .inv .2) in let o = one-most _ (c .bit-of .ensures) in omega arith
-
-loop-less : tie.Need-loop-less Inv-loop μ-loop
-loop-less c = search needs
 
 loop-again : tie.Need-loop-again Inv-loop μ-loop
 loop-again c =
@@ -80,16 +68,5 @@ pub table-spec : {M : Type 1} → statement M
 table-spec =
     tie.close
     (tie.spec
-    Inv-loop
-    μ-loop
-    rows-requires
-    loop-holds
-    sub-r
-    mul-t
-    value-in-requires
-    bit-of-requires
-    add-t
-    loop-less
-    loop-again
-    cast-result
-    returns)
+    Inv-loop μ-loop (λ c κs. search needs) loop-holds (λ c. search needs) mul-t value-in-requires (λ c κs. search needs) add-t (λ c. search needs)
+    loop-again cast-result returns)

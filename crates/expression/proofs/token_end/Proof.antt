@@ -10,18 +10,6 @@ returns : tie.Need-returns
 unfolding endAt
 returns c = rw (le-ltb _ _ (c .if1 .taken))
 
-shared-slice-read-is-word-byte : tie.Need-shared-slice-read-is-word-byte
-shared-slice-read-is-word-byte c = search needs
-
-is-word-byte-requires : tie.Need-is-word-byte-requires
-is-word-byte-requires c κs = search needs
-
-word-end-requires : tie.Need-word-end-requires
-word-end-requires c κs = search needs
-
-add-result : tie.Need-add-result
-add-result c = search needs
-
 returns-2 : tie.Need-returns-2
 unfolding endAt
 returns-2 c = rw (lt-ltb _ _ (c .before .before .before .before .if1 .left), sym (c .before .before .is-word-byte .ensures) ∙ c .before .if2 .taken) (c .word-end .ensures)
@@ -34,10 +22,4 @@ pub token-end-spec : {M : Type 1} → statement M
 token-end-spec =
     tie.close
     (tie.spec
-    returns
-    shared-slice-read-is-word-byte
-    is-word-byte-requires
-    word-end-requires
-    add-result
-    returns-2
-    returns-3)
+    returns (λ c. search needs) (λ c κs. search needs) (λ c κs. search needs) (λ c. search needs) returns-2 returns-3)

@@ -10,9 +10,6 @@ use Rattle.expression.proofs.value_in.Tie as tie
 sum-requires : tie.Need-sum-requires
 sum-requires c κs = (c .before .pre .0, c .before .pre .1)
 
-enum-known-v : tie.Need-enum-known-v
-enum-known-v c = search needs
-
 enum-told : tie.Need-enum-told
 enum-told c = search needs
 
@@ -25,4 +22,6 @@ unfolding valueOf valueTaken
 returns-2 c = sym (ap valueTaken (known _ _ _ _ (c .enum-told .given .1) (c .before .before .sum .ensures .1 65537 (omega arith))))
 
 pub value-in-spec : {M : Type 1} → statement M
-value-in-spec = tie.close (tie.spec sum-requires enum-known-v enum-told returns returns-2)
+value-in-spec = tie.close
+    (tie.spec
+    sum-requires (λ c. search needs) enum-told returns returns-2)

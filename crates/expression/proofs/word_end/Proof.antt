@@ -17,23 +17,8 @@ Inv-loop w from at₀ at = spanEnd isWordByte w from ≡ spanEnd isWordByte w at
 abbrev μ-loop : tie.MeasureT-loop
 μ-loop w from at₀ at = length w - at
 
-loop-holds : tie.Need-loop-holds Inv-loop μ-loop
-loop-holds c = refl
-
-shared-slice-read-is-word-byte : tie.Need-shared-slice-read-is-word-byte Inv-loop μ-loop
-shared-slice-read-is-word-byte c = search needs
-
-is-word-byte-requires : tie.Need-is-word-byte-requires Inv-loop μ-loop
-is-word-byte-requires c κs = search needs
-
 returns : tie.Need-returns Inv-loop μ-loop
 returns c = sym (c .before .before .before .before .loop .inv ∙ span-stop isWordByte _ _ (c .before .before .before .loop-test .taken) (sym (c .before .is-word-byte .ensures) ∙ not-true _ (c .if1 .taken)))
-
-add-at : tie.Need-add-at Inv-loop μ-loop
-add-at c = search needs
-
-loop-less : tie.Need-loop-less Inv-loop μ-loop
-loop-less c = search needs
 
 loop-again : tie.Need-loop-again Inv-loop μ-loop
 loop-again c = c .before .before .before .before .loop .inv ∙ span-step isWordByte _ _ (c .before .before .before .loop-test .taken) (sym (c .before .is-word-byte .ensures) ∙ not-false _ (c .if1 .left))
@@ -45,13 +30,4 @@ pub word-end-spec : {M : Type 1} → statement M
 word-end-spec =
     tie.close
     (tie.spec
-    Inv-loop
-    μ-loop
-    loop-holds
-    shared-slice-read-is-word-byte
-    is-word-byte-requires
-    returns
-    add-at
-    loop-less
-    loop-again
-    returns-2)
+    Inv-loop μ-loop (λ c. refl) (λ c. search needs) (λ c κs. search needs) returns (λ c. search needs) (λ c. search needs) loop-again returns-2)

@@ -10,26 +10,11 @@ use Rattle.expression.proofs.Spans.{span-from, span-part, span-past}
 use Rattle.expression.proofs.word_is.Statement.{statement}
 use Rattle.expression.proofs.word_is.Tie as tie
 
-word-end-requires : tie.Need-word-end-requires
-word-end-requires c κs = search needs
-
 sub-same-bytes : tie.Need-sub-same-bytes
 sub-same-bytes c = omega (arith, c .before .word-end .ensures, span-from isWordByte (c .before .before .before .before .args .w .now) (c .before .before .before .before .args .from))
 
 part-same-bytes-start : tie.Need-part-same-bytes-start
 part-same-bytes-start c = omega (arith, c .before .word-end .ensures, span-from isWordByte (c .before .before .before .before .args .w .now) (c .before .before .before .before .args .from))
-
-part-same-bytes-end : tie.Need-part-same-bytes-end
-part-same-bytes-end c = search needs
-
-same-bytes-requires : tie.Need-same-bytes-requires
-same-bytes-requires c κs = search needs
-
-slice-aggregate-same-bytes : tie.Need-slice-aggregate-same-bytes
-slice-aggregate-same-bytes c = search needs
-
-same-bytes-requires-2 : tie.Need-same-bytes-requires-2
-same-bytes-requires-2 c κs = search needs
 
 returns : tie.Need-returns
 returns c =
@@ -47,12 +32,5 @@ pub word-is-spec : {M : Type 1} → statement M
 word-is-spec =
     tie.close
     (tie.spec
-    word-end-requires
-    sub-same-bytes
-    part-same-bytes-start
-    part-same-bytes-end
-    same-bytes-requires
-    slice-aggregate-same-bytes
-    same-bytes-requires-2
-    returns
-    returns-2)
+    (λ c κs. search needs) sub-same-bytes part-same-bytes-start (λ c. search needs) (λ c κs. search needs) (λ c. search needs) (λ c κs. search needs)
+    returns returns-2)

@@ -12,9 +12,6 @@ use Rattle.framing.proofs.due.Tie as tie
 returns : tie.Need-returns
 returns c = let a = c .before .before .before .args in due-missing (a .s .now) (a .w .now) (a .at) (c .if1 .taken)
 
-is-line-requires : tie.Need-is-line-requires
-is-line-requires c κs = search needs
-
 returns-2 : tie.Need-returns-2
 returns-2 c =
     let i = c .before in
@@ -48,4 +45,6 @@ returns-3 c =
     due-fine (a .s .now) (a .w .now) (a .at) (e .if1 .left) (sym (i .is-line .ensures) ∙ not-false _ (c .if2 .left))
 
 pub due-spec : {M : Type 1} → statement M
-due-spec = tie.close (tie.spec returns is-line-requires returns-2 add-t8 add-t9 returns-3)
+due-spec = tie.close
+    (tie.spec
+    returns (λ c κs. search needs) returns-2 add-t8 add-t9 returns-3)

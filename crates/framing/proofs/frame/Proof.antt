@@ -1,7 +1,7 @@
 -- `framing::frame` meets its contract: three lines, one behind the other. Assumes nothing.
 use borrow.Author.Needs.{needs}
-use mathlib.Core.Path.{_≡_, sym, subst}
-use mathlib.Core.List.{List, [], _∷_, _++_}
+use mathlib.Core.Path.{sym, subst}
+use mathlib.Core.List.{List, _++_}
 use Prim.Native.Nat.{ℕ}
 use Rattle.model.specs.Text.{text}
 use Rattle.model.specs.Netlist.{outName}
@@ -10,12 +10,6 @@ use Rattle.framing.proofs.Names.{frame-is}
 use Rattle.framing.proofs.Lines.{first-broken, second-broken, three-lines}
 use Rattle.framing.proofs.frame.Statement.{statement}
 use Rattle.framing.proofs.frame.Tie as tie
-
-slice-aggregate-due : tie.Need-slice-aggregate-due
-slice-aggregate-due c = search needs
-
-due-requires : tie.Need-due-requires
-due-requires c κs = search needs
 
 returns : tie.Need-returns
 unfolding text
@@ -58,10 +52,4 @@ pub frame-spec : {M : Type 1} → statement M
 frame-spec =
     tie.close
     (tie.spec
-    slice-aggregate-due
-    due-requires
-    returns
-    inputs-due-requires
-    returns-2
-    outputs-due-requires
-    returns-3)
+    (λ c. search needs) (λ c κs. search needs) returns inputs-due-requires returns-2 outputs-due-requires returns-3)

@@ -1,10 +1,10 @@
 -- `framing::inputs_due` meets its contract: the line that is due is printed. Assumes nothing.
 use borrow.Author.Needs.{needs}
-use mathlib.Core.Path.{_≡_, sym, ap, _∙_, subst}
+use mathlib.Core.Path.{sym, subst}
 use mathlib.Core.List.{List, []}
-use Prim.Native.Nat.{ℕ, _+_, _*_, _≤_}
+use Prim.Native.Nat.{ℕ, _+_, _≤_}
 use native.Mathlib.Omega.{arith}
-use lib.ListN.{length, getD, replicate, length-replicate}
+use lib.ListN.{length, replicate, length-replicate}
 use lib.Seq.{length-take-le}
 use Rattle.model.specs.Text.{text}
 use Rattle.words.specs.Layout.{slotAddr}
@@ -25,18 +25,6 @@ fits c =
       c .before .before .pre .3,
       inputs-short (a .work .now) (a .m) (λ i. let z = c .shared-slice-known2 .given (slotAddr (a .m) (i + 1)) in omega arith) (a .n),
     )
-
-slice-aggregate-put-bytes : tie.Need-slice-aggregate-put-bytes
-slice-aggregate-put-bytes c = search needs
-
-slice-aggregate-put-bytes-2 : tie.Need-slice-aggregate-put-bytes-2
-slice-aggregate-put-bytes-2 c = search needs
-
-put-bytes-requires : tie.Need-put-bytes-requires
-put-bytes-requires c κs = search needs
-
-slice-aggregate-put-inputs : tie.Need-slice-aggregate-put-inputs
-slice-aggregate-put-inputs c = search needs
 
 put-inputs-requires : tie.Need-put-inputs-requires
 unfolding text
@@ -61,9 +49,6 @@ slice-aggregate-due c =
     let o = c .before .before in
     sym (length-take-le (o .put-inputs .result) (o .put-inputs .last .1 .1 .1 .0) (array-share-prefix-line (c .before)))
 
-due-requires : tie.Need-due-requires
-due-requires c κs = search needs
-
 returns : tie.Need-returns
 unfolding text
 returns c =
@@ -79,12 +64,5 @@ pub inputs-due-spec : {M : Type 1} → statement M
 inputs-due-spec =
     tie.close
     (tie.spec
-    slice-aggregate-put-bytes
-    slice-aggregate-put-bytes-2
-    put-bytes-requires
-    slice-aggregate-put-inputs
-    put-inputs-requires
-    array-share-prefix-line
-    slice-aggregate-due
-    due-requires
-    returns)
+    (λ c. search needs) (λ c. search needs) (λ c κs. search needs) (λ c. search needs) put-inputs-requires array-share-prefix-line
+    slice-aggregate-due (λ c κs. search needs) returns)

@@ -10,9 +10,6 @@ use Rattle.framing.proofs.Seen.{line-not, line-is, stop-from, stop-fits
 use Rattle.framing.proofs.is_line.Statement.{statement}
 use Rattle.framing.proofs.is_line.Tie as tie
 
-line-requires : tie.Need-line-requires
-line-requires c κs = search needs
-
 sub-if1 : tie.Need-sub-if1
 sub-if1 c = let n = c .before in let a = n .before .before .before .args in omega (arith, stop-next (a .s .now) (a .at) (n .line .result) (n .line .ensures))
 
@@ -31,9 +28,6 @@ part-same-bytes-start c = let n = c .before .before in let a = n .before .before
 part-same-bytes-end : tie.Need-part-same-bytes-end
 part-same-bytes-end c = let n = c .before .before in let b = n .before .before .before in omega (arith, stop-fits (b .args .s .now) (b .args .at) (n .line .result) (n .line .ensures) (b .pre))
 
-same-bytes-requires : tie.Need-same-bytes-requires
-same-bytes-requires c κs = search needs
-
 returns-2 : tie.Need-returns-2
 returns-2 c =
     let e = c .before .before in
@@ -49,11 +43,4 @@ pub is-line-spec : {M : Type 1} → statement M
 is-line-spec =
     tie.close
     (tie.spec
-    line-requires
-    sub-if1
-    returns
-    sub-same-bytes
-    part-same-bytes-start
-    part-same-bytes-end
-    same-bytes-requires
-    returns-2)
+    (λ c κs. search needs) sub-if1 returns sub-same-bytes part-same-bytes-start part-same-bytes-end (λ c κs. search needs) returns-2)

@@ -1,8 +1,8 @@
 -- `framing::outputs_due` meets its contract: the line that is due is printed. Assumes nothing.
 use borrow.Author.Needs.{needs}
-use mathlib.Core.Path.{_≡_, sym, ap, _∙_, subst}
+use mathlib.Core.Path.{sym, subst}
 use mathlib.Core.List.{List, []}
-use Prim.Native.Nat.{ℕ, _+_, _*_, _≤_}
+use Prim.Native.Nat.{ℕ, _+_, _≤_}
 use native.Mathlib.Omega.{arith}
 use lib.ListN.{length, replicate, length-replicate}
 use lib.Seq.{length-take-le}
@@ -18,18 +18,6 @@ use Rattle.framing.proofs.outputs_due.Tie as tie
 fits : (n : ℕ) → n ≤ 4096 → length (text ".outputs") + length (namesFrom outName 0 n) ≤ length {A = ℕ} (replicate 28680 0)
 unfolding text
 fits n h = omega (arith, length-replicate {A = ℕ} 28680 0, outs-short n h)
-
-slice-aggregate-put-bytes : tie.Need-slice-aggregate-put-bytes
-slice-aggregate-put-bytes c = search needs
-
-slice-aggregate-put-bytes-2 : tie.Need-slice-aggregate-put-bytes-2
-slice-aggregate-put-bytes-2 c = search needs
-
-put-bytes-requires : tie.Need-put-bytes-requires
-put-bytes-requires c κs = search needs
-
-slice-aggregate-put-outputs : tie.Need-slice-aggregate-put-outputs
-slice-aggregate-put-outputs c = search needs
 
 put-outputs-requires : tie.Need-put-outputs-requires
 unfolding text
@@ -51,9 +39,6 @@ slice-aggregate-due c =
     let o = c .before .before in
     sym (length-take-le (o .put-outputs .result) (o .put-outputs .last .1 .0) (array-share-prefix-line (c .before)))
 
-due-requires : tie.Need-due-requires
-due-requires c κs = search needs
-
 returns : tie.Need-returns
 unfolding text
 returns c =
@@ -68,12 +53,5 @@ pub outputs-due-spec : {M : Type 1} → statement M
 outputs-due-spec =
     tie.close
     (tie.spec
-    slice-aggregate-put-bytes
-    slice-aggregate-put-bytes-2
-    put-bytes-requires
-    slice-aggregate-put-outputs
-    put-outputs-requires
-    array-share-prefix-line
-    slice-aggregate-due
-    due-requires
-    returns)
+    (λ c. search needs) (λ c. search needs) (λ c κs. search needs) (λ c. search needs) put-outputs-requires array-share-prefix-line
+    slice-aggregate-due (λ c κs. search needs) returns)

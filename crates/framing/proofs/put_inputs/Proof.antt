@@ -1,6 +1,6 @@
 -- `framing::put_inputs` meets its contract. The invariant: the first i names are written. The measure is the number of names left. Assumes nothing.
-use mathlib.Core.Path.{_≡_, refl, sym, ap, _∙_}
-use mathlib.Core.List.{List, _∷_, [], _++_}
+use mathlib.Core.Path.{_≡_, sym, ap, _∙_}
+use mathlib.Core.List.{List, _∷_, _++_}
 use Prim.Native.Nat.{ℕ, _+_, _-_, _≤_}
 use native.Mathlib.Omega.{arith}
 use Rattle.model.specs.Text.{decimal}
@@ -39,9 +39,6 @@ loop-holds c =
     let e : a .n ≡ a .n - 0 = omega arith in
     (omega arith, begin (a .out .now) (a .at) (ap (namesFrom (inputName (a .work .now) (a .m)) 0) e))
 
-add-slot : tie.Need-add-slot Inv-loop μ-loop
-add-slot c = omega arith
-
 slot-requires : tie.Need-slot-requires Inv-loop μ-loop
 slot-requires c κs = let s = c .before .before .before .before in (s .pre .0, omega (arith, s .pre .1, c .loop-test .taken))
 
@@ -57,12 +54,6 @@ put-word-requires c κs =
     let t = c .before in
     let l = t .before .before in
     room (l .before .before .before .pre .2) (l .loop .inv .1) (32 ∷ 112 ∷ decimal (t .slot .result)) (later t) (next-name t)
-
-add-i : tie.Need-add-i Inv-loop μ-loop
-add-i c = omega arith
-
-loop-less : tie.Need-loop-less Inv-loop μ-loop
-loop-less c = omega arith
 
 loop-again : tie.Need-loop-again Inv-loop μ-loop
 loop-again c =
@@ -83,15 +74,5 @@ pub put-inputs-spec : {M : Type 1} → statement M
 put-inputs-spec =
     tie.close
     (tie.spec
-    Inv-loop
-    μ-loop
-    loop-holds
-    add-slot
-    slot-requires
-    cast-put-word
-    put-word-requires
-    add-i
-    loop-less
-    loop-again
-    same-length
-    returns)
+    Inv-loop μ-loop loop-holds (λ c. omega arith) slot-requires cast-put-word put-word-requires (λ c. omega arith) (λ c. omega arith) loop-again
+    same-length returns)

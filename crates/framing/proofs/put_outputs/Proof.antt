@@ -1,6 +1,6 @@
 -- `framing::put_outputs` meets its contract. The invariant: the first i names are written. The measure is the number of names left. Assumes nothing.
-use mathlib.Core.Path.{_≡_, refl, ap, _∙_}
-use mathlib.Core.List.{List, _∷_, [], _++_}
+use mathlib.Core.Path.{_≡_, ap, _∙_}
+use mathlib.Core.List.{List, _∷_, _++_}
 use Prim.Native.Nat.{ℕ, _+_, _-_, _≤_}
 use native.Mathlib.Omega.{arith}
 use Rattle.model.specs.Text.{decimal}
@@ -43,12 +43,6 @@ put-word-requires c κs =
     let s = t .before .before .before in
     room (s .pre .1) (t .before .loop .inv .1) (32 ∷ 111 ∷ decimal (t .before .loop .i)) (later (s .args .n) (t .before .loop .i)) (next-name t)
 
-add-i : tie.Need-add-i Inv-loop μ-loop
-add-i c = omega arith
-
-loop-less : tie.Need-loop-less Inv-loop μ-loop
-loop-less c = omega arith
-
 loop-again : tie.Need-loop-again Inv-loop μ-loop
 loop-again c =
     let p = c .before .before in
@@ -66,13 +60,4 @@ pub put-outputs-spec : {M : Type 1} → statement M
 put-outputs-spec =
     tie.close
     (tie.spec
-    Inv-loop
-    μ-loop
-    loop-holds
-    cast-put-word
-    put-word-requires
-    add-i
-    loop-less
-    loop-again
-    same-length
-    returns)
+    Inv-loop μ-loop loop-holds cast-put-word put-word-requires (λ c. omega arith) (λ c. omega arith) loop-again same-length returns)

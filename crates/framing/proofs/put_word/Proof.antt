@@ -15,20 +15,11 @@ one c =
     let s = c .before .before .before .before in
     step (s .pre) (begin (s .args .out .now) (s .args .at) refl) (c .put-bytes .last .0) (c .put-bytes .result) (32 ∷ s .args .letter ∷ []) (decimal (s .args .n)) refl (c .put-bytes .ensures)
 
-slice-aggregate-put-bytes : tie.Need-slice-aggregate-put-bytes
-slice-aggregate-put-bytes c = search needs
-
-put-bytes-requires : tie.Need-put-bytes-requires
-put-bytes-requires c κs = omega arith
-
 put-number-requires : tie.Need-put-number-requires
 put-number-requires c κs =
     let p = c .before .before .before in
     let s = p .before .before .before .before in
     room (s .pre) (one p) (decimal (s .args .n)) [] (sym (append-nil (decimal (s .args .n))))
-
-same-length : tie.Need-same-length
-same-length c = search needs
 
 returns : tie.Need-returns
 returns c =
@@ -39,4 +30,5 @@ returns c =
 pub put-word-spec : {M : Type 1} → statement M
 put-word-spec =
     tie.close
-    (tie.spec slice-aggregate-put-bytes put-bytes-requires put-number-requires same-length returns)
+    (tie.spec
+    (λ c. search needs) (λ c κs. omega arith) put-number-requires (λ c. search needs) returns)

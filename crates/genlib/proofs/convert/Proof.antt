@@ -4,7 +4,9 @@ use native.Mathlib.Omega.{arith}
 use lib.ListN.{length}
 use Rattle.model.specs.Genlib.{readGenlib}
 use Rattle.model.specs.declared.Written.the-variants.{Length}
+use Rattle.model.proofs.Answers.{written-ruled}
 use Rattle.theory_genlib.proofs.Demanded.{demand-genlib}
+use Rattle.theory_foundry.proofs.TextExactly.{demand-genlib-refusals}
 use Rattle.genlib.specs.Passes.{measured, textFor}
 use Rattle.genlib.proofs.Passing.{too-long, refused, over, fine, text-long, refuses, writes}
 use borrow.Author.Needs.{needs}
@@ -22,20 +24,14 @@ returns : tie.Need-returns
 returns c =
     let a = c .before .before .before .args in
     let r = refuses _ 1 0 (a .text .now) (too-long (a .genlib .now) (length (a .text .now)) (c .if1 .taken)) in
-    (r .0, (r .1, demand-genlib _ _))
-
-measure-requires : tie.Need-measure-requires
-measure-requires c κs = search needs
-
-enum-known-n : tie.Need-enum-known-n
-enum-known-n c = search needs
+    (r .0, (r .1, (demand-genlib _ _, (demand-genlib-refusals _ _, written-ruled _ _ (r .0)))))
 
 returns-2 : tie.Need-returns-2
 returns-2 c =
     let k = c .before in
     let a = start k .args in
     let r = refuses _ 18 _ (a .text .now) (over (a .genlib .now) (length (a .text .now)) (k .before .before .before .before .if1 .left) _ (long k) (c .if2 .taken)) in
-    (r .0, (r .1, demand-genlib _ _))
+    (r .0, (r .1, (demand-genlib _ _, (demand-genlib-refusals _ _, written-ruled _ _ (r .0)))))
 
 write-requires : tie.Need-write-requires
 write-requires c κs =
@@ -45,12 +41,6 @@ write-requires c κs =
     let short = k .before .before .before .before .if1 .left in
     (short, omega (arith, e .if2 .left, text-long (a .genlib .now) (length (a .text .now)) short _ (long k)))
 
-enum-known-number : tie.Need-enum-known-number
-enum-known-number c = search needs
-
-same-length : tie.Need-same-length
-same-length c = search needs
-
 returns-3 : tie.Need-returns-3
 returns-3 c =
     let p = c .before .before in
@@ -59,7 +49,7 @@ returns-3 c =
     let a = start k .args in
     let short = k .before .before .before .before .if1 .left in
     let r = writes _ (textFor (a .genlib .now)) (a .text .now) (p .write .last .1 .0) (p .write .result) (fine (a .genlib .now) (length (a .text .now)) short _ (long k) (e .if2 .left)) (p .write .ensures) in
-    (r .0, (r .1, demand-genlib _ _))
+    (r .0, (r .1, (demand-genlib _ _, (demand-genlib-refusals _ _, written-ruled _ _ (r .0)))))
 
 returns-4 : tie.Need-returns-4
 returns-4 c =
@@ -67,18 +57,10 @@ returns-4 c =
     let a = m .before .before .before .before .args in
     let n = c .before .number .given in
     let r = refuses _ (n .0 .0) (n .0 .1 .0) (a .text .now) (refused (a .genlib .now) (length (a .text .now)) (m .before .if1 .left) _ _ (sym (m .measure .ensures) ∙ n .1)) in
-    (r .0, (r .1, demand-genlib _ _))
+    (r .0, (r .1, (demand-genlib _ _, (demand-genlib-refusals _ _, written-ruled _ _ (r .0)))))
 
 pub convert-spec : {M : Type 1} → statement M
 convert-spec =
     tie.close
     (tie.spec
-    returns
-    measure-requires
-    enum-known-n
-    returns-2
-    write-requires
-    enum-known-number
-    same-length
-    returns-3
-    returns-4)
+    returns (λ c κs. search needs) (λ c. search needs) returns-2 write-requires (λ c. search needs) (λ c. search needs) returns-3 returns-4)

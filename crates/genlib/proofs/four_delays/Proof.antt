@@ -43,41 +43,8 @@ third c = value-some _ _ (sym (c .before .d2 .given .1) ∙ c .before .before .b
 fourth : (c : tie.After-known-told4) → pinDelay (lines (start4 c)) (names (start4 c)) 3 ≡ some (c .before .d3 .given .0 .0)
 fourth c = value-some _ _ (sym (c .before .d3 .given .1) ∙ c .before .before .before .pin-delay4 .ensures)
 
-pin-delay-requires : tie.Need-pin-delay-requires
-pin-delay-requires c κs = search needs
-
-enum-known-d0 : tie.Need-enum-known-d0
-enum-known-d0 c = search needs
-
-pin-delay-requires-2 : tie.Need-pin-delay-requires-2
-pin-delay-requires-2 c κs = search needs
-
-enum-known-d1 : tie.Need-enum-known-d1
-enum-known-d1 c = search needs
-
-pin-delay-requires-3 : tie.Need-pin-delay-requires-3
-pin-delay-requires-3 c κs = search needs
-
-enum-known-d2 : tie.Need-enum-known-d2
-enum-known-d2 c = search needs
-
-pin-delay-requires-4 : tie.Need-pin-delay-requires-4
-pin-delay-requires-4 c κs = search needs
-
-enum-known-d3 : tie.Need-enum-known-d3
-enum-known-d3 c = search needs
-
 enum-told : tie.Need-enum-told
 enum-told c = search needs
-
-enum-told-2 : tie.Need-enum-told-2
-enum-told-2 c = search needs
-
-enum-told-3 : tie.Need-enum-told-3
-enum-told-3 c = search needs
-
-enum-told-4 : tie.Need-enum-told-4
-enum-told-4 c = search needs
 
 returns : tie.Need-returns
 returns c =
@@ -117,20 +84,6 @@ pub four-delays-spec : {M : Type 1} → statement M
 four-delays-spec =
     tie.close
     (tie.spec
-    pin-delay-requires
-    enum-known-d0
-    pin-delay-requires-2
-    enum-known-d1
-    pin-delay-requires-3
-    enum-known-d2
-    pin-delay-requires-4
-    enum-known-d3
-    enum-told
-    enum-told-2
-    enum-told-3
-    enum-told-4
-    returns
-    returns-2
-    returns-3
-    returns-4
-    returns-5)
+    (λ c κs. search needs) (λ c. search needs) (λ c κs. search needs) (λ c. search needs) (λ c κs. search needs) (λ c. search needs)
+    (λ c κs. search needs) (λ c. search needs) enum-told (λ c. search needs) (λ c. search needs) (λ c. search needs) returns returns-2 returns-3
+    returns-4 returns-5)

@@ -38,41 +38,8 @@ area c = value-some _ _ (sym (c .before .before .area .given .1) ∙ c .before .
 delays : (c : tie.After-four-delays) → delaysOf (lines (measured c)) (pinsOf (drop 5 (ts (measured c)))) ≡ delaysIn (c .four-delays .result)
 delays c = ap (delaysOf (lines (measured c))) (sym (measured c .pre .2 .names)) ∙ sym (c .four-delays .ensures)
 
-nth-requires : tie.Need-nth-requires
-nth-requires c κs = search needs
-
-nth-requires-2 : tie.Need-nth-requires-2
-nth-requires-2 c κs = search needs
-
-figure-at-requires : tie.Need-figure-at-requires
-figure-at-requires c κs = search needs
-
-enum-known-area : tie.Need-enum-known-area
-enum-known-area c = search needs
-
-four-delays-requires : tie.Need-four-delays-requires
-four-delays-requires c κs = search needs
-
-enum-known-d0 : tie.Need-enum-known-d0
-enum-known-d0 c = search needs
-
-table-requires : tie.Need-table-requires
-table-requires c κs = search needs
-
-add-t18 : tie.Need-add-t18
-add-t18 c = search needs
-
-add-t19 : tie.Need-add-t19
-add-t19 c = search needs
-
-cast-t20 : tie.Need-cast-t20
-cast-t20 c = search needs
-
 enum-told : tie.Need-enum-told
 enum-told c = search needs
-
-enum-told-2 : tie.Need-enum-told-2
-enum-told-2 c = search needs
 
 returns : tie.Need-returns
 returns c =
@@ -111,18 +78,5 @@ pub gate-of-spec : {M : Type 1} → statement M
 gate-of-spec =
     tie.close
     (tie.spec
-    nth-requires
-    nth-requires-2
-    figure-at-requires
-    enum-known-area
-    four-delays-requires
-    enum-known-d0
-    table-requires
-    add-t18
-    add-t19
-    cast-t20
-    enum-told
-    enum-told-2
-    returns
-    returns-2
-    returns-3)
+    (λ c κs. search needs) (λ c κs. search needs) (λ c κs. search needs) (λ c. search needs) (λ c κs. search needs) (λ c. search needs)
+    (λ c κs. search needs) (λ c. search needs) (λ c. search needs) (λ c. search needs) enum-told (λ c. search needs) returns returns-2 returns-3)

@@ -19,9 +19,6 @@ line c = bounded _ _ (c .before .before .pre .0) _ (c .line .ensures)
 has-end : (c : tie.Else1) → ended (lineAt (c .before .before .before .before .args .s .now) (c .before .before .before .before .args .at)) ≡ true
 has-end c = let b = line (c .before .before) in sym (b .ends) ∙ apart _ _ (b .ordered) (c .if1 .left)
 
-line-requires : tie.Need-line-requires
-line-requires c κs = search needs
-
 returns : tie.Need-returns
 returns c =
     let l = c .before .before .line .result in
@@ -73,15 +70,5 @@ pub judge-spec : {M : Type 1} → statement M
 judge-spec =
     tie.close
     (tie.spec
-    line-requires
-    returns
-    sub-is-group
-    part-is-group-start
-    part-is-group-end
-    is-group-requires
-    returns-2
-    sub-sized-gate
-    part-sized-gate-start
-    part-sized-gate-end
-    sized-gate-requires
-    returns-3)
+    (λ c κs. search needs) returns sub-is-group part-is-group-start part-is-group-end is-group-requires returns-2 sub-sized-gate
+    part-sized-gate-start part-sized-gate-end sized-gate-requires returns-3)

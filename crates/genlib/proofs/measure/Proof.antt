@@ -35,9 +35,6 @@ loop-holds c = (omega arith, omega arith, ap (measured 33) (read-start (c .befor
 judge-requires : tie.Need-judge-requires Inv-loop μ-loop
 judge-requires c κs = (c .loop-test .taken, c .before .before .before .pre)
 
-enum-known-g : tie.Need-enum-known-g Inv-loop μ-loop
-enum-known-g c = search needs
-
 gate-len-requires : tie.Need-gate-len-requires Inv-loop μ-loop
 gate-len-requires c κs = (gate c .0, omega (arith, gate c .1, turn c .before .before .before .pre))
 
@@ -70,9 +67,6 @@ loop-again c =
           ∙ ap (λ (n : ℕ). measured (l .len + n) (readGroups rest)) (sym (c .before .gate-len .ensures .0 s (gate k .1))),
     )
 
-enum-known-number : tie.Need-enum-known-number Inv-loop μ-loop
-enum-known-number c = search needs
-
 returns : tie.Need-returns Inv-loop μ-loop
 returns c =
     let j = c .before .before .before in
@@ -92,16 +86,5 @@ pub measure-spec : {M : Type 1} → statement M
 measure-spec =
     tie.close
     (tie.spec
-    Inv-loop
-    μ-loop
-    loop-holds
-    judge-requires
-    enum-known-g
-    gate-len-requires
-    add-len
-    group-end-requires
-    loop-less
-    loop-again
-    enum-known-number
-    returns
-    returns-2)
+    Inv-loop μ-loop loop-holds judge-requires (λ c. search needs) gate-len-requires add-len group-end-requires loop-less loop-again
+    (λ c. search needs) returns returns-2)

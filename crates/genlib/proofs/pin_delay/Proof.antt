@@ -9,15 +9,6 @@ use borrow.Author.Needs.{needs}
 use Rattle.genlib.proofs.pin_delay.Statement.{statement}
 use Rattle.genlib.proofs.pin_delay.Tie as tie
 
-mul-at : tie.Need-mul-at
-mul-at c = search needs
-
-element-copy-out-at : tie.Need-element-copy-out-at
-element-copy-out-at c = search needs
-
-delay-named-requires : tie.Need-delay-named-requires
-delay-named-requires c κs = search needs
-
 returns : tie.Need-returns
 returns c =
     let h = c .before .before .if1 .taken in
@@ -33,4 +24,6 @@ returns-2 c =
 
 pub pin-delay-spec : {M : Type 1} → statement M
 pin-delay-spec =
-    tie.close (tie.spec mul-at element-copy-out-at delay-named-requires returns returns-2)
+    tie.close
+    (tie.spec
+    (λ c. search needs) (λ c. search needs) (λ c κs. search needs) returns returns-2)

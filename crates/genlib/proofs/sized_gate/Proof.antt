@@ -32,21 +32,12 @@ names c h = c .find-pins .ensures .1 .few h ∙ ap pinsOf (c .before .nth .ensur
 few : (c : tie.After-find-pins) → c .find-pins .result .n ≤ 4 → length (pinsOf (drop 5 (ts (start c)))) ≤ 4
 few c h = omega (arith, ap length (names c h), length-names (start c .args .w .now) (c .find-pins .result))
 
-nth-requires : tie.Need-nth-requires
-nth-requires c κs = search needs
-
-find-pins-requires : tie.Need-find-pins-requires
-find-pins-requires c κs = search needs
-
 returns : tie.Need-returns
 returns c =
     let f = c .before .before in
     let s = start f in
     let many = f .find-pins .ensures .1 .many (c .if1 .taken) in
     (tt, sym (sized-many (lines s) (ts s) (s .args .at) (subst (λ (x : List (List ℕ)). 4 < length (pinsOf x)) (f .before .nth .ensures .rest) many)))
-
-is-shallow-requires : tie.Need-is-shallow-requires
-is-shallow-requires c κs = search needs
 
 returns-2 : tie.Need-returns-2
 returns-2 c =
@@ -76,10 +67,4 @@ pub sized-gate-spec : {M : Type 1} → statement M
 sized-gate-spec =
     tie.close
     (tie.spec
-    nth-requires
-    find-pins-requires
-    returns
-    is-shallow-requires
-    returns-2
-    gate-of-requires
-    returns-3)
+    (λ c κs. search needs) (λ c κs. search needs) returns (λ c κs. search needs) returns-2 gate-of-requires returns-3)

@@ -29,9 +29,6 @@ start c = c .before .before .before .before .before
 names : (c : tie.After-put-bytes) → Partly (start c .args .out .now) (c .put-bytes .last .0) 0 (c .put-bytes .result) (textFor (start c .args .s .now)) (lines (start c))
 names c = let s = start c in step (fits s) (none s) (c .put-bytes .last .0) (c .put-bytes .result) namesLine (lines s) refl (c .put-bytes .ensures)
 
-slice-aggregate-put-bytes : tie.Need-slice-aggregate-put-bytes
-slice-aggregate-put-bytes c = search needs
-
 put-bytes-requires : tie.Need-put-bytes-requires
 put-bytes-requires c κs = let s = c .before .before .before .before in room (fits s) (none s) namesLine (lines s) refl
 
@@ -40,9 +37,6 @@ write-gates-requires c κs =
     let p = c .before .before .before in
     let s = start p in
     (s .pre .0, room (fits s) (names p) (lines s) [] (sym (append-nil (lines s))))
-
-same-length : tie.Need-same-length
-same-length c = search needs
 
 returns : tie.Need-returns
 returns c =
@@ -53,8 +47,4 @@ pub write-spec : {M : Type 1} → statement M
 write-spec =
     tie.close
     (tie.spec
-    slice-aggregate-put-bytes
-    put-bytes-requires
-    write-gates-requires
-    same-length
-    returns)
+    (λ c. search needs) put-bytes-requires write-gates-requires (λ c. search needs) returns)

@@ -23,12 +23,6 @@ start c = c .before .before .before .before .before .before
 line : (c : tie.After-known-told) → lineOf (groupAt (start c .args .s .now) (start c .args .at)) ≡ gateText (gateIn (start c .args .s .now) (c .before .g .given .0 .0))
 line c = let a = start c .args in line-held (groupAt (a .s .now) (a .at)) _ (sym (c .before .before .before .judge .ensures .1) ∙ ap (judgedRead (a .s .now) (a .at)) (c .before .g .given .1))
 
-judge-requires : tie.Need-judge-requires
-judge-requires c κs = search needs
-
-enum-known-g : tie.Need-enum-known-g
-enum-known-g c = search needs
-
 put-gate-requires : tie.Need-put-gate-requires
 put-gate-requires c κs =
     let k = c .before in
@@ -36,9 +30,6 @@ put-gate-requires c κs =
 
 enum-told : tie.Need-enum-told
 enum-told c = search needs
-
-same-length : tie.Need-same-length
-same-length c = search needs
 
 returns : tie.Need-returns
 returns c =
@@ -57,10 +48,4 @@ pub write-gate-spec : {M : Type 1} → statement M
 write-gate-spec =
     tie.close
     (tie.spec
-    judge-requires
-    enum-known-g
-    put-gate-requires
-    enum-told
-    same-length
-    returns
-    returns-2)
+    (λ c κs. search needs) (λ c. search needs) put-gate-requires enum-told (λ c. search needs) returns returns-2)

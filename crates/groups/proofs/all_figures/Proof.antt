@@ -21,20 +21,8 @@ abbrev μ-loop : tie.MeasureT-loop
 loop-holds : tie.Need-loop-holds Inv-loop μ-loop
 loop-holds c = (c .before .pre, refl)
 
-next-token-requires : tie.Need-next-token-requires Inv-loop μ-loop
-next-token-requires c κs = search needs
-
-sub-is-figure : tie.Need-sub-is-figure Inv-loop μ-loop
-sub-is-figure c = search needs
-
-part-is-figure-start : tie.Need-part-is-figure-start Inv-loop μ-loop
-part-is-figure-start c = search needs
-
 part-is-figure-end : tie.Need-part-is-figure-end Inv-loop μ-loop
 part-is-figure-end c = step _ _ (c .before .before .before .loop .inv .0) _ (c .before .next-token .ensures) .within
-
-is-figure-requires : tie.Need-is-figure-requires Inv-loop μ-loop
-is-figure-requires c κs = search needs
 
 returns : tie.Need-returns Inv-loop μ-loop
 unfolding all
@@ -61,17 +49,5 @@ pub all-figures-spec : {M : Type 1} → statement M
 all-figures-spec =
     tie.close
     (tie.spec
-    Inv-loop
-    μ-loop
-    loop-holds
-    next-token-requires
-    sub-is-figure
-    part-is-figure-start
-    part-is-figure-end
-    is-figure-requires
-    returns
-    loop-less
-    loop-again
-    loop-less-2
-    loop-again-2
-    returns-2)
+    Inv-loop μ-loop loop-holds (λ c κs. search needs) (λ c. search needs) (λ c. search needs) part-is-figure-end (λ c κs. search needs) returns
+    loop-less loop-again loop-less-2 loop-again-2 returns-2)

@@ -22,9 +22,6 @@ abbrev μ-loop : tie.MeasureT-loop
 loop-holds : tie.Need-loop-holds Inv-loop μ-loop
 loop-holds c = (c .before .before .pre .0, c .before .before .pre .1, refl)
 
-next-token-requires : tie.Need-next-token-requires Inv-loop μ-loop
-next-token-requires c κs = search needs
-
 sub-has-line : tie.Need-sub-has-line Inv-loop μ-loop
 sub-has-line c = step _ _ (c .before .before .loop .inv .1) _ (c .next-token .ensures) .ordered
 
@@ -54,15 +51,5 @@ pub all-have-lines-spec : {M : Type 1} → statement M
 all-have-lines-spec =
     tie.close
     (tie.spec
-    Inv-loop
-    μ-loop
-    loop-holds
-    next-token-requires
-    sub-has-line
-    part-has-line-start
-    part-has-line-end
-    has-line-requires
-    returns
-    loop-less
-    loop-again
-    returns-2)
+    Inv-loop μ-loop loop-holds (λ c κs. search needs) sub-has-line part-has-line-start part-has-line-end has-line-requires returns loop-less
+    loop-again returns-2)

@@ -22,9 +22,6 @@ abbrev μ-loop : tie.MeasureT-loop
 loop-holds : tie.Need-loop-holds Inv-loop μ-loop
 loop-holds c = (c .before .pre, refl)
 
-line-requires : tie.Need-line-requires Inv-loop μ-loop
-line-requires c κs = search needs
-
 sub-names-gate : tie.Need-sub-names-gate Inv-loop μ-loop
 sub-names-gate c = bounded _ _ (c .before .loop-test .taken) _ (c .line .ensures) .starts
 
@@ -33,9 +30,6 @@ part-names-gate-start c = bounded _ _ (c .before .loop-test .taken) _ (c .line .
 
 part-names-gate-end : tie.Need-part-names-gate-end Inv-loop μ-loop
 part-names-gate-end c = bounded _ _ (c .before .loop-test .taken) _ (c .line .ensures) .stopped
-
-names-gate-requires : tie.Need-names-gate-requires Inv-loop μ-loop
-names-gate-requires c κs = search needs
 
 returns : tie.Need-returns Inv-loop μ-loop
 unfolding all
@@ -62,9 +56,6 @@ part-is-pin-line-start c = let p = c .before .before .before .before .before in 
 
 part-is-pin-line-end : tie.Need-part-is-pin-line-end Inv-loop μ-loop
 part-is-pin-line-end c = let p = c .before .before .before .before .before in bounded _ _ (p .before .loop-test .taken) _ (p .line .ensures) .stopped
-
-is-pin-line-requires : tie.Need-is-pin-line-requires Inv-loop μ-loop
-is-pin-line-requires c κs = search needs
 
 returns-3 : tie.Need-returns-3 Inv-loop μ-loop
 unfolding all
@@ -100,21 +91,5 @@ pub all-pin-lines-spec : {M : Type 1} → statement M
 all-pin-lines-spec =
     tie.close
     (tie.spec
-    Inv-loop
-    μ-loop
-    loop-holds
-    line-requires
-    sub-names-gate
-    part-names-gate-start
-    part-names-gate-end
-    names-gate-requires
-    returns
-    returns-2
-    sub-is-pin-line
-    part-is-pin-line-start
-    part-is-pin-line-end
-    is-pin-line-requires
-    returns-3
-    loop-less
-    loop-again
-    returns-4)
+    Inv-loop μ-loop loop-holds (λ c κs. search needs) sub-names-gate part-names-gate-start part-names-gate-end (λ c κs. search needs) returns
+    returns-2 sub-is-pin-line part-is-pin-line-start part-is-pin-line-end (λ c κs. search needs) returns-3 loop-less loop-again returns-4)

@@ -5,9 +5,6 @@ use borrow.Author.Needs.{needs}
 use Rattle.groups.proofs.decimal.Statement.{statement}
 use Rattle.groups.proofs.decimal.Tie as tie
 
-shared-slice-read-result : tie.Need-shared-slice-read-result
-shared-slice-read-result c = search needs
-
 returns : tie.Need-returns
 returns c = default-in (c .before .before .args .w .now) _ (c .before .if1 .taken)
 
@@ -15,4 +12,6 @@ returns-2 : tie.Need-returns-2
 returns-2 c = sym (default-out (c .before .args .w .now) _ (c .if1 .left))
 
 pub decimal-spec : {M : Type 1} → statement M
-decimal-spec = tie.close (tie.spec shared-slice-read-result returns returns-2)
+decimal-spec = tie.close
+    (tie.spec
+    (λ c. search needs) returns returns-2)

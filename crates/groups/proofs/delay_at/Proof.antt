@@ -9,9 +9,6 @@ use borrow.Author.Needs.{needs}
 use Rattle.groups.proofs.delay_at.Statement.{statement}
 use Rattle.groups.proofs.delay_at.Tie as tie
 
-line-requires : tie.Need-line-requires
-line-requires c κs = search needs
-
 sub-delay-of : tie.Need-sub-delay-of
 sub-delay-of c = bounded _ _ (c .before .before .pre) _ (c .line .ensures) .starts
 
@@ -20,9 +17,6 @@ part-delay-of-start c = bounded _ _ (c .before .before .pre) _ (c .line .ensures
 
 part-delay-of-end : tie.Need-part-delay-of-end
 part-delay-of-end c = bounded _ _ (c .before .before .pre) _ (c .line .ensures) .stopped
-
-delay-of-requires : tie.Need-delay-of-requires
-delay-of-requires c κs = search needs
 
 returns : tie.Need-returns
 returns c =
@@ -33,9 +27,4 @@ pub delay-at-spec : {M : Type 1} → statement M
 delay-at-spec =
     tie.close
     (tie.spec
-    line-requires
-    sub-delay-of
-    part-delay-of-start
-    part-delay-of-end
-    delay-of-requires
-    returns)
+    (λ c κs. search needs) sub-delay-of part-delay-of-start part-delay-of-end (λ c κs. search needs) returns)

@@ -7,12 +7,6 @@ use borrow.Author.Needs.{needs}
 use Rattle.groups.proofs.delay_for.Statement.{statement}
 use Rattle.groups.proofs.delay_for.Tie as tie
 
-find-line-requires : tie.Need-find-line-requires
-find-line-requires c κs = search needs
-
-delay-at-requires : tie.Need-delay-at-requires
-delay-at-requires c κs = search needs
-
 returns : tie.Need-returns
 returns c = let s = c .before .before .before .before .before .args in c .delay-at .ensures ∙ sym (ap valueIn (delay-found (linesBehind (s .s .now) (s .from)) (s .name .now) (s .s .now) _ (c .before .before .find-line .ensures) (c .before .if1 .taken)))
 
@@ -20,4 +14,6 @@ returns-2 : tie.Need-returns-2
 returns-2 c = let s = c .before .before .before .before .args in sym (ap valueIn (delay-missing (linesBehind (s .s .now) (s .from)) (s .name .now) (s .s .now) _ (c .before .find-line .ensures) (c .if1 .left)))
 
 pub delay-for-spec : {M : Type 1} → statement M
-delay-for-spec = tie.close (tie.spec find-line-requires delay-at-requires returns returns-2)
+delay-for-spec = tie.close
+    (tie.spec
+    (λ c κs. search needs) (λ c κs. search needs) returns returns-2)

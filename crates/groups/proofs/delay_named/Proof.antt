@@ -12,26 +12,11 @@ use borrow.Author.Needs.{needs}
 use Rattle.groups.proofs.delay_named.Statement.{statement}
 use Rattle.groups.proofs.delay_named.Tie as tie
 
-word-end-requires : tie.Need-word-end-requires
-word-end-requires c κs = search needs
-
 sub-delay-for : tie.Need-sub-delay-for
 sub-delay-for c = omega (arith, c .before .word-end .ensures, span-from isWordByte (c .before .before .before .before .args .w .now) (c .before .before .before .before .args .at))
 
 part-delay-for-start : tie.Need-part-delay-for-start
 part-delay-for-start c = omega (arith, c .before .word-end .ensures, span-from isWordByte (c .before .before .before .before .args .w .now) (c .before .before .before .before .args .at))
-
-part-delay-for-end : tie.Need-part-delay-for-end
-part-delay-for-end c = search needs
-
-delay-for-requires : tie.Need-delay-for-requires
-delay-for-requires c κs = search needs
-
-slice-aggregate-delay-for : tie.Need-slice-aggregate-delay-for
-slice-aggregate-delay-for c = search needs
-
-delay-for-requires-2 : tie.Need-delay-for-requires-2
-delay-for-requires-2 c κs = search needs
 
 returns : tie.Need-returns
 returns c = let s = c .before .before .before .before .before .before .args in c .delay-for .ensures ∙ ap (λ (x : List ℕ). valueIn (delayFor (linesBehind (s .s .now) (s .from)) x)) (ap (λ (n : ℕ). take (n - s .at) (drop (s .at) (s .w .now))) (c .before .before .before .word-end .ensures) ∙ span-part isWordByte (s .w .now) (s .at))
@@ -43,12 +28,5 @@ pub delay-named-spec : {M : Type 1} → statement M
 delay-named-spec =
     tie.close
     (tie.spec
-    word-end-requires
-    sub-delay-for
-    part-delay-for-start
-    part-delay-for-end
-    delay-for-requires
-    slice-aggregate-delay-for
-    delay-for-requires-2
-    returns
-    returns-2)
+    (λ c κs. search needs) sub-delay-for part-delay-for-start (λ c. search needs) (λ c κs. search needs) (λ c. search needs) (λ c κs. search needs)
+    returns returns-2)

@@ -12,26 +12,8 @@ use borrow.Author.Needs.{needs}
 use Rattle.groups.proofs.delay_of.Statement.{statement}
 use Rattle.groups.proofs.delay_of.Tie as tie
 
-figure-at-requires : tie.Need-figure-at-requires
-figure-at-requires c κs = search needs
-
-enum-known-rise : tie.Need-enum-known-rise
-enum-known-rise c = search needs
-
-figure-at-requires-2 : tie.Need-figure-at-requires-2
-figure-at-requires-2 c κs = search needs
-
-enum-known-fall : tie.Need-enum-known-fall
-enum-known-fall c = search needs
-
-larger-requires : tie.Need-larger-requires
-larger-requires c κs = search needs
-
 enum-told : tie.Need-enum-told
 enum-told c = search needs
-
-enum-told-2 : tie.Need-enum-told-2
-enum-told-2 c = search needs
 
 returns : tie.Need-returns
 unfolding delayOf andThen
@@ -57,13 +39,5 @@ pub delay-of-spec : {M : Type 1} → statement M
 delay-of-spec =
     tie.close
     (tie.spec
-    figure-at-requires
-    enum-known-rise
-    figure-at-requires-2
-    enum-known-fall
-    larger-requires
-    enum-told
-    enum-told-2
-    returns
-    returns-2
-    returns-3)
+    (λ c κs. search needs) (λ c. search needs) (λ c κs. search needs) (λ c. search needs) (λ c κs. search needs) enum-told (λ c. search needs)
+    returns returns-2 returns-3)

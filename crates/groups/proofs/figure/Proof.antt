@@ -26,14 +26,8 @@ number-is w end e n x y z a b d en ex ey ez ea eb ed =
     let g : (((t ++ (x ∷ [])) ++ (y ∷ [])) ++ (z ∷ [])) ≡ t ++ (getD w (end + 1) 48 ∷ getD w (end + 2) 48 ∷ getD w (end + 3) 48 ∷ []) = simp append-assoc (cc) in
     fd ∙ ap (λ (l : List ℕ). min 65536 (asDigits 0 l)) g ∙ ap (min 65536) (sym (three w end e))
 
-is-figure-requires : tie.Need-is-figure-requires
-is-figure-requires c κs = search needs
-
 returns : tie.Need-returns
 returns c = figure-broken _ _ refl (sym (c .before .is-figure .ensures) ∙ not-true _ (c .if1 .taken))
-
-digits-end-requires : tie.Need-digits-end-requires
-digits-end-requires c κs = search needs
 
 add-if2 : tie.Need-add-if2
 add-if2 c = omega (arith, whole-is (c .before .before .before .before .args .w .now) _ (c .digits-end .ensures) .0)
@@ -47,9 +41,6 @@ whole-requires c κs = let k = whole-is (c .before .before .before .before .befo
 add-decimal : tie.Need-add-decimal
 add-decimal c = omega (arith, whole-is (c .before .before .before .before .before .before .args .w .now) _ (c .before .before .digits-end .ensures) .0)
 
-decimal-requires : tie.Need-decimal-requires
-decimal-requires c κs = search needs
-
 add-digit-requires : tie.Need-add-digit-requires
 add-digit-requires c κs =
     let b = decimal-byte _ _ (c .before .before .before .digits-end .ensures) (sym (c .before .before .before .before .before .is-figure .ensures) ∙ not-false _ (c .before .before .before .before .if1 .left)) 0 (c .before .before .before .digits-end .result + 1) (omega arith) in
@@ -58,9 +49,6 @@ add-digit-requires c κs =
 add-decimal-2 : tie.Need-add-decimal-2
 add-decimal-2 c = omega (arith, whole-is (c .before .before .before .before .before .before .before .before .args .w .now) _ (c .before .before .before .before .digits-end .ensures) .0)
 
-decimal-requires-2 : tie.Need-decimal-requires-2
-decimal-requires-2 c κs = search needs
-
 add-digit-requires-2 : tie.Need-add-digit-requires-2
 add-digit-requires-2 c κs =
     let b = decimal-byte _ _ (c .before .before .before .before .before .digits-end .ensures) (sym (c .before .before .before .before .before .before .before .is-figure .ensures) ∙ not-false _ (c .before .before .before .before .before .before .if1 .left)) 1 (c .before .before .before .before .before .digits-end .result + 2) (omega arith) in
@@ -68,9 +56,6 @@ add-digit-requires-2 c κs =
 
 add-decimal-3 : tie.Need-add-decimal-3
 add-decimal-3 c = omega (arith, whole-is (c .before .before .before .before .before .before .before .before .before .before .args .w .now) _ (c .before .before .before .before .before .before .digits-end .ensures) .0)
-
-decimal-requires-3 : tie.Need-decimal-requires-3
-decimal-requires-3 c κs = search needs
 
 add-digit-requires-3 : tie.Need-add-digit-requires-3
 add-digit-requires-3 c κs =
@@ -96,21 +81,5 @@ pub figure-spec : {M : Type 1} → statement M
 figure-spec =
     tie.close
     (tie.spec
-    is-figure-requires
-    returns
-    digits-end-requires
-    add-if2
-    returns-2
-    whole-requires
-    add-decimal
-    decimal-requires
-    add-digit-requires
-    add-decimal-2
-    decimal-requires-2
-    add-digit-requires-2
-    add-decimal-3
-    decimal-requires-3
-    add-digit-requires-3
-    cast-t13
-    returns-3
-    returns-4)
+    (λ c κs. search needs) returns (λ c κs. search needs) add-if2 returns-2 whole-requires add-decimal (λ c κs. search needs) add-digit-requires
+    add-decimal-2 (λ c κs. search needs) add-digit-requires-2 add-decimal-3 (λ c κs. search needs) add-digit-requires-3 cast-t13 returns-3 returns-4)

@@ -8,9 +8,6 @@ use borrow.Author.Needs.{needs}
 use Rattle.groups.proofs.figure_at.Statement.{statement}
 use Rattle.groups.proofs.figure_at.Tie as tie
 
-nth-requires : tie.Need-nth-requires
-nth-requires c κs = search needs
-
 sub-figure : tie.Need-sub-figure
 sub-figure c = c .nth .ensures .ordered
 
@@ -20,13 +17,11 @@ part-figure-start c = c .nth .ensures .ordered
 part-figure-end : tie.Need-part-figure-end
 part-figure-end c = c .nth .ensures .within
 
-figure-requires : tie.Need-figure-requires
-figure-requires c κs = search needs
-
 returns : tie.Need-returns
 returns c = c .figure .ensures ∙ ap (λ (x : List ℕ). valueIn (thousandths x)) (c .before .before .nth .ensures .bytes)
 
 pub figure-at-spec : {M : Type 1} → statement M
 figure-at-spec =
     tie.close
-    (tie.spec nth-requires sub-figure part-figure-start part-figure-end figure-requires returns)
+    (tie.spec
+    (λ c κs. search needs) sub-figure part-figure-start part-figure-end (λ c κs. search needs) returns)

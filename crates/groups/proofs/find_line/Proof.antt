@@ -22,9 +22,6 @@ abbrev μ-loop : tie.MeasureT-loop
 loop-holds : tie.Need-loop-holds Inv-loop μ-loop
 loop-holds c = (c .before .before .pre, refl)
 
-line-requires : tie.Need-line-requires Inv-loop μ-loop
-line-requires c κs = search needs
-
 sub-names-gate : tie.Need-sub-names-gate Inv-loop μ-loop
 sub-names-gate c = bounded _ _ (c .before .loop-test .taken) _ (c .line .ensures) .starts
 
@@ -33,9 +30,6 @@ part-names-gate-start c = bounded _ _ (c .before .loop-test .taken) _ (c .line .
 
 part-names-gate-end : tie.Need-part-names-gate-end Inv-loop μ-loop
 part-names-gate-end c = bounded _ _ (c .before .loop-test .taken) _ (c .line .ensures) .stopped
-
-names-gate-requires : tie.Need-names-gate-requires Inv-loop μ-loop
-names-gate-requires c κs = search needs
 
 returns : tie.Need-returns Inv-loop μ-loop
 unfolding pinLine
@@ -56,9 +50,6 @@ part-fits-line-start c = let p = c .before .before .before in bounded _ _ (p .be
 
 part-fits-line-end : tie.Need-part-fits-line-end Inv-loop μ-loop
 part-fits-line-end c = let p = c .before .before .before in bounded _ _ (p .before .loop-test .taken) _ (p .line .ensures) .stopped
-
-fits-line-requires : tie.Need-fits-line-requires Inv-loop μ-loop
-fits-line-requires c κs = search needs
 
 returns-2 : tie.Need-returns-2 Inv-loop μ-loop
 unfolding pinLine
@@ -107,20 +98,5 @@ pub find-line-spec : {M : Type 1} → statement M
 find-line-spec =
     tie.close
     (tie.spec
-    Inv-loop
-    μ-loop
-    loop-holds
-    line-requires
-    sub-names-gate
-    part-names-gate-start
-    part-names-gate-end
-    names-gate-requires
-    returns
-    sub-fits-line
-    part-fits-line-start
-    part-fits-line-end
-    fits-line-requires
-    returns-2
-    loop-less
-    loop-again
-    returns-3)
+    Inv-loop μ-loop loop-holds (λ c κs. search needs) sub-names-gate part-names-gate-start part-names-gate-end (λ c κs. search needs) returns
+    sub-fits-line part-fits-line-start part-fits-line-end (λ c κs. search needs) returns-2 loop-less loop-again returns-3)

@@ -6,15 +6,9 @@ use borrow.Author.Needs.{needs}
 use Rattle.groups.proofs.fits_line.Statement.{statement}
 use Rattle.groups.proofs.fits_line.Tie as tie
 
-is-sign-requires : tie.Need-is-sign-requires
-is-sign-requires c κs = search needs
-
 returns : tie.Need-returns
 unfolding fits
 returns c = rw (sym (c .before .is-sign .ensures) ∙ c .if1 .taken)
-
-nth-requires : tie.Need-nth-requires
-nth-requires c κs = search needs
 
 sub-same-bytes : tie.Need-sub-same-bytes
 sub-same-bytes c = c .nth .ensures .ordered
@@ -25,9 +19,6 @@ part-same-bytes-start c = c .nth .ensures .ordered
 part-same-bytes-end : tie.Need-part-same-bytes-end
 part-same-bytes-end c = c .nth .ensures .within
 
-same-bytes-requires : tie.Need-same-bytes-requires
-same-bytes-requires c κs = search needs
-
 returns-2 : tie.Need-returns-2
 unfolding fits
 returns-2 c = rw (sym (c .before .before .before .before .is-sign .ensures) ∙ c .before .before .before .if1 .left) (c .same-bytes .ensures ∙ ap (same (c .before .before .before .before .before .before .before .args .name .now)) (c .before .before .nth .ensures .bytes))
@@ -36,11 +27,4 @@ pub fits-line-spec : {M : Type 1} → statement M
 fits-line-spec =
     tie.close
     (tie.spec
-    is-sign-requires
-    returns
-    nth-requires
-    sub-same-bytes
-    part-same-bytes-start
-    part-same-bytes-end
-    same-bytes-requires
-    returns-2)
+    (λ c κs. search needs) returns (λ c κs. search needs) sub-same-bytes part-same-bytes-start part-same-bytes-end (λ c κs. search needs) returns-2)

@@ -6,12 +6,6 @@ use borrow.Author.Needs.{needs}
 use Rattle.groups.proofs.has_line.Statement.{statement}
 use Rattle.groups.proofs.has_line.Tie as tie
 
-is-pin-requires : tie.Need-is-pin-requires
-is-pin-requires c κs = search needs
-
-find-line-requires : tie.Need-find-line-requires
-find-line-requires c κs = search needs
-
 returns : tie.Need-returns
 unfolding pinHas
 returns c = rw (sym (c .before .before .is-pin .ensures) ∙ c .before .if1 .taken) (sym (has-found (linesBehind (c .before .before .before .before .before .args .s .now) (c .before .before .before .before .before .args .from)) (c .before .before .before .before .before .args .t .now) (c .before .before .before .before .before .args .s .now) (c .find-line .result) (c .find-line .ensures)))
@@ -21,4 +15,6 @@ unfolding pinHas
 returns-2 c = rw (sym (c .before .is-pin .ensures) ∙ c .if1 .left)
 
 pub has-line-spec : {M : Type 1} → statement M
-has-line-spec = tie.close (tie.spec is-pin-requires find-line-requires returns returns-2)
+has-line-spec = tie.close
+    (tie.spec
+    (λ c κs. search needs) (λ c κs. search needs) returns returns-2)

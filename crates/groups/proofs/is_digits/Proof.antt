@@ -11,11 +11,10 @@ use Rattle.groups.proofs.is_digits.Tie as tie
 returns : tie.Need-returns
 returns c = sym (digits-empty _ (c .if1 .taken))
 
-digits-end-requires : tie.Need-digits-end-requires
-digits-end-requires c κs = search needs
-
 returns-2 : tie.Need-returns-2
 returns-2 c = sym (digits-all _ (c .before .if1 .left) ∙ ap (λ (n : ℕ). eqb n (length (c .before .before .before .args .w .now))) (sym (c .digits-end .ensures)))
 
 pub is-digits-spec : {M : Type 1} → statement M
-is-digits-spec = tie.close (tie.spec returns digits-end-requires returns-2)
+is-digits-spec = tie.close
+    (tie.spec
+    returns (λ c κs. search needs) returns-2)

@@ -10,35 +10,14 @@ use borrow.Author.Needs.{needs}
 use Rattle.groups.proofs.is_figure.Statement.{statement}
 use Rattle.groups.proofs.is_figure.Tie as tie
 
-digits-end-requires : tie.Need-digits-end-requires
-digits-end-requires c κs = search needs
-
 returns : tie.Need-returns
 returns c = sym (figure-none _ _ (c .before .digits-end .ensures) (c .if1 .taken))
 
 returns-2 : tie.Need-returns-2
 returns-2 c = sym (figure-whole _ _ (c .before .before .digits-end .ensures) (c .before .if1 .left) (c .if2 .taken))
 
-shared-slice-read-if3 : tie.Need-shared-slice-read-if3
-shared-slice-read-if3 c = search needs
-
 returns-3 : tie.Need-returns-3
 returns-3 c = sym (figure-other _ _ (c .before .before .before .before .digits-end .ensures) (c .before .before .before .if1 .left) (c .before .before .if2 .left) (c .if3 .taken))
-
-add-from : tie.Need-add-from
-add-from c = search needs
-
-sub-is-digits : tie.Need-sub-is-digits
-sub-is-digits c = search needs
-
-part-is-digits-start : tie.Need-part-is-digits-start
-part-is-digits-start c = search needs
-
-part-is-digits-end : tie.Need-part-is-digits-end
-part-is-digits-end c = search needs
-
-is-digits-requires : tie.Need-is-digits-requires
-is-digits-requires c κs = search needs
 
 returns-4 : tie.Need-returns-4
 returns-4 c =
@@ -50,14 +29,5 @@ pub is-figure-spec : {M : Type 1} → statement M
 is-figure-spec =
     tie.close
     (tie.spec
-    digits-end-requires
-    returns
-    returns-2
-    shared-slice-read-if3
-    returns-3
-    add-from
-    sub-is-digits
-    part-is-digits-start
-    part-is-digits-end
-    is-digits-requires
-    returns-4)
+    (λ c κs. search needs) returns returns-2 (λ c. search needs) returns-3 (λ c. search needs) (λ c. search needs) (λ c. search needs)
+    (λ c. search needs) (λ c κs. search needs) returns-4)

@@ -5,9 +5,6 @@ use borrow.Author.Needs.{needs}
 use Rattle.groups.proofs.is_figure_at.Statement.{statement}
 use Rattle.groups.proofs.is_figure_at.Tie as tie
 
-nth-requires : tie.Need-nth-requires
-nth-requires c κs = search needs
-
 sub-is-figure : tie.Need-sub-is-figure
 sub-is-figure c = c .nth .ensures .ordered
 
@@ -17,9 +14,6 @@ part-is-figure-start c = c .nth .ensures .ordered
 part-is-figure-end : tie.Need-part-is-figure-end
 part-is-figure-end c = c .nth .ensures .within
 
-is-figure-requires : tie.Need-is-figure-requires
-is-figure-requires c κs = search needs
-
 returns : tie.Need-returns
 returns c = c .is-figure .ensures ∙ ap isFigure (c .before .before .nth .ensures .bytes)
 
@@ -27,9 +21,4 @@ pub is-figure-at-spec : {M : Type 1} → statement M
 is-figure-at-spec =
     tie.close
     (tie.spec
-    nth-requires
-    sub-is-figure
-    part-is-figure-start
-    part-is-figure-end
-    is-figure-requires
-    returns)
+    (λ c κs. search needs) sub-is-figure part-is-figure-start part-is-figure-end (λ c κs. search needs) returns)

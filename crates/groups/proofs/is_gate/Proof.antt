@@ -7,15 +7,9 @@ use borrow.Author.Needs.{needs}
 use Rattle.groups.proofs.is_gate.Statement.{statement}
 use Rattle.groups.proofs.is_gate.Tie as tie
 
-is-gate-head-requires : tie.Need-is-gate-head-requires
-is-gate-head-requires c κs = search needs
-
 returns : tie.Need-returns
 unfolding isGateLine
 returns c = rw (sym (c .before .is-gate-head .ensures) ∙ not-true _ (c .if1 .taken))
-
-nth-requires : tie.Need-nth-requires
-nth-requires c κs = search needs
 
 is-formed-requires : tie.Need-is-formed-requires
 is-formed-requires c κs = c .nth .ensures .within
@@ -26,4 +20,6 @@ returns-2 c = rw (sym (c .before .before .before .is-gate-head .ensures) ∙ not
 
 pub is-gate-spec : {M : Type 1} → statement M
 is-gate-spec =
-    tie.close (tie.spec is-gate-head-requires returns nth-requires is-formed-requires returns-2)
+    tie.close
+    (tie.spec
+    (λ c κs. search needs) returns (λ c κs. search needs) is-formed-requires returns-2)

@@ -7,22 +7,13 @@ use borrow.Author.Needs.{needs}
 use Rattle.groups.proofs.is_group.Statement.{statement}
 use Rattle.groups.proofs.is_group.Tie as tie
 
-is-gate-requires : tie.Need-is-gate-requires
-is-gate-requires c κs = search needs
-
 returns : tie.Need-returns
 unfolding groupIs
 returns c = rw (sym (c .before .is-gate .ensures) ∙ not-true _ (c .if1 .taken))
 
-all-pin-lines-requires : tie.Need-all-pin-lines-requires
-all-pin-lines-requires c κs = search needs
-
 returns-2 : tie.Need-returns-2
 unfolding groupIs
 returns-2 c = rw (sym (c .before .before .before .is-gate .ensures) ∙ not-false _ (c .before .before .if1 .left), sym (c .before .all-pin-lines .ensures) ∙ not-true _ (c .if2 .taken))
-
-nth-requires : tie.Need-nth-requires
-nth-requires c κs = search needs
 
 all-have-lines-requires : tie.Need-all-have-lines-requires
 all-have-lines-requires c κs = (c .before .before .before .before .before .before .before .pre, c .nth .ensures .within)
@@ -35,10 +26,4 @@ pub is-group-spec : {M : Type 1} → statement M
 is-group-spec =
     tie.close
     (tie.spec
-    is-gate-requires
-    returns
-    all-pin-lines-requires
-    returns-2
-    nth-requires
-    all-have-lines-requires
-    returns-3)
+    (λ c κs. search needs) returns (λ c κs. search needs) returns-2 (λ c κs. search needs) all-have-lines-requires returns-3)

@@ -5,9 +5,6 @@ use borrow.Author.Needs.{needs}
 use Rattle.groups.proofs.is_name.Statement.{statement}
 use Rattle.groups.proofs.is_name.Tie as tie
 
-nth-requires : tie.Need-nth-requires
-nth-requires c κs = search needs
-
 sub-is-word : tie.Need-sub-is-word
 sub-is-word c = c .nth .ensures .ordered
 
@@ -17,9 +14,6 @@ part-is-word-start c = c .nth .ensures .ordered
 part-is-word-end : tie.Need-part-is-word-end
 part-is-word-end c = c .nth .ensures .within
 
-is-word-requires : tie.Need-is-word-requires
-is-word-requires c κs = search needs
-
 returns : tie.Need-returns
 returns c = c .is-word .ensures ∙ ap isWord (c .before .before .nth .ensures .bytes)
 
@@ -27,9 +21,4 @@ pub is-name-spec : {M : Type 1} → statement M
 is-name-spec =
     tie.close
     (tie.spec
-    nth-requires
-    sub-is-word
-    part-is-word-start
-    part-is-word-end
-    is-word-requires
-    returns)
+    (λ c κs. search needs) sub-is-word part-is-word-start part-is-word-end (λ c κs. search needs) returns)

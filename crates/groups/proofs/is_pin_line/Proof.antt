@@ -10,22 +10,13 @@ use borrow.Author.Needs.{needs}
 use Rattle.groups.proofs.is_pin_line.Statement.{statement}
 use Rattle.groups.proofs.is_pin_line.Tie as tie
 
-count-requires : tie.Need-count-requires
-count-requires c κs = search needs
-
 returns : tie.Need-returns
 unfolding isPinLine
 returns c = rw (ap (λ (n : ℕ). eqb n 9) (sym (c .before .count .ensures)) ∙ ne-eqb _ _ (c .if1 .taken))
 
-is-pin-head-requires : tie.Need-is-pin-head-requires
-is-pin-head-requires c κs = search needs
-
 returns-2 : tie.Need-returns-2
 unfolding isPinLine
 returns-2 c = rw (ap (λ (n : ℕ). eqb n 9) (sym (c .before .before .before .count .ensures)) ∙ eq-eqb _ _ (c .before .before .if1 .left), sym (c .before .is-pin-head .ensures) ∙ not-true _ (c .if2 .taken))
-
-nth-requires : tie.Need-nth-requires
-nth-requires c κs = search needs
 
 all-figures-requires : tie.Need-all-figures-requires
 all-figures-requires c κs = c .nth .ensures .within
@@ -38,10 +29,4 @@ pub is-pin-line-spec : {M : Type 1} → statement M
 is-pin-line-spec =
     tie.close
     (tie.spec
-    count-requires
-    returns
-    is-pin-head-requires
-    returns-2
-    nth-requires
-    all-figures-requires
-    returns-3)
+    (λ c κs. search needs) returns (λ c κs. search needs) returns-2 (λ c κs. search needs) all-figures-requires returns-3)

@@ -11,9 +11,6 @@ use borrow.Author.Needs.{needs}
 use Rattle.groups.proofs.is_sign.Statement.{statement}
 use Rattle.groups.proofs.is_sign.Tie as tie
 
-nth-requires : tie.Need-nth-requires
-nth-requires c κs = search needs
-
 shared-slice-read-result : tie.Need-shared-slice-read-result
 shared-slice-read-result c = omega (arith, c .before .before .before .nth .ensures .within)
 
@@ -26,4 +23,6 @@ unfolding isSign
 returns-2 c = sym (ap (λ (x : ℕ). eqb x (c .before .before .before .before .args .b)) (sym (ap lead (c .before .before .nth .ensures .bytes)) ∙ lead-none (c .before .before .before .before .args .w .now) _ _ (c .if1 .left)) ∙ ne-eqb 0 (c .before .before .before .before .args .b) (λ e. omega (arith, c .before .before .before .before .pre)))
 
 pub is-sign-spec : {M : Type 1} → statement M
-is-sign-spec = tie.close (tie.spec nth-requires shared-slice-read-result returns returns-2)
+is-sign-spec = tie.close
+    (tie.spec
+    (λ c κs. search needs) shared-slice-read-result returns returns-2)

@@ -7,9 +7,6 @@ use borrow.Author.Needs.{needs}
 use Rattle.groups.proofs.is_text.Statement.{statement}
 use Rattle.groups.proofs.is_text.Tie as tie
 
-nth-requires : tie.Need-nth-requires
-nth-requires c κs = search needs
-
 sub-same-bytes : tie.Need-sub-same-bytes
 sub-same-bytes c = c .nth .ensures .ordered
 
@@ -19,9 +16,6 @@ part-same-bytes-start c = c .nth .ensures .ordered
 part-same-bytes-end : tie.Need-part-same-bytes-end
 part-same-bytes-end c = c .nth .ensures .within
 
-same-bytes-requires : tie.Need-same-bytes-requires
-same-bytes-requires c κs = search needs
-
 returns : tie.Need-returns
 returns c = c .same-bytes .ensures ∙ ap (λ (x : List ℕ). same x (c .before .before .before .before .before .args .t .now)) (c .before .before .nth .ensures .bytes)
 
@@ -29,9 +23,4 @@ pub is-text-spec : {M : Type 1} → statement M
 is-text-spec =
     tie.close
     (tie.spec
-    nth-requires
-    sub-same-bytes
-    part-same-bytes-start
-    part-same-bytes-end
-    same-bytes-requires
-    returns)
+    (λ c κs. search needs) sub-same-bytes part-same-bytes-start part-same-bytes-end (λ c κs. search needs) returns)

@@ -11,26 +11,11 @@ use borrow.Author.Needs.{needs}
 use Rattle.groups.proofs.names_gate.Statement.{statement}
 use Rattle.groups.proofs.names_gate.Tie as tie
 
-skip-requires : tie.Need-skip-requires
-skip-requires c κs = search needs
-
-name-end-requires : tie.Need-name-end-requires
-name-end-requires c κs = search needs
-
 sub-same-bytes : tie.Need-sub-same-bytes
 sub-same-bytes c = gate-bounds _ _ _ (c .before .before .skip .ensures) (c .before .name-end .ensures) .0
 
 part-same-bytes-start : tie.Need-part-same-bytes-start
 part-same-bytes-start c = gate-bounds _ _ _ (c .before .before .skip .ensures) (c .before .name-end .ensures) .0
-
-part-same-bytes-end : tie.Need-part-same-bytes-end
-part-same-bytes-end c = search needs
-
-slice-aggregate-same-bytes : tie.Need-slice-aggregate-same-bytes
-slice-aggregate-same-bytes c = search needs
-
-same-bytes-requires : tie.Need-same-bytes-requires
-same-bytes-requires c κs = search needs
 
 returns : tie.Need-returns
 unfolding gateWord text
@@ -43,12 +28,5 @@ pub names-gate-spec : {M : Type 1} → statement M
 names-gate-spec =
     tie.close
     (tie.spec
-    skip-requires
-    name-end-requires
-    sub-same-bytes
-    part-same-bytes-start
-    part-same-bytes-end
-    slice-aggregate-same-bytes
-    same-bytes-requires
-    returns
-    returns-2)
+    (λ c κs. search needs) (λ c κs. search needs) sub-same-bytes part-same-bytes-start (λ c. search needs) (λ c. search needs) (λ c κs. search needs)
+    returns returns-2)

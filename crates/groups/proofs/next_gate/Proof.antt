@@ -4,7 +4,7 @@ use native.Mathlib.Omega.{arith}
 use native.Mathlib.Nat.{le-refl}
 use Prim.Native.Nat.{_-_, _≤_}
 use lib.ListN.{length}
-use Rattle.model.specs.Genlib.{grouped, groups}
+use Rattle.model.specs.Genlib.{grouped}
 use Rattle.groups.specs.Lines.{linesOf}
 use Rattle.groups.proofs.LineLaws.{bounded, starts-gate}
 use Rattle.groups.proofs.Grouping.{gate-here, line-here, none-here}
@@ -21,9 +21,6 @@ abbrev μ-loop : tie.MeasureT-loop
 loop-holds : tie.Need-loop-holds Inv-loop μ-loop
 loop-holds c = (le-refl _, c .before .pre, refl)
 
-line-requires : tie.Need-line-requires Inv-loop μ-loop
-line-requires c κs = search needs
-
 sub-names-gate : tie.Need-sub-names-gate Inv-loop μ-loop
 sub-names-gate c = bounded _ _ (c .before .loop-test .taken) _ (c .line .ensures) .starts
 
@@ -32,9 +29,6 @@ part-names-gate-start c = bounded _ _ (c .before .loop-test .taken) _ (c .line .
 
 part-names-gate-end : tie.Need-part-names-gate-end Inv-loop μ-loop
 part-names-gate-end c = bounded _ _ (c .before .loop-test .taken) _ (c .line .ensures) .stopped
-
-names-gate-requires : tie.Need-names-gate-requires Inv-loop μ-loop
-names-gate-requires c κs = search needs
 
 returns : tie.Need-returns Inv-loop μ-loop
 returns c =
@@ -63,15 +57,5 @@ pub next-gate-spec : {M : Type 1} → statement M
 next-gate-spec =
     tie.close
     (tie.spec
-    Inv-loop
-    μ-loop
-    loop-holds
-    line-requires
-    sub-names-gate
-    part-names-gate-start
-    part-names-gate-end
-    names-gate-requires
-    returns
-    loop-less
-    loop-again
-    returns-2)
+    Inv-loop μ-loop loop-holds (λ c κs. search needs) sub-names-gate part-names-gate-start part-names-gate-end (λ c κs. search needs) returns
+    loop-less loop-again returns-2)

@@ -37,12 +37,6 @@ add-digit-requires c κs =
     let b = digit-bounds (getD w (l .i) 0) e in
     (omega (arith, l .inv .1), b .0, b .1)
 
-add-i : tie.Need-add-i Inv-loop μ-loop
-add-i c = search needs
-
-loop-less : tie.Need-loop-less Inv-loop μ-loop
-loop-less c = search needs
-
 loop-again : tie.Need-loop-again Inv-loop μ-loop
 loop-again c =
     let l = c .before .before .before .loop in
@@ -59,4 +53,5 @@ returns c =
 pub whole-spec : {M : Type 1} → statement M
 whole-spec =
     tie.close
-    (tie.spec Inv-loop μ-loop loop-holds shared-slice-read-add-digit add-digit-requires add-i loop-less loop-again returns)
+    (tie.spec
+    Inv-loop μ-loop loop-holds shared-slice-read-add-digit add-digit-requires (λ c. search needs) (λ c. search needs) loop-again returns)

@@ -5,12 +5,11 @@ use Rattle.library.specs.Reading.{lineCell}
 use Rattle.library.proofs.cell_of.Statement.{statement}
 use Rattle.library.proofs.cell_of.Tie as tie
 
-name-bytes-requires : tie.Need-name-bytes-requires
-name-bytes-requires c κs = search needs
-
 returns : tie.Need-returns
 unfolding lineCell
 returns c = rw (c .name-bytes .ensures)
 
 pub cell-of-spec : {M : Type 1} → statement M
-cell-of-spec = tie.close (tie.spec name-bytes-requires returns)
+cell-of-spec = tie.close
+    (tie.spec
+    (λ c κs. search needs) returns)

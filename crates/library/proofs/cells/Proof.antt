@@ -21,9 +21,6 @@ Inv-loop s from ranged lib₀ at₀ lib at = (lib .n ≤ 32) × (length (lib .ce
 abbrev μ-loop : tie.MeasureT-loop
 μ-loop s from ranged lib₀ at₀ lib at = 32 - lib .n
 
-empty-requires : tie.Need-empty-requires Inv-loop μ-loop
-empty-requires c κs = search needs
-
 loop-holds : tie.Need-loop-holds Inv-loop μ-loop
 unfolding libraryOf
 loop-holds c =
@@ -33,12 +30,6 @@ loop-holds c =
       so-far-first _ _ _ ∙ ap (λ (l : Library). soFar (c .before .before .args .ranged) l (c .before .before .args .s .now) (c .before .before .args .from)) (sym e),
       subst Tidy (sym e) tidy-first,
     )
-
-judge-requires : tie.Need-judge-requires Inv-loop μ-loop
-judge-requires c κs = search needs
-
-enum-known-end : tie.Need-enum-known-end Inv-loop μ-loop
-enum-known-end c = search needs
 
 sub-cell-of : tie.Need-sub-cell-of Inv-loop μ-loop
 sub-cell-of c = omega (arith, part-from _ _ _ _ _ _ ((judged-cell _ _ _ _ _ _ _ (sym (c .before .before .before .judge .ensures) ∙ c .before .end .given .1)) .1))
@@ -68,12 +59,6 @@ loop-again c =
       tidy-added (l .loop .lib) (c .before .cell-of .result) (c .add .result) (l .loop .inv .3) (judged-cell _ _ _ _ _ _ _ j .0) (l .loop .inv .1) (c .add .ensures),
     )
 
-enum-known-number : tie.Need-enum-known-number Inv-loop μ-loop
-enum-known-number c = search needs
-
-refused-requires : tie.Need-refused-requires Inv-loop μ-loop
-refused-requires c κs = search needs
-
 returns : tie.Need-returns Inv-loop μ-loop
 returns c =
     let e = c .before .before .before .before .before .before .loop .inv .2 ∙ so-far-stop _ _ _ _ _ (c .before .before .before .before .before .loop-test .taken) (sym (c .before .before .before .before .judge .ensures) ∙ c .before .before .number .given .1) in
@@ -89,20 +74,5 @@ pub cells-spec : {M : Type 1} → statement M
 cells-spec =
     tie.close
     (tie.spec
-    Inv-loop
-    μ-loop
-    empty-requires
-    loop-holds
-    judge-requires
-    enum-known-end
-    sub-cell-of
-    part-cell-of-start
-    part-cell-of-end
-    cell-of-requires
-    add-requires
-    loop-less
-    loop-again
-    enum-known-number
-    refused-requires
-    returns
-    returns-2)
+    Inv-loop μ-loop (λ c κs. search needs) loop-holds (λ c κs. search needs) (λ c. search needs) sub-cell-of part-cell-of-start part-cell-of-end
+    cell-of-requires add-requires loop-less loop-again (λ c. search needs) (λ c κs. search needs) returns returns-2)

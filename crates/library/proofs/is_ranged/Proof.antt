@@ -9,17 +9,8 @@ use borrow.Author.Needs.{needs}
 use Rattle.library.proofs.is_ranged.Statement.{statement}
 use Rattle.library.proofs.is_ranged.Tie as tie
 
-line-requires : tie.Need-line-requires
-line-requires c κs = search needs
-
 slice-aggregate-same-bytes : tie.Need-slice-aggregate-same-bytes
 slice-aggregate-same-bytes c = sym (length-take-le (c .before .line .result .stop) (c .before .before .before .args .s .now) (first-fits _ _ (c .before .line .ensures)))
-
-slice-aggregate-same-bytes-2 : tie.Need-slice-aggregate-same-bytes-2
-slice-aggregate-same-bytes-2 c = search needs
-
-same-bytes-requires : tie.Need-same-bytes-requires
-same-bytes-requires c κs = search needs
 
 returns : tie.Need-returns
 unfolding longerLine text
@@ -29,8 +20,4 @@ pub is-ranged-spec : {M : Type 1} → statement M
 is-ranged-spec =
     tie.close
     (tie.spec
-    line-requires
-    slice-aggregate-same-bytes
-    slice-aggregate-same-bytes-2
-    same-bytes-requires
-    returns)
+    (λ c κs. search needs) slice-aggregate-same-bytes (λ c. search needs) (λ c κs. search needs) returns)

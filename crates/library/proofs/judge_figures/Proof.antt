@@ -7,15 +7,9 @@ use Rattle.library.specs.Reading.{figuresJudged}
 use Rattle.library.proofs.judge_figures.Statement.{statement}
 use Rattle.library.proofs.judge_figures.Tie as tie
 
-is-clean-requires : tie.Need-is-clean-requires
-is-clean-requires c κs = search needs
-
 returns : tie.Need-returns
 unfolding figuresJudged
 returns c = rw (sym (c .before .is-clean .ensures) ∙ not-true _ (c .if1 .taken))
-
-in-range-requires : tie.Need-in-range-requires
-in-range-requires c κs = search needs
 
 returns-2 : tie.Need-returns-2
 unfolding figuresJudged
@@ -26,4 +20,6 @@ unfolding figuresJudged
 returns-3 c = rw (sym (c .before .before .before .is-clean .ensures) ∙ not-false _ (c .before .before .if1 .left), sym (c .before .in-range .ensures) ∙ not-false _ (c .if2 .left))
 
 pub judge-figures-spec : {M : Type 1} → statement M
-judge-figures-spec = tie.close (tie.spec is-clean-requires returns in-range-requires returns-2 returns-3)
+judge-figures-spec = tie.close
+    (tie.spec
+    (λ c κs. search needs) returns (λ c κs. search needs) returns-2 returns-3)

@@ -17,13 +17,12 @@ slice-aggregate-same-bytes c =
     let a = c .before .before .before .before .before in
     sym (length-take-le (a .args .first .stop) (a .args .s .now) (a .pre))
 
-same-bytes-requires : tie.Need-same-bytes-requires
-same-bytes-requires c κs = search needs
-
 returns-2 : tie.Need-returns-2
 unfolding isLine
 returns-2 c = rw (lt-ltb _ _ (c .before .before .if1 .left)) (c .same-bytes .ensures)
 
 pub line-is-spec : {M : Type 1} → statement M
 line-is-spec =
-    tie.close (tie.spec returns slice-aggregate-same-bytes same-bytes-requires returns-2)
+    tie.close
+    (tie.spec
+    returns slice-aggregate-same-bytes (λ c κs. search needs) returns-2)

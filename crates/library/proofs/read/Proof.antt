@@ -10,17 +10,8 @@ use borrow.Author.Needs.{needs}
 use Rattle.library.proofs.read.Statement.{statement}
 use Rattle.library.proofs.read.Tie as tie
 
-line-requires : tie.Need-line-requires
-line-requires c κs = search needs
-
-slice-aggregate-line-is : tie.Need-slice-aggregate-line-is
-slice-aggregate-line-is c = search needs
-
 line-is-requires : tie.Need-line-is-requires
 line-is-requires c κs = first-fits _ _ (c .before .line .ensures)
-
-cells-requires : tie.Need-cells-requires
-cells-requires c κs = search needs
 
 returns : tie.Need-returns
 unfolding shorterLine text
@@ -29,14 +20,8 @@ returns c =
     let e = names-shorter _ _ (n .before .before .line .ensures) (sym (n .line-is .ensures) ∙ c .before .if1 .taken) in
     library-ruled _ _ (c .cells .ensures ∙ sym (ap libraryAnswer e))
 
-slice-aggregate-line-is-2 : tie.Need-slice-aggregate-line-is-2
-slice-aggregate-line-is-2 c = search needs
-
 line-is-requires-2 : tie.Need-line-is-requires-2
 line-is-requires-2 c κs = first-fits _ _ (c .before .before .before .before .line .ensures)
-
-cells-requires-2 : tie.Need-cells-requires-2
-cells-requires-2 c κs = search needs
 
 returns-2 : tie.Need-returns-2
 unfolding longerLine text
@@ -44,9 +29,6 @@ returns-2 c =
     let n = c .before .before in
     let e = names-longer _ _ (n .before .before .before .before .before .line .ensures) (sym (n .line-is2 .ensures) ∙ c .before .if2 .taken) in
     library-ruled _ _ (c .cells2 .ensures ∙ sym (ap libraryAnswer e))
-
-refused-requires : tie.Need-refused-requires
-refused-requires c κs = search needs
 
 returns-3 : tie.Need-returns-3
 unfolding shorterLine longerLine text
@@ -60,14 +42,5 @@ pub read-spec : {M : Type 1} → statement M
 read-spec =
     tie.close
     (tie.spec
-    line-requires
-    slice-aggregate-line-is
-    line-is-requires
-    cells-requires
-    returns
-    slice-aggregate-line-is-2
-    line-is-requires-2
-    cells-requires-2
-    returns-2
-    refused-requires
-    returns-3)
+    (λ c κs. search needs) (λ c. search needs) line-is-requires (λ c κs. search needs) returns (λ c. search needs) line-is-requires-2
+    (λ c κs. search needs) returns-2 (λ c κs. search needs) returns-3)

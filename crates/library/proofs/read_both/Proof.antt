@@ -6,23 +6,8 @@ use borrow.Author.Needs.{needs}
 use Rattle.library.proofs.read_both.Statement.{statement}
 use Rattle.library.proofs.read_both.Tie as tie
 
-read-high-requires : tie.Need-read-high-requires
-read-high-requires c κs = search needs
-
-enum-known-d0 : tie.Need-enum-known-d0
-enum-known-d0 c = search needs
-
-read-delays-requires : tie.Need-read-delays-requires
-read-delays-requires c κs = search needs
-
-enum-known-l0 : tie.Need-enum-known-l0
-enum-known-l0 c = search needs
-
 enum-told : tie.Need-enum-told
 enum-told c = search needs
-
-enum-told-2 : tie.Need-enum-told-2
-enum-told-2 c = search needs
 
 returns : tie.Need-returns
 unfolding bothAt
@@ -46,12 +31,4 @@ pub read-both-spec : {M : Type 1} → statement M
 read-both-spec =
     tie.close
     (tie.spec
-    read-high-requires
-    enum-known-d0
-    read-delays-requires
-    enum-known-l0
-    enum-told
-    enum-told-2
-    returns
-    returns-2
-    returns-3)
+    (λ c κs. search needs) (λ c. search needs) (λ c κs. search needs) (λ c. search needs) enum-told (λ c. search needs) returns returns-2 returns-3)

@@ -6,41 +6,8 @@ use Rattle.library.specs.Reading.{highAt}
 use Rattle.library.proofs.read_high.Statement.{statement}
 use Rattle.library.proofs.read_high.Tie as tie
 
-number-then-requires : tie.Need-number-then-requires
-number-then-requires c κs = search needs
-
-enum-known-d0 : tie.Need-enum-known-d0
-enum-known-d0 c = search needs
-
-number-then-requires-2 : tie.Need-number-then-requires-2
-number-then-requires-2 c κs = search needs
-
-enum-known-d1 : tie.Need-enum-known-d1
-enum-known-d1 c = search needs
-
-number-then-requires-3 : tie.Need-number-then-requires-3
-number-then-requires-3 c κs = search needs
-
-enum-known-d2 : tie.Need-enum-known-d2
-enum-known-d2 c = search needs
-
-number-then-requires-4 : tie.Need-number-then-requires-4
-number-then-requires-4 c κs = search needs
-
-enum-known-d3 : tie.Need-enum-known-d3
-enum-known-d3 c = search needs
-
 enum-told : tie.Need-enum-told
 enum-told c = search needs
-
-enum-told-2 : tie.Need-enum-told-2
-enum-told-2 c = search needs
-
-enum-told-3 : tie.Need-enum-told-3
-enum-told-3 c = search needs
-
-enum-told-4 : tie.Need-enum-told-4
-enum-told-4 c = search needs
 
 returns : tie.Need-returns
 unfolding highAt
@@ -88,20 +55,6 @@ pub read-high-spec : {M : Type 1} → statement M
 read-high-spec =
     tie.close
     (tie.spec
-    number-then-requires
-    enum-known-d0
-    number-then-requires-2
-    enum-known-d1
-    number-then-requires-3
-    enum-known-d2
-    number-then-requires-4
-    enum-known-d3
-    enum-told
-    enum-told-2
-    enum-told-3
-    enum-told-4
-    returns
-    returns-2
-    returns-3
-    returns-4
-    returns-5)
+    (λ c κs. search needs) (λ c. search needs) (λ c κs. search needs) (λ c. search needs) (λ c κs. search needs) (λ c. search needs)
+    (λ c κs. search needs) (λ c. search needs) enum-told (λ c. search needs) (λ c. search needs) (λ c. search needs) returns returns-2 returns-3
+    returns-4 returns-5)

@@ -6,12 +6,6 @@ use borrow.Author.Needs.{needs}
 use Rattle.library.proofs.read_one.Statement.{statement}
 use Rattle.library.proofs.read_one.Tie as tie
 
-read-delays-requires : tie.Need-read-delays-requires
-read-delays-requires c κs = search needs
-
-enum-known-d0 : tie.Need-enum-known-d0
-enum-known-d0 c = search needs
-
 enum-told : tie.Need-enum-told
 enum-told c = search needs
 
@@ -24,4 +18,6 @@ unfolding oneAt
 returns-2 c = rw (sym (c .before .before .read-delays .ensures) ∙ c .enum-told .given .1)
 
 pub read-one-spec : {M : Type 1} → statement M
-read-one-spec = tie.close (tie.spec read-delays-requires enum-known-d0 enum-told returns returns-2)
+read-one-spec = tie.close
+    (tie.spec
+    (λ c κs. search needs) (λ c. search needs) enum-told returns returns-2)

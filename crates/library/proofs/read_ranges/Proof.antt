@@ -4,12 +4,6 @@ use borrow.Author.Needs.{needs}
 use Rattle.library.proofs.read_ranges.Statement.{statement}
 use Rattle.library.proofs.read_ranges.Tie as tie
 
-read-both-requires : tie.Need-read-both-requires
-read-both-requires c κs = search needs
-
-read-one-requires : tie.Need-read-one-requires
-read-one-requires c κs = search needs
-
 returns : tie.Need-returns
 returns c = rw (c .before .if1 .taken) (c .read-both .ensures)
 
@@ -17,4 +11,6 @@ returns-2 : tie.Need-returns-2
 returns-2 c = rw (c .before .if1 .left) (c .read-one .ensures)
 
 pub read-ranges-spec : {M : Type 1} → statement M
-read-ranges-spec = tie.close (tie.spec read-both-requires read-one-requires returns returns-2)
+read-ranges-spec = tie.close
+    (tie.spec
+    (λ c κs. search needs) (λ c κs. search needs) returns returns-2)

@@ -21,9 +21,6 @@ abbrev μ-loop : tie.MeasureT-loop
 loop-holds : tie.Need-loop-holds Inv-loop μ-loop
 loop-holds c = (omega arith, labels-first (isLabel (c .before .args .b)) (c .before .args .w .now) (c .before .args .from) (omega arith))
 
-field-requires : tie.Need-field-requires Inv-loop μ-loop
-field-requires c κs = omega arith
-
 loop-less : tie.Need-loop-less Inv-loop μ-loop
 unfolding kindTest
 loop-less c =
@@ -39,9 +36,6 @@ loop-again c =
       ap (Labels (isLabel (a .b)) (a .w .now)) (c .field .ensures) ∙ sym (labels-step (isLabel (a .b)) (a .w .now) (p .at) (omega arith)) ∙ p .inv .1,
     )
 
-add-if1 : tie.Need-add-if1 Inv-loop μ-loop
-add-if1 c = omega arith
-
 returns : tie.Need-returns Inv-loop μ-loop
 returns c =
     let a = c .before .before .before .before .args in
@@ -56,12 +50,4 @@ pub all-labels-spec : {M : Type 1} → statement M
 all-labels-spec =
     tie.close
     (tie.spec
-    Inv-loop
-    μ-loop
-    loop-holds
-    field-requires
-    loop-less
-    loop-again
-    add-if1
-    returns
-    returns-2)
+    Inv-loop μ-loop loop-holds (λ c κs. omega arith) loop-less loop-again (λ c. omega arith) returns returns-2)

@@ -4,7 +4,7 @@ use native.Mathlib.Omega.{arith}
 use mathlib.Core.Path.{_≡_, sym, ap, _∙_}
 use mathlib.Core.Logic.{⊎-elim}
 use mathlib.Core.List.{List}
-use Prim.Native.Nat.{ℕ, _≤_}
+use Prim.Native.Nat.{ℕ}
 use lib.ListN.{length, take}
 use lib.Seq.{length-take-le, take-all}
 use Rattle.model.specs.Base.{same}
@@ -23,9 +23,6 @@ slice-aggregate-word c =
     let eight : length (c .before .before .before .args .t3) ≡ 8 = search needs in
     sym (length-take-le (c .before .if1 .n) (c .before .before .before .args .t3) (⊎-elim (λ y. omega arith) (λ y. omega arith) (c .before .if1 .came)))
 
-word-requires : tie.Need-word-requires
-word-requires c κs = search needs
-
 returns : tie.Need-returns
 returns c =
     let a = c .before .before .before .before .args in
@@ -39,4 +36,6 @@ returns c =
 
 pub cell-name-spec : {M : Type 1} → statement M
 cell-name-spec =
-    tie.close (tie.spec array-share-prefix-name slice-aggregate-word word-requires returns)
+    tie.close
+    (tie.spec
+    array-share-prefix-name slice-aggregate-word (λ c κs. search needs) returns)

@@ -1,11 +1,8 @@
 -- `lines::gate_of` meets its contract. The invariant: the line is of a cell from here on where it is of one at all; the measure is the cells left.
 -- Assumes nothing.
-use borrow.Author.Needs.{needs}
 use native.Mathlib.Omega.{arith}
 use mathlib.Core.Path.{_≡_, refl, sym, ap, _∙_}
-use mathlib.Core.Bool.{true, false}
-use mathlib.Core.Option.{Option}
-use Prim.Native.Nat.{ℕ, _+_, _-_, _≤_}
+use Prim.Native.Nat.{_-_, _≤_}
 use lib.ListN.{length, drop, getD}
 use Rattle.model.specs.Text.{fields}
 use Rattle.model.specs.Cells.{noCell, cellsOf}
@@ -22,15 +19,6 @@ Inv-loop w lib at n i₀ i = (i ≤ n) × (gateOf 0 (cellsOf lib) w ≡ gateOf i
 abbrev μ-loop : tie.MeasureT-loop
 μ-loop w lib at n i₀ i = n - i
 
-slice-aggregate-word : tie.Need-slice-aggregate-word Inv-loop μ-loop
-slice-aggregate-word c = refl
-
-word-requires : tie.Need-word-requires Inv-loop μ-loop
-word-requires c κs = omega arith
-
-add-if1 : tie.Need-add-if1 Inv-loop μ-loop
-add-if1 c = omega arith
-
 returns : tie.Need-returns Inv-loop μ-loop
 returns c =
     let a = c .before .before .before .before .args in
@@ -38,12 +26,6 @@ returns c =
 
 loop-holds : tie.Need-loop-holds Inv-loop μ-loop
 loop-holds c = (omega arith, refl)
-
-mul-c : tie.Need-mul-c Inv-loop μ-loop
-mul-c c = omega arith
-
-element-copy-out-c : tie.Need-element-copy-out-c Inv-loop μ-loop
-element-copy-out-c c = omega arith
 
 is-gate-requires : tie.Need-is-gate-requires Inv-loop μ-loop
 is-gate-requires c κs =
@@ -62,12 +44,6 @@ returns-2 c =
     (ap (λ (x : Cell). ofForm (gateForm x) (fields (a .w .now))) at
     ∙ gate-behind (a .w .now) (getD (a .t2 .cells) (p .i) noCell) (c .before .before .before .before .before .before .word .result) (c .before .before .before .before .before .before .word .ensures) (omega arith)
     ∙ sym (c .before .is-gate .ensures) ∙ c .if2 .taken)))
-
-add-i : tie.Need-add-i Inv-loop μ-loop
-add-i c = omega arith
-
-loop-less : tie.Need-loop-less Inv-loop μ-loop
-loop-less c = omega arith
 
 loop-again : tie.Need-loop-again Inv-loop μ-loop
 loop-again c =
@@ -93,18 +69,5 @@ pub gate-of-spec : {M : Type 1} → statement M
 gate-of-spec =
     tie.close
     (tie.spec
-    Inv-loop
-    μ-loop
-    slice-aggregate-word
-    word-requires
-    add-if1
-    returns
-    loop-holds
-    mul-c
-    element-copy-out-c
-    is-gate-requires
-    returns-2
-    add-i
-    loop-less
-    loop-again
-    returns-3)
+    Inv-loop μ-loop (λ c. refl) (λ c κs. omega arith) (λ c. omega arith) returns loop-holds (λ c. omega arith) (λ c. omega arith) is-gate-requires
+    returns-2 (λ c. omega arith) (λ c. omega arith) loop-again returns-3)

@@ -11,29 +11,11 @@ use Rattle.lines.proofs.is_bound.Tie as tie
 returns : tie.Need-returns
 returns c = bound-short _ _ (c .if1 .taken)
 
-shared-slice-read-if2 : tie.Need-shared-slice-read-if2
-shared-slice-read-if2 c = search needs
-
 returns-2 : tie.Need-returns-2
 returns-2 c = bound-letter _ _ (c .if2 .taken)
 
-shared-slice-read-if3 : tie.Need-shared-slice-read-if3
-shared-slice-read-if3 c = search needs
-
 returns-3 : tie.Need-returns-3
 returns-3 c = bound-sign _ _ (c .if3 .taken)
-
-sub-is-gate-net : tie.Need-sub-is-gate-net
-sub-is-gate-net c = search needs
-
-part-is-gate-net-start : tie.Need-part-is-gate-net-start
-part-is-gate-net-start c = search needs
-
-part-is-gate-net-end : tie.Need-part-is-gate-net-end
-part-is-gate-net-end c = search needs
-
-is-gate-net-requires : tie.Need-is-gate-net-requires
-is-gate-net-requires c κs = search needs
 
 returns-4 : tie.Need-returns-4
 returns-4 c =
@@ -44,13 +26,5 @@ pub is-bound-spec : {M : Type 1} → statement M
 is-bound-spec =
     tie.close
     (tie.spec
-    returns
-    shared-slice-read-if2
-    returns-2
-    shared-slice-read-if3
-    returns-3
-    sub-is-gate-net
-    part-is-gate-net-start
-    part-is-gate-net-end
-    is-gate-net-requires
-    returns-4)
+    returns (λ c. search needs) returns-2 (λ c. search needs) returns-3 (λ c. search needs) (λ c. search needs) (λ c. search needs)
+    (λ c κs. search needs) returns-4)

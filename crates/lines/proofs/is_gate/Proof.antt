@@ -10,18 +10,6 @@ use borrow.Author.Needs.{needs}
 use Rattle.lines.proofs.is_gate.Statement.{statement}
 use Rattle.lines.proofs.is_gate.Tie as tie
 
-cell-name-requires : tie.Need-cell-name-requires
-cell-name-requires c κs = search needs
-
-pins-requires : tie.Need-pins-requires
-pins-requires c κs = search needs
-
-field-requires : tie.Need-field-requires
-field-requires c κs = search needs
-
-add-if1 : tie.Need-add-if1
-add-if1 c = search needs
-
 returns : tie.Need-returns
 unfolding kindTest
 returns c =
@@ -40,4 +28,6 @@ returns-2 c =
 
 pub is-gate-spec : {M : Type 1} → statement M
 is-gate-spec =
-    tie.close (tie.spec cell-name-requires pins-requires field-requires add-if1 returns returns-2)
+    tie.close
+    (tie.spec
+    (λ c κs. search needs) (λ c κs. search needs) (λ c κs. search needs) (λ c. search needs) returns returns-2)

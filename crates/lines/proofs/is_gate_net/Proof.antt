@@ -6,17 +6,13 @@ use borrow.Author.Needs.{needs}
 use Rattle.lines.proofs.is_gate_net.Statement.{statement}
 use Rattle.lines.proofs.is_gate_net.Tie as tie
 
-is-phase-net-requires : tie.Need-is-phase-net-requires
-is-phase-net-requires c κs = search needs
-
 returns : tie.Need-returns
 returns c = gate-first _ (sym (c .before .is-phase-net .ensures) ∙ c .if1 .taken)
-
-is-inner-net-requires : tie.Need-is-inner-net-requires
-is-inner-net-requires c κs = search needs
 
 returns-2 : tie.Need-returns-2
 returns-2 c = c .is-inner-net .ensures ∙ gate-second _ (sym (c .before .before .is-phase-net .ensures) ∙ c .before .if1 .left)
 
 pub is-gate-net-spec : {M : Type 1} → statement M
-is-gate-net-spec = tie.close (tie.spec is-phase-net-requires returns is-inner-net-requires returns-2)
+is-gate-net-spec = tie.close
+    (tie.spec
+    (λ c κs. search needs) returns (λ c κs. search needs) returns-2)

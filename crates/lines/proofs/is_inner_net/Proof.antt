@@ -3,7 +3,7 @@
 use Rattle.model.specs.NetlistLines.{isPhaseNet}
 use native.Mathlib.Omega.{arith}
 use Rattle.lines.proofs.Digits.{inner-none, inner-other, inner-is, rest-part}
-use mathlib.Core.Path.{sym, ap, _∙_}
+use mathlib.Core.Path.{ap, _∙_}
 use borrow.Author.Needs.{needs}
 use Rattle.lines.proofs.is_inner_net.Statement.{statement}
 use Rattle.lines.proofs.is_inner_net.Tie as tie
@@ -11,23 +11,8 @@ use Rattle.lines.proofs.is_inner_net.Tie as tie
 returns : tie.Need-returns
 returns c = inner-none _ (c .if1 .taken)
 
-shared-slice-read-if2 : tie.Need-shared-slice-read-if2
-shared-slice-read-if2 c = search needs
-
 returns-2 : tie.Need-returns-2
 returns-2 c = inner-other _ (c .if2 .taken)
-
-sub-is-phase-net : tie.Need-sub-is-phase-net
-sub-is-phase-net c = search needs
-
-part-is-phase-net-start : tie.Need-part-is-phase-net-start
-part-is-phase-net-start c = search needs
-
-part-is-phase-net-end : tie.Need-part-is-phase-net-end
-part-is-phase-net-end c = search needs
-
-is-phase-net-requires : tie.Need-is-phase-net-requires
-is-phase-net-requires c κs = search needs
 
 returns-3 : tie.Need-returns-3
 returns-3 c =
@@ -38,11 +23,4 @@ pub is-inner-net-spec : {M : Type 1} → statement M
 is-inner-net-spec =
     tie.close
     (tie.spec
-    returns
-    shared-slice-read-if2
-    returns-2
-    sub-is-phase-net
-    part-is-phase-net-start
-    part-is-phase-net-end
-    is-phase-net-requires
-    returns-3)
+    returns (λ c. search needs) returns-2 (λ c. search needs) (λ c. search needs) (λ c. search needs) (λ c κs. search needs) returns-3)

@@ -1,8 +1,6 @@
 -- `lines::is_kind` meets its contract: the field is judged by its kind.
 -- Assumes nothing.
 use Rattle.lines.specs.declared.Kind.{Kind}
-use mathlib.Core.List.{List}
-use Prim.Native.Nat.{ℕ}
 use Rattle.lines.specs.Kinds.{kindTest}
 use mathlib.Core.Path.{sym, ap, _∙_}
 use borrow.Author.Needs.{needs}
@@ -11,33 +9,6 @@ use Rattle.lines.proofs.is_kind.Tie as tie
 
 enum-told : tie.Need-enum-told
 enum-told c = search needs
-
-are-digits-requires : tie.Need-are-digits-requires
-are-digits-requires c κs = search needs
-
-enum-known-kind : tie.Need-enum-known-kind
-enum-known-kind c = search needs
-
-is-label-requires : tie.Need-is-label-requires
-is-label-requires c κs = search needs
-
-enum-told-2 : tie.Need-enum-told-2
-enum-told-2 c = search needs
-
-is-phase-net-requires : tie.Need-is-phase-net-requires
-is-phase-net-requires c κs = search needs
-
-enum-known-kind-2 : tie.Need-enum-known-kind-2
-enum-known-kind-2 c = search needs
-
-is-bound-requires : tie.Need-is-bound-requires
-is-bound-requires c κs = search needs
-
-enum-known-kind-3 : tie.Need-enum-known-kind-3
-enum-known-kind-3 c = search needs
-
-is-number-requires : tie.Need-is-number-requires
-is-number-requires c κs = search needs
 
 returns : tie.Need-returns
 unfolding kindTest
@@ -63,18 +34,5 @@ pub is-kind-spec : {M : Type 1} → statement M
 is-kind-spec =
     tie.close
     (tie.spec
-    enum-told
-    are-digits-requires
-    enum-known-kind
-    is-label-requires
-    enum-told-2
-    is-phase-net-requires
-    enum-known-kind-2
-    is-bound-requires
-    enum-known-kind-3
-    is-number-requires
-    returns
-    returns-2
-    returns-3
-    returns-4
-    returns-5)
+    enum-told (λ c κs. search needs) (λ c. search needs) (λ c κs. search needs) (λ c. search needs) (λ c κs. search needs) (λ c. search needs)
+    (λ c κs. search needs) (λ c. search needs) (λ c κs. search needs) returns returns-2 returns-3 returns-4 returns-5)

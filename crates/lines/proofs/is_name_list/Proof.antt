@@ -1,7 +1,7 @@
 -- `lines::is_name_list` meets its contract: by steps over its fields.
 -- Assumes nothing.
 use native.Mathlib.Omega.{arith}
-use mathlib.Core.Path.{_≡_, sym, ap, _∙_}
+use mathlib.Core.Path.{ap, _∙_}
 use Prim.Native.Nat.{ℕ}
 use Rattle.model.specs.Base.{all}
 use Rattle.model.specs.NetlistLines.{isLabel}
@@ -11,19 +11,10 @@ use borrow.Author.Needs.{needs}
 use Rattle.lines.proofs.is_name_list.Statement.{statement}
 use Rattle.lines.proofs.is_name_list.Tie as tie
 
-word-requires : tie.Need-word-requires
-word-requires c κs = search needs
-
-add-if1 : tie.Need-add-if1
-add-if1 c = search needs
-
 returns : tie.Need-returns
 returns c =
     let a = c .before .before .before .before .args in
     list-no (a .keyword .now) (a .b) (a .w .now) (omega (arith, c .before .word .ensures))
-
-all-labels-requires : tie.Need-all-labels-requires
-all-labels-requires c κs = search needs
 
 returns-2 : tie.Need-returns-2
 returns-2 c =
@@ -34,4 +25,6 @@ returns-2 c =
 
 pub is-name-list-spec : {M : Type 1} → statement M
 is-name-list-spec =
-    tie.close (tie.spec word-requires add-if1 returns all-labels-requires returns-2)
+    tie.close
+    (tie.spec
+    (λ c κs. search needs) (λ c. search needs) returns (λ c κs. search needs) returns-2)

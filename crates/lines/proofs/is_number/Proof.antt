@@ -1,6 +1,6 @@
 -- `lines::is_number` meets its contract: the number's digits are written, and compared.
 -- Assumes nothing.
-use lib.ListN.{length, take}
+use lib.ListN.{length}
 use lib.Seq.{length-take-le}
 use borrow.Author.Needs.{needs}
 use native.Mathlib.Omega.{arith}
@@ -11,9 +11,6 @@ use Rattle.model.specs.Base.{same}
 use Rattle.lines.proofs.Digits.{ten-digits, written}
 use Rattle.lines.proofs.is_number.Statement.{statement}
 use Rattle.lines.proofs.is_number.Tie as tie
-
-slice-aggregate-put-number : tie.Need-slice-aggregate-put-number
-slice-aggregate-put-number c = search needs
 
 put-number-requires : tie.Need-put-number-requires
 put-number-requires c κs = omega (arith, ten-digits (c .before .before .args .n) (search needs))
@@ -28,9 +25,6 @@ slice-aggregate-same-bytes c =
     let long : length (c .before .before .put-number .last .0) ≡ 10 = search needs in
     sym (length-take-le (c .before .before .put-number .result) (c .before .before .put-number .last .0) (omega (arith, c .before .before .put-number .ensures .0, ten-digits (c .before .before .before .before .before .args .n) (search needs))))
 
-same-bytes-requires : tie.Need-same-bytes-requires
-same-bytes-requires c κs = search needs
-
 returns : tie.Need-returns
 returns c =
     let a = c .before .before .before .before .before .before .args in
@@ -41,9 +35,4 @@ pub is-number-spec : {M : Type 1} → statement M
 is-number-spec =
     tie.close
     (tie.spec
-    slice-aggregate-put-number
-    put-number-requires
-    array-share-prefix-digits
-    slice-aggregate-same-bytes
-    same-bytes-requires
-    returns)
+    (λ c. search needs) put-number-requires array-share-prefix-digits slice-aggregate-same-bytes (λ c κs. search needs) returns)

@@ -1,8 +1,8 @@
 -- `lines::is_timing` meets its contract: by steps over its fields.
 -- Assumes nothing.
-use mathlib.Core.List.{List, _∷_, []}
+use mathlib.Core.List.{_∷_, []}
 use Rattle.model.specs.Base.{same}
-use mathlib.Core.Path.{_≡_, sym, ap, _∙_}
+use mathlib.Core.Path.{ap, _∙_}
 use Rattle.model.specs.Text.{text}
 use Rattle.model.specs.NetlistLines.{isTiming, areDigits, isLabel}
 use Rattle.lines.specs.Steps.{stepAt, stepsAt}
@@ -11,30 +11,6 @@ use Rattle.lines.proofs.Forms.{line-yes, line-no}
 use borrow.Author.Needs.{needs}
 use Rattle.lines.proofs.is_timing.Statement.{statement}
 use Rattle.lines.proofs.is_timing.Tie as tie
-
-slice-aggregate-word : tie.Need-slice-aggregate-word
-slice-aggregate-word c = search needs
-
-word-requires : tie.Need-word-requires
-word-requires c κs = search needs
-
-slice-aggregate-word-2 : tie.Need-slice-aggregate-word-2
-slice-aggregate-word-2 c = search needs
-
-word-requires-2 : tie.Need-word-requires-2
-word-requires-2 c κs = search needs
-
-field-requires : tie.Need-field-requires
-field-requires c κs = search needs
-
-field-requires-2 : tie.Need-field-requires-2
-field-requires-2 c κs = search needs
-
-field-requires-3 : tie.Need-field-requires-3
-field-requires-3 c κs = search needs
-
-add-if1 : tie.Need-add-if1
-add-if1 c = search needs
 
 returns : tie.Need-returns
 unfolding isTiming stepsAt kindTest text
@@ -56,13 +32,5 @@ pub is-timing-spec : {M : Type 1} → statement M
 is-timing-spec =
     tie.close
     (tie.spec
-    slice-aggregate-word
-    word-requires
-    slice-aggregate-word-2
-    word-requires-2
-    field-requires
-    field-requires-2
-    field-requires-3
-    add-if1
-    returns
-    returns-2)
+    (λ c. search needs) (λ c κs. search needs) (λ c. search needs) (λ c κs. search needs) (λ c κs. search needs) (λ c κs. search needs)
+    (λ c κs. search needs) (λ c. search needs) returns returns-2)

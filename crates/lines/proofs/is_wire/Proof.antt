@@ -1,8 +1,8 @@
 -- `lines::is_wire` meets its contract: by steps over its fields.
 -- Assumes nothing.
-use mathlib.Core.List.{List, _∷_, []}
+use mathlib.Core.List.{_∷_, []}
 use Rattle.model.specs.Base.{same}
-use mathlib.Core.Path.{_≡_, sym, ap, _∙_}
+use mathlib.Core.Path.{ap, _∙_}
 use Rattle.model.specs.Text.{text}
 use Rattle.model.specs.NetlistLines.{isWire, isPhaseNet, isLabel}
 use Rattle.lines.specs.Steps.{stepAt, stepsAt}
@@ -11,21 +11,6 @@ use Rattle.lines.proofs.Forms.{line-yes, line-no}
 use borrow.Author.Needs.{needs}
 use Rattle.lines.proofs.is_wire.Statement.{statement}
 use Rattle.lines.proofs.is_wire.Tie as tie
-
-slice-aggregate-word : tie.Need-slice-aggregate-word
-slice-aggregate-word c = search needs
-
-word-requires : tie.Need-word-requires
-word-requires c κs = search needs
-
-field-requires : tie.Need-field-requires
-field-requires c κs = search needs
-
-field-requires-2 : tie.Need-field-requires-2
-field-requires-2 c κs = search needs
-
-add-if1 : tie.Need-add-if1
-add-if1 c = search needs
 
 returns : tie.Need-returns
 unfolding isWire stepsAt kindTest text
@@ -47,10 +32,4 @@ pub is-wire-spec : {M : Type 1} → statement M
 is-wire-spec =
     tie.close
     (tie.spec
-    slice-aggregate-word
-    word-requires
-    field-requires
-    field-requires-2
-    add-if1
-    returns
-    returns-2)
+    (λ c. search needs) (λ c κs. search needs) (λ c κs. search needs) (λ c κs. search needs) (λ c. search needs) returns returns-2)

@@ -8,9 +8,6 @@ use Rattle.loading.proofs.due_kind.Tie as tie
 returns : tie.Need-returns
 returns c = rw (lt-ltb _ _ (c .if1 .taken))
 
-add-if2 : tie.Need-add-if2
-add-if2 c = search needs
-
 returns-2 : tie.Need-returns-2
 returns-2 c = rw (le-ltb _ _ (c .before .before .if1 .left), lt-ltb _ _ (c .if2 .taken))
 
@@ -18,4 +15,6 @@ returns-3 : tie.Need-returns-3
 returns-3 c = rw (le-ltb _ _ (c .before .before .if1 .left), le-ltb _ _ (c .if2 .left))
 
 pub due-kind-spec : {M : Type 1} → statement M
-due-kind-spec = tie.close (tie.spec returns add-if2 returns-2 returns-3)
+due-kind-spec = tie.close
+    (tie.spec
+    returns (λ c. search needs) returns-2 returns-3)

@@ -11,18 +11,6 @@ use borrow.Author.Needs.{needs}
 use Rattle.loading.proofs.open_words.Statement.{statement}
 use Rattle.loading.proofs.open_words.Tie as tie
 
-clear-columns-requires : tie.Need-clear-columns-requires
-clear-columns-requires c κs = search needs
-
-store-node-requires : tie.Need-store-node-requires
-store-node-requires c κs = search needs
-
-place-at-requires : tie.Need-place-at-requires
-place-at-requires c κs = search needs
-
-same-length : tie.Need-same-length
-same-length c = search needs
-
 returns : tie.Need-returns
 unfolding opened
 returns c =
@@ -35,4 +23,5 @@ returns c =
 pub open-words-spec : {M : Type 1} → statement M
 open-words-spec =
     tie.close
-    (tie.spec clear-columns-requires store-node-requires place-at-requires same-length returns)
+    (tie.spec
+    (λ c κs. search needs) (λ c κs. search needs) (λ c κs. search needs) (λ c. search needs) returns)

@@ -9,18 +9,6 @@ use borrow.Author.Needs.{needs}
 use Rattle.loading.proofs.store_input.Statement.{statement}
 use Rattle.loading.proofs.store_input.Tie as tie
 
-store-node-requires : tie.Need-store-node-requires
-store-node-requires c κs = search needs
-
-add-place-at : tie.Need-add-place-at
-add-place-at c = search needs
-
-place-at-requires : tie.Need-place-at-requires
-place-at-requires c κs = search needs
-
-same-length : tie.Need-same-length
-same-length c = search needs
-
 returns : tie.Need-returns
 unfolding storedInput
 returns c =
@@ -31,4 +19,6 @@ returns c =
 
 pub store-input-spec : {M : Type 1} → statement M
 store-input-spec =
-    tie.close (tie.spec store-node-requires add-place-at place-at-requires same-length returns)
+    tie.close
+    (tie.spec
+    (λ c κs. search needs) (λ c. search needs) (λ c κs. search needs) (λ c. search needs) returns)

@@ -6,27 +6,9 @@ use borrow.Author.Needs.{needs}
 use Rattle.loading.proofs.store_line.Statement.{statement}
 use Rattle.loading.proofs.store_line.Tie as tie
 
-store-input-requires : tie.Need-store-input-requires
-store-input-requires c κs = search needs
-
-add-if2 : tie.Need-add-if2
-add-if2 c = search needs
-
-set-output-requires : tie.Need-set-output-requires
-set-output-requires c κs = search needs
-
-store-node-requires : tie.Need-store-node-requires
-store-node-requires c κs = search needs
-
-same-length : tie.Need-same-length
-same-length c = search needs
-
 returns : tie.Need-returns
 unfolding storedLine
 returns c = rw (lt-ltb _ _ (c .before .before .before .before .before .if1 .taken)) (c .before .before .store-input .ensures)
-
-same-length-2 : tie.Need-same-length-2
-same-length-2 c = search needs
 
 returns-2 : tie.Need-returns-2
 unfolding storedLine
@@ -35,9 +17,6 @@ returns-2 c =
     let at-if2 = at-set-output .before .before .before in
     let at-if1 = at-if2 .before .before in
     rw (le-ltb _ _ (at-if1 .if1 .left), lt-ltb _ _ (at-if2 .if2 .taken)) (at-set-output .set-output .ensures)
-
-same-length-3 : tie.Need-same-length-3
-same-length-3 c = search needs
 
 returns-3 : tie.Need-returns-3
 unfolding storedLine
@@ -51,13 +30,5 @@ pub store-line-spec : {M : Type 1} → statement M
 store-line-spec =
     tie.close
     (tie.spec
-    store-input-requires
-    add-if2
-    set-output-requires
-    store-node-requires
-    same-length
-    returns
-    same-length-2
-    returns-2
-    same-length-3
-    returns-3)
+    (λ c κs. search needs) (λ c. search needs) (λ c κs. search needs) (λ c κs. search needs) (λ c. search needs) returns (λ c. search needs)
+    returns-2 (λ c. search needs) returns-3)

@@ -10,12 +10,11 @@ returns : tie.Need-returns
 unfolding isTaken
 returns c = rw (eq-eqb _ _ (c .if1 .taken))
 
-kind-requires : tie.Need-kind-requires
-kind-requires c κs = search needs
-
 returns-2 : tie.Need-returns-2
 unfolding isTaken
 returns-2 c = rw (ne-eqb _ _ (c .before .if1 .left), c .kind .ensures)
 
 pub taken-spec : {M : Type 1} → statement M
-taken-spec = tie.close (tie.spec returns kind-requires returns-2)
+taken-spec = tie.close
+    (tie.spec
+    returns (λ c κs. search needs) returns-2)

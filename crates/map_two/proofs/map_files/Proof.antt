@@ -2,13 +2,10 @@
 use native.Mathlib.Omega.{arith}
 use mathlib.Core.Path.{_≡_, subst}
 use lib.ListN.{length}
-use Rattle.mapper.specs.Stages.{Fits}
+use Rattle.promises.specs.Promised.{Fits}
 use borrow.Author.Needs.{needs}
 use Rattle.map_two.proofs.map_files.Statement.{statement}
 use Rattle.map_two.proofs.map_files.Tie as tie
-
-map-two-requires : tie.Need-map-two-requires
-map-two-requires c κs = search needs
 
 show-requires : tie.Need-show-requires
 show-requires c κs =
@@ -16,7 +13,7 @@ show-requires c κs =
     let start = at-map-two .before .before .before .before .before .before .before .before .before .before .before .before in
     let m = at-map-two .map-two in
     let long : length (start .args .text1 .now) ≡ length (m .last .1 .1 .1 .1 .1 .1 .1 .0) = omega (arith, m .kept .1 .1 .1 .1 .1 .1 .1 .0) in
-    subst (Fits (m .result .first)) long (m .ensures .1 .1 .1 .1 .1 .1 .0)
+    subst (Fits (m .result .first)) long (m .ensures .fitsFirst)
 
 show-requires-2 : tie.Need-show-requires-2
 show-requires-2 c κs =
@@ -24,28 +21,10 @@ show-requires-2 c κs =
     let start = at-map-two .before .before .before .before .before .before .before .before .before .before .before .before in
     let m = at-map-two .map-two in
     let long : length (start .args .text2 .now) ≡ length (m .last .1 .1 .1 .1 .1 .1 .1 .1 .0) = omega (arith, m .kept .1 .1 .1 .1 .1 .1 .1 .1 .0) in
-    subst (Fits (m .result .second)) long (m .ensures .1 .1 .1 .1 .1 .1 .1)
-
-same-length : tie.Need-same-length
-same-length c = search needs
-
-same-length-2 : tie.Need-same-length-2
-same-length-2 c = search needs
-
-same-length-3 : tie.Need-same-length-3
-same-length-3 c = search needs
-
-returns : tie.Need-returns
-returns c = search needs
+    subst (Fits (m .result .second)) long (m .ensures .fitsSecond)
 
 pub map-files-spec : {M : Type 1} → statement M
 map-files-spec =
     tie.close
     (tie.spec
-    map-two-requires
-    show-requires
-    show-requires-2
-    same-length
-    same-length-2
-    same-length-3
-    returns)
+    (λ c κs. search needs) show-requires show-requires-2 (λ c. search needs) (λ c. search needs) (λ c. search needs) (λ c. search needs))

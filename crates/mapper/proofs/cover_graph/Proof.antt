@@ -39,15 +39,6 @@ print-as-requires c κs =
       cover-timeable (s .args .ranged) (s .args .work .now) (s .args .lib) (s .args .codes .now) (s .args .h) (s .pre .0 .0) (s .pre .0 .1) (y .last .0) (y .ensures) (r .result) (r .ensures) (z .last .0) (z .ensures),
     )
 
-enum-known-number : tie.Need-enum-known-number
-enum-known-number c = search needs
-
-same-length : tie.Need-same-length
-same-length c = search needs
-
-same-length-2 : tie.Need-same-length-2
-same-length-2 c = search needs
-
 returns : tie.Need-returns
 returns c =
     let at-print = c .before .before .before .before .before in
@@ -61,9 +52,6 @@ returns c =
     (c .before .before .before .before .print-as .ensures g (cover-mapped (s .args .ranged) (s .args .work .now) (s .args .lib) (s .args .codes .now) (s .args .h) g p (y .last .0) (y .ensures) (r .result) (r .ensures) a (z .last .0) (z .ensures))
     (cover-timeable (s .args .ranged) (s .args .work .now) (s .args .lib) (s .args .codes .now) (s .args .h) g p (y .last .0) (y .ensures) (r .result) (r .ensures) (z .last .0) (z .ensures)))
 
-same-length-3 : tie.Need-same-length-3
-same-length-3 c = search needs
-
 returns-2 : tie.Need-returns-2
 returns-2 c =
     let s = c .before .before .before .before .before .before .before .before .before .before .before .before .before in
@@ -75,14 +63,5 @@ pub cover-graph-spec : {M : Type 1} → statement M
 cover-graph-spec =
     tie.close
     (tie.spec
-    choose-requires
-    uncovered-requires
-    enum-told
-    mark-requires
-    print-as-requires
-    enum-known-number
-    same-length
-    same-length-2
-    returns
-    same-length-3
-    returns-2)
+    choose-requires uncovered-requires enum-told mark-requires print-as-requires (λ c. search needs) (λ c. search needs) (λ c. search needs) returns
+    (λ c. search needs) returns-2)

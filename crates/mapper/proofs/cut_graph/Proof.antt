@@ -18,15 +18,6 @@ cover-graph-requires c κs =
     let r = c .before .before .before .before .before .before .enumerate in
     ((s .pre .0 .0, cuts-cut (s .args .ranged) (s .args .work .now) (s .args .lib) (s .args .codes .now) (s .args .h) (s .pre .0 .0) (s .pre .0 .1) (r .result) (r .ensures .0) (c .before .before .enum-told .given .1) (r .last .0) (r .ensures .1)), s .pre .1)
 
-enum-known-number : tie.Need-enum-known-number
-enum-known-number c = search needs
-
-same-length : tie.Need-same-length
-same-length c = search needs
-
-same-length-2 : tie.Need-same-length-2
-same-length-2 c = search needs
-
 returns : tie.Need-returns
 returns c =
     let s = c .before .before .before .before .before .before .before .before .before .before .before .before .before .before .before .before .before in
@@ -35,9 +26,6 @@ returns c =
     λ g p.
     told-as (cuts-go (s .args .ranged) (s .args .work .now) (s .args .lib) (s .args .codes .now) (s .args .h) g p (r .result) (r .ensures .0) a _)
     (c .before .before .before .before .cover-graph .ensures g (cuts-cut (s .args .ranged) (s .args .work .now) (s .args .lib) (s .args .codes .now) (s .args .h) g p (r .result) (r .ensures .0) a (r .last .0) (r .ensures .1)))
-
-same-length-3 : tie.Need-same-length-3
-same-length-3 c = search needs
 
 returns-2 : tie.Need-returns-2
 returns-2 c =
@@ -49,12 +37,5 @@ pub cut-graph-spec : {M : Type 1} → statement M
 cut-graph-spec =
     tie.close
     (tie.spec
-    enumerate-requires
-    enum-told
-    cover-graph-requires
-    enum-known-number
-    same-length
-    same-length-2
-    returns
-    same-length-3
+    enumerate-requires enum-told cover-graph-requires (λ c. search needs) (λ c. search needs) (λ c. search needs) returns (λ c. search needs)
     returns-2)

@@ -5,9 +5,6 @@ use borrow.Author.Needs.{needs}
 use Rattle.mapper.proofs.load_graph.Statement.{statement}
 use Rattle.mapper.proofs.load_graph.Tie as tie
 
-load-requires : tie.Need-load-requires
-load-requires c κs = search needs
-
 enum-told : tie.Need-enum-told
 enum-told c = search needs
 
@@ -22,15 +19,6 @@ place-graph-requires c κs =
     let d = reading-loaded (args .ranged) (args .lib) (args .codes .now) (start .pre .0) (args .graph .now) (args .arrivals .now) (args .h) (args .work .now) fit (start .pre .1) (r .result) (r .ensures .0) (at-enum-told .enum-told .given .1) _ (r .ensures .1 .0) in
     ((d .graph, d .loaded), start .pre .3)
 
-enum-known-number : tie.Need-enum-known-number
-enum-known-number c = search needs
-
-same-length : tie.Need-same-length
-same-length c = search needs
-
-same-length-2 : tie.Need-same-length-2
-same-length-2 c = search needs
-
 returns : tie.Need-returns
 returns c =
     let at-place-graph = c .before .before .before .before in
@@ -42,9 +30,6 @@ returns c =
     let fit = header-fit (args .graph .now) (args .h) (args .work .now) (start .pre .1) (start .pre .2) in
     let d = reading-loaded (args .ranged) (args .lib) (args .codes .now) (start .pre .0) (args .graph .now) (args .arrivals .now) (args .h) (args .work .now) fit (start .pre .1) (r .result) (r .ensures .0) (at-enum-told .enum-told .given .1) _ (r .ensures .1 .0) in
     told-as (d .outcome _) (at-place-graph .place-graph .ensures (d .graph) (d .loaded))
-
-same-length-3 : tie.Need-same-length-3
-same-length-3 c = search needs
 
 returns-2 : tie.Need-returns-2
 returns-2 c =
@@ -59,12 +44,5 @@ pub load-graph-spec : {M : Type 1} → statement M
 load-graph-spec =
     tie.close
     (tie.spec
-    load-requires
-    enum-told
-    place-graph-requires
-    enum-known-number
-    same-length
-    same-length-2
-    returns
-    same-length-3
+    (λ c κs. search needs) enum-told place-graph-requires (λ c. search needs) (λ c. search needs) (λ c. search needs) returns (λ c. search needs)
     returns-2)

@@ -9,12 +9,6 @@ use borrow.Author.Needs.{needs}
 use Rattle.mapper.proofs.map_header.Statement.{statement}
 use Rattle.mapper.proofs.map_header.Tie as tie
 
-header-requires : tie.Need-header-requires
-header-requires c κs = search needs
-
-enum-known-h : tie.Need-enum-known-h
-enum-known-h c = search needs
-
 need-words-requires : tie.Need-need-words-requires
 need-words-requires c κs =
     let at-h = c .before in
@@ -38,15 +32,6 @@ map-graph-requires c κs =
     let at-header = at-h .before .before in
     (at-header .before .before .before .before .before .before .pre, (header-read _ _ (sym (at-header .header .ensures .0) ∙ at-h .h .given .1)), omega (arith, at-need-words .need-words .ensures))
 
-enum-known-number : tie.Need-enum-known-number
-enum-known-number c = search needs
-
-same-length : tie.Need-same-length
-same-length c = search needs
-
-same-length-2 : tie.Need-same-length-2
-same-length-2 c = search needs
-
 returns-2 : tie.Need-returns-2
 returns-2 c =
     let at-map-graph = c .before .before .before .before in
@@ -68,13 +53,5 @@ pub map-header-spec : {M : Type 1} → statement M
 map-header-spec =
     tie.close
     (tie.spec
-    header-requires
-    enum-known-h
-    need-words-requires
-    returns
-    map-graph-requires
-    enum-known-number
-    same-length
-    same-length-2
-    returns-2
-    returns-3)
+    (λ c κs. search needs) (λ c. search needs) need-words-requires returns map-graph-requires (λ c. search needs) (λ c. search needs)
+    (λ c. search needs) returns-2 returns-3)

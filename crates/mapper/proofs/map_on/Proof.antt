@@ -2,7 +2,6 @@
 use native.Mathlib.Omega.{arith}
 use Prim.Native.Nat.{ℕ, _+_}
 use mathlib.Core.Path.{_≡_, _∙_, ap, sym, subst}
-use mathlib.Core.List.{List}
 use lib.ListN.{length, replicate}
 use Rattle.model.specs.Cells.{cellsOf}
 use Rattle.pairs.proofs.Cells.{by-length}
@@ -28,18 +27,6 @@ load-graph-requires c κs =
     let sheet = subst (SheetOf (allOf (a .lib) (a .codes .now))) (sym (m .match-library .ensures)) (sheet-by (a .lib) (a .codes .now) (a .sheet .now) (s .pre .0 .read .usable) (s .pre .0 .coded) blank) in
     (s .pre .0, s .pre .1, s .pre .2, sheet)
 
-clear-all-requires : tie.Need-clear-all-requires
-clear-all-requires c κs = search needs
-
-same-length : tie.Need-same-length
-same-length c = search needs
-
-same-length-2 : tie.Need-same-length-2
-same-length-2 c = search needs
-
-same-length-3 : tie.Need-same-length-3
-same-length-3 c = search needs
-
 returns : tie.Need-returns
 returns c =
     let at-clear-all = c .before .before in
@@ -52,10 +39,4 @@ pub map-on-spec : {M : Type 1} → statement M
 map-on-spec =
     tie.close
     (tie.spec
-    match-library-requires
-    load-graph-requires
-    clear-all-requires
-    same-length
-    same-length-2
-    same-length-3
-    returns)
+    match-library-requires load-graph-requires (λ c κs. search needs) (λ c. search needs) (λ c. search needs) (λ c. search needs) returns)

@@ -1,6 +1,6 @@
 -- `mapper::map_pairs` meets its contract: the numbers written are those of all pairs, or 30 comes. Assumes nothing.
 use native.Mathlib.Omega.{arith}
-use Prim.Native.Nat.{ℕ, _<_, _≤_, _+_}
+use Prim.Native.Nat.{ℕ}
 use mathlib.Core.Path.{_≡_, sym, ap, subst, _∙_}
 use mathlib.Core.Bool.{true}
 use mathlib.Core.List.{List}
@@ -20,9 +20,6 @@ use Rattle.mapper.proofs.map_pairs.Tie as tie
 codes-are : (f : tie.After-form) → let a = f .before .before .before .before .before .before .args in take (f .form .result) (f .form .last .0) ≡ pairCodes (cellsOf (a .lib))
 codes-are f = let a = f .before .before .before .before .before .before .args in ap (take (f .form .result)) (f .form .ensures .leaves) ∙ formed-are _ (pairCodes (cellsOf (a .lib))) (f .form .result) (f .form .ensures .ends)
 
-slice-aggregate-form : tie.Need-slice-aggregate-form
-slice-aggregate-form c = search needs
-
 form-requires : tie.Need-form-requires
 form-requires c κs = let s = c .before .before .before .before .before in (joinable-of (s .args .lib) (s .pre), codes-few (s .args .lib) (joinable-of (s .args .lib) (s .pre)))
 
@@ -41,9 +38,6 @@ returns c =
     let many = by-length (cellsOf (a .lib)) (pairCodes (cellsOf (a .lib))) in
     pairs-stop (a .ranged) (a .lib) (a .graph .now) (a .arrivals .now) (a .work .now) (a .text .now) (omega (arith, all, many, f .form .ensures .ends, s .pre .usable .whole, c .if1 .taken))
 
-array-share-prefix-codes : tie.Need-array-share-prefix-codes
-array-share-prefix-codes c = search needs
-
 slice-aggregate-map-header : tie.Need-slice-aggregate-map-header
 slice-aggregate-map-header c =
     let f = c .before .before .before .before in
@@ -55,12 +49,6 @@ map-header-requires c κs =
     let f = c .before .before .before .before .before .before in
     let s = f .before .before .before .before .before .before in
     subst (LibraryOk (s .args .lib)) (sym (codes-are f)) (joined-ok (s .args .lib) (s .pre) (omega (arith, f .form .ensures .ends, c .before .before .before .if1 .left)))
-
-same-length : tie.Need-same-length
-same-length c = search needs
-
-same-length-2 : tie.Need-same-length-2
-same-length-2 c = search needs
 
 returns-2 : tie.Need-returns-2
 returns-2 c =
@@ -78,13 +66,5 @@ pub map-pairs-spec : {M : Type 1} → statement M
 map-pairs-spec =
     tie.close
     (tie.spec
-    slice-aggregate-form
-    form-requires
-    add-if1
-    returns
-    array-share-prefix-codes
-    slice-aggregate-map-header
-    map-header-requires
-    same-length
-    same-length-2
-    returns-2)
+    (λ c. search needs) form-requires add-if1 returns (λ c. search needs) slice-aggregate-map-header map-header-requires (λ c. search needs)
+    (λ c. search needs) returns-2)

@@ -20,9 +20,6 @@ read-requires c κs =
 enum-told : tie.Need-enum-told
 enum-told c = search needs
 
-enum-told-2 : tie.Need-enum-told-2
-enum-told-2 c = search needs
-
 cut-graph-requires : tie.Need-cut-graph-requires
 cut-graph-requires c κs =
     let at-read = c .before .before .before .before .before .before .before .before in
@@ -33,18 +30,6 @@ cut-graph-requires c κs =
     let u = at-read .read in
     let d = placing-timed (args .ranged) (args .work .now) (args .lib) (args .codes .now) (args .h) (start .pre .0 .0) (start .pre .0 .1) (r .result) (r .ensures .0) (r .last .0) (r .ensures .1) (args .arrivals .now) (u .result) (u .ensures .0) (c .before .before .before .before .enum-told .given .1) (c .before .before .enum-told2 .given .1) (u .last .1 .1 .0) (u .ensures .1 .1) in
     ((d .graph, d .timed), start .pre .1)
-
-enum-known-placed : tie.Need-enum-known-placed
-enum-known-placed c = search needs
-
-enum-known-number : tie.Need-enum-known-number
-enum-known-number c = search needs
-
-same-length : tie.Need-same-length
-same-length c = search needs
-
-same-length-2 : tie.Need-same-length-2
-same-length-2 c = search needs
 
 returns : tie.Need-returns
 returns c =
@@ -58,9 +43,6 @@ returns c =
     let d = placing-timed (args .ranged) (args .work .now) (args .lib) (args .codes .now) (args .h) g l (r .result) (r .ensures .0) (r .last .0) (r .ensures .1) (args .arrivals .now) (u .result) (u .ensures .0) (at-cut .before .before .before .before .before .enum-told .given .1) (at-cut .before .before .before .enum-told2 .given .1) (u .last .1 .1 .0) (u .ensures .1 .1) in
     told-as (d .outcome _) (at-cut .cut-graph .ensures (d .graph) (d .timed))
 
-same-length-3 : tie.Need-same-length-3
-same-length-3 c = search needs
-
 returns-2 : tie.Need-returns-2
 returns-2 c =
     let at-read = c .before .before .before .before .before .before .before in
@@ -69,9 +51,6 @@ returns-2 c =
     let r = at-place .place in
     let u = at-read .read in
     λ g l. placing-stops (args .ranged) (args .work .now) (args .lib) (args .codes .now) (args .h) g l (r .result) (r .ensures .0) (r .last .0) (r .ensures .1) (args .arrivals .now) (u .result) (u .ensures .0) (c .before .before .before .enum-told .given .1) _ _ (c .before .placed .given .1) (args .text .now)
-
-same-length-4 : tie.Need-same-length-4
-same-length-4 c = search needs
 
 returns-3 : tie.Need-returns-3
 returns-3 c =
@@ -86,17 +65,5 @@ pub place-graph-spec : {M : Type 1} → statement M
 place-graph-spec =
     tie.close
     (tie.spec
-    place-requires
-    read-requires
-    enum-told
-    enum-told-2
-    cut-graph-requires
-    enum-known-placed
-    enum-known-number
-    same-length
-    same-length-2
-    returns
-    same-length-3
-    returns-2
-    same-length-4
-    returns-3)
+    place-requires read-requires enum-told (λ c. search needs) cut-graph-requires (λ c. search needs) (λ c. search needs) (λ c. search needs)
+    (λ c. search needs) returns (λ c. search needs) returns-2 (λ c. search needs) returns-3)

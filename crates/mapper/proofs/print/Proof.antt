@@ -5,9 +5,6 @@ use Rattle.mapper.proofs.Printing.{print-short, print-room, print-done}
 use Rattle.mapper.proofs.print.Statement.{statement}
 use Rattle.mapper.proofs.print.Tie as tie
 
-measure-requires : tie.Need-measure-requires
-measure-requires c κs = search needs
-
 returns : tie.Need-returns
 returns c =
     let m = c .before .before .measure in
@@ -20,9 +17,6 @@ write-requires c κs =
     let p = c .before .before .before .before .before .before .before .pre in
     (p .0, p .1, print-room _ _ (p .0) (c .before .before .before .before .before .before .before .args .text .now) (m .result) (m .ensures .0 (p .0) (p .1)) (omega arith))
 
-same-length : tie.Need-same-length
-same-length c = search needs
-
 returns-2 : tie.Need-returns-2
 returns-2 c =
     let m = c .before .before .before .before .before .before .measure in
@@ -30,4 +24,6 @@ returns-2 c =
     λ g p. print-done _ _ g (c .before .before .before .before .before .before .before .before .before .before .args .text .now) (m .result) (m .ensures .0 g p) (omega arith) _ (w .ensures g p .1)
 
 pub print-spec : {M : Type 1} → statement M
-print-spec = tie.close (tie.spec measure-requires returns write-requires same-length returns-2)
+print-spec = tie.close
+    (tie.spec
+    (λ c κs. search needs) returns write-requires (λ c. search needs) returns-2)

@@ -19,12 +19,6 @@ print-timed-requires c κs =
     let p = s .pre in
     (p .0, lowered-mapped (s .args .work .now) (s .args .lib) (s .args .codes .now) (s .args .h) (p .0) (p .1) (p .2) _ (r .ensures), lowered-lows (s .args .work .now) (s .args .lib) (s .args .codes .now) (s .args .h) (p .0) (p .1) (p .2) _ (r .ensures))
 
-same-length : tie.Need-same-length
-same-length c = search needs
-
-same-length-2 : tie.Need-same-length-2
-same-length-2 c = search needs
-
 returns : tie.Need-returns
 returns c =
     let at-print = c .before .before in
@@ -38,12 +32,6 @@ returns c =
 print-requires : tie.Need-print-requires
 print-requires c κs = let p = c .before .before .before .before .before .before .pre in (p .0, p .1)
 
-same-length-3 : tie.Need-same-length-3
-same-length-3 c = search needs
-
-same-length-4 : tie.Need-same-length-4
-same-length-4 c = search needs
-
 returns-2 : tie.Need-returns-2
 returns-2 c =
     let at-print = c .before .before in
@@ -55,12 +43,5 @@ pub print-as-spec : {M : Type 1} → statement M
 print-as-spec =
     tie.close
     (tie.spec
-    retime-requires
-    print-timed-requires
-    same-length
-    same-length-2
-    returns
-    print-requires
-    same-length-3
-    same-length-4
+    retime-requires print-timed-requires (λ c. search needs) (λ c. search needs) returns print-requires (λ c. search needs) (λ c. search needs)
     returns-2)

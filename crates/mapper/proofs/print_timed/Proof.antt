@@ -1,10 +1,9 @@
 -- `mapper::print_timed` meets its contract: the netlist and its timing lines are measured, and written where they fit. Assumes nothing.
 use Prim.Native.Nat.{ℕ, _+_}
 use native.Mathlib.Omega.{arith}
-use mathlib.Core.Path.{_≡_, sym, subst, _∙_, ap}
+use mathlib.Core.Path.{sym, subst}
 use mathlib.Core.Bool.{true}
 use lib.ListN.{length}
-use Rattle.model.specs.declared.Answer.{Answer}
 use Rattle.model.specs.declared.Answer.the-variants.{Mapped, Refused}
 use Rattle.mapper.specs.Stages.{Told, printedFor}
 use Rattle.mapper.proofs.Printing.{print-room, timed-short, timed-done}
@@ -18,9 +17,6 @@ measure-requires c κs = let p = c .before .before .before .pre in (p .0, p .1)
 
 lines-len-requires : tie.Need-lines-len-requires
 lines-len-requires c κs = let s = c .before .before .before .before .before in lines-asked (s .args .work .now) (s .args .lib) (s .args .codes .now) (s .args .h) (s .pre .0) (s .pre .1)
-
-add-whole : tie.Need-add-whole
-add-whole c = search needs
 
 returns : tie.Need-returns
 returns c =
@@ -46,9 +42,6 @@ put-lines-requires c κs =
     let q = lines-asked (s .args .work .now) (s .args .lib) (s .args .codes .now) (s .args .h) (s .pre .0) (s .pre .1) in
     (q .0, q .1, omega (arith, at-lines .lines-len .ensures .0, c .before .before .before .write .kept .1 .1 .1 .1 .1 .0))
 
-same-length : tie.Need-same-length
-same-length c = search needs
-
 returns-2 : tie.Need-returns-2
 returns-2 c =
     let at-put = c .before .before in
@@ -66,11 +59,4 @@ pub print-timed-spec : {M : Type 1} → statement M
 print-timed-spec =
     tie.close
     (tie.spec
-    measure-requires
-    lines-len-requires
-    add-whole
-    returns
-    write-requires
-    put-lines-requires
-    same-length
-    returns-2)
+    measure-requires lines-len-requires (λ c. search needs) returns write-requires put-lines-requires (λ c. search needs) returns-2)

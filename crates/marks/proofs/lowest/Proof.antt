@@ -9,14 +9,8 @@ use Rattle.marks.proofs.Marks.{lowest-zero, lowest-sum}
 use Rattle.marks.proofs.lowest.Statement.{statement}
 use Rattle.marks.proofs.lowest.Tie as tie
 
-element-copy-out-top : tie.Need-element-copy-out-top
-element-copy-out-top c = search needs
-
 returns : tie.Need-returns
 returns c = sym (lowest-zero (c .before .before .args .marks .now) (c .if1 .taken))
-
-zeros-requires : tie.Need-zeros-requires
-zeros-requires c κs = search needs
 
 mul-result : tie.Need-mul-result
 mul-result c = omega (arith, trailing-le 64 (getD (c .before .before .before .args .marks .now) 64 0))
@@ -26,9 +20,6 @@ mul-zeros c = omega (arith, trailing-le 64 (getD (c .before .before .before .arg
 
 element-copy-out-zeros : tie.Need-element-copy-out-zeros
 element-copy-out-zeros c = omega (arith, trailing-le 64 (getD (c .before .before .before .args .marks .now) 64 0))
-
-zeros-requires-2 : tie.Need-zeros-requires-2
-zeros-requires-2 c κs = search needs
 
 add-result : tie.Need-add-result
 add-result c =
@@ -45,12 +36,4 @@ pub lowest-spec : {M : Type 1} → statement M
 lowest-spec =
     tie.close
     (tie.spec
-    element-copy-out-top
-    returns
-    zeros-requires
-    mul-result
-    mul-zeros
-    element-copy-out-zeros
-    zeros-requires-2
-    add-result
-    returns-2)
+    (λ c. search needs) returns (λ c κs. search needs) mul-result mul-zeros element-copy-out-zeros (λ c κs. search needs) add-result returns-2)

@@ -9,8 +9,7 @@ use Rattle.marks.proofs.zeros.Tie as tie
 cast-result : tie.Need-cast-result
 cast-result c = omega (arith, trailing-le 64 (c .args .x))
 
-returns : tie.Need-returns
-returns c = search needs
-
 pub zeros-spec : {M : Type 1} → statement M
-zeros-spec = tie.close (tie.spec cast-result returns)
+zeros-spec = tie.close
+    (tie.spec
+    cast-result (λ c. search needs))

@@ -24,18 +24,12 @@ mul-wide c = omega (arith, c .before .fits .f)
 shared-slice-read-wide : tie.Need-shared-slice-read-wide Inv-loop μ-loop
 shared-slice-read-wide c = let s = c .before .before in omega (arith, s .fits .f, s .pre .0 .1 .long)
 
-wide-requires : tie.Need-wide-requires Inv-loop μ-loop
-wide-requires c κs = tt
-
 loop-holds : tie.Need-loop-holds Inv-loop μ-loop
 loop-holds c =
     let s = c .before .before .before in
     let a = s .args in
     λ cells sheet. subst (λ (h : ℕ). Walking cells (a .times .now) (bestUnder cells (a .f) (a .times .now) (a .bound)) (a .sheet .now) h (unmatchedUnder (a .bound))) (sym (c .wide .ensures))
     (walking-first cells (a .sheet .now) (a .f) (a .times .now) (a .bound) sheet (omega (arith, s .fits .f)))
-
-sub-x : tie.Need-sub-x Inv-loop μ-loop
-sub-x c = omega arith
 
 try-variant-requires : tie.Need-try-variant-requires Inv-loop μ-loop
 try-variant-requires c κs =
@@ -81,9 +75,6 @@ shared-slice-read-wide-2 c =
     let w = walking-within (k .0) (a .times .now) (bestUnder (k .0) (a .f) (a .times .now) (a .bound)) (a .sheet .now) (k .1) (l .h) (l .b) (l .inv (k .0) (k .1)) (c .before .before .loop-test .taken) in
     omega (arith, w .within, w .there)
 
-wide-requires-2 : tie.Need-wide-requires-2 Inv-loop μ-loop
-wide-requires-2 c κs = tt
-
 loop-less : tie.Need-loop-less Inv-loop μ-loop
 loop-less c =
     let s = c .before .before .before .before .before .before .before .before in
@@ -112,19 +103,5 @@ pub best-match-spec : {M : Type 1} → statement M
 best-match-spec =
     tie.close
     (tie.spec
-    Inv-loop
-    μ-loop
-    mul-wide
-    shared-slice-read-wide
-    wide-requires
-    loop-holds
-    sub-x
-    try-variant-requires
-    mul-wide-2
-    add-wide
-    mul-wide-3
-    shared-slice-read-wide-2
-    wide-requires-2
-    loop-less
-    loop-again
-    returns)
+    Inv-loop μ-loop mul-wide shared-slice-read-wide (λ c κs. tt) loop-holds (λ c. omega arith) try-variant-requires mul-wide-2 add-wide mul-wide-3
+    shared-slice-read-wide-2 (λ c κs. tt) loop-less loop-again returns)

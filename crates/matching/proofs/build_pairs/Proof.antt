@@ -27,9 +27,6 @@ loop-holds c =
     let a = s .args in
     (omega arith, listed-none (cellsBy (cellsOf (a .lib)) (a .codes .now)) (a .lib .n + length (a .codes .now)) (a .sheet .now) (omega (arith, by-length (cellsOf (a .lib)) (a .codes .now), s .pre .0 .joinable .whole)))
 
-sub-i : tie.Need-sub-i Inv-loop μ-loop
-sub-i c = omega arith
-
 add-match-pair : tie.Need-add-match-pair Inv-loop μ-loop
 add-match-pair c = let s = c .before .before .before .before in omega (arith, s .pre .0 .few, c .before .loop .inv .0)
 
@@ -40,9 +37,6 @@ match-pair-requires c κs =
     let l = c .before .before .loop in
     let t = c .before .loop-test .taken in
     (s .pre .0, omega (arith, l .inv .0, t), omega (arith, s .pre .1, l .inv .0, t, ap length (l .inv .1) ∙ list-long (drop (a .lib .n + l .i) (cellsBy (cellsOf (a .lib)) (a .codes .now))) (a .lib .n + l .i) (a .sheet .now)))
-
-loop-less : tie.Need-loop-less Inv-loop μ-loop
-loop-less c = omega arith
 
 loop-again : tie.Need-loop-again Inv-loop μ-loop
 loop-again c =
@@ -75,13 +69,4 @@ pub build-pairs-spec : {M : Type 1} → statement M
 build-pairs-spec =
     tie.close
     (tie.spec
-    Inv-loop
-    μ-loop
-    loop-holds
-    sub-i
-    add-match-pair
-    match-pair-requires
-    loop-less
-    loop-again
-    same-length
-    returns)
+    Inv-loop μ-loop loop-holds (λ c. omega arith) add-match-pair match-pair-requires (λ c. omega arith) loop-again same-length returns)

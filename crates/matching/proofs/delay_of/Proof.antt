@@ -5,12 +5,6 @@ use borrow.Author.Needs.{needs}
 use Rattle.matching.proofs.delay_of.Statement.{statement}
 use Rattle.matching.proofs.delay_of.Tie as tie
 
-mul-result : tie.Need-mul-result
-mul-result c = search needs
-
-array-read-result : tie.Need-array-read-result
-array-read-result c = search needs
-
 returns : tie.Need-returns
 returns c = let a = c .before .args in delay-there (a .pins) (a .t2) (a .j) (c .if1 .taken)
 
@@ -18,4 +12,6 @@ returns-2 : tie.Need-returns-2
 returns-2 c = let a = c .before .args in delay-absent (a .pins) (a .t2) (a .j) (c .if1 .left)
 
 pub delay-of-spec : {M : Type 1} → statement M
-delay-of-spec = tie.close (tie.spec mul-result array-read-result returns returns-2)
+delay-of-spec = tie.close
+    (tie.spec
+    (λ c. search needs) (λ c. search needs) returns returns-2)

@@ -31,15 +31,6 @@ mul-c c = omega (arith, c .before .before .before .pre .few)
 array-copy-out-c : tie.Need-array-copy-out-c Inv-loop μ-loop
 array-copy-out-c c = omega (arith, c .before .before .before .pre .few)
 
-try-inverter-requires : tie.Need-try-inverter-requires Inv-loop μ-loop
-try-inverter-requires c κs = tt
-
-add-i : tie.Need-add-i Inv-loop μ-loop
-add-i c = search needs
-
-loop-less : tie.Need-loop-less Inv-loop μ-loop
-loop-less c = omega arith
-
 loop-again : tie.Need-loop-again Inv-loop μ-loop
 unfolding cellsOf
 loop-again c =
@@ -63,13 +54,4 @@ pub inverter-of-spec : {M : Type 1} → statement M
 inverter-of-spec =
     tie.close
     (tie.spec
-    Inv-loop
-    μ-loop
-    loop-holds
-    mul-c
-    array-copy-out-c
-    try-inverter-requires
-    add-i
-    loop-less
-    loop-again
-    returns)
+    Inv-loop μ-loop loop-holds mul-c array-copy-out-c (λ c κs. tt) (λ c. search needs) (λ c. omega arith) loop-again returns)

@@ -6,16 +6,12 @@ use Rattle.matching.specs.Sheet.{isListed}
 use Rattle.matching.proofs.is_listed.Statement.{statement}
 use Rattle.matching.proofs.is_listed.Tie as tie
 
-mul-result : tie.Need-mul-result
-mul-result c = search needs
-
-shared-slice-read-result : tie.Need-shared-slice-read-result
-shared-slice-read-result c = search needs
-
 returns : tie.Need-returns
 unfolding isListed
 returns c = refl
 
 pub is-listed-spec : {M : Type 1} → statement M
 is-listed-spec =
-    tie.close (tie.spec mul-result shared-slice-read-result returns)
+    tie.close
+    (tie.spec
+    (λ c. search needs) (λ c. search needs) returns)

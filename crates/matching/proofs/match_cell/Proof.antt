@@ -8,15 +8,6 @@ use Rattle.matching.specs.Sheet.{passed, timed, cellMatched}
 use Rattle.matching.proofs.match_cell.Statement.{statement}
 use Rattle.matching.proofs.match_cell.Tie as tie
 
-widened-requires : tie.Need-widened-requires
-widened-requires c κs = search needs
-
-match-parts-requires : tie.Need-match-parts-requires
-match-parts-requires c κs = search needs
-
-same-length : tie.Need-same-length
-same-length c = search needs
-
 returns : tie.Need-returns
 unfolding cellMatched
 returns c =
@@ -26,4 +17,6 @@ returns c =
 
 pub match-cell-spec : {M : Type 1} → statement M
 match-cell-spec =
-    tie.close (tie.spec widened-requires match-parts-requires same-length returns)
+    tie.close
+    (tie.spec
+    (λ c κs. search needs) (λ c κs. search needs) (λ c. search needs) returns)

@@ -9,23 +9,11 @@ use Rattle.matching.proofs.Pairing.{pins-by}
 use Rattle.matching.proofs.match_pair.Statement.{statement}
 use Rattle.matching.proofs.match_pair.Tie as tie
 
-pins-of-requires : tie.Need-pins-of-requires
-pins-of-requires c κs = search needs
-
-table-of-requires : tie.Need-table-of-requires
-table-of-requires c κs = search needs
-
-delays-of-requires : tie.Need-delays-of-requires
-delays-of-requires c κs = search needs
-
 match-parts-requires : tie.Need-match-parts-requires
 match-parts-requires c κs =
     let s = c .before .before .before .before .before .before in
     let p = c .before .before .before .pins-of in
     (omega (arith, p .ensures, pins-by (s .args .lib) (s .args .codes .now) (s .pre .0) (s .args .k)), omega (arith, s .pre .0 .few, s .pre .1), s .pre .2)
-
-same-length : tie.Need-same-length
-same-length c = search needs
 
 returns : tie.Need-returns
 unfolding cellMatched
@@ -41,9 +29,4 @@ pub match-pair-spec : {M : Type 1} → statement M
 match-pair-spec =
     tie.close
     (tie.spec
-    pins-of-requires
-    table-of-requires
-    delays-of-requires
-    match-parts-requires
-    same-length
-    returns)
+    (λ c κs. search needs) (λ c κs. search needs) (λ c κs. search needs) match-parts-requires (λ c. search needs) returns)

@@ -7,15 +7,6 @@ use Rattle.matching.specs.Sheet.{passed}
 use Rattle.matching.proofs.match_parts.Statement.{statement}
 use Rattle.matching.proofs.match_parts.Tie as tie
 
-put-delays-requires : tie.Need-put-delays-requires
-put-delays-requires c κs = search needs
-
-put-variants-requires : tie.Need-put-variants-requires
-put-variants-requires c κs = search needs
-
-same-length : tie.Need-same-length
-same-length c = search needs
-
 returns : tie.Need-returns
 returns c =
     let a = c .before .before .before .before .before .before .before .before .before .args in
@@ -23,4 +14,6 @@ returns c =
 
 pub match-parts-spec : {M : Type 1} → statement M
 match-parts-spec =
-    tie.close (tie.spec put-delays-requires put-variants-requires same-length returns)
+    tie.close
+    (tie.spec
+    (λ c κs. search needs) (λ c κs. search needs) (λ c. search needs) returns)

@@ -7,12 +7,6 @@ use Rattle.matching.specs.Best.{phaseAs, never}
 use Rattle.matching.proofs.phase_as.Statement.{statement}
 use Rattle.matching.proofs.phase_as.Tie as tie
 
-cast-match-of : tie.Need-cast-match-of
-cast-match-of c = search needs
-
-match-of-requires : tie.Need-match-of-requires
-match-of-requires c κs = search needs
-
 returns : tie.Need-returns
 unfolding phaseAs
 returns c =
@@ -26,4 +20,6 @@ returns-2 c =
     rw (le-ltb (a .b .arrival) never (c .if1 .left))
 
 pub phase-as-spec : {M : Type 1} → statement M
-phase-as-spec = tie.close (tie.spec cast-match-of match-of-requires returns returns-2)
+phase-as-spec = tie.close
+    (tie.spec
+    (λ c. search needs) (λ c κs. search needs) returns returns-2)

@@ -11,9 +11,6 @@ use borrow.Author.Needs.{needs}
 use Rattle.matching.proofs.pick_pin.Statement.{statement}
 use Rattle.matching.proofs.pick_pin.Tie as tie
 
-place-requires : tie.Need-place-requires
-place-requires c κs = search needs
-
 mul-result : tie.Need-mul-result
 mul-result c =
     let s = c .before .before in
@@ -31,4 +28,6 @@ returns-2 : tie.Need-returns-2
 returns-2 c = let a = c .before .args in (pick-absent (a .pins) (placesOf (a .order)) 0 (a .j) (c .if1 .left), omega arith)
 
 pub pick-pin-spec : {M : Type 1} → statement M
-pick-pin-spec = tie.close (tie.spec place-requires mul-result returns returns-2)
+pick-pin-spec = tie.close
+    (tie.spec
+    (λ c κs. search needs) mul-result returns returns-2)

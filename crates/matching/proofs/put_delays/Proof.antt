@@ -10,44 +10,11 @@ use Rattle.matching.specs.Sheet.{timed}
 use Rattle.matching.proofs.put_delays.Statement.{statement}
 use Rattle.matching.proofs.put_delays.Tie as tie
 
-mul-at : tie.Need-mul-at
-mul-at c = search needs
-
-add-at : tie.Need-add-at
-add-at c = search needs
-
-delay-of-requires : tie.Need-delay-of-requires
-delay-of-requires c κs = search needs
-
-mul-sheet : tie.Need-mul-sheet
-mul-sheet c = search needs
-
-slice-write-sheet : tie.Need-slice-write-sheet
-slice-write-sheet c = search needs
-
-delay-of-requires-2 : tie.Need-delay-of-requires-2
-delay-of-requires-2 c κs = search needs
-
-add-sheet : tie.Need-add-sheet
-add-sheet c = search needs
-
-mul-sheet-2 : tie.Need-mul-sheet-2
-mul-sheet-2 c = search needs
-
 slice-write-sheet-2 : tie.Need-slice-write-sheet-2
 slice-write-sheet-2 c =
     let s = c .before .before .before in
     let a = s .args in
     omega (arith, s .pre .0, s .pre .1, length-set (a .sheet .now) (65536 + 4 * a .line) (c .before .delay-of .result))
-
-delay-of-requires-3 : tie.Need-delay-of-requires-3
-delay-of-requires-3 c κs = search needs
-
-add-sheet-2 : tie.Need-add-sheet-2
-add-sheet-2 c = search needs
-
-mul-sheet-3 : tie.Need-mul-sheet-3
-mul-sheet-3 c = search needs
 
 slice-write-sheet-3 : tie.Need-slice-write-sheet-3
 slice-write-sheet-3 c =
@@ -55,23 +22,11 @@ slice-write-sheet-3 c =
     let a = s .args in
     omega (arith, s .pre .0, s .pre .1, length-set (a .sheet .now) (65536 + 4 * a .line) (c .before .before .delay-of .result), length-set (set (a .sheet .now) (65536 + 4 * a .line) (c .before .before .delay-of .result)) (65536 + 4 * a .line + 1) (c .before .delay-of2 .result))
 
-delay-of-requires-4 : tie.Need-delay-of-requires-4
-delay-of-requires-4 c κs = search needs
-
-add-sheet-3 : tie.Need-add-sheet-3
-add-sheet-3 c = search needs
-
-mul-sheet-4 : tie.Need-mul-sheet-4
-mul-sheet-4 c = search needs
-
 slice-write-sheet-4 : tie.Need-slice-write-sheet-4
 slice-write-sheet-4 c =
     let s = c .before .before .before .before .before in
     let a = s .args in
     omega (arith, s .pre .0, s .pre .1, length-set (a .sheet .now) (65536 + 4 * a .line) (c .before .before .before .delay-of .result), length-set (set (a .sheet .now) (65536 + 4 * a .line) (c .before .before .before .delay-of .result)) (65536 + 4 * a .line + 1) (c .before .before .delay-of2 .result), length-set (set (set (a .sheet .now) (65536 + 4 * a .line) (c .before .before .before .delay-of .result)) (65536 + 4 * a .line + 1) (c .before .before .delay-of2 .result)) (65536 + 4 * a .line + 2) (c .before .delay-of3 .result))
-
-same-length : tie.Need-same-length
-same-length c = search needs
 
 returns : tie.Need-returns
 unfolding timed
@@ -84,22 +39,6 @@ pub put-delays-spec : {M : Type 1} → statement M
 put-delays-spec =
     tie.close
     (tie.spec
-    mul-at
-    add-at
-    delay-of-requires
-    mul-sheet
-    slice-write-sheet
-    delay-of-requires-2
-    add-sheet
-    mul-sheet-2
-    slice-write-sheet-2
-    delay-of-requires-3
-    add-sheet-2
-    mul-sheet-3
-    slice-write-sheet-3
-    delay-of-requires-4
-    add-sheet-3
-    mul-sheet-4
-    slice-write-sheet-4
-    same-length
-    returns)
+    (λ c. search needs) (λ c. search needs) (λ c κs. search needs) (λ c. search needs) (λ c. search needs) (λ c κs. search needs) (λ c. search needs)
+    (λ c. search needs) slice-write-sheet-2 (λ c κs. search needs) (λ c. search needs) (λ c. search needs) slice-write-sheet-3 (λ c κs. search needs)
+    (λ c. search needs) (λ c. search needs) slice-write-sheet-4 (λ c. search needs) returns)

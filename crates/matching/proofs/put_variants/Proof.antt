@@ -1,6 +1,6 @@
 -- `matching::put_variants` meets its contract. The invariant: the variants from an order on are on the sheet, and whole runs are left. The measure is the order.
 -- Assumes nothing.
-use mathlib.Core.Path.{_≡_, sym, ap, subst, _∙_}
+use mathlib.Core.Path.{_≡_, ap, _∙_}
 use Prim.Native.Nat.{ℕ, _+_, _-_, _*_, _%_, _<_, _≤_}
 use mathlib.Core.List.{List}
 use native.Mathlib.Nat.{add-zero}
@@ -35,9 +35,6 @@ module _ (pins table line : ℕ) (s : List ℕ) (run order : ℕ) (is : run ≡ 
   next : passed pins table (384 * line + 16 * (order - run)) 16 (passed pins table (384 * line + 16 * order) (384 - 16 * order) s)
       ≡ passed pins table (384 * line + 16 * (order - run)) (384 - 16 * (order - run)) s
   next = rw is (runs-next pins table line order s some few whole)
-
-run-of-requires : tie.Need-run-of-requires Inv-loop μ-loop
-run-of-requires c κs = tt
 
 loop-holds : tie.Need-loop-holds Inv-loop μ-loop
 loop-holds c =
@@ -103,13 +100,4 @@ pub put-variants-spec : {M : Type 1} → statement M
 put-variants-spec =
     tie.close
     (tie.spec
-    Inv-loop
-    μ-loop
-    run-of-requires
-    loop-holds
-    sub-order
-    put-order-requires
-    loop-less
-    loop-again
-    same-length
-    returns)
+    Inv-loop μ-loop (λ c κs. tt) loop-holds sub-order put-order-requires loop-less loop-again same-length returns)

@@ -1,7 +1,7 @@
 -- `matching::run_of` meets its contract: by the number of pins.
 -- Assumes nothing.
-use Prim.Native.Nat.{ℕ, zero, suc, _≤_, _<_}
-use mathlib.Core.Path.{_≡_, refl, sym, ap, _∙_}
+use Prim.Native.Nat.{ℕ, zero, suc, _<_}
+use mathlib.Core.Path.{_≡_, refl, sym, ap}
 use native.Mathlib.Omega.{arith}
 use Rattle.matching.specs.Variants.{runOf}
 use Rattle.matching.proofs.run_of.Statement.{statement}

@@ -8,9 +8,6 @@ use Rattle.matching.proofs.Inverting.{quicker-less, quicker-not}
 use Rattle.matching.proofs.sooner.Statement.{statement}
 use Rattle.matching.proofs.sooner.Tie as tie
 
-enum-known-best : tie.Need-enum-known-best
-enum-known-best c = search needs
-
 enum-told : tie.Need-enum-told
 enum-told c = search needs
 
@@ -31,4 +28,6 @@ returns-3 c =
     sym (ap (λ (b : Inverter). quicker b (a .line) (a .d)) (c .enum-told .given .1))
 
 pub sooner-spec : {M : Type 1} → statement M
-sooner-spec = tie.close (tie.spec enum-known-best enum-told returns returns-2 returns-3)
+sooner-spec = tie.close
+    (tie.spec
+    (λ c. search needs) enum-told returns returns-2 returns-3)

@@ -6,12 +6,6 @@ use Rattle.matching.proofs.Inverting.{tried-inverter, tried-pins, tried
 use Rattle.matching.proofs.try_inverter.Statement.{statement}
 use Rattle.matching.proofs.try_inverter.Tie as tie
 
-array-read-sooner : tie.Need-array-read-sooner
-array-read-sooner c = search needs
-
-sooner-requires : tie.Need-sooner-requires
-sooner-requires c κs = search needs
-
 returns : tie.Need-returns
 returns c =
     let s = c .before .before .before in
@@ -36,4 +30,6 @@ returns-4 c =
 
 pub try-inverter-spec : {M : Type 1} → statement M
 try-inverter-spec =
-    tie.close (tie.spec array-read-sooner sooner-requires returns returns-2 returns-3 returns-4)
+    tie.close
+    (tie.spec
+    (λ c. search needs) (λ c κs. search needs) returns returns-2 returns-3 returns-4)

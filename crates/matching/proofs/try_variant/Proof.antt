@@ -13,27 +13,6 @@ use Rattle.matching.proofs.try_variant.Tie as tie
 lowest : (n t u v w a : ℕ) → a ≡ max (max t u) (max v w) → t < n → u < n → v < n → w < n → a < n
 lowest n t u v w a e ht hu hv hw = omega (arith, e)
 
-mul-wide : tie.Need-mul-wide
-mul-wide c = search needs
-
-add-wide : tie.Need-add-wide
-add-wide c = search needs
-
-add-wide-2 : tie.Need-add-wide-2
-add-wide-2 c = search needs
-
-mul-wide-2 : tie.Need-mul-wide-2
-mul-wide-2 c = search needs
-
-shared-slice-read-wide : tie.Need-shared-slice-read-wide
-shared-slice-read-wide c = search needs
-
-wide-requires : tie.Need-wide-requires
-wide-requires c κs = search needs
-
-add-at : tie.Need-add-at
-add-at c = search needs
-
 pin-time-requires : tie.Need-pin-time-requires
 pin-time-requires c κs =
     let s = c .before .before .before in
@@ -49,9 +28,6 @@ returns c =
     let p : ℕ = c .before .before .before .wide .result in
     let picked : p ≡ getD (a .sheet .now) (66560 + 2 * a .x + 1) 0 = c .before .before .before .wide .ensures in
     one-late (a .sheet .now) (a .times .now) (a .x) (s .pre .0) (a .b) p picked (c .before .before .pin-time .result) (waits (a .sheet .now) (a .times .now) (p / 16 % 16) (65536 + p / 65536 + 1)) (waits (a .sheet .now) (a .times .now) (p / 256 % 16) (65536 + p / 65536 + 2)) (waits (a .sheet .now) (a .times .now) (p / 4096 % 16) (65536 + p / 65536 + 3)) (c .before .before .pin-time .ensures, refl, refl, refl) (omega (arith, c .if1 .taken))
-
-add-pin-time : tie.Need-add-pin-time
-add-pin-time c = search needs
 
 pin-time-requires-2 : tie.Need-pin-time-requires-2
 pin-time-requires-2 c κs =
@@ -69,9 +45,6 @@ returns-2 c =
     let picked : p ≡ getD (a .sheet .now) (66560 + 2 * a .x + 1) 0 = c .before .before .before .before .before .before .wide .ensures in
     one-late (a .sheet .now) (a .times .now) (a .x) (s .pre .0) (a .b) p picked (c .before .before .before .before .before .pin-time .result) (c .before .before .pin-time2 .result) (waits (a .sheet .now) (a .times .now) (p / 256 % 16) (65536 + p / 65536 + 2)) (waits (a .sheet .now) (a .times .now) (p / 4096 % 16) (65536 + p / 65536 + 3)) (c .before .before .before .before .before .pin-time .ensures, c .before .before .pin-time2 .ensures, refl, refl) (omega (arith, c .if2 .taken))
 
-add-pin-time-2 : tie.Need-add-pin-time-2
-add-pin-time-2 c = search needs
-
 pin-time-requires-3 : tie.Need-pin-time-requires-3
 pin-time-requires-3 c κs =
     let s = c .before .before .before .before .before .before .before .before .before in
@@ -87,9 +60,6 @@ returns-3 c =
     let p : ℕ = c .before .before .before .before .before .before .before .before .before .wide .result in
     let picked : p ≡ getD (a .sheet .now) (66560 + 2 * a .x + 1) 0 = c .before .before .before .before .before .before .before .before .before .wide .ensures in
     one-late (a .sheet .now) (a .times .now) (a .x) (s .pre .0) (a .b) p picked (c .before .before .before .before .before .before .before .before .pin-time .result) (c .before .before .before .before .before .pin-time2 .result) (c .before .before .pin-time3 .result) (waits (a .sheet .now) (a .times .now) (p / 4096 % 16) (65536 + p / 65536 + 3)) (c .before .before .before .before .before .before .before .before .pin-time .ensures, c .before .before .before .before .before .pin-time2 .ensures, c .before .before .pin-time3 .ensures, refl) (omega (arith, c .if3 .taken))
-
-add-pin-time-3 : tie.Need-add-pin-time-3
-add-pin-time-3 c = search needs
 
 pin-time-requires-4 : tie.Need-pin-time-requires-4
 pin-time-requires-4 c κs =
@@ -107,18 +77,6 @@ returns-4 c =
     let picked : p ≡ getD (a .sheet .now) (66560 + 2 * a .x + 1) 0 = c .before .before .before .before .before .before .before .before .before .before .before .before .wide .ensures in
     one-late (a .sheet .now) (a .times .now) (a .x) (s .pre .0) (a .b) p picked (c .before .before .before .before .before .before .before .before .before .before .before .pin-time .result) (c .before .before .before .before .before .before .before .before .pin-time2 .result) (c .before .before .before .before .before .pin-time3 .result) (c .before .before .pin-time4 .result) (c .before .before .before .before .before .before .before .before .before .before .before .pin-time .ensures, c .before .before .before .before .before .before .before .before .pin-time2 .ensures, c .before .before .before .before .before .pin-time3 .ensures, c .before .before .pin-time4 .ensures) (omega (arith, c .if4 .taken))
 
-cast-variant : tie.Need-cast-variant
-cast-variant c = search needs
-
-larger-requires : tie.Need-larger-requires
-larger-requires c κs = search needs
-
-larger-requires-2 : tie.Need-larger-requires-2
-larger-requires-2 c κs = search needs
-
-larger-requires-3 : tie.Need-larger-requires-3
-larger-requires-3 c κs = search needs
-
 returns-5 : tie.Need-returns-5
 returns-5 c =
     let s = c .before .before .before .before .before .before .before .before .before .before .before .before .before .before .before .before .before .before in
@@ -133,26 +91,6 @@ pub try-variant-spec : {M : Type 1} → statement M
 try-variant-spec =
     tie.close
     (tie.spec
-    mul-wide
-    add-wide
-    add-wide-2
-    mul-wide-2
-    shared-slice-read-wide
-    wide-requires
-    add-at
-    pin-time-requires
-    returns
-    add-pin-time
-    pin-time-requires-2
-    returns-2
-    add-pin-time-2
-    pin-time-requires-3
-    returns-3
-    add-pin-time-3
-    pin-time-requires-4
-    returns-4
-    cast-variant
-    larger-requires
-    larger-requires-2
-    larger-requires-3
-    returns-5)
+    (λ c. search needs) (λ c. search needs) (λ c. search needs) (λ c. search needs) (λ c. search needs) (λ c κs. search needs) (λ c. search needs)
+    pin-time-requires returns (λ c. search needs) pin-time-requires-2 returns-2 (λ c. search needs) pin-time-requires-3 returns-3 (λ c. search needs)
+    pin-time-requires-4 returns-4 (λ c. search needs) (λ c κs. search needs) (λ c κs. search needs) (λ c κs. search needs) returns-5)

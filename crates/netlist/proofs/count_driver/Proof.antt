@@ -11,12 +11,6 @@ use borrow.Author.Needs.{needs}
 use Rattle.netlist.proofs.count_driver.Statement.{statement}
 use Rattle.netlist.proofs.count_driver.Tie as tie
 
-count-instance-requires : tie.Need-count-instance-requires
-count-instance-requires c κs = search needs
-
-count-instance-requires-2 : tie.Need-count-instance-requires-2
-count-instance-requires-2 c κs = search needs
-
 returns : tie.Need-returns
 returns c =
     let s = c .before .before .before .before .before .before in
@@ -34,9 +28,6 @@ returns c =
         area = omega (arith, u .ensures .1 .area, r .ensures .1 .area, s .pre .1 .area);
       },
     )
-
-count-instance-requires-3 : tie.Need-count-instance-requires-3
-count-instance-requires-3 c κs = search needs
 
 returns-2 : tie.Need-returns-2
 returns-2 c =
@@ -57,9 +48,4 @@ pub count-driver-spec : {M : Type 1} → statement M
 count-driver-spec =
     tie.close
     (tie.spec
-    count-instance-requires
-    count-instance-requires-2
-    returns
-    count-instance-requires-3
-    returns-2
-    returns-3)
+    (λ c κs. search needs) (λ c κs. search needs) returns (λ c κs. search needs) returns-2 returns-3)

@@ -9,21 +9,6 @@ use borrow.Author.Needs.{needs}
 use Rattle.netlist.proofs.count_instance.Statement.{statement}
 use Rattle.netlist.proofs.count_instance.Tie as tie
 
-gate-len-requires : tie.Need-gate-len-requires
-gate-len-requires c κs = search needs
-
-add-t6 : tie.Need-add-t6
-add-t6 c = search needs
-
-add-t7 : tie.Need-add-t7
-add-t7 c = search needs
-
-cast-t8 : tie.Need-cast-t8
-cast-t8 c = search needs
-
-add-t9 : tie.Need-add-t9
-add-t9 c = search needs
-
 returns : tie.Need-returns
 unfolding gateOf
 returns c =
@@ -35,4 +20,6 @@ returns c =
     )
 
 pub count-instance-spec : {M : Type 1} → statement M
-count-instance-spec = tie.close (tie.spec gate-len-requires add-t6 add-t7 cast-t8 add-t9 returns)
+count-instance-spec = tie.close
+    (tie.spec
+    (λ c κs. search needs) (λ c. search needs) (λ c. search needs) (λ c. search needs) (λ c. search needs) returns)

@@ -11,17 +11,8 @@ use borrow.Author.Needs.{needs}
 use Rattle.netlist.proofs.driver_at.Statement.{statement}
 use Rattle.netlist.proofs.driver_at.Tie as tie
 
-is-needed-requires : tie.Need-is-needed-requires
-is-needed-requires c κs = search needs
-
-phase-requires : tie.Need-phase-requires
-phase-requires c κs = search needs
-
 driver-of-requires : tie.Need-driver-of-requires
 driver-of-requires c κs = (c .before .before .before .before .before .pre .0 .room, c .before .before .before .before .before .pre .1, subst (λ (p : Phase). SourceReady (c .before .before .before .before .before .args .book .now) (p .source)) (sym (c .phase .ensures)) (c .before .before .before .before .before .pre .0 .sources (c .before .before .before .before .before .args .l) (c .before .before .before .before .before .pre .1)))
-
-no-driver-requires : tie.Need-no-driver-requires
-no-driver-requires c κs = search needs
 
 returns : tie.Need-returns
 returns c =
@@ -41,9 +32,4 @@ pub driver-at-spec : {M : Type 1} → statement M
 driver-at-spec =
     tie.close
     (tie.spec
-    is-needed-requires
-    phase-requires
-    driver-of-requires
-    no-driver-requires
-    returns
-    returns-2)
+    (λ c κs. search needs) (λ c κs. search needs) driver-of-requires (λ c κs. search needs) returns returns-2)

@@ -12,26 +12,11 @@ use Rattle.netlist.proofs.driver_of.Tie as tie
 enum-told : tie.Need-enum-told
 enum-told c = search needs
 
-no-driver-requires : tie.Need-no-driver-requires
-no-driver-requires c κs = search needs
-
-enum-known-s : tie.Need-enum-known-s
-enum-known-s c = search needs
-
 matched-requires : tie.Need-matched-requires
 matched-requires c κs = (c .before .before .before .before .before .pre .0, c .before .before .before .before .before .pre .1, subst (SourceReady (c .before .before .before .before .before .args .book .now)) (c .before .s .given .1) (c .before .before .before .before .before .pre .2))
 
-enum-known-s-2 : tie.Need-enum-known-s-2
-enum-known-s-2 c = search needs
-
 inverted-requires : tie.Need-inverted-requires
 inverted-requires c κs = (omega (arith, c .before .before .before .before .before .pre .0 .small, c .before .before .before .before .before .pre .1), subst (SourceReady (c .before .before .before .before .before .args .book .now)) (c .before .s2 .given .1) (c .before .before .before .before .before .pre .2))
-
-enum-told-2 : tie.Need-enum-told-2
-enum-told-2 c = search needs
-
-no-driver-requires-2 : tie.Need-no-driver-requires-2
-no-driver-requires-2 c κs = search needs
 
 returns : tie.Need-returns
 unfolding gateBy
@@ -53,15 +38,5 @@ pub driver-of-spec : {M : Type 1} → statement M
 driver-of-spec =
     tie.close
     (tie.spec
-    enum-told
-    no-driver-requires
-    enum-known-s
-    matched-requires
-    enum-known-s-2
-    inverted-requires
-    enum-told-2
-    no-driver-requires-2
-    returns
-    returns-2
-    returns-3
-    returns-4)
+    enum-told (λ c κs. search needs) (λ c. search needs) matched-requires (λ c. search needs) inverted-requires (λ c. search needs)
+    (λ c κs. search needs) returns returns-2 returns-3 returns-4)

@@ -10,15 +10,6 @@ use Rattle.netlist.proofs.frame_len.Tie as tie
 inputs-len-requires : tie.Need-inputs-len-requires
 inputs-len-requires c κs = (room-need (c .before .args .work .now) (c .before .args .m) (c .before .args .outputs) (c .before .pre .room), c .before .pre .fewInputs)
 
-outputs-len-requires : tie.Need-outputs-len-requires
-outputs-len-requires c κs = search needs
-
-add-result : tie.Need-add-result
-add-result c = search needs
-
-add-result-2 : tie.Need-add-result-2
-add-result-2 c = search needs
-
 returns : tie.Need-returns
 returns c =
     let a = c .before .before .before .args in
@@ -28,4 +19,6 @@ returns c =
 
 pub frame-len-spec : {M : Type 1} → statement M
 frame-len-spec =
-    tie.close (tie.spec inputs-len-requires outputs-len-requires add-result add-result-2 returns)
+    tie.close
+    (tie.spec
+    inputs-len-requires (λ c κs. search needs) (λ c. search needs) (λ c. search needs) returns)

@@ -14,9 +14,6 @@ Inv-loop work m l g₀ g = gateFrom work m l (2 * (m + 1) - l) ≡ gateFrom work
 abbrev μ-loop : tie.MeasureT-loop
 μ-loop work m l g₀ g = 2 * (m + 1) - g
 
-loop-holds : tie.Need-loop-holds Inv-loop μ-loop
-loop-holds c = refl
-
 add-loop : tie.Need-add-loop Inv-loop μ-loop
 add-loop c = omega (arith, c .before .before .pre .small)
 
@@ -35,9 +32,6 @@ returns c =
 add-g : tie.Need-add-g Inv-loop μ-loop
 add-g c = omega (arith, c .before .before .before .before .before .pre .small, c .before .before .loop-test .taken)
 
-loop-less : tie.Need-loop-less Inv-loop μ-loop
-loop-less c = omega arith
-
 loop-again : tie.Need-loop-again Inv-loop μ-loop
 loop-again c =
     let a = c .before .before .before .before .before .args in
@@ -53,14 +47,4 @@ pub gate-from-spec : {M : Type 1} → statement M
 gate-from-spec =
     tie.close
     (tie.spec
-    Inv-loop
-    μ-loop
-    loop-holds
-    add-loop
-    mul-loop
-    is-gate-requires
-    returns
-    add-g
-    loop-less
-    loop-again
-    returns-2)
+    Inv-loop μ-loop (λ c. refl) add-loop mul-loop is-gate-requires returns add-g (λ c. omega arith) loop-again returns-2)

@@ -9,24 +9,6 @@ use borrow.Author.Needs.{needs}
 use Rattle.netlist.proofs.gate_len.Statement.{statement}
 use Rattle.netlist.proofs.gate_len.Tie as tie
 
-name-len-requires : tie.Need-name-len-requires
-name-len-requires c κs = search needs
-
-pins-len-requires : tie.Need-pins-len-requires
-pins-len-requires c κs = search needs
-
-add-result : tie.Need-add-result
-add-result c = search needs
-
-label-len-requires : tie.Need-label-len-requires
-label-len-requires c κs = search needs
-
-add-result-2 : tie.Need-add-result-2
-add-result-2 c = search needs
-
-add-result-3 : tie.Need-add-result-3
-add-result-3 c = search needs
-
 returns : tie.Need-returns
 returns c =
     let s = c .before .before .before in
@@ -41,10 +23,4 @@ pub gate-len-spec : {M : Type 1} → statement M
 gate-len-spec =
     tie.close
     (tie.spec
-    name-len-requires
-    pins-len-requires
-    add-result
-    label-len-requires
-    add-result-2
-    add-result-3
-    returns)
+    (λ c κs. search needs) (λ c κs. search needs) (λ c. search needs) (λ c κs. search needs) (λ c. search needs) (λ c. search needs) returns)

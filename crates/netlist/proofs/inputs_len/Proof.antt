@@ -22,23 +22,8 @@ loop-holds c =
     let e : a .n - 0 ≡ a .n = omega arith in
     (omega arith, omega arith, omega (arith, ap (λ (k : ℕ). length (spaced (inputNamesFrom (a .work .now) (a .m) 0 k))) e))
 
-add-len : tie.Need-add-len Inv-loop μ-loop
-add-len c = omega arith
-
 input-net-requires : tie.Need-input-net-requires Inv-loop μ-loop
 input-net-requires c κs = (c .before .before .before .pre .0, omega (arith, c .before .before .before .pre .1, c .loop-test .taken))
-
-net-len-requires : tie.Need-net-len-requires Inv-loop μ-loop
-net-len-requires c κs = tt
-
-add-len-2 : tie.Need-add-len-2 Inv-loop μ-loop
-add-len-2 c = omega arith
-
-add-i : tie.Need-add-i Inv-loop μ-loop
-add-i c = omega arith
-
-loop-less : tie.Need-loop-less Inv-loop μ-loop
-loop-less c = omega arith
 
 loop-again : tie.Need-loop-again Inv-loop μ-loop
 loop-again c =
@@ -61,14 +46,5 @@ pub inputs-len-spec : {M : Type 1} → statement M
 inputs-len-spec =
     tie.close
     (tie.spec
-    Inv-loop
-    μ-loop
-    loop-holds
-    add-len
-    input-net-requires
-    net-len-requires
-    add-len-2
-    add-i
-    loop-less
-    loop-again
+    Inv-loop μ-loop loop-holds (λ c. omega arith) input-net-requires (λ c κs. tt) (λ c. omega arith) (λ c. omega arith) (λ c. omega arith) loop-again
     returns)

@@ -1,6 +1,6 @@
 -- `netlist::inverted` meets its contract.
 -- Assumes nothing.
-use mathlib.Core.List.{List, _∷_, []}
+use mathlib.Core.List.{_∷_, []}
 use mathlib.Core.Path.{sym, subst, _∙_}
 use Prim.Native.Nat.{_*_}
 use Rattle.model.specs.Graph.{opposite}
@@ -13,21 +13,6 @@ use borrow.Author.Needs.{needs}
 use Rattle.netlist.proofs.inverted.Statement.{statement}
 use Rattle.netlist.proofs.inverted.Tie as tie
 
-cell-at-requires : tie.Need-cell-at-requires
-cell-at-requires c κs = search needs
-
-opposite-requires : tie.Need-opposite-requires
-opposite-requires c κs = search needs
-
-cast-t7 : tie.Need-cast-t7
-cast-t7 c = search needs
-
-mul-t8 : tie.Need-mul-t8
-mul-t8 c = search needs
-
-one-gate-requires : tie.Need-one-gate-requires
-one-gate-requires c κs = search needs
-
 returns : tie.Need-returns
 unfolding invertedGates
 returns c =
@@ -38,4 +23,5 @@ returns c =
 pub inverted-spec : {M : Type 1} → statement M
 inverted-spec =
     tie.close
-    (tie.spec cell-at-requires opposite-requires cast-t7 mul-t8 one-gate-requires returns)
+    (tie.spec
+    (λ c κs. search needs) (λ c κs. search needs) (λ c. search needs) (λ c. search needs) (λ c κs. search needs) returns)

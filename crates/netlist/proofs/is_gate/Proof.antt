@@ -8,15 +8,6 @@ use borrow.Author.Needs.{needs}
 use Rattle.netlist.proofs.is_gate.Statement.{statement}
 use Rattle.netlist.proofs.is_gate.Tie as tie
 
-is-needed-requires : tie.Need-is-needed-requires
-is-needed-requires c κs = search needs
-
-phase-requires : tie.Need-phase-requires
-phase-requires c κs = search needs
-
-makes-gate-requires : tie.Need-makes-gate-requires
-makes-gate-requires c κs = search needs
-
 returns : tie.Need-returns
 returns c =
     let a = c .before .before .before .before .before .args in
@@ -31,4 +22,6 @@ returns-2 c =
 
 pub is-gate-spec : {M : Type 1} → statement M
 is-gate-spec =
-    tie.close (tie.spec is-needed-requires phase-requires makes-gate-requires returns returns-2)
+    tie.close
+    (tie.spec
+    (λ c κs. search needs) (λ c κs. search needs) (λ c κs. search needs) returns returns-2)

@@ -11,15 +11,6 @@ use borrow.Author.Needs.{needs}
 use Rattle.netlist.proofs.label_len.Statement.{statement}
 use Rattle.netlist.proofs.label_len.Tie as tie
 
-net-len-requires : tie.Need-net-len-requires
-net-len-requires c κs = search needs
-
-add-result : tie.Need-add-result
-add-result c = search needs
-
-net-len-requires-2 : tie.Need-net-len-requires-2
-net-len-requires-2 c κs = search needs
-
 returns : tie.Need-returns
 returns c =
     let n = c .before .before .args .n in
@@ -33,4 +24,6 @@ returns-2 c =
 
 pub label-len-spec : {M : Type 1} → statement M
 label-len-spec =
-    tie.close (tie.spec net-len-requires add-result net-len-requires-2 returns returns-2)
+    tie.close
+    (tie.spec
+    (λ c κs. search needs) (λ c. search needs) (λ c κs. search needs) returns returns-2)

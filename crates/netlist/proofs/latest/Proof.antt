@@ -23,15 +23,6 @@ loop-holds c =
 output-arrival-requires : tie.Need-output-arrival-requires Inv-loop μ-loop
 output-arrival-requires c κs = (c .before .before .before .pre .room, c .loop-test .taken, c .before .before .before .pre .within (c .before .loop .i) (c .loop-test .taken))
 
-larger-requires : tie.Need-larger-requires Inv-loop μ-loop
-larger-requires c κs = tt
-
-add-i : tie.Need-add-i Inv-loop μ-loop
-add-i c = omega arith
-
-loop-less : tie.Need-loop-less Inv-loop μ-loop
-loop-less c = omega arith
-
 loop-again : tie.Need-loop-again Inv-loop μ-loop
 loop-again c =
     let a = c .before .before .before .before .before .args in
@@ -53,12 +44,4 @@ pub latest-spec : {M : Type 1} → statement M
 latest-spec =
     tie.close
     (tie.spec
-    Inv-loop
-    μ-loop
-    loop-holds
-    output-arrival-requires
-    larger-requires
-    add-i
-    loop-less
-    loop-again
-    returns)
+    Inv-loop μ-loop loop-holds output-arrival-requires (λ c κs. tt) (λ c. omega arith) (λ c. omega arith) loop-again returns)

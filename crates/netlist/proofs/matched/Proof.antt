@@ -3,9 +3,7 @@
 use mathlib.Core.List.{List, map}
 use mathlib.Core.Path.{refl, sym, ap, subst, _∙_}
 use Prim.Native.Nat.{ℕ}
-use lib.ListN.{take}
 use Rattle.model.specs.Graph.{varOf}
-use Rattle.model.specs.Netlist.{Gate}
 use Rattle.model.specs.declared.Cut.{Cut}
 use Rattle.truth.specs.Variant.{placesOf}
 use Rattle.words.specs.Record.{cutOf}
@@ -16,15 +14,6 @@ use Rattle.drivers.proofs.Feeding.{four-taken, drives-by, number-pins}
 use borrow.Author.Needs.{needs}
 use Rattle.netlist.proofs.matched.Statement.{statement}
 use Rattle.netlist.proofs.matched.Tie as tie
-
-load-cut-requires : tie.Need-load-cut-requires
-load-cut-requires c κs = search needs
-
-four-nets-requires : tie.Need-four-nets-requires
-four-nets-requires c κs = search needs
-
-gates-by-requires : tie.Need-gates-by-requires
-gates-by-requires c κs = search needs
 
 returns : tie.Need-returns
 unfolding matchedGates varOf
@@ -42,4 +31,6 @@ returns c =
     (subst (λ (fed : List ℕ). Drives (driverBy (a .book .now) (x .cell) (map phaseNet ps) (a .l)) (gatesUnder (a .book .now) (x .cell) fed (a .l))) taken (drives-by ps refl (a .l) (a .book .now) (x .cell) (ready .number)))
 
 pub matched-spec : {M : Type 1} → statement M
-matched-spec = tie.close (tie.spec load-cut-requires four-nets-requires gates-by-requires returns)
+matched-spec = tie.close
+    (tie.spec
+    (λ c κs. search needs) (λ c κs. search needs) (λ c κs. search needs) returns)

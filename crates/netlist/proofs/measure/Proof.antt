@@ -12,15 +12,6 @@ use borrow.Author.Needs.{needs}
 use Rattle.netlist.proofs.measure.Statement.{statement}
 use Rattle.netlist.proofs.measure.Tie as tie
 
-slice-aggregate-put-book : tie.Need-slice-aggregate-put-book
-slice-aggregate-put-book c = search needs
-
-put-book-requires : tie.Need-put-book-requires
-put-book-requires c κs = search needs
-
-slice-aggregate-measure-words : tie.Need-slice-aggregate-measure-words
-slice-aggregate-measure-words c = search needs
-
 measure-words-requires : tie.Need-measure-words-requires
 measure-words-requires c κs =
     let s = c .before .before .before .before .before .before in
@@ -47,8 +38,4 @@ pub measure-spec : {M : Type 1} → statement M
 measure-spec =
     tie.close
     (tie.spec
-    slice-aggregate-put-book
-    put-book-requires
-    slice-aggregate-measure-words
-    measure-words-requires
-    returns)
+    (λ c. search needs) (λ c κs. search needs) (λ c. search needs) measure-words-requires returns)

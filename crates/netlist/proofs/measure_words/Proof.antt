@@ -7,15 +7,6 @@ use borrow.Author.Needs.{needs}
 use Rattle.netlist.proofs.measure_words.Statement.{statement}
 use Rattle.netlist.proofs.measure_words.Tie as tie
 
-count-gates-requires : tie.Need-count-gates-requires
-count-gates-requires c κs = search needs
-
-latest-requires : tie.Need-latest-requires
-latest-requires c κs = search needs
-
-frame-len-requires : tie.Need-frame-len-requires
-frame-len-requires c κs = search needs
-
 wires-len-requires : tie.Need-wires-len-requires
 wires-len-requires c κs = (c .before .before .before .before .before .pre .1 .room, c .before .before .before .before .before .pre .1 .fewOutputs)
 
@@ -24,9 +15,6 @@ add-length c = omega (arith, c .before .before .before .before .count-gates .ens
 
 add-length-2 : tie.Need-add-length-2
 add-length-2 c = omega (arith, c .before .before .before .before .count-gates .ensures .1 .length, c .before .before .frame-len .ensures .1, c .before .wires-len .ensures .1, c .before .before .before .before .before .before .before .pre .1 .fewOutputs)
-
-figures-len-requires : tie.Need-figures-len-requires
-figures-len-requires c κs = search needs
 
 add-length-3 : tie.Need-add-length-3
 add-length-3 c = omega (arith, c .before .before .before .before .before .count-gates .ensures .1 .length, c .before .before .before .frame-len .ensures .1, c .before .before .wires-len .ensures .1, c .before .before .before .before .before .before .before .before .pre .1 .fewOutputs, c .figures-len .ensures .1)
@@ -49,12 +37,5 @@ pub measure-words-spec : {M : Type 1} → statement M
 measure-words-spec =
     tie.close
     (tie.spec
-    count-gates-requires
-    latest-requires
-    frame-len-requires
-    wires-len-requires
-    add-length
-    add-length-2
-    figures-len-requires
-    add-length-3
-    returns)
+    (λ c κs. search needs) (λ c κs. search needs) (λ c κs. search needs) wires-len-requires add-length add-length-2 (λ c κs. search needs)
+    add-length-3 returns)

@@ -7,9 +7,6 @@ use borrow.Author.Needs.{needs}
 use Rattle.netlist.proofs.net_len.Statement.{statement}
 use Rattle.netlist.proofs.net_len.Tie as tie
 
-number-len-requires : tie.Need-number-len-requires
-number-len-requires c κs = search needs
-
 add-result : tie.Need-add-result
 add-result c = omega (arith, ten-digits (c .before .args .l / 2) (omega arith))
 
@@ -17,4 +14,6 @@ returns : tie.Need-returns
 returns c = let l = c .before .args .l in (omega (arith, net-length l), omega (arith, ten-digits (l / 2) (omega arith)))
 
 pub net-len-spec : {M : Type 1} → statement M
-net-len-spec = tie.close (tie.spec number-len-requires add-result returns)
+net-len-spec = tie.close
+    (tie.spec
+    (λ c κs. search needs) add-result returns)

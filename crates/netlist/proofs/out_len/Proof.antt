@@ -6,9 +6,6 @@ use borrow.Author.Needs.{needs}
 use Rattle.netlist.proofs.out_len.Statement.{statement}
 use Rattle.netlist.proofs.out_len.Tie as tie
 
-number-len-requires : tie.Need-number-len-requires
-number-len-requires c κs = search needs
-
 add-result : tie.Need-add-result
 add-result c = omega (arith, ten-digits (c .before .args .k) (omega arith))
 
@@ -16,4 +13,6 @@ returns : tie.Need-returns
 returns c = let k = c .before .args .k in (omega (arith, out-length k), omega (arith, ten-digits k (omega arith)))
 
 pub out-len-spec : {M : Type 1} → statement M
-out-len-spec = tie.close (tie.spec number-len-requires add-result returns)
+out-len-spec = tie.close
+    (tie.spec
+    (λ c κs. search needs) add-result returns)

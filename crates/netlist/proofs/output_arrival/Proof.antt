@@ -7,14 +7,10 @@ use borrow.Author.Needs.{needs}
 use Rattle.netlist.proofs.output_arrival.Statement.{statement}
 use Rattle.netlist.proofs.output_arrival.Tie as tie
 
-output-requires : tie.Need-output-requires
-output-requires c κs = search needs
-
-phase-requires : tie.Need-phase-requires
-phase-requires c κs = search needs
-
 returns : tie.Need-returns
 returns c = ap (λ (p : Phase). p .arrival) (c .phase .ensures ∙ ap (phaseAt (c .before .before .before .args .work .now) (c .before .before .before .args .m)) (c .before .output .ensures))
 
 pub output-arrival-spec : {M : Type 1} → statement M
-output-arrival-spec = tie.close (tie.spec output-requires phase-requires returns)
+output-arrival-spec = tie.close
+    (tie.spec
+    (λ c κs. search needs) (λ c κs. search needs) returns)

@@ -22,24 +22,6 @@ loop-holds c =
     let e : n - 0 ≡ n = omega arith in
     (omega arith, omega arith, omega (arith, ap (λ (k : ℕ). length (spaced (outputNamesFrom 0 k))) e))
 
-add-len : tie.Need-add-len Inv-loop μ-loop
-add-len c = omega arith
-
-cast-out-len : tie.Need-cast-out-len Inv-loop μ-loop
-cast-out-len c = omega arith
-
-out-len-requires : tie.Need-out-len-requires Inv-loop μ-loop
-out-len-requires c κs = tt
-
-add-len-2 : tie.Need-add-len-2 Inv-loop μ-loop
-add-len-2 c = omega arith
-
-add-i : tie.Need-add-i Inv-loop μ-loop
-add-i c = omega arith
-
-loop-less : tie.Need-loop-less Inv-loop μ-loop
-loop-less c = omega arith
-
 loop-again : tie.Need-loop-again Inv-loop μ-loop
 loop-again c =
     let n = c .before .before .before .args .n in
@@ -59,14 +41,5 @@ pub outputs-len-spec : {M : Type 1} → statement M
 outputs-len-spec =
     tie.close
     (tie.spec
-    Inv-loop
-    μ-loop
-    loop-holds
-    add-len
-    cast-out-len
-    out-len-requires
-    add-len-2
-    add-i
-    loop-less
-    loop-again
+    Inv-loop μ-loop loop-holds (λ c. omega arith) (λ c. omega arith) (λ c κs. tt) (λ c. omega arith) (λ c. omega arith) (λ c. omega arith) loop-again
     returns)

@@ -20,27 +20,6 @@ abbrev μ-loop : tie.MeasureT-loop
 loop-holds : tie.Need-loop-holds Inv-loop μ-loop
 loop-holds c = (omega arith, omega arith, omega arith)
 
-add-len : tie.Need-add-len Inv-loop μ-loop
-add-len c = omega arith
-
-mul-label-len : tie.Need-mul-label-len Inv-loop μ-loop
-mul-label-len c = omega arith
-
-array-read-label-len : tie.Need-array-read-label-len Inv-loop μ-loop
-array-read-label-len c = omega arith
-
-label-len-requires : tie.Need-label-len-requires Inv-loop μ-loop
-label-len-requires c κs = tt
-
-add-len-2 : tie.Need-add-len-2 Inv-loop μ-loop
-add-len-2 c = omega arith
-
-add-j : tie.Need-add-j Inv-loop μ-loop
-add-j c = omega arith
-
-loop-less : tie.Need-loop-less Inv-loop μ-loop
-loop-less c = omega arith
-
 loop-again : tie.Need-loop-again Inv-loop μ-loop
 loop-again c =
     let s = c .before .before .before in
@@ -64,15 +43,5 @@ pub pins-len-spec : {M : Type 1} → statement M
 pins-len-spec =
     tie.close
     (tie.spec
-    Inv-loop
-    μ-loop
-    loop-holds
-    add-len
-    mul-label-len
-    array-read-label-len
-    label-len-requires
-    add-len-2
-    add-j
-    loop-less
-    loop-again
-    returns)
+    Inv-loop μ-loop loop-holds (λ c. omega arith) (λ c. omega arith) (λ c. omega arith) (λ c κs. tt) (λ c. omega arith) (λ c. omega arith)
+    (λ c. omega arith) loop-again returns)

@@ -1,6 +1,6 @@
 -- `netlist::put_driver` meets its contract: the inner's line and the root's, the root's alone, or none.
 -- Assumes nothing.
-use mathlib.Core.Path.{_≡_, refl, sym, ap, subst}
+use mathlib.Core.Path.{refl, sym, ap, subst}
 use mathlib.Core.List.{List, [], append-nil}
 use Prim.Native.Nat.{ℕ}
 use native.Mathlib.Omega.{arith}
@@ -38,9 +38,6 @@ put-instance-requires-2 c κs =
     let line = gateLine (gateOf (s .args .d .root)) in
     (s .pre .0 .1, room (s .pre .1) (one (c .before .before .before)) line [] (sym (append-nil line)))
 
-same-length : tie.Need-same-length
-same-length c = search needs
-
 returns : tie.Need-returns
 returns c =
     finish (c .before .before .before .before .before .before .before .before .before .before .before .before .before .pre .1) (one (c .before .before .before .before .before .before)) (c .before .before .put-instance2 .ensures)
@@ -49,9 +46,6 @@ put-instance-requires-3 : tie.Need-put-instance-requires-3
 put-instance-requires-3 c κs =
     let s = c .before .before .before .before .before in
     (s .pre .0 .1, omega (arith, s .pre .1, ap length (lines-one (s .args .d) (c .before .before .before .if1 .taken) (c .before .if2 .left))))
-
-same-length-2 : tie.Need-same-length-2
-same-length-2 c = search needs
 
 returns-2 : tie.Need-returns-2
 returns-2 c =
@@ -68,11 +62,4 @@ pub put-driver-spec : {M : Type 1} → statement M
 put-driver-spec =
     tie.close
     (tie.spec
-    put-instance-requires
-    put-instance-requires-2
-    same-length
-    returns
-    put-instance-requires-3
-    same-length-2
-    returns-2
-    returns-3)
+    put-instance-requires put-instance-requires-2 (λ c. search needs) returns put-instance-requires-3 (λ c. search needs) returns-2 returns-3)

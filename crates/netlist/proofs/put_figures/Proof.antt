@@ -56,26 +56,17 @@ five c = step (c .before .before .before .before .before .before .before .before
 six : (c : tie.After-put-number3) → Partly (c .before .before .before .before .before .before .before .before .before .before .before .before .before .before .before .before .before .before .before .before .before .before .before .before .before .before .args .out .now) (c .put-number3 .last .0) (c .before .before .before .before .before .before .before .before .before .before .before .before .before .before .before .before .before .before .before .before .before .before .before .before .before .before .args .at) (c .put-number3 .result) (figuresText (c .before .before .before .before .before .before .before .before .before .before .before .before .before .before .before .before .before .before .before .before .before .before .before .before .before .before .args .f)) (10 ∷ [])
 six c = step (c .before .before .before .before .before .before .before .before .before .before .before .before .before .before .before .before .before .before .before .before .before .before .before .before .before .before .pre) (five (c .before .before .before .before)) (c .put-number3 .last .0) (c .put-number3 .result) (decimal (c .before .before .before .before .before .before .before .before .before .before .before .before .before .before .before .before .before .before .before .before .before .before .before .before .before .before .args .f .arrival)) (10 ∷ []) refl (as-wrote (c .put-number3 .ensures))
 
-slice-aggregate-put-bytes : tie.Need-slice-aggregate-put-bytes
-slice-aggregate-put-bytes c = search needs
-
 put-bytes-requires : tie.Need-put-bytes-requires
 put-bytes-requires c κs = room (c .before .before .before .pre) (none (c .before .before .before)) endBytes (rest1 (c .before .before .before .args .f)) refl
 
 put-number-requires : tie.Need-put-number-requires
 put-number-requires c κs = room (c .before .before .before .before .before .before .before .pre) (one (c .before .before .before)) (decimal (c .before .before .before .before .before .before .before .args .f .gates)) (rest2 (c .before .before .before .before .before .before .before .args .f)) refl
 
-slice-aggregate-put-bytes-2 : tie.Need-slice-aggregate-put-bytes-2
-slice-aggregate-put-bytes-2 c = search needs
-
 put-bytes-requires-2 : tie.Need-put-bytes-requires-2
 put-bytes-requires-2 c κs = room (c .before .before .before .before .before .before .before .before .before .before .before .before .pre) (two (c .before .before .before .before)) areaBytes (rest3 (c .before .before .before .before .before .before .before .before .before .before .before .before .args .f)) refl
 
 put-number-requires-2 : tie.Need-put-number-requires-2
 put-number-requires-2 c κs = room (c .before .before .before .before .before .before .before .before .before .before .before .before .before .before .before .before .pre) (three (c .before .before .before)) (decimal (c .before .before .before .before .before .before .before .before .before .before .before .before .before .before .before .before .args .f .area)) (rest4 (c .before .before .before .before .before .before .before .before .before .before .before .before .before .before .before .before .args .f)) refl
-
-slice-aggregate-put-bytes-3 : tie.Need-slice-aggregate-put-bytes-3
-slice-aggregate-put-bytes-3 c = search needs
 
 put-bytes-requires-3 : tie.Need-put-bytes-requires-3
 put-bytes-requires-3 c κs = room (c .before .before .before .before .before .before .before .before .before .before .before .before .before .before .before .before .before .before .before .before .before .pre) (four (c .before .before .before .before)) arrivalBytes (rest5 (c .before .before .before .before .before .before .before .before .before .before .before .before .before .before .before .before .before .before .before .before .before .args .f)) refl
@@ -86,9 +77,6 @@ put-number-requires-3 c κs = room (c .before .before .before .before .before .b
 put-byte-requires : tie.Need-put-byte-requires
 put-byte-requires c κs = omega (arith, room (c .before .before .before .before .before .before .before .before .before .before .before .before .before .before .before .before .before .before .before .before .before .before .before .before .before .before .before .before .before .pre) (six (c .before .before .before)) (10 ∷ []) [] refl)
 
-same-length : tie.Need-same-length
-same-length c = search needs
-
 returns : tie.Need-returns
 returns c = finish (c .before .before .before .before .before .before .before .before .before .before .before .before .before .before .before .before .before .before .before .before .before .before .before .before .before .before .before .before .before .before .before .before .pre) (six (c .before .before .before .before .before .before)) (c .before .before .put-byte .ensures)
 
@@ -96,15 +84,5 @@ pub put-figures-spec : {M : Type 1} → statement M
 put-figures-spec =
     tie.close
     (tie.spec
-    slice-aggregate-put-bytes
-    put-bytes-requires
-    put-number-requires
-    slice-aggregate-put-bytes-2
-    put-bytes-requires-2
-    put-number-requires-2
-    slice-aggregate-put-bytes-3
-    put-bytes-requires-3
-    put-number-requires-3
-    put-byte-requires
-    same-length
-    returns)
+    (λ c. search needs) put-bytes-requires put-number-requires (λ c. search needs) put-bytes-requires-2 put-number-requires-2 (λ c. search needs)
+    put-bytes-requires-3 put-number-requires-3 put-byte-requires (λ c. search needs) returns)

@@ -42,17 +42,11 @@ keyword c = step (fits (c .before .before .before .before .before .before .befor
 outputs : (c : tie.After-put-outputs) → Partly (c .before .before .before .before .before .before .before .before .before .before .before .before .before .before .before .before .before .before .args .out .now) (c .put-outputs .last .1 .0) 0 (c .put-outputs .result) (frameText (c .before .before .before .before .before .before .before .before .before .before .before .before .before .before .before .before .before .before .args .work .now) (c .before .before .before .before .before .before .before .before .before .before .before .before .before .before .before .before .before .before .args .m) (c .before .before .before .before .before .before .before .before .before .before .before .before .before .before .before .before .before .before .args .inputs) (c .before .before .before .before .before .before .before .before .before .before .before .before .before .before .before .before .before .before .args .outputs)) (10 ∷ [])
 outputs c = step (fits (c .before .before .before .before .before .before .before .before .before .before .before .before .before .before .before .before .before .before)) (keyword (c .before .before .before .before)) (c .put-outputs .last .1 .0) (c .put-outputs .result) (spaced (outputNamesFrom 0 (c .before .before .before .before .before .before .before .before .before .before .before .before .before .before .before .before .before .before .args .outputs))) (10 ∷ []) refl (c .put-outputs .ensures)
 
-slice-aggregate-put-bytes : tie.Need-slice-aggregate-put-bytes
-slice-aggregate-put-bytes c = search needs
-
 put-bytes-requires : tie.Need-put-bytes-requires
 put-bytes-requires c κs = room (fits (c .before .before .before .before)) (none (c .before .before .before .before)) modelBytes (afterModel (c .before .before .before .before)) refl
 
 put-inputs-requires : tie.Need-put-inputs-requires
 put-inputs-requires c κs = (room-need (c .before .before .before .before .before .before .before .before .args .work .now) (c .before .before .before .before .before .before .before .before .args .m) (c .before .before .before .before .before .before .before .before .args .outputs) (c .before .before .before .before .before .before .before .before .pre .0 .room), c .before .before .before .before .before .before .before .before .pre .0 .fewInputs, room (fits (c .before .before .before .before .before .before .before .before)) (model (c .before .before .before)) (spaced (inputNamesFrom (c .before .before .before .before .before .before .before .before .args .work .now) (c .before .before .before .before .before .before .before .before .args .m) 0 (c .before .before .before .before .before .before .before .before .args .inputs))) (afterInputs (c .before .before .before .before .before .before .before .before)) refl)
-
-slice-aggregate-put-bytes-2 : tie.Need-slice-aggregate-put-bytes-2
-slice-aggregate-put-bytes-2 c = search needs
 
 put-bytes-requires-2 : tie.Need-put-bytes-requires-2
 put-bytes-requires-2 c κs = room (fits (c .before .before .before .before .before .before .before .before .before .before .before .before .before)) (inputs (c .before .before .before .before)) outputsBytes (spaced (outputNamesFrom 0 (c .before .before .before .before .before .before .before .before .before .before .before .before .before .args .outputs)) ++ (10 ∷ [])) refl
@@ -63,9 +57,6 @@ put-outputs-requires c κs = (c .before .before .before .before .before .before 
 put-byte-requires : tie.Need-put-byte-requires
 put-byte-requires c κs = omega (arith, room (fits (c .before .before .before .before .before .before .before .before .before .before .before .before .before .before .before .before .before .before .before .before .before)) (outputs (c .before .before .before)) (10 ∷ []) [] refl)
 
-same-length : tie.Need-same-length
-same-length c = search needs
-
 returns : tie.Need-returns
 returns c = finish (fits (c .before .before .before .before .before .before .before .before .before .before .before .before .before .before .before .before .before .before .before .before .before .before .before .before)) (outputs (c .before .before .before .before .before .before)) (c .before .before .put-byte .ensures)
 
@@ -73,12 +64,5 @@ pub put-frame-spec : {M : Type 1} → statement M
 put-frame-spec =
     tie.close
     (tie.spec
-    slice-aggregate-put-bytes
-    put-bytes-requires
-    put-inputs-requires
-    slice-aggregate-put-bytes-2
-    put-bytes-requires-2
-    put-outputs-requires
-    put-byte-requires
-    same-length
-    returns)
+    (λ c. search needs) put-bytes-requires put-inputs-requires (λ c. search needs) put-bytes-requires-2 put-outputs-requires put-byte-requires
+    (λ c. search needs) returns)

@@ -41,9 +41,6 @@ pins c = step (c .before .before .before .before .before .before .before .before
 output : (c : tie.After-put-pin) → Partly (c .before .before .before .before .before .before .before .before .before .before .before .before .before .before .before .before .before .args .out .now) (c .put-pin .last .0) (c .before .before .before .before .before .before .before .before .before .before .before .before .before .before .before .before .before .args .at) (c .put-pin .result) (lineOf (c .before .before .before .before .before .before .before .before .before .before .before .before .before .before .before .before .before .args .c) (take (c .before .before .before .before .before .before .before .before .before .before .before .before .before .before .before .before .before .args .count) (c .before .before .before .before .before .before .before .before .before .before .before .before .before .before .before .before .before .args .nets)) (c .before .before .before .before .before .before .before .before .before .before .before .before .before .before .before .before .before .args .net)) (10 ∷ [])
 output c = step (c .before .before .before .before .before .before .before .before .before .before .before .before .before .before .before .before .before .pre .1) (pins (c .before .before .before .before)) (c .put-pin .last .0) (c .put-pin .result) (netWords 79 (c .before .before .before .before .before .before .before .before .before .before .before .before .before .before .before .before .before .args .net ∷ [])) (10 ∷ []) refl (c .put-pin .ensures)
 
-slice-aggregate-put-bytes : tie.Need-slice-aggregate-put-bytes
-slice-aggregate-put-bytes c = search needs
-
 put-bytes-requires : tie.Need-put-bytes-requires
 put-bytes-requires c κs = room (c .before .before .before .before .pre .1) (none (c .before .before .before .before)) gateBytes (afterName (c .before .before .before .before)) refl
 
@@ -59,9 +56,6 @@ put-pin-requires c κs = room (c .before .before .before .before .before .before
 put-byte-requires : tie.Need-put-byte-requires
 put-byte-requires c κs = omega (arith, room (c .before .before .before .before .before .before .before .before .before .before .before .before .before .before .before .before .before .before .before .before .pre .1) (output (c .before .before .before)) (10 ∷ []) [] refl)
 
-same-length : tie.Need-same-length
-same-length c = search needs
-
 returns : tie.Need-returns
 returns c = finish (c .before .before .before .before .before .before .before .before .before .before .before .before .before .before .before .before .before .before .before .before .before .before .before .pre .1) (output (c .before .before .before .before .before .before)) (c .before .before .put-byte .ensures)
 
@@ -69,11 +63,4 @@ pub put-gate-spec : {M : Type 1} → statement M
 put-gate-spec =
     tie.close
     (tie.spec
-    slice-aggregate-put-bytes
-    put-bytes-requires
-    put-name-requires
-    put-pins-requires
-    put-pin-requires
-    put-byte-requires
-    same-length
-    returns)
+    (λ c. search needs) put-bytes-requires put-name-requires put-pins-requires put-pin-requires put-byte-requires (λ c. search needs) returns)

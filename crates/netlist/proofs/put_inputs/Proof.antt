@@ -48,12 +48,6 @@ put-byte-requires c κs = omega (arith, room (c .before .before .before .before 
 put-net-requires : tie.Need-put-net-requires Inv-loop μ-loop
 put-net-requires c κs = room (c .before .before .before .before .before .before .before .before .before .before .pre .2) (spacing (c .before .before .before)) (netName (c .before .before .before .before .before .input-net .result)) (later (c .before .before .before .before .before)) refl
 
-add-i : tie.Need-add-i Inv-loop μ-loop
-add-i c = omega arith
-
-loop-less : tie.Need-loop-less Inv-loop μ-loop
-loop-less c = omega arith
-
 loop-again : tie.Need-loop-again Inv-loop μ-loop
 loop-again c = (omega arith, step (c .before .before .before .before .before .before .before .before .before .before .before .before .before .pre .2) (spacing (c .before .before .before .before .before .before)) (c .before .before .put-net .last .0) (c .before .before .put-net .result) (netName (c .before .before .before .before .before .before .before .before .input-net .result)) (later (c .before .before .before .before .before .before .before .before)) refl (c .before .before .put-net .ensures))
 
@@ -69,14 +63,5 @@ pub put-inputs-spec : {M : Type 1} → statement M
 put-inputs-spec =
     tie.close
     (tie.spec
-    Inv-loop
-    μ-loop
-    loop-holds
-    input-net-requires
-    put-byte-requires
-    put-net-requires
-    add-i
-    loop-less
-    loop-again
-    same-length
+    Inv-loop μ-loop loop-holds input-net-requires put-byte-requires put-net-requires (λ c. omega arith) (λ c. omega arith) loop-again same-length
     returns)

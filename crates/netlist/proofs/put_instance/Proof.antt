@@ -16,9 +16,6 @@ put-gate-requires c κs =
     let s = c .before .before .before .before in
     (s .pre .0, omega (arith, s .pre .1, ap length (line-of (s .args .g))))
 
-same-length : tie.Need-same-length
-same-length c = search needs
-
 returns : tie.Need-returns
 returns c =
     let a = c .before .before .before .before .before .before .before .args in
@@ -26,4 +23,6 @@ returns c =
     subst (λ (bs : List ℕ). Wrote (a .out .now) (p .last .0) (a .at) (p .result) bs) (sym (line-of (a .g))) (p .ensures)
 
 pub put-instance-spec : {M : Type 1} → statement M
-put-instance-spec = tie.close (tie.spec put-gate-requires same-length returns)
+put-instance-spec = tie.close
+    (tie.spec
+    put-gate-requires (λ c. search needs) returns)

@@ -1,6 +1,6 @@
 -- `netlist::put_label` meets its contract: the net's name, inside a pair behind an `s`.
 -- Assumes nothing.
-use mathlib.Core.Path.{_≡_, refl, sym, ap, subst}
+use mathlib.Core.Path.{refl, sym, ap, subst}
 use mathlib.Core.List.{List, _∷_, [], append-nil}
 use Prim.Native.Nat.{ℕ, _/_}
 use native.Mathlib.Omega.{arith}
@@ -33,9 +33,6 @@ put-net-requires c κs =
     let name = netName (s .args .n / 2) in
     room (s .pre) (one (c .before .before .before)) name [] (sym (append-nil name))
 
-same-length : tie.Need-same-length
-same-length c = search needs
-
 returns : tie.Need-returns
 returns c =
     finish (c .before .before .before .before .before .before .before .before .before .before .pre) (one (c .before .before .before .before .before .before)) (c .before .before .put-net .ensures)
@@ -44,9 +41,6 @@ put-net-requires-2 : tie.Need-put-net-requires-2
 put-net-requires-2 c κs =
     let s = c .before .before .before in
     omega (arith, s .pre, ap length (label-phase (s .args .n) (c .before .if1 .left)))
-
-same-length-2 : tie.Need-same-length-2
-same-length-2 c = search needs
 
 returns-2 : tie.Need-returns-2
 returns-2 c =
@@ -58,10 +52,4 @@ pub put-label-spec : {M : Type 1} → statement M
 put-label-spec =
     tie.close
     (tie.spec
-    put-byte-requires
-    put-net-requires
-    same-length
-    returns
-    put-net-requires-2
-    same-length-2
-    returns-2)
+    put-byte-requires put-net-requires (λ c. search needs) returns put-net-requires-2 (λ c. search needs) returns-2)

@@ -11,12 +11,6 @@ use borrow.Author.Needs.{needs}
 use Rattle.netlist.proofs.put_name.Statement.{statement}
 use Rattle.netlist.proofs.put_name.Tie as tie
 
-name-len-requires : tie.Need-name-len-requires
-name-len-requires c κs = search needs
-
-array-share-prefix-name : tie.Need-array-share-prefix-name
-array-share-prefix-name c = search needs
-
 slice-aggregate-put-bytes : tie.Need-slice-aggregate-put-bytes
 slice-aggregate-put-bytes c =
     let eight : length (c .before .before .before .before .args .t3) ≡ 8 = search needs in
@@ -26,9 +20,6 @@ put-bytes-requires : tie.Need-put-bytes-requires
 put-bytes-requires c κs =
     let eight : length (c .before .before .before .before .args .t3) ≡ 8 = search needs in
     omega (arith, c .before .before .before .before .pre, ap length (c .before .before .name-len .ensures .1 (c .before .before .before .before .args .t3) eight))
-
-same-length : tie.Need-same-length
-same-length c = search needs
 
 returns : tie.Need-returns
 returns c =
@@ -40,9 +31,4 @@ pub put-name-spec : {M : Type 1} → statement M
 put-name-spec =
     tie.close
     (tie.spec
-    name-len-requires
-    array-share-prefix-name
-    slice-aggregate-put-bytes
-    put-bytes-requires
-    same-length
-    returns)
+    (λ c κs. search needs) (λ c. search needs) slice-aggregate-put-bytes put-bytes-requires (λ c. search needs) returns)

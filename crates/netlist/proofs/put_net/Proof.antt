@@ -19,21 +19,17 @@ one c =
     step (c .before .before .before .before .pre) (begin (c .before .before .before .before .args .out .now) (c .before .before .before .before .args .at) (sym (c .before .letter .ensures))) (c .put-byte .last .0) (c .put-byte .result) (c .before .letter .result ∷ [])
     (decimal (c .before .before .before .before .args .l / 2)) refl (c .put-byte .ensures)
 
-letter-requires : tie.Need-letter-requires
-letter-requires c κs = search needs
-
 put-byte-requires : tie.Need-put-byte-requires
 put-byte-requires c κs = omega (arith, net-length (c .before .before .before .args .l))
 
 put-number-requires : tie.Need-put-number-requires
 put-number-requires c κs = room (c .before .before .before .before .before .before .before .pre) (one (c .before .before .before)) (decimal (c .before .before .before .before .before .before .before .args .l / 2)) [] (sym (append-nil (decimal (c .before .before .before .before .before .before .before .args .l / 2))))
 
-same-length : tie.Need-same-length
-same-length c = search needs
-
 returns : tie.Need-returns
 returns c = finish (c .before .before .before .before .before .before .before .before .before .before .pre) (one (c .before .before .before .before .before .before)) (as-wrote (c .before .before .put-number .ensures))
 
 pub put-net-spec : {M : Type 1} → statement M
 put-net-spec =
-    tie.close (tie.spec letter-requires put-byte-requires put-number-requires same-length returns)
+    tie.close
+    (tie.spec
+    (λ c κs. search needs) put-byte-requires put-number-requires (λ c. search needs) returns)

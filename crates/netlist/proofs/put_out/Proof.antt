@@ -26,11 +26,10 @@ put-number-requires c κs =
     let s = c .before .before .before .before .before .before in
     room (s .pre) (one (c .before .before .before)) (decimal (s .args .k)) [] (sym (append-nil (decimal (s .args .k))))
 
-same-length : tie.Need-same-length
-same-length c = search needs
-
 returns : tie.Need-returns
 returns c = finish (c .before .before .before .before .before .before .before .before .before .pre) (one (c .before .before .before .before .before .before)) (as-wrote (c .before .before .put-number .ensures))
 
 pub put-out-spec : {M : Type 1} → statement M
-put-out-spec = tie.close (tie.spec put-byte-requires put-number-requires same-length returns)
+put-out-spec = tie.close
+    (tie.spec
+    put-byte-requires put-number-requires (λ c. search needs) returns)

@@ -47,12 +47,6 @@ cast-put-out c = omega (arith, c .before .before .before .before .before .before
 put-out-requires : tie.Need-put-out-requires Inv-loop μ-loop
 put-out-requires c κs = room (c .before .before .before .before .before .before .before .before .pre .1) (spacing (c .before .before .before)) (outName (c .before .before .before .before .before .before .loop .i)) (later (c .before .before .before .before .before .before .before .before .args .n) (c .before .before .before .before .before .before .loop .i)) refl
 
-add-i : tie.Need-add-i Inv-loop μ-loop
-add-i c = omega arith
-
-loop-less : tie.Need-loop-less Inv-loop μ-loop
-loop-less c = omega arith
-
 loop-again : tie.Need-loop-again Inv-loop μ-loop
 loop-again c =
     let s = c .before .before .before .before .before .before .before .before .before .before .before in
@@ -70,14 +64,4 @@ pub put-outputs-spec : {M : Type 1} → statement M
 put-outputs-spec =
     tie.close
     (tie.spec
-    Inv-loop
-    μ-loop
-    loop-holds
-    put-byte-requires
-    cast-put-out
-    put-out-requires
-    add-i
-    loop-less
-    loop-again
-    same-length
-    returns)
+    Inv-loop μ-loop loop-holds put-byte-requires cast-put-out put-out-requires (λ c. omega arith) (λ c. omega arith) loop-again same-length returns)

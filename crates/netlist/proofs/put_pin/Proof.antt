@@ -19,17 +19,11 @@ one c =
     step (c .before .before .before .before .pre) (begin (c .before .before .before .before .args .out .now) (c .before .before .before .before .args .at) (pin-one (c .before .before .before .before .args .b) (c .before .before .before .before .args .n))) (c .put-bytes .last .0) (c .put-bytes .result)
     (32 ∷ c .before .before .before .before .args .b ∷ 61 ∷ []) (label (netOf (c .before .before .before .before .args .n))) refl (c .put-bytes .ensures)
 
-slice-aggregate-put-bytes : tie.Need-slice-aggregate-put-bytes
-slice-aggregate-put-bytes c = search needs
-
 put-bytes-requires : tie.Need-put-bytes-requires
 put-bytes-requires c κs = omega (arith, pin-length (c .before .before .before .args .b) (c .before .before .before .args .n))
 
 put-label-requires : tie.Need-put-label-requires
 put-label-requires c κs = room (c .before .before .before .before .before .before .before .pre) (one (c .before .before .before)) (label (netOf (c .before .before .before .before .before .before .before .args .n))) [] (sym (append-nil (label (netOf (c .before .before .before .before .before .before .before .args .n)))))
-
-same-length : tie.Need-same-length
-same-length c = search needs
 
 returns : tie.Need-returns
 returns c = finish (c .before .before .before .before .before .before .before .before .before .before .pre) (one (c .before .before .before .before .before .before)) (c .before .before .put-label .ensures)
@@ -37,4 +31,5 @@ returns c = finish (c .before .before .before .before .before .before .before .b
 pub put-pin-spec : {M : Type 1} → statement M
 put-pin-spec =
     tie.close
-    (tie.spec slice-aggregate-put-bytes put-bytes-requires put-label-requires same-length returns)
+    (tie.spec
+    (λ c. search needs) put-bytes-requires put-label-requires (λ c. search needs) returns)

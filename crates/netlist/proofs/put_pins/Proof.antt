@@ -21,18 +21,6 @@ abbrev μ-loop : tie.MeasureT-loop
 loop-holds : tie.Need-loop-holds Inv-loop μ-loop
 loop-holds c = (omega arith, begin (c .before .args .out .now) (c .before .args .at) refl)
 
-cast-put-pin : tie.Need-cast-put-pin Inv-loop μ-loop
-cast-put-pin c = omega arith
-
-add-put-pin : tie.Need-add-put-pin Inv-loop μ-loop
-add-put-pin c = omega arith
-
-mul-put-pin : tie.Need-mul-put-pin Inv-loop μ-loop
-mul-put-pin c = omega arith
-
-array-read-put-pin : tie.Need-array-read-put-pin Inv-loop μ-loop
-array-read-put-pin c = omega arith
-
 put-pin-requires : tie.Need-put-pin-requires Inv-loop μ-loop
 put-pin-requires c κs =
     let s = c .before .before .before .before in
@@ -40,12 +28,6 @@ put-pin-requires c κs =
     let four : length (s .args .t3) ≡ 4 = search needs in
     room (s .pre .1) (l .inv .1) (netWords (65 + l .j) (getD (s .args .t3) (l .j) 0 ∷ [])) (netWords (65 + (l .j + 1)) (drop (l .j + 1) (take (s .args .count) (s .args .t3))))
     (pins-next (s .args .t3) (s .args .count) four (s .pre .0) (l .j) (c .before .loop-test .taken))
-
-add-j : tie.Need-add-j Inv-loop μ-loop
-add-j c = omega arith
-
-loop-less : tie.Need-loop-less Inv-loop μ-loop
-loop-less c = omega arith
 
 loop-again : tie.Need-loop-again Inv-loop μ-loop
 loop-again c =
@@ -71,16 +53,5 @@ pub put-pins-spec : {M : Type 1} → statement M
 put-pins-spec =
     tie.close
     (tie.spec
-    Inv-loop
-    μ-loop
-    loop-holds
-    cast-put-pin
-    add-put-pin
-    mul-put-pin
-    array-read-put-pin
-    put-pin-requires
-    add-j
-    loop-less
-    loop-again
-    same-length
-    returns)
+    Inv-loop μ-loop loop-holds (λ c. omega arith) (λ c. omega arith) (λ c. omega arith) (λ c. omega arith) put-pin-requires (λ c. omega arith)
+    (λ c. omega arith) loop-again same-length returns)

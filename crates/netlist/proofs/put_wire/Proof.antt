@@ -37,9 +37,6 @@ space c = let s = c .before .before .before .before .before .before .before .bef
 name : (c : tie.After-put-out) → Left (c .before .before .before .before .before .before .before .before .before .before .before .before .before .before .before .before) (c .put-out .last .0) (c .put-out .result) rowBytes
 name c = let s = c .before .before .before .before .before .before .before .before .before .before .before .before .before .before .before .before in step (s .pre) (space (c .before .before .before .before)) (c .put-out .last .0) (c .put-out .result) (outName (s .args .k)) rowBytes refl (c .put-out .ensures)
 
-slice-aggregate-put-bytes : tie.Need-slice-aggregate-put-bytes
-slice-aggregate-put-bytes c = search needs
-
 put-bytes-requires : tie.Need-put-bytes-requires
 put-bytes-requires c κs = let s = c .before .before .before in room (s .pre) (none s) namesBytes (afterKeyword s) refl
 
@@ -52,14 +49,8 @@ put-byte-requires c κs = let s = c .before .before .before .before .before .bef
 put-out-requires : tie.Need-put-out-requires
 put-out-requires c κs = let s = c .before .before .before .before .before .before .before .before .before .before .before .before .before .before .before in room (s .pre) (space (c .before .before .before)) (outName (s .args .k)) rowBytes refl
 
-slice-aggregate-put-bytes-2 : tie.Need-slice-aggregate-put-bytes-2
-slice-aggregate-put-bytes-2 c = search needs
-
 put-bytes-requires-2 : tie.Need-put-bytes-requires-2
 put-bytes-requires-2 c κs = let s = c .before .before .before .before .before .before .before .before .before .before .before .before .before .before .before .before .before .before .before .before in room (s .pre) (name (c .before .before .before .before)) rowBytes [] (sym (append-nil rowBytes))
-
-same-length : tie.Need-same-length
-same-length c = search needs
 
 returns : tie.Need-returns
 returns c = let s = c .before .before .before .before .before .before .before .before .before .before .before .before .before .before .before .before .before .before .before .before .before .before .before in finish (s .pre) (name (c .before .before .before .before .before .before .before)) (c .before .before .put-bytes2 .ensures)
@@ -68,12 +59,5 @@ pub put-wire-spec : {M : Type 1} → statement M
 put-wire-spec =
     tie.close
     (tie.spec
-    slice-aggregate-put-bytes
-    put-bytes-requires
-    put-net-requires
-    put-byte-requires
-    put-out-requires
-    slice-aggregate-put-bytes-2
-    put-bytes-requires-2
-    same-length
-    returns)
+    (λ c. search needs) put-bytes-requires put-net-requires put-byte-requires put-out-requires (λ c. search needs) put-bytes-requires-2
+    (λ c. search needs) returns)

@@ -48,12 +48,6 @@ cast-put-wire c = omega (arith, c .before .before .before .before .before .befor
 put-wire-requires : tie.Need-put-wire-requires Inv-loop μ-loop
 put-wire-requires c κs = room (c .before .before .before .before .before .before .pre .2) (c .before .before .before .loop .inv .1) (wire (c .before)) (later (c .before)) (next-wire (c .before))
 
-add-i : tie.Need-add-i Inv-loop μ-loop
-add-i c = omega arith
-
-loop-less : tie.Need-loop-less Inv-loop μ-loop
-loop-less c = omega arith
-
 loop-again : tie.Need-loop-again Inv-loop μ-loop
 loop-again c =
     let p = c .before .before .put-wire in
@@ -72,14 +66,5 @@ pub put-wires-spec : {M : Type 1} → statement M
 put-wires-spec =
     tie.close
     (tie.spec
-    Inv-loop
-    μ-loop
-    loop-holds
-    output-net-requires
-    cast-put-wire
-    put-wire-requires
-    add-i
-    loop-less
-    loop-again
-    same-length
+    Inv-loop μ-loop loop-holds output-net-requires cast-put-wire put-wire-requires (λ c. omega arith) (λ c. omega arith) loop-again same-length
     returns)

@@ -29,17 +29,8 @@ cast-wire-len c = omega (arith, c .before .before .before .pre .1)
 output-net-requires : tie.Need-output-net-requires Inv-loop μ-loop
 output-net-requires c κs = (c .before .before .before .pre .0, c .loop-test .taken)
 
-wire-len-requires : tie.Need-wire-len-requires Inv-loop μ-loop
-wire-len-requires c κs = tt
-
 add-len : tie.Need-add-len Inv-loop μ-loop
 add-len c = omega (arith, c .before .before .before .loop .inv .1, c .wire-len .ensures .1, c .before .before .before .before .before .pre .1)
-
-add-i : tie.Need-add-i Inv-loop μ-loop
-add-i c = omega arith
-
-loop-less : tie.Need-loop-less Inv-loop μ-loop
-loop-less c = omega arith
 
 loop-again : tie.Need-loop-again Inv-loop μ-loop
 loop-again c =
@@ -63,14 +54,4 @@ pub wires-len-spec : {M : Type 1} → statement M
 wires-len-spec =
     tie.close
     (tie.spec
-    Inv-loop
-    μ-loop
-    loop-holds
-    cast-wire-len
-    output-net-requires
-    wire-len-requires
-    add-len
-    add-i
-    loop-less
-    loop-again
-    returns)
+    Inv-loop μ-loop loop-holds cast-wire-len output-net-requires (λ c κs. tt) add-len (λ c. omega arith) (λ c. omega arith) loop-again returns)

@@ -14,15 +14,6 @@ use borrow.Author.Needs.{needs}
 use Rattle.netlist.proofs.write.Statement.{statement}
 use Rattle.netlist.proofs.write.Tie as tie
 
-slice-aggregate-put-book : tie.Need-slice-aggregate-put-book
-slice-aggregate-put-book c = search needs
-
-put-book-requires : tie.Need-put-book-requires
-put-book-requires c κs = search needs
-
-slice-aggregate-write-words : tie.Need-slice-aggregate-write-words
-slice-aggregate-write-words c = search needs
-
 write-words-requires : tie.Need-write-words-requires
 write-words-requires c κs =
     let s = c .before .before .before .before .before .before .before .before in
@@ -35,9 +26,6 @@ write-words-requires c κs =
       named (a .work .now) (a .lib) (a .codes .now) (a .h) (p .0) (p .1) rest,
       omega (arith, p .2, ap length (ap (λ (b : List ℕ). textIn (a .work .now) b (a .h) (a .f)) is ∙ text-held (a .work .now) (a .lib) (a .codes .now) (a .h) (p .0) (p .1) rest (a .f))),
     )
-
-same-length : tie.Need-same-length
-same-length c = search needs
 
 returns : tie.Need-returns
 returns c =
@@ -56,9 +44,4 @@ pub write-spec : {M : Type 1} → statement M
 write-spec =
     tie.close
     (tie.spec
-    slice-aggregate-put-book
-    put-book-requires
-    slice-aggregate-write-words
-    write-words-requires
-    same-length
-    returns)
+    (λ c. search needs) (λ c κs. search needs) (λ c. search needs) write-words-requires (λ c. search needs) returns)

@@ -61,9 +61,6 @@ put-wires-requires c κs = let s = c .before .before .before .before .before .be
 put-figures-requires : tie.Need-put-figures-requires
 put-figures-requires c κs = let s = c .before .before .before .before .before .before .before .before .before .before .before .before .before .before .before .before in room (fits s) (wires (c .before .before .before)) (figuresText (s .args .f)) [] (sym (append-nil (figuresText (s .args .f))))
 
-same-length : tie.Need-same-length
-same-length c = search needs
-
 returns : tie.Need-returns
 returns c = finish (fits (c .before .before .before .before .before .before .before .before .before .before .before .before .before .before .before .before .before .before .before)) (wires (c .before .before .before .before .before .before)) (c .before .before .put-figures .ensures)
 
@@ -71,9 +68,4 @@ pub write-words-spec : {M : Type 1} → statement M
 write-words-spec =
     tie.close
     (tie.spec
-    put-frame-requires
-    put-gates-requires
-    put-wires-requires
-    put-figures-requires
-    same-length
-    returns)
+    put-frame-requires put-gates-requires put-wires-requires put-figures-requires (λ c. search needs) returns)

@@ -1,7 +1,7 @@
 -- `netnames::bound` meets its contract. The invariant: so many words are bound, and the others are due; the measure is how many are left. Assumes nothing.
 use borrow.Author.Needs.{needs}
 use mathlib.Core.Path.{_≡_, refl, sym, _∙_, ap, subst}
-use Prim.Native.Nat.{ℕ, _+_, _-_, _≤_}
+use Prim.Native.Nat.{_+_, _-_, _≤_}
 use native.Mathlib.Omega.{arith}
 use lib.ListN.{set}
 use Rattle.netnames.specs.Bound.{pinAt}
@@ -19,15 +19,6 @@ abbrev μ-loop : tie.MeasureT-loop
 loop-holds : tie.Need-loop-holds Inv-loop μ-loop
 loop-holds c = (omega arith, c .before .pre, part-start (c .before .args .l .now) (c .before .args .from) (c .before .args .n) _ refl)
 
-letter-requires : tie.Need-letter-requires Inv-loop μ-loop
-letter-requires c κs = search needs
-
-pin-at-requires : tie.Need-pin-at-requires Inv-loop μ-loop
-pin-at-requires c κs = search needs
-
-no-nets-requires : tie.Need-no-nets-requires Inv-loop μ-loop
-no-nets-requires c κs = search needs
-
 returns : tie.Need-returns Inv-loop μ-loop
 returns c =
     let k = c .before .before in
@@ -36,18 +27,6 @@ returns c =
     c .no-nets .ensures
     ∙ sym (part-none (a .l .now) (a .from) (a .n) (l .loop .at) (l .loop .j) (l .loop .codes) (l .loop .inv .2) (k .before .before .loop-test .taken)
     (sym (ap (λ (p : Pin). p .code) (k .pin-at .ensures ∙ ap (pinAt (a .l .now) (l .loop .at)) (k .before .letter .ensures))) ∙ c .before .if1 .taken))
-
-mul-codes : tie.Need-mul-codes Inv-loop μ-loop
-mul-codes c = search needs
-
-array-write-codes : tie.Need-array-write-codes Inv-loop μ-loop
-array-write-codes c = search needs
-
-add-j : tie.Need-add-j Inv-loop μ-loop
-add-j c = search needs
-
-loop-less : tie.Need-loop-less Inv-loop μ-loop
-loop-less c = search needs
 
 loop-again : tie.Need-loop-again Inv-loop μ-loop
 loop-again c =
@@ -61,9 +40,6 @@ loop-again c =
           (part-step (a .l .now) (a .from) (a .n) (l .loop .at) (l .loop .j) (l .loop .codes) (l .loop .inv .2) (k .before .before .loop-test .taken) (l .loop .inv .1) (λ e. c .if1 .left (ap (λ (p : Pin). p .code) q ∙ e))),
     )
 
-own-net-requires : tie.Need-own-net-requires Inv-loop μ-loop
-own-net-requires c κs = search needs
-
 returns-2 : tie.Need-returns-2 Inv-loop μ-loop
 returns-2 c =
     let l = c .before .before in
@@ -74,17 +50,5 @@ pub bound-spec : {M : Type 1} → statement M
 bound-spec =
     tie.close
     (tie.spec
-    Inv-loop
-    μ-loop
-    loop-holds
-    letter-requires
-    pin-at-requires
-    no-nets-requires
-    returns
-    mul-codes
-    array-write-codes
-    add-j
-    loop-less
-    loop-again
-    own-net-requires
-    returns-2)
+    Inv-loop μ-loop loop-holds (λ c κs. search needs) (λ c κs. search needs) (λ c κs. search needs) returns (λ c. search needs) (λ c. search needs)
+    (λ c. search needs) (λ c. search needs) loop-again (λ c κs. search needs) returns-2)

@@ -1,7 +1,7 @@
 -- `netnames::cell_named` meets its contract. The invariant: none of the first i cells has the name; the measure is what is left. Assumes nothing.
 use borrow.Author.Needs.{needs}
-use mathlib.Core.Path.{_≡_, refl, sym, _∙_, ap}
-use Prim.Native.Nat.{ℕ, _+_, _-_, _≤_}
+use mathlib.Core.Path.{_≡_, sym, _∙_}
+use Prim.Native.Nat.{_+_, _-_, _≤_}
 use native.Mathlib.Omega.{arith}
 use lib.ListN.{length, drop}
 use Rattle.model.specs.Cells.{nameOf, cellsOf}
@@ -19,15 +19,6 @@ abbrev μ-loop : tie.MeasureT-loop
 loop-holds : tie.Need-loop-holds Inv-loop μ-loop
 loop-holds c = (omega arith, c .before .pre .0, index-start _ _)
 
-mul-c : tie.Need-mul-c Inv-loop μ-loop
-mul-c c = search needs
-
-element-copy-out-c : tie.Need-element-copy-out-c Inv-loop μ-loop
-element-copy-out-c c = search needs
-
-name-is-requires : tie.Need-name-is-requires Inv-loop μ-loop
-name-is-requires c κs = search needs
-
 returns : tie.Need-returns Inv-loop μ-loop
 unfolding nameOf
 returns c =
@@ -36,12 +27,6 @@ returns c =
     let start = l .before .before in
     let a = start .args in
     sym (l .loop .inv .2 ∙ index-found (a .w .now) (a .t1) (l .loop .i) (k .before .before .before .loop-test .taken) (omega arith) (start .pre .1) (sym (k .name-is .ensures) ∙ c .if1 .taken))
-
-add-i : tie.Need-add-i Inv-loop μ-loop
-add-i c = search needs
-
-loop-less : tie.Need-loop-less Inv-loop μ-loop
-loop-less c = search needs
 
 loop-again : tie.Need-loop-again Inv-loop μ-loop
 unfolding nameOf
@@ -63,14 +48,5 @@ pub cell-named-spec : {M : Type 1} → statement M
 cell-named-spec =
     tie.close
     (tie.spec
-    Inv-loop
-    μ-loop
-    loop-holds
-    mul-c
-    element-copy-out-c
-    name-is-requires
-    returns
-    add-i
-    loop-less
-    loop-again
-    returns-2)
+    Inv-loop μ-loop loop-holds (λ c. search needs) (λ c. search needs) (λ c κs. search needs) returns (λ c. search needs) (λ c. search needs)
+    loop-again returns-2)

@@ -1,7 +1,7 @@
 -- `netnames::code_of` meets its contract. The invariant: the number is that of the bytes passed, from the last on; the measure is how many are left.
 -- Assumes nothing.
 use borrow.Author.Needs.{needs}
-use mathlib.Core.Path.{_≡_, refl, sym, _∙_, ap}
+use mathlib.Core.Path.{_≡_, sym, _∙_, ap}
 use Prim.Native.Nat.{ℕ, _+_, _-_, _*_, _≤_}
 use native.Mathlib.Omega.{arith}
 use lib.ListN.{length, drop}
@@ -19,19 +19,10 @@ abbrev μ-loop : tie.MeasureT-loop
 loop-holds : tie.Need-loop-holds Inv-loop μ-loop
 loop-holds c = (omega arith, sym (code-end (c .before .args .w .now) (length (c .before .args .w .now)) (omega arith)))
 
-sub-i : tie.Need-sub-i Inv-loop μ-loop
-sub-i c = search needs
-
 mul-n : tie.Need-mul-n Inv-loop μ-loop
 mul-n c =
     let l = c .before in
     omega (arith, code-fits (l .before .before .args .w .now) (λ k. omega (arith, l .before .shared-slice-known .given k)) (l .loop .i) (l .loop .n) (l .loop .inv .0) (l .loop .inv .1) (c .loop-test .taken) (l .before .before .pre))
-
-shared-slice-read-wide : tie.Need-shared-slice-read-wide Inv-loop μ-loop
-shared-slice-read-wide c = search needs
-
-wide-requires : tie.Need-wide-requires Inv-loop μ-loop
-wide-requires c κs = search needs
 
 add-n : tie.Need-add-n Inv-loop μ-loop
 add-n c =
@@ -41,9 +32,6 @@ add-n c =
       code-fits (l .before .before .args .w .now) (λ k. omega (arith, l .before .shared-slice-known .given k)) (l .loop .i) (l .loop .n) (l .loop .inv .0) (l .loop .inv .1) (c .before .before .loop-test .taken) (l .before .before .pre),
       l .before .shared-slice-known .given (l .loop .i - 1),
     )
-
-loop-less : tie.Need-loop-less Inv-loop μ-loop
-loop-less c = search needs
 
 loop-again : tie.Need-loop-again Inv-loop μ-loop
 loop-again c =
@@ -59,14 +47,4 @@ pub code-of-spec : {M : Type 1} → statement M
 code-of-spec =
     tie.close
     (tie.spec
-    Inv-loop
-    μ-loop
-    loop-holds
-    sub-i
-    mul-n
-    shared-slice-read-wide
-    wide-requires
-    add-n
-    loop-less
-    loop-again
-    returns)
+    Inv-loop μ-loop loop-holds (λ c. search needs) mul-n (λ c. search needs) (λ c κs. search needs) add-n (λ c. search needs) loop-again returns)

@@ -1,32 +1,19 @@
 -- `netnames::gate_line` meets its contract: its cell is looked up by its second word, and its pins are in the words behind. Assumes nothing.
 use borrow.Author.Needs.{needs}
-use mathlib.Core.Path.{sym, _∙_, ap, subst}
+use mathlib.Core.Path.{sym, _∙_, subst}
 use Prim.Native.Nat.{ℕ, _+_, _≤_}
 use native.Mathlib.Omega.{arith}
 use lib.ListN.{length}
-use Rattle.netnames.specs.Fields.{spaceFrom}
 use Rattle.netnames.proofs.Parting.{space-from, space-fits}
 use Rattle.netnames.proofs.Gates.{line-short, at-places}
 use Rattle.netnames.proofs.gate_line.Statement.{statement}
 use Rattle.netnames.proofs.gate_line.Tie as tie
-
-space-from-requires : tie.Need-space-from-requires
-space-from-requires c κs = search needs
-
-no-gate-requires : tie.Need-no-gate-requires
-no-gate-requires c κs = search needs
 
 returns : tie.Need-returns
 returns c =
     let k = c .before .before in
     let a = k .before .before .args in
     c .no-gate .ensures ∙ sym (line-short (a .t1) (a .l .now) (subst (λ (n : ℕ). length (a .l .now) ≤ n) (k .space-from .ensures) (c .before .if1 .taken)))
-
-add-at : tie.Need-add-at
-add-at c = search needs
-
-space-from-requires-2 : tie.Need-space-from-requires-2
-space-from-requires-2 c κs = search needs
 
 sub-cell-named : tie.Need-sub-cell-named
 sub-cell-named c = let k = c .before .before in let a = k .before .before .args in omega (arith, c .space-from2 .ensures, space-from (a .l .now) (k .space-from .result + 1))
@@ -40,9 +27,6 @@ part-cell-named-end c = let k = c .before .before in let a = k .before .before .
 cell-named-requires : tie.Need-cell-named-requires
 cell-named-requires c κs = let s = c .before .before .before .before .before in (s .pre .0, s .pre .1)
 
-no-gate-requires-2 : tie.Need-no-gate-requires-2
-no-gate-requires-2 c κs = search needs
-
 returns-2 : tie.Need-returns-2
 returns-2 c =
     let n = c .before .before in
@@ -53,12 +37,6 @@ returns-2 c =
     c .no-gate2 .ensures
     ∙ sym (at-places (a .t1) (a .l .now) (s .pre .0) (s .pre .1) (k .space-from .result) (f .space-from2 .result) (k .space-from .ensures) (f .space-from2 .ensures) (f .before .if1 .left) .0
     (subst (λ (i : ℕ). a .t1 .n ≤ i) (n .cell-named .ensures) (c .before .if2 .taken)))
-
-mul-c : tie.Need-mul-c
-mul-c c = search needs
-
-element-copy-out-c : tie.Need-element-copy-out-c
-element-copy-out-c c = search needs
 
 add-gate-of : tie.Need-add-gate-of
 add-gate-of c =
@@ -85,19 +63,6 @@ pub gate-line-spec : {M : Type 1} → statement M
 gate-line-spec =
     tie.close
     (tie.spec
-    space-from-requires
-    no-gate-requires
-    returns
-    add-at
-    space-from-requires-2
-    sub-cell-named
-    part-cell-named-start
-    part-cell-named-end
-    cell-named-requires
-    no-gate-requires-2
-    returns-2
-    mul-c
-    element-copy-out-c
-    add-gate-of
-    gate-of-requires
+    (λ c κs. search needs) (λ c κs. search needs) returns (λ c. search needs) (λ c κs. search needs) sub-cell-named part-cell-named-start
+    part-cell-named-end cell-named-requires (λ c κs. search needs) returns-2 (λ c. search needs) (λ c. search needs) add-gate-of gate-of-requires
     returns-3)

@@ -7,12 +7,6 @@ use Rattle.netnames.proofs.Gates.{gate-none, gate-some}
 use Rattle.netnames.proofs.gate_of.Statement.{statement}
 use Rattle.netnames.proofs.gate_of.Tie as tie
 
-bound-requires : tie.Need-bound-requires
-bound-requires c κs = search needs
-
-no-gate-requires : tie.Need-no-gate-requires
-no-gate-requires c κs = search needs
-
 returns : tie.Need-returns
 returns c =
     let k = c .before .before in
@@ -26,4 +20,6 @@ returns-2 c =
     gate-some (a .table) (a .pins) (fieldsFrom (a .l .now) (a .at)) (k .bound .result) (k .bound .ensures) (c .before .if1 .left)
 
 pub gate-of-spec : {M : Type 1} → statement M
-gate-of-spec = tie.close (tie.spec bound-requires no-gate-requires returns returns-2)
+gate-of-spec = tie.close
+    (tie.spec
+    (λ c κs. search needs) (λ c κs. search needs) returns returns-2)

@@ -12,20 +12,11 @@ use Rattle.netnames.proofs.Named.{first-is}
 use Rattle.netnames.proofs.is_gate.Statement.{statement}
 use Rattle.netnames.proofs.is_gate.Tie as tie
 
-space-from-requires : tie.Need-space-from-requires
-space-from-requires c κs = search needs
-
 slice-aggregate-same-bytes : tie.Need-slice-aggregate-same-bytes
 slice-aggregate-same-bytes c =
     let k = c .before in
     let a = k .before .before .args in
     sym (length-take-le (k .space-from .result) (a .l .now) (omega (arith, k .space-from .ensures, space-fits (a .l .now) 0 (omega arith))))
-
-slice-aggregate-same-bytes-2 : tie.Need-slice-aggregate-same-bytes-2
-slice-aggregate-same-bytes-2 c = search needs
-
-same-bytes-requires : tie.Need-same-bytes-requires
-same-bytes-requires c κs = search needs
 
 returns : tie.Need-returns
 unfolding text
@@ -38,8 +29,4 @@ pub is-gate-spec : {M : Type 1} → statement M
 is-gate-spec =
     tie.close
     (tie.spec
-    space-from-requires
-    slice-aggregate-same-bytes
-    slice-aggregate-same-bytes-2
-    same-bytes-requires
-    returns)
+    (λ c κs. search needs) slice-aggregate-same-bytes (λ c. search needs) (λ c κs. search needs) returns)

@@ -11,11 +11,10 @@ returns c = sym (net-empty _ (c .if1 .taken))
 returns-2 : tie.Need-returns-2
 returns-2 c = sym (net-long _ (c .if2 .taken))
 
-net-bytes-requires : tie.Need-net-bytes-requires
-net-bytes-requires c κs = search needs
-
 returns-3 : tie.Need-returns-3
 returns-3 c = c .net-bytes .ensures ∙ sym (net-bytes _ (c .before .before .if1 .left) (c .before .if2 .left))
 
 pub is-net-spec : {M : Type 1} → statement M
-is-net-spec = tie.close (tie.spec returns returns-2 net-bytes-requires returns-3)
+is-net-spec = tie.close
+    (tie.spec
+    returns returns-2 (λ c κs. search needs) returns-3)

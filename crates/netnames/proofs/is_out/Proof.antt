@@ -11,29 +11,8 @@ use Rattle.netnames.proofs.is_out.Tie as tie
 returns : tie.Need-returns
 returns c = sym (out-empty _ _ (c .if1 .taken))
 
-shared-slice-read-if2 : tie.Need-shared-slice-read-if2
-shared-slice-read-if2 c = search needs
-
 returns-2 : tie.Need-returns-2
 returns-2 c = sym (out-letter _ _ (c .before .before .if1 .left) (c .if2 .taken))
-
-sub-number-of : tie.Need-sub-number-of
-sub-number-of c = search needs
-
-part-number-of-start : tie.Need-part-number-of-start
-part-number-of-start c = search needs
-
-part-number-of-end : tie.Need-part-number-of-end
-part-number-of-end c = search needs
-
-number-of-requires : tie.Need-number-of-requires
-number-of-requires c κs = search needs
-
-enum-known-n : tie.Need-enum-known-n
-enum-known-n c = search needs
-
-cast-result : tie.Need-cast-result
-cast-result c = search needs
 
 enum-told : tie.Need-enum-told
 enum-told c = search needs
@@ -57,15 +36,5 @@ pub is-out-spec : {M : Type 1} → statement M
 is-out-spec =
     tie.close
     (tie.spec
-    returns
-    shared-slice-read-if2
-    returns-2
-    sub-number-of
-    part-number-of-start
-    part-number-of-end
-    number-of-requires
-    enum-known-n
-    cast-result
-    enum-told
-    returns-3
-    returns-4)
+    returns (λ c. search needs) returns-2 (λ c. search needs) (λ c. search needs) (λ c. search needs) (λ c κs. search needs) (λ c. search needs)
+    (λ c. search needs) enum-told returns-3 returns-4)

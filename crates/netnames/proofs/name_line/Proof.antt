@@ -14,29 +14,17 @@ use Rattle.netnames.proofs.Named.{line-code}
 use Rattle.netnames.proofs.name_line.Statement.{statement}
 use Rattle.netnames.proofs.name_line.Tie as tie
 
-space-from-requires : tie.Need-space-from-requires
-space-from-requires c κs = search needs
-
 slice-aggregate-same-bytes : tie.Need-slice-aggregate-same-bytes
 slice-aggregate-same-bytes c =
     let k = c .before in
     let a = k .before .before .args in
     sym (length-take-le (k .space-from .result) (a .l .now) (omega (arith, k .space-from .ensures, space-fits (a .l .now) 0 (omega arith))))
 
-slice-aggregate-same-bytes-2 : tie.Need-slice-aggregate-same-bytes-2
-slice-aggregate-same-bytes-2 c = search needs
-
-same-bytes-requires : tie.Need-same-bytes-requires
-same-bytes-requires c κs = search needs
-
 add-two-words : tie.Need-add-two-words
 add-two-words c =
     let k = c .before .before .before .before in
     let a = k .before .before .args in
     omega (arith, k .space-from .ensures, space-fits (a .l .now) 0 (omega arith))
-
-two-words-requires : tie.Need-two-words-requires
-two-words-requires c κs = search needs
 
 returns : tie.Need-returns
 unfolding text
@@ -61,11 +49,5 @@ pub name-line-spec : {M : Type 1} → statement M
 name-line-spec =
     tie.close
     (tie.spec
-    space-from-requires
-    slice-aggregate-same-bytes
-    slice-aggregate-same-bytes-2
-    same-bytes-requires
-    add-two-words
-    two-words-requires
-    returns
+    (λ c κs. search needs) slice-aggregate-same-bytes (λ c. search needs) (λ c κs. search needs) add-two-words (λ c κs. search needs) returns
     returns-2)

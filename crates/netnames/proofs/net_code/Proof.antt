@@ -5,9 +5,6 @@ use Rattle.netnames.proofs.Names.{net-short, code-net, code-none}
 use Rattle.netnames.proofs.net_code.Statement.{statement}
 use Rattle.netnames.proofs.net_code.Tie as tie
 
-is-net-requires : tie.Need-is-net-requires
-is-net-requires c κs = search needs
-
 code-of-requires : tie.Need-code-of-requires
 code-of-requires c κs = net-short _ (sym (c .before .is-net .ensures) ∙ c .if1 .taken)
 
@@ -18,4 +15,6 @@ returns-2 : tie.Need-returns-2
 returns-2 c = sym (code-none _ (sym (c .before .is-net .ensures) ∙ c .if1 .left))
 
 pub net-code-spec : {M : Type 1} → statement M
-net-code-spec = tie.close (tie.spec is-net-requires code-of-requires returns returns-2)
+net-code-spec = tie.close
+    (tie.spec
+    (λ c κs. search needs) code-of-requires returns returns-2)

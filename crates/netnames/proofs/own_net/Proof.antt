@@ -1,7 +1,7 @@
 -- `netnames::own_net` meets its contract: the word that is due, and none behind it. Assumes nothing.
 use borrow.Author.Needs.{needs}
 use mathlib.Core.Path.{sym, _∙_, ap, subst}
-use Prim.Native.Nat.{ℕ, _≤_, _<_}
+use Prim.Native.Nat.{_≤_, _<_}
 use lib.ListN.{length}
 use Rattle.netnames.specs.Bound.{pinAt}
 use Rattle.netnames.specs.declared.Pin.{Pin}
@@ -10,20 +10,11 @@ use Rattle.netnames.proofs.Binding.{own-none, own-more, own-last}
 use Rattle.netnames.proofs.own_net.Statement.{statement}
 use Rattle.netnames.proofs.own_net.Tie as tie
 
-pin-at-requires : tie.Need-pin-at-requires
-pin-at-requires c κs = search needs
-
-no-nets-requires : tie.Need-no-nets-requires
-no-nets-requires c κs = search needs
-
 returns : tie.Need-returns
 returns c =
     let k = c .before .before .before in
     let a = k .before .before .args in
     c .no-nets .ensures ∙ sym (own-none (a .l .now) (a .at) (a .codes) (sym (ap (λ (p : Pin). p .code) (k .pin-at .ensures)) ∙ c .before .if1 .taken))
-
-no-nets-requires-2 : tie.Need-no-nets-requires-2
-no-nets-requires-2 c κs = search needs
 
 returns-2 : tie.Need-returns-2
 returns-2 c =
@@ -46,4 +37,5 @@ returns-3 c =
 pub own-net-spec : {M : Type 1} → statement M
 own-net-spec =
     tie.close
-    (tie.spec pin-at-requires no-nets-requires returns no-nets-requires-2 returns-2 returns-3)
+    (tie.spec
+    (λ c κs. search needs) (λ c κs. search needs) returns (λ c κs. search needs) returns-2 returns-3)

@@ -18,9 +18,6 @@ returns c =
     let a = c .before .before .args in
     sym (ap (λ (ws : List (List ℕ)). pinOf (a .b) ws (spaceFrom (a .l .now) (a .at) + 1)) (fields-none (a .l .now) (a .at) (c .if1 .taken)))
 
-space-from-requires : tie.Need-space-from-requires
-space-from-requires c κs = search needs
-
 sub-pin-code : tie.Need-sub-pin-code
 sub-pin-code c = let a = c .before .before .before .args in omega (arith, c .space-from .ensures, space-from (a .l .now) (a .at))
 
@@ -29,9 +26,6 @@ part-pin-code-start c = let a = c .before .before .before .args in omega (arith,
 
 part-pin-code-end : tie.Need-part-pin-code-end
 part-pin-code-end c = let a = c .before .before .before .args in omega (arith, c .space-from .ensures, space-fits (a .l .now) (a .at) (c .before .if1 .left))
-
-pin-code-requires : tie.Need-pin-code-requires
-pin-code-requires c κs = search needs
 
 add-t11 : tie.Need-add-t11
 add-t11 c = let k = c .before .before in let a = k .before .before .before .args in omega (arith, k .space-from .ensures, space-fits (a .l .now) (a .at) (k .before .if1 .left))
@@ -50,11 +44,4 @@ pub pin-at-spec : {M : Type 1} → statement M
 pin-at-spec =
     tie.close
     (tie.spec
-    returns
-    space-from-requires
-    sub-pin-code
-    part-pin-code-start
-    part-pin-code-end
-    pin-code-requires
-    add-t11
-    returns-2)
+    returns (λ c κs. search needs) sub-pin-code part-pin-code-start part-pin-code-end (λ c κs. search needs) add-t11 returns-2)

@@ -9,29 +9,11 @@ use Rattle.netnames.proofs.pin_code.Tie as tie
 returns : tie.Need-returns
 returns c = sym (pin-short _ _ (c .if1 .taken))
 
-shared-slice-read-if2 : tie.Need-shared-slice-read-if2
-shared-slice-read-if2 c = search needs
-
 returns-2 : tie.Need-returns-2
 returns-2 c = sym (pin-letter _ _ (c .before .before .if1 .left) (c .if2 .taken))
 
-shared-slice-read-if3 : tie.Need-shared-slice-read-if3
-shared-slice-read-if3 c = search needs
-
 returns-3 : tie.Need-returns-3
 returns-3 c = sym (pin-sign _ _ (c .before .before .before .before .if1 .left) (c .if3 .taken))
-
-sub-net-code : tie.Need-sub-net-code
-sub-net-code c = search needs
-
-part-net-code-start : tie.Need-part-net-code-start
-part-net-code-start c = search needs
-
-part-net-code-end : tie.Need-part-net-code-end
-part-net-code-end c = search needs
-
-net-code-requires : tie.Need-net-code-requires
-net-code-requires c κs = search needs
 
 returns-4 : tie.Need-returns-4
 returns-4 c =
@@ -43,13 +25,5 @@ pub pin-code-spec : {M : Type 1} → statement M
 pin-code-spec =
     tie.close
     (tie.spec
-    returns
-    shared-slice-read-if2
-    returns-2
-    shared-slice-read-if3
-    returns-3
-    sub-net-code
-    part-net-code-start
-    part-net-code-end
-    net-code-requires
-    returns-4)
+    returns (λ c. search needs) returns-2 (λ c. search needs) returns-3 (λ c. search needs) (λ c. search needs) (λ c. search needs)
+    (λ c κs. search needs) returns-4)

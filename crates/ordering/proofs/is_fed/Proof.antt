@@ -7,15 +7,6 @@ use borrow.Author.Needs.{needs}
 use Rattle.ordering.proofs.is_fed.Statement.{statement}
 use Rattle.ordering.proofs.is_fed.Tie as tie
 
-mul-pin : tie.Need-mul-pin
-mul-pin c = search needs
-
-add-pin : tie.Need-add-pin
-add-pin c = search needs
-
-pin-requires : tie.Need-pin-requires
-pin-requires c κs = search needs
-
 returns : tie.Need-returns
 returns c =
     let p = c .before in
@@ -45,4 +36,5 @@ returns-3 c =
 pub is-fed-spec : {M : Type 1} → statement M
 is-fed-spec =
     tie.close
-    (tie.spec mul-pin add-pin pin-requires returns element-copy-out-if2 returns-2 returns-3)
+    (tie.spec
+    (λ c. search needs) (λ c. search needs) (λ c κs. search needs) returns element-copy-out-if2 returns-2 returns-3)

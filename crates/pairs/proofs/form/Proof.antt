@@ -29,9 +29,6 @@ mul-root c = omega (arith, c .before .before .before .before .pre .0 .few)
 array-copy-out-root : tie.Need-array-copy-out-root Inv-loop μ-loop
 array-copy-out-root c = omega (arith, c .before .before .before .before .pre .0 .few)
 
-cast-put-pins : tie.Need-cast-put-pins Inv-loop μ-loop
-cast-put-pins c = search needs
-
 put-pins-requires : tie.Need-put-pins-requires Inv-loop μ-loop
 unfolding cellsOf
 put-pins-requires c κs =
@@ -45,12 +42,6 @@ put-pins-requires c κs =
       room fits (l .inv .1) (pinCodes (cellsOf (s .args .lib)) (l .i) (below (getD (s .args .lib .cells) (l .i) noCell .pins)))
           (rootCodes (cellsOf (s .args .lib)) (from (l .i + 1) (s .args .lib .n - (l .i + 1)))) (roots-next (s .args .lib) (s .pre .0) (l .i) h),
     )
-
-add-i : tie.Need-add-i Inv-loop μ-loop
-add-i c = search needs
-
-loop-less : tie.Need-loop-less Inv-loop μ-loop
-loop-less c = omega arith
 
 loop-again : tie.Need-loop-again Inv-loop μ-loop
 unfolding cellsOf
@@ -83,15 +74,5 @@ pub form-spec : {M : Type 1} → statement M
 form-spec =
     tie.close
     (tie.spec
-    Inv-loop
-    μ-loop
-    loop-holds
-    mul-root
-    array-copy-out-root
-    cast-put-pins
-    put-pins-requires
-    add-i
-    loop-less
-    loop-again
-    same-length
-    returns)
+    Inv-loop μ-loop loop-holds mul-root array-copy-out-root (λ c. search needs) put-pins-requires (λ c. search needs) (λ c. omega arith) loop-again
+    same-length returns)

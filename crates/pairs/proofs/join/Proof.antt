@@ -6,18 +6,6 @@ use Rattle.pairs.proofs.Cells.{join-four, four-are}
 use Rattle.pairs.proofs.join.Statement.{statement}
 use Rattle.pairs.proofs.join.Tie as tie
 
-join-pin-requires : tie.Need-join-pin-requires
-join-pin-requires c κs = search needs
-
-join-pin-requires-2 : tie.Need-join-pin-requires-2
-join-pin-requires-2 c κs = search needs
-
-join-pin-requires-3 : tie.Need-join-pin-requires-3
-join-pin-requires-3 c κs = search needs
-
-join-pin-requires-4 : tie.Need-join-pin-requires-4
-join-pin-requires-4 c κs = search needs
-
 returns : tie.Need-returns
 returns c =
     let s = c .before .before .before .before in
@@ -28,4 +16,6 @@ returns c =
 
 pub join-spec : {M : Type 1} → statement M
 join-spec =
-    tie.close (tie.spec join-pin-requires join-pin-requires-2 join-pin-requires-3 join-pin-requires-4 returns)
+    tie.close
+    (tie.spec
+    (λ c κs. search needs) (λ c κs. search needs) (λ c κs. search needs) (λ c κs. search needs) returns)

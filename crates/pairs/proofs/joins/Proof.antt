@@ -8,11 +8,10 @@ use Rattle.pairs.proofs.joins.Tie as tie
 returns : tie.Need-returns
 returns c = joins-pinless _ _ (c .if1 .taken)
 
-add-result : tie.Need-add-result
-add-result c = search needs
-
 returns-2 : tie.Need-returns-2
 returns-2 c = joins-pinned _ _ (c .before .before .if1 .left)
 
 pub joins-spec : {M : Type 1} → statement M
-joins-spec = tie.close (tie.spec returns add-result returns-2)
+joins-spec = tie.close
+    (tie.spec
+    returns (λ c. search needs) returns-2)

@@ -7,15 +7,11 @@ use Rattle.pairs.proofs.Joining.{listed-is}
 use Rattle.pairs.proofs.listed.Statement.{statement}
 use Rattle.pairs.proofs.listed.Tie as tie
 
-mul-result : tie.Need-mul-result
-mul-result c = search needs
-
-array-copy-out-result : tie.Need-array-copy-out-result
-array-copy-out-result c = search needs
-
 returns : tie.Need-returns
 unfolding cellsOf
 returns c = let s = c .before .before in sym (listed-is (s .args .lib) (s .pre .0) (s .args .k) (s .pre .1))
 
 pub listed-spec : {M : Type 1} → statement M
-listed-spec = tie.close (tie.spec mul-result array-copy-out-result returns)
+listed-spec = tie.close
+    (tie.spec
+    (λ c. search needs) (λ c. search needs) returns)

@@ -13,25 +13,10 @@ use Rattle.pairs.proofs.Joining.{code-one, code-none}
 use Rattle.pairs.proofs.put_code.Statement.{statement}
 use Rattle.pairs.proofs.put_code.Tie as tie
 
-joins-requires : tie.Need-joins-requires
-joins-requires c κs = search needs
-
-cast-codes : tie.Need-cast-codes
-cast-codes c = search needs
-
-mul-codes : tie.Need-mul-codes
-mul-codes c = search needs
-
 slice-write-codes : tie.Need-slice-write-codes
 slice-write-codes c =
     let s = c .before .before .before in
     omega (arith, s .pre .3, ap length (code-one (s .args .root) (s .args .inner) (s .args .k) (sym (c .if1 .taken) ∙ c .before .joins .ensures)))
-
-add-result : tie.Need-add-result
-add-result c = search needs
-
-same-length : tie.Need-same-length
-same-length c = search needs
 
 returns : tie.Need-returns
 returns c =
@@ -52,11 +37,4 @@ pub put-code-spec : {M : Type 1} → statement M
 put-code-spec =
     tie.close
     (tie.spec
-    joins-requires
-    cast-codes
-    mul-codes
-    slice-write-codes
-    add-result
-    same-length
-    returns
-    returns-2)
+    (λ c κs. search needs) (λ c. search needs) (λ c. search needs) slice-write-codes (λ c. search needs) (λ c. search needs) returns returns-2)

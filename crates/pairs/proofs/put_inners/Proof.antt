@@ -64,12 +64,6 @@ put-code-requires c κs =
           (inner-next (s .args .lib) (s .pre .0) (s .args .i) (s .args .p) (l .j) (s .pre .1) h),
     )
 
-add-j : tie.Need-add-j Inv-loop μ-loop
-add-j c = search needs
-
-loop-less : tie.Need-loop-less Inv-loop μ-loop
-loop-less c = omega arith
-
 loop-again : tie.Need-loop-again Inv-loop μ-loop
 unfolding cellsOf
 loop-again c =
@@ -98,20 +92,5 @@ pub put-inners-spec : {M : Type 1} → statement M
 put-inners-spec =
     tie.close
     (tie.spec
-    Inv-loop
-    μ-loop
-    mul-root
-    array-copy-out-root
-    loop-holds
-    mul-inner
-    array-copy-out-inner
-    mul-put-code
-    mul-put-code-2
-    add-put-code
-    add-put-code-2
-    put-code-requires
-    add-j
-    loop-less
-    loop-again
-    same-length
-    returns)
+    Inv-loop μ-loop mul-root array-copy-out-root loop-holds mul-inner array-copy-out-inner mul-put-code mul-put-code-2 add-put-code add-put-code-2
+    put-code-requires (λ c. search needs) (λ c. omega arith) loop-again same-length returns)

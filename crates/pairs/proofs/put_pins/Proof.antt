@@ -39,12 +39,6 @@ put-inners-requires c κs =
           (each-next (λ (q : ℕ). innerCodes (cellsOf (a .lib)) (a .i) q (below (length (cellsOf (a .lib))))) (l .p) (a .pins) h),
     )
 
-add-p : tie.Need-add-p Inv-loop μ-loop
-add-p c = search needs
-
-loop-less : tie.Need-loop-less Inv-loop μ-loop
-loop-less c = omega arith
-
 loop-again : tie.Need-loop-again Inv-loop μ-loop
 unfolding pinCodes
 loop-again c =
@@ -73,12 +67,4 @@ pub put-pins-spec : {M : Type 1} → statement M
 put-pins-spec =
     tie.close
     (tie.spec
-    Inv-loop
-    μ-loop
-    loop-holds
-    put-inners-requires
-    add-p
-    loop-less
-    loop-again
-    same-length
-    returns)
+    Inv-loop μ-loop loop-holds put-inners-requires (λ c. search needs) (λ c. omega arith) loop-again same-length returns)

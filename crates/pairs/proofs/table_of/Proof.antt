@@ -9,22 +9,10 @@ use Rattle.pairs.proofs.Cells.{number-listed, number-pairs, number-pair
 use Rattle.pairs.proofs.table_of.Statement.{statement}
 use Rattle.pairs.proofs.table_of.Tie as tie
 
-listed-requires : tie.Need-listed-requires
-listed-requires c κs = search needs
-
 returns : tie.Need-returns
 returns c =
     let s = c .before .before .before in
     ap (λ (x : Cell). x .table) (c .listed .ensures ∙ number-listed (s .args .lib) (s .args .codes .now) (s .pre .0) (s .args .k) (c .before .if1 .taken))
-
-mul-wide : tie.Need-mul-wide
-mul-wide c = search needs
-
-shared-slice-read-wide : tie.Need-shared-slice-read-wide
-shared-slice-read-wide c = search needs
-
-wide-requires : tie.Need-wide-requires
-wide-requires c κs = search needs
 
 listed-requires-2 : tie.Need-listed-requires-2
 listed-requires-2 c κs =
@@ -59,12 +47,5 @@ pub table-of-spec : {M : Type 1} → statement M
 table-of-spec =
     tie.close
     (tie.spec
-    listed-requires
-    returns
-    mul-wide
-    shared-slice-read-wide
-    wide-requires
-    listed-requires-2
-    listed-requires-3
-    pair-table-requires
-    returns-2)
+    (λ c κs. search needs) returns (λ c. search needs) (λ c. search needs) (λ c κs. search needs) listed-requires-2 listed-requires-3
+    pair-table-requires returns-2)

@@ -22,9 +22,6 @@ abbrev μ-loop : tie.MeasureT-loop
 loop-holds : tie.Need-loop-holds Inv-loop μ-loop
 loop-holds c = (omega arith, ready-is-seek _ _ _, c .before .pre .2, λ o h. refl)
 
-ready-requires : tie.Need-ready-requires Inv-loop μ-loop
-ready-requires c κs = search needs
-
 returns : tie.Need-returns Inv-loop μ-loop
 returns c =
     let at-loop = c .before .before .before in
@@ -37,12 +34,6 @@ list-requires c κs =
     let at-loop = c .before .before .before .before .before in
     let start = at-loop .before .before in
     (start .pre .0, start .pre .1, omega arith, at-loop .loop .inv .2)
-
-add-u : tie.Need-add-u Inv-loop μ-loop
-add-u c = search needs
-
-loop-less : tie.Need-loop-less Inv-loop μ-loop
-loop-less c = search needs
 
 loop-again : tie.Need-loop-again Inv-loop μ-loop
 loop-again c =
@@ -66,13 +57,4 @@ pub first-ready-spec : {M : Type 1} → statement M
 first-ready-spec =
     tie.close
     (tie.spec
-    Inv-loop
-    μ-loop
-    loop-holds
-    ready-requires
-    returns
-    list-requires
-    add-u
-    loop-less
-    loop-again
-    returns-2)
+    Inv-loop μ-loop loop-holds (λ c κs. search needs) returns list-requires (λ c. search needs) (λ c. search needs) loop-again returns-2)

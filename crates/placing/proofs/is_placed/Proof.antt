@@ -5,12 +5,11 @@ use borrow.Author.Needs.{needs}
 use Rattle.placing.proofs.is_placed.Statement.{statement}
 use Rattle.placing.proofs.is_placed.Tie as tie
 
-place-requires : tie.Need-place-requires
-place-requires c κs = search needs
-
 returns : tie.Need-returns
 unfolding isPlaced
 returns c = rw (c .place .ensures)
 
 pub is-placed-spec : {M : Type 1} → statement M
-is-placed-spec = tie.close (tie.spec place-requires returns)
+is-placed-spec = tie.close
+    (tie.spec
+    (λ c κs. search needs) returns)

@@ -6,30 +6,12 @@ use Rattle.placing.proofs.Uses.{passed-other, left-in, right-in, listed
 use Rattle.placing.proofs.list.Statement.{statement}
 use Rattle.placing.proofs.list.Tie as tie
 
-kind-requires : tie.Need-kind-requires
-kind-requires c κs = search needs
-
-left-requires : tie.Need-left-requires
-left-requires c κs = search needs
-
-mul-link : tie.Need-mul-link
-mul-link c = search needs
-
 link-requires : tie.Need-link-requires
 link-requires c κs =
     let at-if1 = c .before .before .before in
     let at-kind = at-if1 .before in
     let start = at-kind .before .before in
     left-in _ _ _ _ _ (start .pre .0) (start .pre .1) (start .pre .2) (start .pre .3) (sym (at-kind .kind .ensures) ∙ at-if1 .if1 .taken) _ _ (c .left .ensures) refl
-
-right-requires : tie.Need-right-requires
-right-requires c κs = search needs
-
-mul-link-2 : tie.Need-mul-link-2
-mul-link-2 c = search needs
-
-add-link : tie.Need-add-link
-add-link c = search needs
 
 link-requires-2 : tie.Need-link-requires-2
 link-requires-2 c κs =
@@ -57,13 +39,5 @@ pub list-spec : {M : Type 1} → statement M
 list-spec =
     tie.close
     (tie.spec
-    kind-requires
-    left-requires
-    mul-link
-    link-requires
-    right-requires
-    mul-link-2
-    add-link
-    link-requires-2
-    returns
-    returns-2)
+    (λ c κs. search needs) (λ c κs. search needs) (λ c. search needs) link-requires (λ c κs. search needs) (λ c. search needs) (λ c. search needs)
+    link-requires-2 returns returns-2)

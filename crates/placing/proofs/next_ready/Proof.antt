@@ -6,16 +6,10 @@ use Rattle.placing.proofs.Uses.{next-marked, next-passed}
 use Rattle.placing.proofs.next_ready.Statement.{statement}
 use Rattle.placing.proofs.next_ready.Tie as tie
 
-lowest-requires : tie.Need-lowest-requires
-lowest-requires c κs = search needs
-
 returns : tie.Need-returns
 returns c =
     let start = c .before .before .before in
     rw (c .before .lowest .ensures) (next-marked _ _ _ _ _ _ (start .pre .0) (start .pre .2) (start .pre .3) (omega (arith, c .before .lowest .ensures, c .if1 .taken)))
-
-first-ready-requires : tie.Need-first-ready-requires
-first-ready-requires c κs = search needs
 
 returns-2 : tie.Need-returns-2
 returns-2 c =
@@ -25,4 +19,6 @@ returns-2 c =
     next-passed _ _ _ _ _ _ (start .pre .0) (start .pre .2) (start .pre .3) _ _ _ (f .0) (f .1 .0) (f .1 .1) (omega (arith, at-if1 .before .lowest .ensures, at-if1 .if1 .left))
 
 pub next-ready-spec : {M : Type 1} → statement M
-next-ready-spec = tie.close (tie.spec lowest-requires returns first-ready-requires returns-2)
+next-ready-spec = tie.close
+    (tie.spec
+    (λ c κs. search needs) returns (λ c κs. search needs) returns-2)

@@ -17,9 +17,6 @@ abbrev μ-loop : tie.MeasureT-loop
 placed-requires : tie.Need-placed-requires Inv-loop μ-loop
 placed-requires c κs = omega (arith, c .before .pre .0 .lines, c .before .pre .0 .room .small)
 
-add-slot : tie.Need-add-slot Inv-loop μ-loop
-add-slot c = search needs
-
 loop-holds : tie.Need-loop-holds Inv-loop μ-loop
 loop-holds c =
     let start = c .before .before .before in
@@ -30,9 +27,6 @@ next-ready-requires c κs =
     let at-loop = c .before .before .before .before .before in
     let start = at-loop .before .before .before .before in
     let i = at-loop .loop .inv in (fit-room _ _ (fit-length (start .args .h) (start .args .work .now) _ (start .pre .0) (i .long)), i .operands, i .passed, i .ready)
-
-same-length : tie.Need-same-length Inv-loop μ-loop
-same-length c = search needs
 
 returns : tie.Need-returns Inv-loop μ-loop
 returns c =
@@ -74,12 +68,6 @@ wake-users-requires c κs =
       to-wake (start .args .h) (start .args .work .now) (start .pre .0) _ _ _ _ _ _ (at-loop .loop .inv) _ _ _ (at-next .next-ready .ensures) (omega (arith, at-test .loop-test .taken, at-loop .before .before .placed .ensures)) (at-if1 .if1 .left) _ (at-place-at .place-at .ensures) _ (at-take .take .ensures .1),
     )
 
-add-slot-2 : tie.Need-add-slot-2 Inv-loop μ-loop
-add-slot-2 c = search needs
-
-loop-less : tie.Need-loop-less Inv-loop μ-loop
-loop-less c = search needs
-
 loop-again : tie.Need-loop-again Inv-loop μ-loop
 loop-again c =
     let at-place-at = c .before .before .before .before .before .before .before in
@@ -91,9 +79,6 @@ loop-again c =
     let start = at-loop .before .before .before .before in
     filled-on (start .args .h) (start .args .work .now) (start .pre .0) _ _ _ _ _ _ (at-loop .loop .inv) _ _ _ (at-next .next-ready .ensures) (omega (arith, at-test .loop-test .taken, at-loop .before .before .placed .ensures)) (at-if1 .if1 .left) _ (at-place-at .place-at .ensures) _ (at-take .take .ensures .0) _ (c .wake-users .ensures)
 
-same-length-2 : tie.Need-same-length-2 Inv-loop μ-loop
-same-length-2 c = search needs
-
 returns-2 : tie.Need-returns-2 Inv-loop μ-loop
 returns-2 c = filled-end _ _ _ _ _ _ _ _ (c .before .loop .inv) (omega (arith, c .loop-test .left, c .before .before .before .placed .ensures))
 
@@ -101,19 +86,5 @@ pub place-ands-spec : {M : Type 1} → statement M
 place-ands-spec =
     tie.close
     (tie.spec
-    Inv-loop
-    μ-loop
-    placed-requires
-    add-slot
-    loop-holds
-    next-ready-requires
-    same-length
-    returns
-    take-requires
-    place-at-requires
-    wake-users-requires
-    add-slot-2
-    loop-less
-    loop-again
-    same-length-2
-    returns-2)
+    Inv-loop μ-loop placed-requires (λ c. search needs) loop-holds next-ready-requires (λ c. search needs) returns take-requires place-at-requires
+    wake-users-requires (λ c. search needs) (λ c. search needs) loop-again (λ c. search needs) returns-2)

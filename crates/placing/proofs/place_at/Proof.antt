@@ -10,18 +10,6 @@ use borrow.Author.Needs.{needs}
 use Rattle.placing.proofs.place_at.Statement.{statement}
 use Rattle.placing.proofs.place_at.Tie as tie
 
-set-slot-requires : tie.Need-set-slot-requires
-set-slot-requires c κs = search needs
-
-add-set-place : tie.Need-add-set-place
-add-set-place c = search needs
-
-set-place-requires : tie.Need-set-place-requires
-set-place-requires c κs = search needs
-
-same-length : tie.Need-same-length
-same-length c = search needs
-
 returns : tie.Need-returns
 unfolding putPlaced
 returns c =
@@ -32,4 +20,6 @@ returns c =
 
 pub place-at-spec : {M : Type 1} → statement M
 place-at-spec =
-    tie.close (tie.spec set-slot-requires add-set-place set-place-requires same-length returns)
+    tie.close
+    (tie.spec
+    (λ c κs. search needs) (λ c. search needs) (λ c κs. search needs) (λ c. search needs) returns)

@@ -9,15 +9,9 @@ use borrow.Author.Needs.{needs}
 use Rattle.placing.proofs.ready.Statement.{statement}
 use Rattle.placing.proofs.ready.Tie as tie
 
-waits-requires : tie.Need-waits-requires
-waits-requires c κs = search needs
-
 returns : tie.Need-returns
 unfolding isReady
 returns c = rw (sym (c .before .waits .ensures) ∙ not-true _ (c .if1 .taken))
-
-left-requires : tie.Need-left-requires
-left-requires c κs = search needs
 
 is-placed-requires : tie.Need-is-placed-requires
 is-placed-requires c κs =
@@ -33,9 +27,6 @@ returns-2 c =
     let at-waits = at-if1 .before in
     let start = at-waits .before .before in
     rw (sym (at-waits .waits .ensures) ∙ not-false _ (at-if1 .if1 .left), ap (isPlaced (start .args .work .now) (start .args .m)) (sym (at-left .left .ensures)) ∙ sym (c .before .is-placed .ensures) ∙ not-true _ (c .if2 .taken))
-
-right-requires : tie.Need-right-requires
-right-requires c κs = search needs
 
 is-placed-requires-2 : tie.Need-is-placed-requires-2
 is-placed-requires-2 c κs =
@@ -59,11 +50,4 @@ pub ready-spec : {M : Type 1} → statement M
 ready-spec =
     tie.close
     (tie.spec
-    waits-requires
-    returns
-    left-requires
-    is-placed-requires
-    returns-2
-    right-requires
-    is-placed-requires-2
-    returns-3)
+    (λ c κs. search needs) returns (λ c κs. search needs) is-placed-requires returns-2 (λ c κs. search needs) is-placed-requires-2 returns-3)

@@ -6,18 +6,12 @@ use Rattle.placing.specs.Uses.{passedTo, takenFrom}
 use Rattle.placing.proofs.take.Statement.{statement}
 use Rattle.placing.proofs.take.Tie as tie
 
-remove-requires : tie.Need-remove-requires
-remove-requires c κs = search needs
-
 returns : tie.Need-returns
 unfolding passedTo takenFrom
 returns c =
     let start = c .before .before .before in
     let l = lt-ltb (start .args .v) (start .args .scan) (c .before .before .if1 .taken) in
     (rw l, rw l (c .remove .ensures))
-
-add-result : tie.Need-add-result
-add-result c = search needs
 
 returns-2 : tie.Need-returns-2
 unfolding passedTo takenFrom
@@ -26,4 +20,6 @@ returns-2 c =
     (rw l, rw l)
 
 pub take-spec : {M : Type 1} → statement M
-take-spec = tie.close (tie.spec remove-requires returns add-result returns-2)
+take-spec = tie.close
+    (tie.spec
+    (λ c κs. search needs) returns (λ c. search needs) returns-2)

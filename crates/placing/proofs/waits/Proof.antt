@@ -8,19 +8,15 @@ use borrow.Author.Needs.{needs}
 use Rattle.placing.proofs.waits.Statement.{statement}
 use Rattle.placing.proofs.waits.Tie as tie
 
-kind-requires : tie.Need-kind-requires
-kind-requires c κs = search needs
-
 returns : tie.Need-returns
 unfolding isWaiting
 returns c = rw (sym (c .before .kind .ensures), ne-eqb _ andKind (c .if1 .taken))
-
-place-requires : tie.Need-place-requires
-place-requires c κs = search needs
 
 returns-2 : tie.Need-returns-2
 unfolding isWaiting
 returns-2 c = rw (sym (c .before .before .kind .ensures), eq-eqb _ andKind (c .before .if1 .left), c .place .ensures)
 
 pub waits-spec : {M : Type 1} → statement M
-waits-spec = tie.close (tie.spec kind-requires returns place-requires returns-2)
+waits-spec = tie.close
+    (tie.spec
+    (λ c κs. search needs) returns (λ c κs. search needs) returns-2)

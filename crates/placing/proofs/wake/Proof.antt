@@ -5,12 +5,6 @@ use borrow.Author.Needs.{needs}
 use Rattle.placing.proofs.wake.Statement.{statement}
 use Rattle.placing.proofs.wake.Tie as tie
 
-ready-requires : tie.Need-ready-requires
-ready-requires c κs = search needs
-
-add-requires : tie.Need-add-requires
-add-requires c κs = search needs
-
 returns : tie.Need-returns
 returns c = rw (sym (c .before .before .before .ready .ensures), c .before .before .if1 .taken) (c .add .ensures)
 
@@ -18,4 +12,6 @@ returns-2 : tie.Need-returns-2
 returns-2 c = rw (sym (c .before .ready .ensures), c .if1 .left)
 
 pub wake-spec : {M : Type 1} → statement M
-wake-spec = tie.close (tie.spec ready-requires add-requires returns returns-2)
+wake-spec = tie.close
+    (tie.spec
+    (λ c κs. search needs) (λ c κs. search needs) returns returns-2)

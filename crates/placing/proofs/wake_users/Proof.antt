@@ -21,9 +21,6 @@ mul-wide c = omega (arith, c .before .pre .0 .small, c .before .pre .2)
 element-copy-out-wide : tie.Need-element-copy-out-wide Inv-loop μ-loop
 element-copy-out-wide c = omega (arith, c .before .pre .0 .small, c .before .pre .2)
 
-wide-requires : tie.Need-wide-requires Inv-loop μ-loop
-wide-requires c κs = search needs
-
 loop-holds : tie.Need-loop-holds Inv-loop μ-loop
 loop-holds c =
     let start = c .before .before .before in
@@ -46,9 +43,6 @@ element-copy-out-wide-2 : tie.Need-element-copy-out-wide-2 Inv-loop μ-loop
 element-copy-out-wide-2 c =
     let at-test = c .before .before in
     at-test .before .loop .inv .0 (omega (arith, at-test .loop-test .taken)) .0 .small
-
-wide-requires-2 : tie.Need-wide-requires-2 Inv-loop μ-loop
-wide-requires-2 c κs = search needs
 
 loop-less : tie.Need-loop-less Inv-loop μ-loop
 loop-less c =
@@ -77,16 +71,5 @@ pub wake-users-spec : {M : Type 1} → statement M
 wake-users-spec =
     tie.close
     (tie.spec
-    Inv-loop
-    μ-loop
-    mul-wide
-    element-copy-out-wide
-    wide-requires
-    loop-holds
-    wake-requires
-    mul-wide-2
-    element-copy-out-wide-2
-    wide-requires-2
-    loop-less
-    loop-again
-    returns)
+    Inv-loop μ-loop mul-wide element-copy-out-wide (λ c κs. search needs) loop-holds wake-requires mul-wide-2 element-copy-out-wide-2
+    (λ c κs. search needs) loop-less loop-again returns)

@@ -1,6 +1,6 @@
 -- `reporting::put_cell` meets its contract: the cell by its place in the array.
 -- Assumes nothing.
-use mathlib.Core.Path.{_≡_, sym, subst}
+use mathlib.Core.Path.{sym, subst}
 use mathlib.Core.List.{List}
 use Prim.Native.Nat.{ℕ, _+_, _≤_}
 use lib.ListN.{length}
@@ -10,38 +10,11 @@ use borrow.Author.Needs.{needs}
 use Rattle.reporting.proofs.put_cell.Statement.{statement}
 use Rattle.reporting.proofs.put_cell.Tie as tie
 
-mul-cell : tie.Need-mul-cell
-mul-cell c = search needs
-
-element-copy-out-cell : tie.Need-element-copy-out-cell
-element-copy-out-cell c = search needs
-
-mul-put-named : tie.Need-mul-put-named
-mul-put-named c = search needs
-
-element-copy-out-put-named : tie.Need-element-copy-out-put-named
-element-copy-out-put-named c = search needs
-
-mul-put-named-2 : tie.Need-mul-put-named-2
-mul-put-named-2 c = search needs
-
-element-copy-out-put-named-2 : tie.Need-element-copy-out-put-named-2
-element-copy-out-put-named-2 c = search needs
-
-mul-put-named-3 : tie.Need-mul-put-named-3
-mul-put-named-3 c = search needs
-
-element-copy-out-put-named-3 : tie.Need-element-copy-out-put-named-3
-element-copy-out-put-named-3 c = search needs
-
 put-named-requires : tie.Need-put-named-requires
 put-named-requires c κs =
     let s = c .before .before .before .before .before .before .before in
     let a = s .args in
     subst (λ (x : List ℕ). a .at + length x ≤ length (a .out .now)) (cell-is (a .t3) (s .pre .1) (a .t4) (a .i) (s .pre .0)) (s .pre .2)
-
-same-length : tie.Need-same-length
-same-length c = search needs
 
 returns : tie.Need-returns
 returns c =
@@ -53,14 +26,5 @@ pub put-cell-spec : {M : Type 1} → statement M
 put-cell-spec =
     tie.close
     (tie.spec
-    mul-cell
-    element-copy-out-cell
-    mul-put-named
-    element-copy-out-put-named
-    mul-put-named-2
-    element-copy-out-put-named-2
-    mul-put-named-3
-    element-copy-out-put-named-3
-    put-named-requires
-    same-length
-    returns)
+    (λ c. search needs) (λ c. search needs) (λ c. search needs) (λ c. search needs) (λ c. search needs) (λ c. search needs) (λ c. search needs)
+    (λ c. search needs) put-named-requires (λ c. search needs) returns)

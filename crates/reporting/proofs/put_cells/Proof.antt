@@ -1,8 +1,7 @@
 -- `reporting::put_cells` meets its contract. The invariant: the lines before this cell's are written; the measure is the cells left.
 -- Assumes nothing.
 use native.Mathlib.Omega.{arith}
-use mathlib.Core.Path.{_≡_, sym, subst}
-use Prim.Native.Nat.{ℕ, _+_, _-_, _≤_, _<_}
+use Prim.Native.Nat.{_+_, _-_, _≤_, _<_}
 use lib.ListN.{length}
 use Rattle.text.proofs.Progress.{Partly, begin, step, room, kept, end}
 use Rattle.model.specs.Cells.{cellsOf}
@@ -30,12 +29,6 @@ put-cell-requires c κs =
     let h : l .i < a .lib .n = omega arith in
     (h, st .pre .0, room f (l .inv .1) (cellLine (cellsOf (a .lib)) (a .t) (l .i)) (cellLines (a .lib) (a .t) (l .i + 1) (a .lib .n - (l .i + 1))) (cells-step (a .lib) (a .t) (l .i) (a .lib .n) h))
 
-add-i : tie.Need-add-i Inv-loop μ-loop
-add-i c = omega arith
-
-loop-less : tie.Need-loop-less Inv-loop μ-loop
-loop-less c = omega arith
-
 loop-again : tie.Need-loop-again Inv-loop μ-loop
 loop-again c =
     let st = c .before .before .before .before .before .before .before in
@@ -62,12 +55,4 @@ pub put-cells-spec : {M : Type 1} → statement M
 put-cells-spec =
     tie.close
     (tie.spec
-    Inv-loop
-    μ-loop
-    loop-holds
-    put-cell-requires
-    add-i
-    loop-less
-    loop-again
-    same-length
-    returns)
+    Inv-loop μ-loop loop-holds put-cell-requires (λ c. omega arith) (λ c. omega arith) loop-again same-length returns)

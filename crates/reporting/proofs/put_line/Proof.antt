@@ -1,6 +1,6 @@
 -- `reporting::put_line` meets its contract: the name, three figures, and the line's end. Assumes nothing.
-use mathlib.Core.Path.{refl, sym}
-use mathlib.Core.List.{List, _∷_, [], _++_, append-nil}
+use mathlib.Core.Path.{refl}
+use mathlib.Core.List.{List, _∷_, [], _++_}
 use Prim.Native.Nat.{ℕ}
 use native.Mathlib.Omega.{arith}
 use Rattle.model.specs.Tally.{reportLine}
@@ -73,9 +73,6 @@ put-figure-requires-3 c κs = let p = c .before .before .before in let s = start
 put-byte-requires : tie.Need-put-byte-requires
 put-byte-requires c κs = let p = c .before .before .before in omega (arith, room (start4 p .pre) (netlists p) (10 ∷ []) [] refl)
 
-same-length : tie.Need-same-length
-same-length c = search needs
-
 returns : tie.Need-returns
 returns c =
     let p = c .before .before .before .before .before .before in
@@ -85,10 +82,4 @@ pub put-line-spec : {M : Type 1} → statement M
 put-line-spec =
     tie.close
     (tie.spec
-    put-bytes-requires
-    put-figure-requires
-    put-figure-requires-2
-    put-figure-requires-3
-    put-byte-requires
-    same-length
-    returns)
+    put-bytes-requires put-figure-requires put-figure-requires-2 put-figure-requires-3 put-byte-requires (λ c. search needs) returns)

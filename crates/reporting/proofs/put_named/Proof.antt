@@ -33,9 +33,6 @@ put-line-requires c κs =
     ⊎-elim (λ y. let z : n ≡ a .len = omega arith in ap (λ (k : ℕ). take k (a .t3)) z) (λ y. take-all n (a .t3) (omega arith) ∙ sym (take-all (a .len) (a .t3) (omega arith))) (c .before .before .if1 .came) in
     subst (λ (x : List ℕ). a .at + length (reportLine x (a .gates) (a .area) (a .netlists)) ≤ length (a .out .now)) (sym e) (s .pre)
 
-same-length : tie.Need-same-length
-same-length c = search needs
-
 returns : tie.Need-returns
 returns c =
     let a = c .before .before .before .before .before .before .before .args in
@@ -49,8 +46,4 @@ pub put-named-spec : {M : Type 1} → statement M
 put-named-spec =
     tie.close
     (tie.spec
-    array-share-prefix-name
-    slice-aggregate-put-line
-    put-line-requires
-    same-length
-    returns)
+    array-share-prefix-name slice-aggregate-put-line put-line-requires (λ c. search needs) returns)

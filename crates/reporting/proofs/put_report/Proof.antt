@@ -1,10 +1,10 @@
 -- `reporting::put_report` meets its contract: the cells' lines, and the total.
 -- Assumes nothing.
 use native.Mathlib.Omega.{arith}
-use mathlib.Core.Path.{_≡_, refl, sym, ap}
-use mathlib.Core.List.{List, [], _++_, append-nil}
-use Prim.Native.Nat.{ℕ, _+_, _≤_}
-use lib.ListN.{length, length-append}
+use mathlib.Core.Path.{refl, sym}
+use mathlib.Core.List.{[], _++_, append-nil}
+use Prim.Native.Nat.{_+_, _≤_}
+use lib.ListN.{length}
 use Rattle.model.specs.Cells.{cellsOf}
 use Rattle.model.specs.Tally.{totalLine, reportText}
 use Rattle.text.proofs.Progress.{Partly, begin, step, room, finish}
@@ -41,13 +41,12 @@ put-total-requires c κs =
     let s = start p in
     (s .pre .0, s .pre .1, room (fits s) (cells p) (totalLine (cellsOf (s .args .lib)) (s .args .t)) [] (sym (append-nil (totalLine (cellsOf (s .args .lib)) (s .args .t)))))
 
-same-length : tie.Need-same-length
-same-length c = search needs
-
 returns : tie.Need-returns
 returns c =
     let p = c .before .before .before .before .before .before in
     finish (fits (start p)) (cells p) (c .before .before .put-total .ensures)
 
 pub put-report-spec : {M : Type 1} → statement M
-put-report-spec = tie.close (tie.spec put-cells-requires put-total-requires same-length returns)
+put-report-spec = tie.close
+    (tie.spec
+    put-cells-requires put-total-requires (λ c. search needs) returns)

@@ -1,6 +1,6 @@
 -- `reporting::put_total` meets its contract: the sums over the listed cells.
 -- Assumes nothing.
-use mathlib.Core.Path.{_≡_, sym, subst}
+use mathlib.Core.Path.{sym, subst}
 use mathlib.Core.List.{List}
 use Prim.Native.Nat.{ℕ, _+_, _≤_}
 use lib.ListN.{length}
@@ -10,23 +10,11 @@ use borrow.Author.Needs.{needs}
 use Rattle.reporting.proofs.put_total.Statement.{statement}
 use Rattle.reporting.proofs.put_total.Tie as tie
 
-sum-of-requires : tie.Need-sum-of-requires
-sum-of-requires c κs = search needs
-
-sum-of-requires-2 : tie.Need-sum-of-requires-2
-sum-of-requires-2 c κs = search needs
-
-slice-aggregate-put-line : tie.Need-slice-aggregate-put-line
-slice-aggregate-put-line c = search needs
-
 put-line-requires : tie.Need-put-line-requires
 put-line-requires c κs =
     let s = c .before .before .before .before .before .before .before in
     let a = s .args in
     subst (λ (x : List ℕ). a .at + length x ≤ length (a .out .now)) (total-is (a .lib) (s .pre .0) (a .t) (c .before .before .before .sum-of .result) (c .before .before .sum-of2 .result) (c .before .before .before .sum-of .ensures) (c .before .before .sum-of2 .ensures)) (s .pre .2)
-
-same-length : tie.Need-same-length
-same-length c = search needs
 
 returns : tie.Need-returns
 returns c =
@@ -39,9 +27,4 @@ pub put-total-spec : {M : Type 1} → statement M
 put-total-spec =
     tie.close
     (tie.spec
-    sum-of-requires
-    sum-of-requires-2
-    slice-aggregate-put-line
-    put-line-requires
-    same-length
-    returns)
+    (λ c κs. search needs) (λ c κs. search needs) (λ c. search needs) put-line-requires (λ c. search needs) returns)

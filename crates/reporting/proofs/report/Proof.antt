@@ -2,17 +2,18 @@
 -- Assumes nothing.
 use native.Mathlib.Omega.{arith}
 use mathlib.Core.Path.{_≡_, sym, ap, subst, _∙_}
-use mathlib.Core.Bool.{true, false}
 use mathlib.Core.List.{List}
 use Prim.Native.Nat.{ℕ, _≤_}
 use lib.ListN.{length}
 use Rattle.model.specs.Reading.{Read}
-use Rattle.model.specs.Cells.{cellsOf, libraryOf}
+use Rattle.model.specs.Cells.{cellsOf}
 use Rattle.model.specs.LibraryText.{readLibrary}
-use Rattle.model.specs.Genlib.{writtenAnswer, writtenAfter}
+use Rattle.model.specs.Genlib.{writtenAnswer, writtenPair, writtenBy, writtenAfter}
 use Rattle.model.specs.Tally.{reportText, reportOf}
 use Rattle.model.specs.declared.Cell.{Cell}
 use Rattle.model.specs.declared.Library.{Library}
+use Rattle.model.specs.declared.Written.{Written}
+use Rattle.model.proofs.Answers.{written-ruled}
 use Rattle.lines.specs.Kinds.{Listed}
 use Rattle.counting.proofs.Answers.{accepted, turned-back, cells-back, listed}
 use Rattle.reporting.specs.Pages.{fitting}
@@ -21,19 +22,17 @@ use borrow.Author.Needs.{needs}
 use Rattle.reporting.proofs.report.Statement.{statement}
 use Rattle.reporting.proofs.report.Tie as tie
 
+-- the number and value that the answer stands for
+ruled : (w : Written) (q : Read (List ℕ)) {B : Type 0} → (w ≡ writtenAnswer q) × B → (w ≡ writtenAnswer q) × (B × (writtenPair w ≡ writtenBy q))
+ruled w q p = (p .0, (p .1, written-ruled w q (p .0)))
+
 returns : tie.Need-returns
 returns c =
     let a = c .before .before .before .args in
-    refuses (reportOf (a .t) (a .cells .now) (length (a .text .now))) 1 0 (a .text .now) (report-long (a .t) (a .cells .now) (length (a .text .now)) (omega arith))
-
-read-requires : tie.Need-read-requires
-read-requires c κs = search needs
+    ruled _ (reportOf (a .t) (a .cells .now) (length (a .text .now))) (refuses (reportOf (a .t) (a .cells .now) (length (a .text .now))) 1 0 (a .text .now) (report-long (a .t) (a .cells .now) (length (a .text .now)) (omega arith)))
 
 enum-told : tie.Need-enum-told
 enum-told c = search needs
-
-in-width-requires : tie.Need-in-width-requires
-in-width-requires c κs = search needs
 
 report-in-requires : tie.Need-report-in-requires
 report-in-requires c κs =
@@ -47,12 +46,6 @@ report-in-requires c κs =
       subst (λ (l : Library). length (reportText (cellsOf l) (a .t)) ≤ 2048) (sym (o .isLibrary)) (page-enough (a .cells .now) (o .cells) (o .isRead) (a .t) (w .ensures .1 t) (sym (w .ensures .0) ∙ t)),
     )
 
-enum-known-verdict : tie.Need-enum-known-verdict
-enum-known-verdict c = search needs
-
-same-length : tie.Need-same-length
-same-length c = search needs
-
 returns-2 : tie.Need-returns-2
 returns-2 c =
     let a = c .before .before .before .before .before .before .before .before .before .before .before .before .before .args in
@@ -65,7 +58,7 @@ returns-2 c =
     ap (λ (l : Library). fitting (reportText (cellsOf l) (a .t)) n) (o .isLibrary)
     ∙ ap (λ (cs : List Cell). fitting (reportText cs (a .t)) n) (cells-back (o .cells))
     ∙ sym (report-read (a .t) (a .cells .now) n (omega arith) (o .cells) (o .isRead) (sym (w .ensures .0) ∙ t)) in
-    (c .before .before .report-in .ensures .0 ∙ ap writtenAnswer e, c .before .before .report-in .ensures .1 ∙ ap (λ (x : Read (List ℕ)). writtenAfter x (a .text .now)) e)
+    ruled _ (reportOf (a .t) (a .cells .now) (length (a .text .now))) (c .before .before .report-in .ensures .0 ∙ ap writtenAnswer e, c .before .before .report-in .ensures .1 ∙ ap (λ (x : Read (List ℕ)). writtenAfter x (a .text .now)) e)
 
 returns-3 : tie.Need-returns-3
 returns-3 c =
@@ -73,25 +66,17 @@ returns-3 c =
     let r = c .before .before .before .before .before .read in
     let o = accepted (readLibrary (a .cells .now)) (r .result) (r .ensures .0) (c .before .before .enum-told .given .1) in
     let w = c .before .in-width in
-    refuses (reportOf (a .t) (a .cells .now) (length (a .text .now))) 28 64 (a .text .now) (report-over (a .t) (a .cells .now) (length (a .text .now)) (omega arith) (o .cells) (o .isRead) (sym (w .ensures .0) ∙ c .if2 .left))
+    ruled _ (reportOf (a .t) (a .cells .now) (length (a .text .now))) (refuses (reportOf (a .t) (a .cells .now) (length (a .text .now))) 28 64 (a .text .now) (report-over (a .t) (a .cells .now) (length (a .text .now)) (omega arith) (o .cells) (o .isRead) (sym (w .ensures .0) ∙ c .if2 .left)))
 
 returns-4 : tie.Need-returns-4
 returns-4 c =
     let a = c .before .before .before .before .before .before .before .before .args in
     let r = c .before .before .before .before .read in
-    refuses (reportOf (a .t) (a .cells .now) (length (a .text .now))) _ _ (a .text .now) (report-refused (a .t) (a .cells .now) (length (a .text .now)) (omega arith) _ _ (turned-back (readLibrary (a .cells .now)) (r .result) (r .ensures .0) _ _ (c .before .verdict .given .1)))
+    ruled _ (reportOf (a .t) (a .cells .now) (length (a .text .now))) (refuses (reportOf (a .t) (a .cells .now) (length (a .text .now))) _ _ (a .text .now) (report-refused (a .t) (a .cells .now) (length (a .text .now)) (omega arith) _ _ (turned-back (readLibrary (a .cells .now)) (r .result) (r .ensures .0) _ _ (c .before .verdict .given .1))))
 
 pub report-spec : {M : Type 1} → statement M
 report-spec =
     tie.close
     (tie.spec
-    returns
-    read-requires
-    enum-told
-    in-width-requires
-    report-in-requires
-    enum-known-verdict
-    same-length
-    returns-2
-    returns-3
+    returns (λ c κs. search needs) enum-told (λ c κs. search needs) report-in-requires (λ c. search needs) (λ c. search needs) returns-2 returns-3
     returns-4)

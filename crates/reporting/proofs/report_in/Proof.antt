@@ -1,9 +1,7 @@
 -- `reporting::report_in` meets its contract: on a page of its own first.
 -- Assumes nothing.
 use native.Mathlib.Omega.{arith}
-use mathlib.Core.Path.{_≡_, sym, ap, _∙_}
-use mathlib.Core.List.{List}
-use Prim.Native.Nat.{ℕ}
+use mathlib.Core.Path.{sym, ap, _∙_}
 use lib.ListN.{length}
 use Rattle.model.specs.Cells.{cellsOf}
 use Rattle.model.specs.Tally.{reportText}
@@ -13,20 +11,11 @@ use borrow.Author.Needs.{needs}
 use Rattle.reporting.proofs.report_in.Statement.{statement}
 use Rattle.reporting.proofs.report_in.Tie as tie
 
-slice-aggregate-put-report : tie.Need-slice-aggregate-put-report
-slice-aggregate-put-report c = search needs
-
-put-report-requires : tie.Need-put-report-requires
-put-report-requires c κs = search needs
-
 returns : tie.Need-returns
 returns c =
     let a = c .before .before .before .before .before .args in
     let p = c .before .before .put-report in
     too-short (reportText (cellsOf (a .lib)) (a .t)) (a .text .now) (p .result) (page-end _ _ _ _ (p .ensures)) (c .if1 .taken)
-
-array-share-prefix-page : tie.Need-array-share-prefix-page
-array-share-prefix-page c = search needs
 
 slice-aggregate-put : tie.Need-slice-aggregate-put
 slice-aggregate-put c =
@@ -38,9 +27,6 @@ put-requires c κs =
     let p = c .before .before .before .before .put-report in
     omega (arith, ap length (page-is _ _ _ _ (p .ensures)), page-end _ _ _ _ (p .ensures))
 
-same-length : tie.Need-same-length
-same-length c = search needs
-
 returns-2 : tie.Need-returns-2
 returns-2 c =
     let a = c .before .before .before .before .before .before .before .before .before .before .args in
@@ -51,11 +37,4 @@ pub report-in-spec : {M : Type 1} → statement M
 report-in-spec =
     tie.close
     (tie.spec
-    slice-aggregate-put-report
-    put-report-requires
-    returns
-    array-share-prefix-page
-    slice-aggregate-put
-    put-requires
-    same-length
-    returns-2)
+    (λ c. search needs) (λ c κs. search needs) returns (λ c. search needs) slice-aggregate-put put-requires (λ c. search needs) returns-2)

@@ -7,14 +7,10 @@ use borrow.Author.Needs.{needs}
 use Rattle.settings.proofs.and_word.Statement.{statement}
 use Rattle.settings.proofs.and_word.Tie as tie
 
-literal-word-requires : tie.Need-literal-word-requires
-literal-word-requires c κs = search needs
-
-literal-word-requires-2 : tie.Need-literal-word-requires-2
-literal-word-requires-2 c κs = search needs
-
 returns : tie.Need-returns
 returns c = (λ i. bitAnd (c .before .literal-word .ensures i) (c .literal-word2 .ensures i)) ∙ and-literals (c .before .before .args .l) (c .before .before .args .x) (c .before .before .args .r) (c .before .before .args .y)
 
 pub and-word-spec : {M : Type 1} → statement M
-and-word-spec = tie.close (tie.spec literal-word-requires literal-word-requires-2 returns)
+and-word-spec = tie.close
+    (tie.spec
+    (λ c κs. search needs) (λ c κs. search needs) returns)

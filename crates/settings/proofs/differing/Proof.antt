@@ -7,14 +7,10 @@ use borrow.Author.Needs.{needs}
 use Rattle.settings.proofs.differing.Statement.{statement}
 use Rattle.settings.proofs.differing.Tie as tie
 
-sub-select : tie.Need-sub-select
-sub-select c = search needs
-
-select-requires : tie.Need-select-requires
-select-requires c κs = search needs
-
 returns : tie.Need-returns
 returns c = c .select .ensures ∙ differ-bits (c .before .args .x) (c .before .args .y) (omega arith)
 
 pub differing-spec : {M : Type 1} → statement M
-differing-spec = tie.close (tie.spec sub-select select-requires returns)
+differing-spec = tie.close
+    (tie.spec
+    (λ c. search needs) (λ c κs. search needs) returns)

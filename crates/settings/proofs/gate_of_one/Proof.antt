@@ -7,18 +7,11 @@ use borrow.Author.Needs.{needs}
 use Rattle.settings.proofs.gate_of_one.Statement.{statement}
 use Rattle.settings.proofs.gate_of_one.Tie as tie
 
-gate-of-none-requires : tie.Need-gate-of-none-requires
-gate-of-none-requires c κs = search needs
-
-gate-of-none-requires-2 : tie.Need-gate-of-none-requires-2
-gate-of-none-requires-2 c κs = search needs
-
-select-requires : tie.Need-select-requires
-select-requires c κs = search needs
-
 returns : tie.Need-returns
 returns c = c .select .ensures ∙ (λ i. selected (c .before .before .before .args .a) (c .before .before .gate-of-none .ensures i) (c .before .gate-of-none2 .ensures i)) ∙ last-of-one (c .before .before .before .args .table) (c .before .before .before .args .a)
 
 pub gate-of-one-spec : {M : Type 1} → statement M
 gate-of-one-spec =
-    tie.close (tie.spec gate-of-none-requires gate-of-none-requires-2 select-requires returns)
+    tie.close
+    (tie.spec
+    (λ c κs. search needs) (λ c κs. search needs) (λ c κs. search needs) returns)

@@ -7,18 +7,11 @@ use borrow.Author.Needs.{needs}
 use Rattle.settings.proofs.gate_of_three.Statement.{statement}
 use Rattle.settings.proofs.gate_of_three.Tie as tie
 
-gate-of-two-requires : tie.Need-gate-of-two-requires
-gate-of-two-requires c κs = search needs
-
-gate-of-two-requires-2 : tie.Need-gate-of-two-requires-2
-gate-of-two-requires-2 c κs = search needs
-
-select-requires : tie.Need-select-requires
-select-requires c κs = search needs
-
 returns : tie.Need-returns
 returns c = c .select .ensures ∙ (λ i. selected (c .before .before .before .args .c) (c .before .before .gate-of-two .ensures i) (c .before .gate-of-two2 .ensures i)) ∙ last-of-three (c .before .before .before .args .table) (c .before .before .before .args .a) (c .before .before .before .args .b) (c .before .before .before .args .c)
 
 pub gate-of-three-spec : {M : Type 1} → statement M
 gate-of-three-spec =
-    tie.close (tie.spec gate-of-two-requires gate-of-two-requires-2 select-requires returns)
+    tie.close
+    (tie.spec
+    (λ c κs. search needs) (λ c κs. search needs) (λ c κs. search needs) returns)

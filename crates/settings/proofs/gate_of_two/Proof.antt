@@ -7,18 +7,11 @@ use borrow.Author.Needs.{needs}
 use Rattle.settings.proofs.gate_of_two.Statement.{statement}
 use Rattle.settings.proofs.gate_of_two.Tie as tie
 
-gate-of-one-requires : tie.Need-gate-of-one-requires
-gate-of-one-requires c κs = search needs
-
-gate-of-one-requires-2 : tie.Need-gate-of-one-requires-2
-gate-of-one-requires-2 c κs = search needs
-
-select-requires : tie.Need-select-requires
-select-requires c κs = search needs
-
 returns : tie.Need-returns
 returns c = c .select .ensures ∙ (λ i. selected (c .before .before .before .args .b) (c .before .before .gate-of-one .ensures i) (c .before .gate-of-one2 .ensures i)) ∙ last-of-two (c .before .before .before .args .table) (c .before .before .before .args .a) (c .before .before .before .args .b)
 
 pub gate-of-two-spec : {M : Type 1} → statement M
 gate-of-two-spec =
-    tie.close (tie.spec gate-of-one-requires gate-of-one-requires-2 select-requires returns)
+    tie.close
+    (tie.spec
+    (λ c κs. search needs) (λ c κs. search needs) (λ c κs. search needs) returns)

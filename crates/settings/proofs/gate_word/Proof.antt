@@ -7,18 +7,11 @@ use borrow.Author.Needs.{needs}
 use Rattle.settings.proofs.gate_word.Statement.{statement}
 use Rattle.settings.proofs.gate_word.Tie as tie
 
-gate-of-three-requires : tie.Need-gate-of-three-requires
-gate-of-three-requires c κs = search needs
-
-gate-of-three-requires-2 : tie.Need-gate-of-three-requires-2
-gate-of-three-requires-2 c κs = search needs
-
-select-requires : tie.Need-select-requires
-select-requires c κs = search needs
-
 returns : tie.Need-returns
 returns c = c .select .ensures ∙ (λ i. selected (c .before .before .before .args .d) (c .before .before .gate-of-three .ensures i) (c .before .gate-of-three2 .ensures i)) ∙ last-of-four (c .before .before .before .args .table) (c .before .before .before .args .a) (c .before .before .before .args .b) (c .before .before .before .args .c) (c .before .before .before .args .d)
 
 pub gate-word-spec : {M : Type 1} → statement M
 gate-word-spec =
-    tie.close (tie.spec gate-of-three-requires gate-of-three-requires-2 select-requires returns)
+    tie.close
+    (tie.spec
+    (λ c κs. search needs) (λ c κs. search needs) (λ c κs. search needs) returns)

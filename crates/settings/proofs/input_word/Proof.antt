@@ -39,18 +39,9 @@ high : (k b : ℕ) (v : Bool) → 6 ≤ k → bit b (k - 6) ≡ v → wordOf (λ
 unfolding inputWord
 high k b v h e = words-same (λ t. v) (λ t. bit (64 * b + t) k) (λ t l. sym (input-high b t k l h ∙ e))
 
-mul-result : tie.Need-mul-result
-mul-result c = search needs
-
-array-read-result : tie.Need-array-read-result
-array-read-result c = search needs
-
 returns : tie.Need-returns
 unfolding entries
 returns c = low (c .before .args .k) (c .before .args .b) (search needs)
-
-is-set-requires : tie.Need-is-set-requires
-is-set-requires c κs = search needs
 
 returns-2 : tie.Need-returns-2
 returns-2 c = sym all-bits ∙ high (c .before .before .before .args .k) (c .before .before .before .args .b) true (search needs) (sym (c .before .is-set .ensures) ∙ c .if2 .taken)
@@ -60,4 +51,6 @@ returns-3 c = sym no-bits ∙ high (c .before .before .before .args .k) (c .befo
 
 pub input-word-spec : {M : Type 1} → statement M
 input-word-spec =
-    tie.close (tie.spec mul-result array-read-result returns is-set-requires returns-2 returns-3)
+    tie.close
+    (tie.spec
+    (λ c. search needs) (λ c. search needs) returns (λ c κs. search needs) returns-2 returns-3)

@@ -7,12 +7,11 @@ use borrow.Author.Needs.{needs}
 use Rattle.settings.proofs.is_set.Statement.{statement}
 use Rattle.settings.proofs.is_set.Tie as tie
 
-shr-result : tie.Need-shr-result
-shr-result c = search needs
-
 returns : tie.Need-returns
 unfolding value
 returns c = sym (value-shift (c .args .t) (c .args .x))
 
 pub is-set-spec : {M : Type 1} → statement M
-is-set-spec = tie.close (tie.spec shr-result returns)
+is-set-spec = tie.close
+    (tie.spec
+    (λ c. search needs) returns)

@@ -8,9 +8,6 @@ use borrow.Author.Needs.{needs}
 use Rattle.settings.proofs.literal_word.Statement.{statement}
 use Rattle.settings.proofs.literal_word.Tie as tie
 
-sub-result : tie.Need-sub-result
-sub-result c = search needs
-
 returns : tie.Need-returns
 returns c = negative (c .before .args .l) (c .before .args .x) (omega arith) (eq-eqb (c .before .args .l % 2) 1 (c .if1 .taken))
 
@@ -18,4 +15,6 @@ returns-2 : tie.Need-returns-2
 returns-2 c = positive (c .before .args .l) (c .before .args .x) (omega arith) (ne-eqb (c .before .args .l % 2) 1 (c .if1 .left))
 
 pub literal-word-spec : {M : Type 1} → statement M
-literal-word-spec = tie.close (tie.spec sub-result returns returns-2)
+literal-word-spec = tie.close
+    (tie.spec
+    (λ c. search needs) returns returns-2)

@@ -6,11 +6,10 @@ use borrow.Author.Needs.{needs}
 use Rattle.settings.proofs.select.Statement.{statement}
 use Rattle.settings.proofs.select.Tie as tie
 
-sub-result : tie.Need-sub-result
-sub-result c = search needs
-
 returns : tie.Need-returns
 returns c = select-bits (c .args .s) (c .args .x) (c .args .y) (omega arith) (omega arith) (omega arith)
 
 pub select-spec : {M : Type 1} → statement M
-select-spec = tie.close (tie.spec sub-result returns)
+select-spec = tie.close
+    (tie.spec
+    (λ c. search needs) returns)

@@ -1,24 +1,11 @@
 -- `stock::store` meets its contract: column by column.
 -- Assumes nothing.
-use native.Mathlib.Omega.{arith}
-use mathlib.Core.Path.{_≡_, sym, ap, _∙_}
+use mathlib.Core.Path.{_∙_}
 use lib.ListN.{length-set}
 use Rattle.stock.proofs.Columns.{stored-is}
 use borrow.Author.Needs.{needs}
 use Rattle.stock.proofs.store.Statement.{statement}
 use Rattle.stock.proofs.store.Tie as tie
-
-put-column-requires : tie.Need-put-column-requires
-put-column-requires c κs = search needs
-
-put-column-requires-2 : tie.Need-put-column-requires-2
-put-column-requires-2 c κs = search needs
-
-put-column-requires-3 : tie.Need-put-column-requires-3
-put-column-requires-3 c κs = search needs
-
-slice-write-out : tie.Need-slice-write-out
-slice-write-out c = search needs
 
 same-length : tie.Need-same-length
 same-length c = length-set (c .before .before .put-column3 .last .0) 96 (c .before .before .before .before .before .before .before .before .before .before .before .before .before .before .before .before .args .t .netlists) ∙ c .before .before .put-column3 .kept .0 ∙ c .before .before .before .before .before .before .put-column2 .kept .0 ∙ c .before .before .before .before .before .before .before .before .before .before .put-column .kept .0
@@ -35,9 +22,4 @@ pub store-spec : {M : Type 1} → statement M
 store-spec =
     tie.close
     (tie.spec
-    put-column-requires
-    put-column-requires-2
-    put-column-requires-3
-    slice-write-out
-    same-length
-    returns)
+    (λ c κs. search needs) (λ c κs. search needs) (λ c κs. search needs) (λ c. search needs) same-length returns)

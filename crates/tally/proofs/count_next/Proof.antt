@@ -1,7 +1,7 @@
 -- `tally::count_next` meets its contract: a name has at most fifteen bytes.
 -- Assumes nothing.
 use native.Mathlib.Omega.{arith}
-use mathlib.Core.Path.{_≡_, sym, _∙_}
+use mathlib.Core.Path.{_≡_, sym}
 use lib.ListN.{length}
 use lib.Seq.{length-take-le}
 use Rattle.tally.proofs.Within.{ten-digits}
@@ -9,17 +9,8 @@ use borrow.Author.Needs.{needs}
 use Rattle.tally.proofs.count_next.Statement.{statement}
 use Rattle.tally.proofs.count_next.Tie as tie
 
-slice-aggregate-put-number : tie.Need-slice-aggregate-put-number
-slice-aggregate-put-number c = search needs
-
 put-number-requires : tie.Need-put-number-requires
 put-number-requires c κs = omega (arith, ten-digits (c .before .before .before .args .k) (search needs))
-
-slice-aggregate-put-bytes : tie.Need-slice-aggregate-put-bytes
-slice-aggregate-put-bytes c = search needs
-
-slice-aggregate-put-bytes-2 : tie.Need-slice-aggregate-put-bytes-2
-slice-aggregate-put-bytes-2 c = search needs
 
 put-bytes-requires : tie.Need-put-bytes-requires
 put-bytes-requires c κs =
@@ -41,26 +32,9 @@ slice-aggregate-count-file c =
     let long : length (q .last .0) ≡ 16 = search needs in
     sym (length-take-le (q .result) (q .last .0) (omega (arith, p .ensures .0, q .ensures .ends, ten-digits (c .before .before .before .before .before .before .before .before .before .before .args .k) (search needs))))
 
-count-file-requires : tie.Need-count-file-requires
-count-file-requires c κs = search needs
-
-same-length : tie.Need-same-length
-same-length c = search needs
-
-returns : tie.Need-returns
-returns c = search needs
-
 pub count-next-spec : {M : Type 1} → statement M
 count-next-spec =
     tie.close
     (tie.spec
-    slice-aggregate-put-number
-    put-number-requires
-    slice-aggregate-put-bytes
-    slice-aggregate-put-bytes-2
-    put-bytes-requires
-    array-share-prefix-name
-    slice-aggregate-count-file
-    count-file-requires
-    same-length
-    returns)
+    (λ c. search needs) put-number-requires (λ c. search needs) (λ c. search needs) put-bytes-requires array-share-prefix-name
+    slice-aggregate-count-file (λ c κs. search needs) (λ c. search needs) (λ c. search needs))

@@ -10,14 +10,8 @@ use Rattle.text.proofs.closed.Tie as tie
 returns : tie.Need-returns
 returns c = sym (closed-none _ _ _ (word-out _ _ (c .if1 .taken)))
 
-shared-slice-read-if2 : tie.Need-shared-slice-read-if2
-shared-slice-read-if2 c = search needs
-
 returns-2 : tie.Need-returns-2
 returns-2 c = sym (closed-none _ _ _ (word-space _ _ (c .before .before .if1 .left) (c .if2 .taken)))
-
-ends-at-requires : tie.Need-ends-at-requires
-ends-at-requires c κs = search needs
 
 returns-3 : tie.Need-returns-3
 returns-3 c =
@@ -30,4 +24,5 @@ returns-4 c = sym (closed-none _ _ _ (word-line _ _ (λ e. c .if3 .left (c .befo
 pub closed-spec : {M : Type 1} → statement M
 closed-spec =
     tie.close
-    (tie.spec returns shared-slice-read-if2 returns-2 ends-at-requires returns-3 returns-4)
+    (tie.spec
+    returns (λ c. search needs) returns-2 (λ c κs. search needs) returns-3 returns-4)

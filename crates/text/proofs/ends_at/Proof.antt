@@ -10,26 +10,14 @@ use Rattle.text.proofs.ends_at.Tie as tie
 returns : tie.Need-returns
 returns c = sym (end-out _ _ (c .if1 .taken))
 
-shared-slice-read-b : tie.Need-shared-slice-read-b
-shared-slice-read-b c = search needs
-
 returns-2 : tie.Need-returns-2
 returns-2 c = sym (end-ten _ _ (c .before .before .if1 .left) (c .if2 .taken))
 
 returns-3 : tie.Need-returns-3
 returns-3 c = sym (end-other _ _ (c .before .before .before .if1 .left) (c .before .if2 .left) (c .if3 .taken))
 
-sub-if4 : tie.Need-sub-if4
-sub-if4 c = search needs
-
 returns-4 : tie.Need-returns-4
 returns-4 c = sym (end-last _ _ (c .before .before .before .before .if1 .left) (omega arith) (c .before .before .if2 .left))
-
-add-if5 : tie.Need-add-if5
-add-if5 c = search needs
-
-shared-slice-read-if5 : tie.Need-shared-slice-read-if5
-shared-slice-read-if5 c = search needs
 
 returns-5 : tie.Need-returns-5
 returns-5 c = sym (end-both (c .before .before .before .before .before .before .before .args .s .now) (c .before .before .before .before .before .before .before .args .at) (omega arith) (c .before .before .before .if3 .left) (c .if5 .taken))
@@ -41,13 +29,4 @@ pub ends-at-spec : {M : Type 1} → statement M
 ends-at-spec =
     tie.close
     (tie.spec
-    returns
-    shared-slice-read-b
-    returns-2
-    returns-3
-    sub-if4
-    returns-4
-    add-if5
-    shared-slice-read-if5
-    returns-5
-    returns-6)
+    returns (λ c. search needs) returns-2 returns-3 (λ c. search needs) returns-4 (λ c. search needs) (λ c. search needs) returns-5 returns-6)

@@ -9,15 +9,6 @@ use Rattle.model.specs.Text.{hexDigit, between}
 use Rattle.text.proofs.hex_digit.Statement.{statement}
 use Rattle.text.proofs.hex_digit.Tie as tie
 
-cast-t5 : tie.Need-cast-t5
-cast-t5 c = search needs
-
-cast-t7 : tie.Need-cast-t7
-cast-t7 c = search needs
-
-add-t8 : tie.Need-add-t8
-add-t8 c = search needs
-
 returns : tie.Need-returns
 unfolding hexDigit between
 returns c = let b = c .before .before .args .b in simp (le-leb 48 b (omega arith), le-leb b 57 (omega arith))
@@ -42,4 +33,6 @@ unfolding hexDigit between
 returns-5 c = let b = c .before .before .before .before .args .b in simp (le-leb 48 b (omega arith), lt-leb b 57 (omega arith), le-leb 97 b (omega arith), lt-leb b 102 (omega arith))
 
 pub hex-digit-spec : {M : Type 1} → statement M
-hex-digit-spec = tie.close (tie.spec cast-t5 cast-t7 add-t8 returns returns-2 returns-3 returns-4 returns-5)
+hex-digit-spec = tie.close
+    (tie.spec
+    (λ c. search needs) (λ c. search needs) (λ c. search needs) returns returns-2 returns-3 returns-4 returns-5)

@@ -9,9 +9,6 @@ use Rattle.model.specs.Text.{isNameByte, between}
 use Rattle.text.proofs.is_name_byte.Statement.{statement}
 use Rattle.text.proofs.is_name_byte.Tie as tie
 
-is-letter-requires : tie.Need-is-letter-requires
-is-letter-requires c κs = search needs
-
 returns : tie.Need-returns
 unfolding isNameByte
 returns c = rw (sym (c .before .is-letter .ensures) ∙ c .if1 .taken)
@@ -34,4 +31,6 @@ returns-5 c = let b = c .before .before .before .before .before .args .b in rw (
 
 pub is-name-byte-spec : {M : Type 1} → statement M
 is-name-byte-spec =
-    tie.close (tie.spec is-letter-requires returns returns-2 returns-3 returns-4 returns-5)
+    tie.close
+    (tie.spec
+    (λ c κs. search needs) returns returns-2 returns-3 returns-4 returns-5)

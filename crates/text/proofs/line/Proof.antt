@@ -17,12 +17,6 @@ Inv-loop s from at₀ at = spanAt s from ≡ spanAt s at
 abbrev μ-loop : tie.MeasureT-loop
 μ-loop s from at₀ at = length s - at
 
-loop-holds : tie.Need-loop-holds Inv-loop μ-loop
-loop-holds c = refl
-
-ends-at-requires : tie.Need-ends-at-requires Inv-loop μ-loop
-ends-at-requires c κs = search needs
-
 add-t7 : tie.Need-add-t7 Inv-loop μ-loop
 add-t7 c =
     let l = c .before .before .before in
@@ -36,12 +30,6 @@ returns c =
     ∙ span-stop (l .before .before .args .s .now) (l .loop .at) (λ z. c .if1 .taken (e ∙ z))
     ∙ ap (λ (k : ℕ). record { stop = l .loop .at; next = l .loop .at + k }) (sym e))
 
-add-at : tie.Need-add-at Inv-loop μ-loop
-add-at c = search needs
-
-loop-less : tie.Need-loop-less Inv-loop μ-loop
-loop-less c = search needs
-
 loop-again : tie.Need-loop-again Inv-loop μ-loop
 loop-again c =
     let l = c .before .before .before in
@@ -54,13 +42,4 @@ pub line-spec : {M : Type 1} → statement M
 line-spec =
     tie.close
     (tie.spec
-    Inv-loop
-    μ-loop
-    loop-holds
-    ends-at-requires
-    add-t7
-    returns
-    add-at
-    loop-less
-    loop-again
-    returns-2)
+    Inv-loop μ-loop (λ c. refl) (λ c κs. search needs) add-t7 returns (λ c. search needs) (λ c. search needs) loop-again returns-2)

@@ -6,14 +6,10 @@ use Rattle.text.proofs.Names.{name-put}
 use Rattle.text.proofs.name_bytes.Statement.{statement}
 use Rattle.text.proofs.name_bytes.Tie as tie
 
-slice-aggregate-put : tie.Need-slice-aggregate-put
-slice-aggregate-put c = search needs
-
-put-requires : tie.Need-put-requires
-put-requires c κs = search needs
-
 returns : tie.Need-returns
 returns c = c .before .put .ensures ∙ name-put _
 
 pub name-bytes-spec : {M : Type 1} → statement M
-name-bytes-spec = tie.close (tie.spec slice-aggregate-put put-requires returns)
+name-bytes-spec = tie.close
+    (tie.spec
+    (λ c. search needs) (λ c κs. search needs) returns)

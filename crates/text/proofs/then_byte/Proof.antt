@@ -6,20 +6,8 @@ use Rattle.text.specs.Fields.{thenByte}
 use Rattle.text.proofs.then_byte.Statement.{statement}
 use Rattle.text.proofs.then_byte.Tie as tie
 
-enum-known-found : tie.Need-enum-known-found
-enum-known-found c = search needs
-
-byte-requires : tie.Need-byte-requires
-byte-requires c κs = search needs
-
-enum-known-d : tie.Need-enum-known-d
-enum-known-d c = search needs
-
 enum-told : tie.Need-enum-told
 enum-told c = search needs
-
-enum-told-2 : tie.Need-enum-told-2
-enum-told-2 c = search needs
 
 returns : tie.Need-returns
 unfolding thenByte
@@ -37,11 +25,4 @@ pub then-byte-spec : {M : Type 1} → statement M
 then-byte-spec =
     tie.close
     (tie.spec
-    enum-known-found
-    byte-requires
-    enum-known-d
-    enum-told
-    enum-told-2
-    returns
-    returns-2
-    returns-3)
+    (λ c. search needs) (λ c κs. search needs) (λ c. search needs) enum-told (λ c. search needs) returns returns-2 returns-3)

@@ -7,12 +7,6 @@ use borrow.Author.Needs.{needs}
 use Rattle.timing.proofs.later.Statement.{statement}
 use Rattle.timing.proofs.later.Tie as tie
 
-sub-if1 : tie.Need-sub-if1
-sub-if1 c = search needs
-
-add-result : tie.Need-add-result
-add-result c = search needs
-
 returns : tie.Need-returns
 returns c = let a = c .before .args in rw (le-leb (a .t + a .d) 4294967295 (omega (arith, c .before .fits .t, c .if1 .taken)))
 
@@ -20,4 +14,6 @@ returns-2 : tie.Need-returns-2
 returns-2 c = let a = c .before .args in rw (lt-leb (a .t + a .d) 4294967295 (omega (arith, c .before .fits .t, c .if1 .left)))
 
 pub later-spec : {M : Type 1} → statement M
-later-spec = tie.close (tie.spec sub-if1 add-result returns returns-2)
+later-spec = tie.close
+    (tie.spec
+    (λ c. search needs) (λ c. search needs) returns returns-2)

@@ -30,19 +30,10 @@ output-high-requires c κs = (c .before .before .before .before .pre .0, c .befo
 cast-line-len : tie.Need-cast-line-len Inv-loop μ-loop
 cast-line-len c = omega (arith, c .before .before .loop-test .taken, c .before .before .before .before .before .pre .1)
 
-line-len-requires : tie.Need-line-len-requires Inv-loop μ-loop
-line-len-requires c κs = tt
-
 add-len : tie.Need-add-len Inv-loop μ-loop
 add-len c =
     let l = c .before .before .before .before in
     omega (arith, l .loop .inv .0, l .loop .inv .1, c .line-len .ensures .1, l .before .before .pre .1)
-
-add-i : tie.Need-add-i Inv-loop μ-loop
-add-i c = omega arith
-
-loop-less : tie.Need-loop-less Inv-loop μ-loop
-loop-less c = omega arith
 
 loop-again : tie.Need-loop-again Inv-loop μ-loop
 loop-again c =
@@ -69,15 +60,5 @@ pub lines-len-spec : {M : Type 1} → statement M
 lines-len-spec =
     tie.close
     (tie.spec
-    Inv-loop
-    μ-loop
-    loop-holds
-    output-low-requires
-    output-high-requires
-    cast-line-len
-    line-len-requires
-    add-len
-    add-i
-    loop-less
-    loop-again
-    returns)
+    Inv-loop μ-loop loop-holds output-low-requires output-high-requires cast-line-len (λ c κs. tt) add-len (λ c. omega arith) (λ c. omega arith)
+    loop-again returns)

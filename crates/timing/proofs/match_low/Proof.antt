@@ -2,17 +2,17 @@
 -- Assumes nothing.
 use mathlib.Core.Path.{_≡_, sym, ap, subst, _∙_}
 use mathlib.Core.List.{List}
-use Prim.Native.Nat.{ℕ, _+_, _*_, _≤_, _<_}
+use Prim.Native.Nat.{ℕ, _*_, _≤_}
 use native.Mathlib.Omega.{arith}
-use lib.ListN.{length, getD, drop}
+use lib.ListN.{length, drop}
 use lib.Seq.{getD-drop}
 use Rattle.model.specs.Cells.{cellAt}
-use Rattle.model.specs.Matching.{matchNets, fedNets}
+use Rattle.model.specs.Matching.{fedNets}
 use Rattle.model.specs.declared.Cut.{Cut}
 use Rattle.truth.specs.Variant.{placesOf}
 use Rattle.truth.proofs.Variants.{places-four}
 use Rattle.truth.proofs.Nets.{nets-length}
-use Rattle.words.specs.Record.{cutOf, leavesAt}
+use Rattle.words.specs.Record.{cutOf}
 use Rattle.cover.specs.Asked.{PinsIn}
 use Rattle.cover.proofs.Marks.{match-pins, match-nets}
 use Rattle.timing.specs.Retiming.{latestLow, matchLow}
@@ -25,18 +25,6 @@ load-cut-requires : tie.Need-load-cut-requires
 load-cut-requires c κs =
     let s = c .before in
     (s .pre .1 .room, s .pre .2, omega (arith, s .pre .0 .2 .cut, s .pre .1 .few (s .args .v) (s .pre .2)))
-
-mul-wide : tie.Need-mul-wide
-mul-wide c = search needs
-
-element-copy-out-wide : tie.Need-element-copy-out-wide
-element-copy-out-wide c = search needs
-
-wide-requires : tie.Need-wide-requires
-wide-requires c κs = search needs
-
-mul-pins-low : tie.Need-mul-pins-low
-mul-pins-low c = search needs
 
 pins-low-requires : tie.Need-pins-low-requires
 pins-low-requires c κs =
@@ -77,10 +65,4 @@ pub match-low-spec : {M : Type 1} → statement M
 match-low-spec =
     tie.close
     (tie.spec
-    load-cut-requires
-    mul-wide
-    element-copy-out-wide
-    wide-requires
-    mul-pins-low
-    pins-low-requires
-    returns)
+    load-cut-requires (λ c. search needs) (λ c. search needs) (λ c κs. search needs) (λ c. search needs) pins-low-requires returns)

@@ -5,7 +5,6 @@ use Prim.Native.Nat.{ℕ, _/_, _≤_}
 use Rattle.model.specs.declared.Phase.{Phase}
 use Rattle.words.specs.Phases.{phaseAt}
 use Rattle.words.proofs.Columns.{room-need}
-use borrow.Author.Needs.{needs}
 use Rattle.timing.proofs.output_high.Statement.{statement}
 use Rattle.timing.proofs.output_high.Tie as tie
 

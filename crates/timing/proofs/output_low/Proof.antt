@@ -4,7 +4,6 @@ use mathlib.Core.Path.{sym, ap, subst, _∙_}
 use Prim.Native.Nat.{ℕ, _/_, _≤_}
 use Rattle.words.specs.Layout.{lowAt}
 use Rattle.words.proofs.Columns.{room-need}
-use borrow.Author.Needs.{needs}
 use Rattle.timing.proofs.output_low.Statement.{statement}
 use Rattle.timing.proofs.output_low.Tie as tie
 

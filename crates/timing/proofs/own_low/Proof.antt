@@ -1,23 +1,14 @@
 -- `timing::own_low` meets its contract, by what the source is.
 -- Assumes nothing.
-use mathlib.Core.Path.{_≡_, sym, ap, _∙_}
+use mathlib.Core.Path.{sym, ap, _∙_}
 use Rattle.model.specs.declared.Phase.{Phase}
 use Rattle.timing.specs.Retiming.{ownLow}
 use borrow.Author.Needs.{needs}
 use Rattle.timing.proofs.own_low.Statement.{statement}
 use Rattle.timing.proofs.own_low.Tie as tie
 
-phase-requires : tie.Need-phase-requires
-phase-requires c κs = search needs
-
 enum-told : tie.Need-enum-told
 enum-told c = search needs
-
-late-requires : tie.Need-late-requires
-late-requires c κs = search needs
-
-enum-known-s : tie.Need-enum-known-s
-enum-known-s c = search needs
 
 match-low-requires : tie.Need-match-low-requires
 match-low-requires c κs =
@@ -26,12 +17,6 @@ match-low-requires c κs =
     let r = s .pre .0 .1 in
     let i = r .matches (s .args .l) (s .pre .1) _ (ap (λ (q : Phase). q .source) (sym (p .phase .ensures)) ∙ c .before .s .given .1) in
     ((s .pre .0 .0, r .usable, i, s .pre .0 .2), r .cuts, s .pre .1)
-
-enum-told-2 : tie.Need-enum-told-2
-enum-told-2 c = search needs
-
-enum-told-3 : tie.Need-enum-told-3
-enum-told-3 c = search needs
 
 returns : tie.Need-returns
 unfolding ownLow
@@ -68,14 +53,5 @@ pub own-low-spec : {M : Type 1} → statement M
 own-low-spec =
     tie.close
     (tie.spec
-    phase-requires
-    enum-told
-    late-requires
-    enum-known-s
-    match-low-requires
-    enum-told-2
-    enum-told-3
-    returns
-    returns-2
-    returns-3
-    returns-4)
+    (λ c κs. search needs) enum-told (λ c κs. search needs) (λ c. search needs) match-low-requires (λ c. search needs) (λ c. search needs) returns
+    returns-2 returns-3 returns-4)

@@ -27,9 +27,6 @@ loop-holds c =
     let a = s .args in
     (omega arith, sym (pins-none (a .work .now) (a .m) (a .leaves) (a .order) (a .mask) (a .pins) (drop (a .at) (a .lows .now)) (s .pre .1 .known) (s .pre .1 .four)))
 
-sub-j : tie.Need-sub-j Inv-loop μ-loop
-sub-j c = omega arith
-
 pin-net-requires : tie.Need-pin-net-requires Inv-loop μ-loop
 pin-net-requires c κs = (c .before .before .before .pre .1 .known, omega (arith, c .before .loop .inv .0, c .before .before .before .pre .1 .four))
 
@@ -52,12 +49,6 @@ mul-later c = omega (arith, c .before .before .before .loop .inv .0, c .before .
 element-copy-out-later : tie.Need-element-copy-out-later Inv-loop μ-loop
 element-copy-out-later c =
     omega (arith, c .before .before .before .loop .inv .0, c .before .before .loop-test .taken, c .before .before .before .before .before .pre .1 .four, c .before .before .before .before .before .pre .2)
-
-later-requires : tie.Need-later-requires Inv-loop μ-loop
-later-requires c κs = search needs
-
-larger-requires : tie.Need-larger-requires Inv-loop μ-loop
-larger-requires c κs = search needs
 
 loop-less : tie.Need-loop-less Inv-loop μ-loop
 loop-less c = omega (arith, c .before .before .before .before .before .loop-test .taken)
@@ -91,17 +82,5 @@ pub pins-low-spec : {M : Type 1} → statement M
 pins-low-spec =
     tie.close
     (tie.spec
-    Inv-loop
-    μ-loop
-    loop-holds
-    sub-j
-    pin-net-requires
-    low-requires
-    add-later
-    mul-later
-    element-copy-out-later
-    later-requires
-    larger-requires
-    loop-less
-    loop-again
-    returns)
+    Inv-loop μ-loop loop-holds (λ c. omega arith) pin-net-requires low-requires add-later mul-later element-copy-out-later (λ c κs. search needs)
+    (λ c κs. search needs) loop-less loop-again returns)

@@ -27,9 +27,6 @@ keyword c = let s = c .before .before .before .before in step (s .pre) (none s) 
 name : (c : tie.After-put-out) → Left (c .before .before .before .before .before .before .before .before) (c .put-out .last .0) (c .put-out .result) (ends (c .before .before .before .before .before .before .before .before))
 name c = let s = c .before .before .before .before .before .before .before .before in step (s .pre) (keyword (c .before .before .before .before)) (c .put-out .last .0) (c .put-out .result) (outName (s .args .k)) (ends s) refl (c .put-out .ensures)
 
-slice-aggregate-put-bytes : tie.Need-slice-aggregate-put-bytes
-slice-aggregate-put-bytes c = search needs
-
 put-bytes-requires : tie.Need-put-bytes-requires
 put-bytes-requires c κs = let s = c .before .before .before in room (s .pre) (none s) keywordBytes (outName (s .args .k) ++ ends s) refl
 
@@ -39,9 +36,6 @@ put-out-requires c κs = let s = c .before .before .before .before .before .befo
 put-times-requires : tie.Need-put-times-requires
 put-times-requires c κs = let s = c .before .before .before .before .before .before .before .before .before .before .before in room (s .pre) (name (c .before .before .before)) (ends s) [] (sym (append-nil (ends s)))
 
-same-length : tie.Need-same-length
-same-length c = search needs
-
 returns : tie.Need-returns
 returns c = let s = c .before .before .before .before .before .before .before .before .before .before .before .before .before .before in finish (s .pre) (name (c .before .before .before .before .before .before)) (c .before .before .put-times .ensures)
 
@@ -49,9 +43,4 @@ pub put-line-spec : {M : Type 1} → statement M
 put-line-spec =
     tie.close
     (tie.spec
-    slice-aggregate-put-bytes
-    put-bytes-requires
-    put-out-requires
-    put-times-requires
-    same-length
-    returns)
+    (λ c. search needs) put-bytes-requires put-out-requires put-times-requires (λ c. search needs) returns)

@@ -5,7 +5,7 @@ use mathlib.Core.List.{List, _++_}
 use Prim.Native.Nat.{ℕ, _+_, _-_, _≤_}
 use native.Mathlib.Omega.{arith}
 use Rattle.text.proofs.Progress.{Partly, begin, step, room, kept, end}
-use Rattle.timing.specs.Lines.{lineText, lineOf, linesFrom}
+use Rattle.timing.specs.Lines.{lineText, linesFrom}
 use Rattle.timing.proofs.Counting.{lines-next, lines-none}
 use Rattle.timing.proofs.put_lines.Statement.{statement}
 use Rattle.timing.proofs.put_lines.Tie as tie
@@ -54,12 +54,6 @@ cast-put-line c = omega (arith, c .before .before .before .loop-test .taken, c .
 put-line-requires : tie.Need-put-line-requires Inv-loop μ-loop
 put-line-requires c κs = room (c .before .before .before .before .before .before .before .pre .2) (c .before .before .before .before .loop .inv .1) (line (c .before)) (later (c .before)) (next-line (c .before))
 
-add-i : tie.Need-add-i Inv-loop μ-loop
-add-i c = omega arith
-
-loop-less : tie.Need-loop-less Inv-loop μ-loop
-loop-less c = omega arith
-
 loop-again : tie.Need-loop-again Inv-loop μ-loop
 loop-again c =
     let p = c .before .before .put-line in
@@ -79,15 +73,5 @@ pub put-lines-spec : {M : Type 1} → statement M
 put-lines-spec =
     tie.close
     (tie.spec
-    Inv-loop
-    μ-loop
-    loop-holds
-    output-low-requires
-    output-high-requires
-    cast-put-line
-    put-line-requires
-    add-i
-    loop-less
-    loop-again
-    same-length
-    returns)
+    Inv-loop μ-loop loop-holds output-low-requires output-high-requires cast-put-line put-line-requires (λ c. omega arith) (λ c. omega arith)
+    loop-again same-length returns)

@@ -56,9 +56,6 @@ put-number-requires-2 c κs = let s = c .before .before .before .before .before 
 put-byte-requires-3 : tie.Need-put-byte-requires-3
 put-byte-requires-3 c κs = let s = c .before .before .before .before .before .before .before .before .before .before .before .before .before .before .before .before .before .before in omega (arith, room (s .pre) (four (c .before .before .before)) (10 ∷ []) [] refl)
 
-same-length : tie.Need-same-length
-same-length c = search needs
-
 returns : tie.Need-returns
 returns c = let s = c .before .before .before .before .before .before .before .before .before .before .before .before .before .before .before .before .before .before .before .before .before in finish (s .pre) (four (c .before .before .before .before .before .before)) (c .before .before .put-byte3 .ensures)
 
@@ -66,10 +63,4 @@ pub put-times-spec : {M : Type 1} → statement M
 put-times-spec =
     tie.close
     (tie.spec
-    put-byte-requires
-    put-number-requires
-    put-byte-requires-2
-    put-number-requires-2
-    put-byte-requires-3
-    same-length
-    returns)
+    put-byte-requires put-number-requires put-byte-requires-2 put-number-requires-2 put-byte-requires-3 (λ c. search needs) returns)

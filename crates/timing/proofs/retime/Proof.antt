@@ -8,15 +8,6 @@ use Rattle.timing.specs.Retiming.{retimedUp}
 use Rattle.timing.proofs.retime.Statement.{statement}
 use Rattle.timing.proofs.retime.Tie as tie
 
-pin-counts-requires : tie.Need-pin-counts-requires
-pin-counts-requires c κs = search needs
-
-low-table-requires : tie.Need-low-table-requires
-low-table-requires c κs = search needs
-
-placed-requires : tie.Need-placed-requires
-placed-requires c κs = search needs
-
 retime-variables-requires : tie.Need-retime-variables-requires
 retime-variables-requires c κs =
     let t = c .before .before .before .before in
@@ -25,9 +16,6 @@ retime-variables-requires c κs =
       (cellsBy (cellsOf (a .lib)) (a .codes .now), s .pre .1, t .before .pin-counts .ensures, t .low-table .ensures),
       subst (SlotsIn (a .work .now) (a .h .size)) (sym (c .placed .ensures)) (s .pre .2),
     )
-
-same-length : tie.Need-same-length
-same-length c = search needs
 
 returns : tie.Need-returns
 returns c =
@@ -43,9 +31,4 @@ pub retime-spec : {M : Type 1} → statement M
 retime-spec =
     tie.close
     (tie.spec
-    pin-counts-requires
-    low-table-requires
-    placed-requires
-    retime-variables-requires
-    same-length
-    returns)
+    (λ c κs. search needs) (λ c κs. search needs) (λ c κs. search needs) retime-variables-requires (λ c. search needs) returns)

@@ -13,40 +13,16 @@ use borrow.Author.Needs.{needs}
 use Rattle.timing.proofs.retime_variable.Statement.{statement}
 use Rattle.timing.proofs.retime_variable.Tie as tie
 
-mul-own-low : tie.Need-mul-own-low
-mul-own-low c = search needs
-
 own-low-requires : tie.Need-own-low-requires
 own-low-requires c κs = let s = c .before .before in ((s .pre .0 .0, s .pre .0 .1 .matches, s .pre .0 .2), omega (arith, s .pre .1))
 
-mul-own-low-2 : tie.Need-mul-own-low-2
-mul-own-low-2 c = search needs
-
-add-own-low : tie.Need-add-own-low
-add-own-low c = search needs
-
 own-low-requires-2 : tie.Need-own-low-requires-2
 own-low-requires-2 c κs = let s = c .before .before .before .before in ((s .pre .0 .0, s .pre .0 .1 .matches, s .pre .0 .2), omega (arith, s .pre .1))
-
-mul-phase : tie.Need-mul-phase
-mul-phase c = search needs
-
-phase-requires : tie.Need-phase-requires
-phase-requires c κs = search needs
 
 turned-requires : tie.Need-turned-requires
 turned-requires c κs =
     let s = c .before .before .before .before .before .before .before in
     (s .pre .0 .0, subst (λ (p : Phase). InverterIn (s .pre .0 .0) (p .source)) (sym (c .phase .ensures)) (s .pre .0 .1 .inverters (2 * s .args .v) (omega (arith, s .pre .1))))
-
-mul-phase-2 : tie.Need-mul-phase-2
-mul-phase-2 c = search needs
-
-add-phase : tie.Need-add-phase
-add-phase c = search needs
-
-phase-requires-2 : tie.Need-phase-requires-2
-phase-requires-2 c κs = search needs
 
 turned-requires-2 : tie.Need-turned-requires-2
 turned-requires-2 c κs =
@@ -82,9 +58,6 @@ set-low-requires-2 c κs =
       omega (arith, s .pre .1),
     )
 
-same-length : tie.Need-same-length
-same-length c = search needs
-
 returns : tie.Need-returns
 unfolding retimedTurn
 returns c cells r pins lows =
@@ -114,22 +87,6 @@ pub retime-variable-spec : {M : Type 1} → statement M
 retime-variable-spec =
     tie.close
     (tie.spec
-    mul-own-low
-    own-low-requires
-    mul-own-low-2
-    add-own-low
-    own-low-requires-2
-    mul-phase
-    phase-requires
-    turned-requires
-    mul-phase-2
-    add-phase
-    phase-requires-2
-    turned-requires-2
-    mul-set-low
-    set-low-requires
-    mul-set-low-2
-    add-set-low
-    set-low-requires-2
-    same-length
-    returns)
+    (λ c. search needs) own-low-requires (λ c. search needs) (λ c. search needs) own-low-requires-2 (λ c. search needs) (λ c κs. search needs)
+    turned-requires (λ c. search needs) (λ c. search needs) (λ c κs. search needs) turned-requires-2 mul-set-low set-low-requires mul-set-low-2
+    add-set-low set-low-requires-2 (λ c. search needs) returns)

@@ -46,12 +46,6 @@ retime-variable-requires c κs =
       subst (λ (x : ℕ). x ≤ a .m) (sym (c .before .slot .ensures)) (l .loop .inv .1 .within (l .loop .i) (c .before .before .before .loop-test .taken)),
     )
 
-add-i : tie.Need-add-i Inv-loop μ-loop
-add-i c = omega arith
-
-loop-less : tie.Need-loop-less Inv-loop μ-loop
-loop-less c = omega arith
-
 loop-again : tie.Need-loop-again Inv-loop μ-loop
 loop-again c =
     let t = c .before .before in
@@ -94,13 +88,4 @@ pub retime-variables-spec : {M : Type 1} → statement M
 retime-variables-spec =
     tie.close
     (tie.spec
-    Inv-loop
-    μ-loop
-    loop-holds
-    slot-requires
-    retime-variable-requires
-    add-i
-    loop-less
-    loop-again
-    same-length
-    returns)
+    Inv-loop μ-loop loop-holds slot-requires retime-variable-requires (λ c. omega arith) (λ c. omega arith) loop-again same-length returns)

@@ -9,25 +9,13 @@ use borrow.Author.Needs.{needs}
 use Rattle.timing.proofs.turned.Statement.{statement}
 use Rattle.timing.proofs.turned.Tie as tie
 
-enum-known-s : tie.Need-enum-known-s
-enum-known-s c = search needs
-
 inverter-low-requires : tie.Need-inverter-low-requires
 inverter-low-requires c κs =
     let s = c .before .before .before in
     subst (InverterIn (s .pre .0)) (c .before .s .given .1) (s .pre .1) .1
 
-later-requires : tie.Need-later-requires
-later-requires c κs = search needs
-
 enum-told : tie.Need-enum-told
 enum-told c = search needs
-
-enum-told-2 : tie.Need-enum-told-2
-enum-told-2 c = search needs
-
-enum-told-3 : tie.Need-enum-told-3
-enum-told-3 c = search needs
 
 returns : tie.Need-returns
 unfolding turnedLow
@@ -57,13 +45,5 @@ pub turned-spec : {M : Type 1} → statement M
 turned-spec =
     tie.close
     (tie.spec
-    enum-known-s
-    inverter-low-requires
-    later-requires
-    enum-told
-    enum-told-2
-    enum-told-3
-    returns
-    returns-2
-    returns-3
+    (λ c. search needs) inverter-low-requires (λ c κs. search needs) enum-told (λ c. search needs) (λ c. search needs) returns returns-2 returns-3
     returns-4)

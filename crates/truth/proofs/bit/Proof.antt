@@ -6,14 +6,10 @@ use Rattle.truth.proofs.Tables.{value-shift}
 use Rattle.truth.proofs.bit.Statement.{statement}
 use Rattle.truth.proofs.bit.Tie as tie
 
-cast-result : tie.Need-cast-result
-cast-result c = search needs
-
-shr-result : tie.Need-shr-result
-shr-result c = search needs
-
 returns : tie.Need-returns
 returns c = sym (value-shift (c .args .r) (c .args .table))
 
 pub bit-spec : {M : Type 1} → statement M
-bit-spec = tie.close (tie.spec cast-result shr-result returns)
+bit-spec = tie.close
+    (tie.spec
+    (λ c. search needs) (λ c. search needs) returns)

@@ -6,12 +6,11 @@ use Rattle.model.specs.Matching.{phaseTable}
 use Rattle.truth.proofs.complement.Statement.{statement}
 use Rattle.truth.proofs.complement.Tie as tie
 
-sub-result : tie.Need-sub-result
-sub-result c = search needs
-
 returns : tie.Need-returns
 unfolding phaseTable
 returns c = refl
 
 pub complement-spec : {M : Type 1} → statement M
-complement-spec = tie.close (tie.spec sub-result returns)
+complement-spec = tie.close
+    (tie.spec
+    (λ c. search needs) returns)

@@ -1,7 +1,7 @@
 -- `truth::crossed` meets its contract: a shift by 2 ^ k, at most 8, loses no row.
 -- Assumes nothing.
-use mathlib.Core.Path.{_≡_, ap, ap₂, _∙_}
-use Prim.Native.Nat.{ℕ, _-_, _*_, _/_, _%_, _^_, _≤_, _<_}
+use mathlib.Core.Path.{_≡_, ap, _∙_}
+use Prim.Native.Nat.{ℕ, _-_, _*_, _/_, _%_, _^_, _<_}
 use native.Mathlib.Omega.{arith}
 use lib.Bits.{bitAnd, bitOr}
 use lib.Pow.{pow-mono}
@@ -20,20 +20,11 @@ by k h = let e = power k (omega arith) in (e, omega (arith, e, pow-mono {i = k} 
 whole : (x : ℕ) → x < 65536 → x % 65536 ≡ x
 whole x h = omega arith
 
-pattern-requires : tie.Need-pattern-requires
-pattern-requires c κs = search needs
-
-shl-n : tie.Need-shl-n
-shl-n c = search needs
-
 cast-result : tie.Need-cast-result
 cast-result c = omega (arith, by (c .before .args .k) (c .before .pre) .1)
 
 shr-result : tie.Need-shr-result
 shr-result c = by (c .before .args .k) (c .before .pre) .1
-
-complement-requires : tie.Need-complement-requires
-complement-requires c κs = search needs
 
 cast-result-2 : tie.Need-cast-result-2
 cast-result-2 c = omega (arith, by (c .before .before .args .k) (c .before .before .pre) .1)
@@ -58,11 +49,4 @@ pub crossed-spec : {M : Type 1} → statement M
 crossed-spec =
     tie.close
     (tie.spec
-    pattern-requires
-    shl-n
-    cast-result
-    shr-result
-    complement-requires
-    cast-result-2
-    shl-result
-    returns)
+    (λ c κs. search needs) (λ c. search needs) cast-result shr-result (λ c κs. search needs) cast-result-2 shl-result returns)

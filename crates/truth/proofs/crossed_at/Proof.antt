@@ -1,7 +1,7 @@
 -- `truth::crossed_at` meets its contract: by the mask's bit.
 -- Assumes nothing.
 use mathlib.Core.Path.{_≡_, sym, ap, _∙_}
-use mathlib.Core.Bool.{Bool, cond, true, false}
+use mathlib.Core.Bool.{Bool, cond}
 use Prim.Native.Nat.{ℕ, _/_, _%_, _^_}
 use native.Mathlib.Omega.{arith}
 use lib.ListN.{getD}
@@ -20,12 +20,6 @@ use Rattle.truth.proofs.crossed_at.Tie as tie
 bit-by : (mask j : ℕ) → bit mask j ≡ eqb (mask / 2 ^ j % 2) 1
 unfolding value
 bit-by mask j = value-shift j mask
-
-shr-if1 : tie.Need-shr-if1
-shr-if1 c = search needs
-
-place-requires : tie.Need-place-requires
-place-requires c κs = search needs
 
 crossed-requires : tie.Need-crossed-requires
 crossed-requires c κs =
@@ -46,4 +40,6 @@ returns-2 c =
     sym (ap (λ (b : Bool). cond b (crossed (a .t) (getD (placesOf (a .order)) (a .j) 0)) (a .t)) (bit-by (a .mask) (a .j) ∙ ne-eqb (a .mask / 2 ^ a .j % 2) 1 (c .if1 .left)))
 
 pub crossed-at-spec : {M : Type 1} → statement M
-crossed-at-spec = tie.close (tie.spec shr-if1 place-requires crossed-requires returns returns-2)
+crossed-at-spec = tie.close
+    (tie.spec
+    (λ c. search needs) (λ c κs. search needs) crossed-requires returns returns-2)

@@ -8,7 +8,6 @@ use native.Mathlib.Nat.{add-zero, zero-add, add-suc, suc-add}
 use native.Mathlib.Omega.{arith}
 use lib.Bits.{xor-zero-r}
 use lib.ListN.{getD}
-use lib.Pow.{pow-mono}
 use Rattle.model.specs.Base.{one, from, below}
 use Rattle.model.specs.Table.{value, rowMap, pinRow}
 use Rattle.model.specs.Cuts.{tabulate}
@@ -48,14 +47,8 @@ loop-holds : tie.Need-loop-holds Inv-loop μ-loop
 unfolding rowsFrom tabulate
 loop-holds c = (omega arith, refl)
 
-sub-r : tie.Need-sub-r Inv-loop μ-loop
-sub-r c = omega arith
-
 array-read-wide : tie.Need-array-read-wide Inv-loop μ-loop
 array-read-wide c = omega (arith, c .before .loop .inv .0, c .loop-test .taken)
-
-wide-requires : tie.Need-wide-requires Inv-loop μ-loop
-wide-requires c κs = tt
 
 value-at-requires : tie.Need-value-at-requires Inv-loop μ-loop
 value-at-requires c κs = c .before .before .before .before .pre .0
@@ -65,9 +58,6 @@ with-row-requires c κs =
     let a = c .before .before .before .before .before .args in
     let l = c .before .before .before .loop in
     omega (arith, rows-small 16 (cell (a .pins) (a .table) (a .order)) (l .r) (omega arith) (omega arith), l .inv .1)
-
-loop-less : tie.Need-loop-less Inv-loop μ-loop
-loop-less c = omega arith
 
 loop-again : tie.Need-loop-again Inv-loop μ-loop
 unfolding cell
@@ -94,15 +84,5 @@ pub first-table-spec : {M : Type 1} → statement M
 first-table-spec =
     tie.close
     (tie.spec
-    Inv-loop
-    μ-loop
-    rows-requires
-    loop-holds
-    sub-r
-    array-read-wide
-    wide-requires
-    value-at-requires
-    with-row-requires
-    loop-less
-    loop-again
-    returns)
+    Inv-loop μ-loop rows-requires loop-holds (λ c. omega arith) array-read-wide (λ c κs. tt) value-at-requires with-row-requires (λ c. omega arith)
+    loop-again returns)

@@ -5,9 +5,6 @@ use Rattle.model.specs.Matching.{phaseTable}
 use Rattle.truth.proofs.in_phase.Statement.{statement}
 use Rattle.truth.proofs.in_phase.Tie as tie
 
-complement-requires : tie.Need-complement-requires
-complement-requires c κs = search needs
-
 returns : tie.Need-returns
 returns c = cc
 
@@ -16,4 +13,6 @@ unfolding phaseTable
 returns-2 c = rw (c .if1 .left)
 
 pub in-phase-spec : {M : Type 1} → statement M
-in-phase-spec = tie.close (tie.spec complement-requires returns returns-2)
+in-phase-spec = tie.close
+    (tie.spec
+    (λ c κs. search needs) returns returns-2)

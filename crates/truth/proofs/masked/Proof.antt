@@ -8,19 +8,12 @@ use borrow.Author.Needs.{needs}
 use Rattle.truth.proofs.masked.Statement.{statement}
 use Rattle.truth.proofs.masked.Tie as tie
 
-mul-result : tie.Need-mul-result
-mul-result c = search needs
-
-shr-result : tie.Need-shr-result
-shr-result c = search needs
-
-add-result : tie.Need-add-result
-add-result c = search needs
-
 returns : tie.Need-returns
 returns c =
     let a = c .args in
     (omega (arith, literal-one (bit (a .mask) (a .j)) (a .v), one-bit (a .mask) (a .j)), omega arith)
 
 pub masked-spec : {M : Type 1} → statement M
-masked-spec = tie.close (tie.spec mul-result shr-result add-result returns)
+masked-spec = tie.close
+    (tie.spec
+    (λ c. search needs) (λ c. search needs) (λ c. search needs) returns)

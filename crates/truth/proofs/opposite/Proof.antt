@@ -7,12 +7,6 @@ use borrow.Author.Needs.{needs}
 use Rattle.truth.proofs.opposite.Statement.{statement}
 use Rattle.truth.proofs.opposite.Tie as tie
 
-sub-result : tie.Need-sub-result
-sub-result c = search needs
-
-add-result : tie.Need-add-result
-add-result c = search needs
-
 returns : tie.Need-returns
 unfolding opposite literal negated varOf
 returns c = (rw (eq-eqb _ _ (c .if1 .taken)) (omega arith), omega arith)
@@ -22,4 +16,6 @@ unfolding opposite literal negated varOf
 returns-2 c = (rw (ne-eqb _ _ (c .if1 .left)) (omega arith), omega arith)
 
 pub opposite-spec : {M : Type 1} → statement M
-opposite-spec = tie.close (tie.spec sub-result add-result returns returns-2)
+opposite-spec = tie.close
+    (tie.spec
+    (λ c. search needs) (λ c. search needs) returns returns-2)

@@ -1,9 +1,9 @@
 -- `truth::pair_table` meets its contract. The invariant: t has the rows from r on. The measure is r.
 -- Assumes nothing.
-use mathlib.Core.Path.{_≡_, refl, sym, ap, _∙_}
+use mathlib.Core.Path.{_≡_, sym, ap, _∙_}
 use mathlib.Core.Bool.{Bool}
 use mathlib.Core.List.{map}
-use Prim.Native.Nat.{ℕ, _+_, _-_, _*_, _%_, _^_, _≤_, _<_}
+use Prim.Native.Nat.{ℕ, _+_, _-_, _*_, _%_, _^_, _≤_}
 use native.Mathlib.Omega.{arith}
 use lib.Pow.{pow-mono, shl-exact}
 use Rattle.model.specs.Base.{one, bit, below}
@@ -55,9 +55,6 @@ loop-holds c =
     let e = rows-are (a .root) (a .inner) (s .pre .2) in
     (omega (arith, e), sym (ap (rowsFrom (rows (a .root) (a .inner)) (at-row (a .root) (a .pin) (a .inner))) e ∙ rows-none (rows (a .root) (a .inner)) (at-row (a .root) (a .pin) (a .inner))))
 
-sub-r-2 : tie.Need-sub-r-2 Inv-loop μ-loop
-sub-r-2 c = omega arith
-
 pair-value-requires : tie.Need-pair-value-requires Inv-loop μ-loop
 pair-value-requires c κs =
     let s = c .before .before .before .before in
@@ -69,9 +66,6 @@ with-row-requires c κs =
     let s = c .before .before .before .before .before in
     let l = c .before .before .loop in
     omega (arith, rows-small (rows (s .args .root) (s .args .inner)) (at-row (s .args .root) (s .args .pin) (s .args .inner)) (l .r) (rows-few (s .args .root) (s .args .inner) (s .pre .2)) (omega (arith, c .before .loop-test .taken)), l .inv .1)
-
-loop-less : tie.Need-loop-less Inv-loop μ-loop
-loop-less c = omega arith
 
 loop-again : tie.Need-loop-again Inv-loop μ-loop
 unfolding at-row rows pairPins
@@ -97,15 +91,4 @@ pub pair-table-spec : {M : Type 1} → statement M
 pair-table-spec =
     tie.close
     (tie.spec
-    Inv-loop
-    μ-loop
-    add-r
-    sub-r
-    shl-r
-    loop-holds
-    sub-r-2
-    pair-value-requires
-    with-row-requires
-    loop-less
-    loop-again
-    returns)
+    Inv-loop μ-loop add-r sub-r shl-r loop-holds (λ c. omega arith) pair-value-requires with-row-requires (λ c. omega arith) loop-again returns)

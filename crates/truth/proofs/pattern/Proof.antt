@@ -30,15 +30,11 @@ entry : (i : ℕ) → i < 4 → getD entries i 0 ≡ leafTable i
 unfolding right
 entry i h = eqb→eq (getD entries i 0) (leafTable i) (at right 4 all-right i h)
 
-mul-result : tie.Need-mul-result
-mul-result c = search needs
-
-array-read-result : tie.Need-array-read-result
-array-read-result c = search needs
-
 returns : tie.Need-returns
 unfolding entries
 returns c = entry (c .args .i) (c .pre)
 
 pub pattern-spec : {M : Type 1} → statement M
-pattern-spec = tie.close (tie.spec mul-result array-read-result returns)
+pattern-spec = tie.close
+    (tie.spec
+    (λ c. search needs) (λ c. search needs) returns)

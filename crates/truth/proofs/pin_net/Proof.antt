@@ -11,17 +11,11 @@ use borrow.Author.Needs.{needs}
 use Rattle.truth.proofs.pin_net.Statement.{statement}
 use Rattle.truth.proofs.pin_net.Tie as tie
 
-place-requires : tie.Need-place-requires
-place-requires c κs = search needs
-
 mul-leaf : tie.Need-mul-leaf
 mul-leaf c = omega (arith, c .place .ensures, place-small (c .before .args .order) (c .before .args .j) (c .before .pre .0) (c .before .pre .1))
 
 array-read-leaf : tie.Need-array-read-leaf
 array-read-leaf c = omega (arith, c .place .ensures, place-small (c .before .args .order) (c .before .args .j) (c .before .pre .0) (c .before .pre .1))
-
-leaf-requires : tie.Need-leaf-requires
-leaf-requires c κs = search needs
 
 masked-requires : tie.Need-masked-requires
 masked-requires c κs = (c .leaf .ensures .1, search needs)
@@ -36,4 +30,6 @@ returns c =
 
 pub pin-net-spec : {M : Type 1} → statement M
 pin-net-spec =
-    tie.close (tie.spec place-requires mul-leaf array-read-leaf leaf-requires masked-requires returns)
+    tie.close
+    (tie.spec
+    (λ c κs. search needs) mul-leaf array-read-leaf (λ c κs. search needs) masked-requires returns)

@@ -10,9 +10,6 @@ use Rattle.truth.proofs.Tables.{power}
 use Rattle.truth.proofs.pin_row.Statement.{statement}
 use Rattle.truth.proofs.pin_row.Tie as tie
 
-shl-result : tie.Need-shl-result
-shl-result c = search needs
-
 rem-result : tie.Need-rem-result
 rem-result c = omega (arith, power (c .args .pins) (c .pre), pow-pos (c .args .pins))
 
@@ -23,4 +20,6 @@ returns c =
     (e, omega (arith, e, mod-lt (a .row) (pow-pos (a .pins)), pow-mono {i = a .pins} {j = 4} (c .pre)))
 
 pub pin-row-spec : {M : Type 1} → statement M
-pin-row-spec = tie.close (tie.spec shl-result rem-result returns)
+pin-row-spec = tie.close
+    (tie.spec
+    (λ c. search needs) rem-result returns)

@@ -1,14 +1,10 @@
 -- `truth::root_bit` meets its contract, by the place of the fed pin.
 -- Assumes nothing.
 use mathlib.Core.Path.{sym, _∙_}
-use native.Mathlib.Omega.{arith}
 use borrow.Author.Needs.{needs}
 use Rattle.truth.proofs.Pairs.{bit-below, bit-at, bit-above}
 use Rattle.truth.proofs.root_bit.Statement.{statement}
 use Rattle.truth.proofs.root_bit.Tie as tie
-
-bit-requires : tie.Need-bit-requires
-bit-requires c κs = search needs
 
 returns : tie.Need-returns
 returns c =
@@ -20,19 +16,12 @@ returns-2 c =
     let a = c .before .before .args in
     sym (bit-at (a .r) (a .pin) (a .pins) (a .b) (a .j) (c .before .if1 .left) (c .if2 .taken))
 
-add-bit : tie.Need-add-bit
-add-bit c = search needs
-
-sub-bit : tie.Need-sub-bit
-sub-bit c = search needs
-
-bit-requires-2 : tie.Need-bit-requires-2
-bit-requires-2 c κs = search needs
-
 returns-3 : tie.Need-returns-3
 returns-3 c =
     let a = c .before .before .before .args in
     c .bit2 .ensures ∙ sym (bit-above (a .r) (a .pin) (a .pins) (a .b) (a .j) (c .before .before .if1 .left) (c .before .if2 .left))
 
 pub root-bit-spec : {M : Type 1} → statement M
-root-bit-spec = tie.close (tie.spec bit-requires returns returns-2 add-bit sub-bit bit-requires-2 returns-3)
+root-bit-spec = tie.close
+    (tie.spec
+    (λ c κs. search needs) returns returns-2 (λ c. search needs) (λ c. search needs) (λ c κs. search needs) returns-3)

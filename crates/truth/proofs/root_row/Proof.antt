@@ -1,6 +1,6 @@
 -- `truth::root_row` meets its contract: four bits, each put below those above it.
 -- Assumes nothing.
-use mathlib.Core.Path.{_≡_, ap, ap₂, _∙_}
+use mathlib.Core.Path.{ap, ap₂, _∙_}
 use mathlib.Core.Bool.{Bool}
 use Prim.Native.Nat.{ℕ, _+_, _*_}
 use native.Mathlib.Omega.{arith}
@@ -11,29 +11,14 @@ use Rattle.truth.proofs.Tables.{one-small}
 use Rattle.truth.proofs.root_row.Statement.{statement}
 use Rattle.truth.proofs.root_row.Tie as tie
 
-root-bit-requires : tie.Need-root-bit-requires
-root-bit-requires c κs = search needs
-
-with-row-requires : tie.Need-with-row-requires
-with-row-requires c κs = search needs
-
-root-bit-requires-2 : tie.Need-root-bit-requires-2
-root-bit-requires-2 c κs = search needs
-
 with-row-requires-2 : tie.Need-with-row-requires-2
 with-row-requires-2 c κs = let d = c .before in omega (arith, one-small (d .before .root-bit .result), d .with-row .ensures)
-
-root-bit-requires-3 : tie.Need-root-bit-requires-3
-root-bit-requires-3 c κs = search needs
 
 with-row-requires-3 : tie.Need-with-row-requires-3
 with-row-requires-3 c κs =
     let e = c .before in
     let d = e .before .before in
     omega (arith, one-small (d .before .root-bit .result), d .with-row .ensures, one-small (e .before .root-bit2 .result), e .with-row2 .ensures)
-
-root-bit-requires-4 : tie.Need-root-bit-requires-4
-root-bit-requires-4 c κs = search needs
 
 with-row-requires-4 : tie.Need-with-row-requires-4
 with-row-requires-4 c κs =
@@ -59,12 +44,5 @@ pub root-row-spec : {M : Type 1} → statement M
 root-row-spec =
     tie.close
     (tie.spec
-    root-bit-requires
-    with-row-requires
-    root-bit-requires-2
-    with-row-requires-2
-    root-bit-requires-3
-    with-row-requires-3
-    root-bit-requires-4
-    with-row-requires-4
-    returns)
+    (λ c κs. search needs) (λ c κs. search needs) (λ c κs. search needs) with-row-requires-2 (λ c κs. search needs) with-row-requires-3
+    (λ c κs. search needs) with-row-requires-4 returns)

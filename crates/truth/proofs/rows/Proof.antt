@@ -26,15 +26,11 @@ entry : (order : ℕ) → order < 24 → getD entries order [] ≡ map (rowMap (
 unfolding entries orders
 entry order h = get-map (λ (places : List ℕ). map (rowMap places) (below 16)) orders order h
 
-mul-result : tie.Need-mul-result
-mul-result c = search needs
-
-array-copy-out-result : tie.Need-array-copy-out-result
-array-copy-out-result c = search needs
-
 returns : tie.Need-returns
 unfolding entries
 returns c = entry (c .before .args .order) (c .before .pre)
 
 pub rows-spec : {M : Type 1} → statement M
-rows-spec = tie.close (tie.spec mul-result array-copy-out-result returns)
+rows-spec = tie.close
+    (tie.spec
+    (λ c. search needs) (λ c. search needs) returns)

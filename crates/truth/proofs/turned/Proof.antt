@@ -6,18 +6,6 @@ use borrow.Author.Needs.{needs}
 use Rattle.truth.proofs.turned.Statement.{statement}
 use Rattle.truth.proofs.turned.Tie as tie
 
-crossed-at-requires : tie.Need-crossed-at-requires
-crossed-at-requires c κs = search needs
-
-crossed-at-requires-2 : tie.Need-crossed-at-requires-2
-crossed-at-requires-2 c κs = search needs
-
-crossed-at-requires-3 : tie.Need-crossed-at-requires-3
-crossed-at-requires-3 c κs = search needs
-
-crossed-at-requires-4 : tie.Need-crossed-at-requires-4
-crossed-at-requires-4 c κs = search needs
-
 returns : tie.Need-returns
 unfolding turned
 returns c =
@@ -30,8 +18,4 @@ pub turned-spec : {M : Type 1} → statement M
 turned-spec =
     tie.close
     (tie.spec
-    crossed-at-requires
-    crossed-at-requires-2
-    crossed-at-requires-3
-    crossed-at-requires-4
-    returns)
+    (λ c κs. search needs) (λ c κs. search needs) (λ c κs. search needs) (λ c κs. search needs) returns)

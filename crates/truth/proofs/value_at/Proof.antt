@@ -6,9 +6,6 @@ use borrow.Author.Needs.{needs}
 use Rattle.truth.proofs.value_at.Statement.{statement}
 use Rattle.truth.proofs.value_at.Tie as tie
 
-pin-row-requires : tie.Need-pin-row-requires
-pin-row-requires c κs = search needs
-
 bit-requires : tie.Need-bit-requires
 bit-requires c κs = c .pin-row .ensures .1
 
@@ -16,4 +13,6 @@ returns : tie.Need-returns
 returns c = c .bit .ensures ∙ ap (value (c .before .before .args .table)) (c .before .pin-row .ensures .0)
 
 pub value-at-spec : {M : Type 1} → statement M
-value-at-spec = tie.close (tie.spec pin-row-requires bit-requires returns)
+value-at-spec = tie.close
+    (tie.spec
+    (λ c κs. search needs) bit-requires returns)

@@ -6,15 +6,6 @@ use Rattle.model.specs.Base.{one}
 use Rattle.truth.proofs.with_row.Statement.{statement}
 use Rattle.truth.proofs.with_row.Tie as tie
 
-mul-result : tie.Need-mul-result
-mul-result c = search needs
-
-add-result : tie.Need-add-result
-add-result c = search needs
-
-mul-result-2 : tie.Need-mul-result-2
-mul-result-2 c = search needs
-
 returns : tie.Need-returns
 unfolding one
 returns c = rw (c .if1 .taken)
@@ -24,4 +15,6 @@ unfolding one
 returns-2 c = rw (c .if1 .left) (omega arith)
 
 pub with-row-spec : {M : Type 1} → statement M
-with-row-spec = tie.close (tie.spec mul-result add-result mul-result-2 returns returns-2)
+with-row-spec = tie.close
+    (tie.spec
+    (λ c. search needs) (λ c. search needs) (λ c. search needs) returns returns-2)

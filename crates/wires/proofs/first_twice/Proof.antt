@@ -63,12 +63,6 @@ enter-requires c κs =
     let s = l .before .before in
     (omega (arith, s .pre .0 .few), omega (arith, s .pre .0 .long))
 
-add-i : tie.Need-add-i Inv-loop μ-loop
-add-i c = omega arith
-
-loop-less : tie.Need-loop-less Inv-loop μ-loop
-loop-less c = omega arith
-
 loop-again : tie.Need-loop-again Inv-loop μ-loop
 loop-again c =
     let e = c .before .before .before in
@@ -96,18 +90,5 @@ pub first-twice-spec : {M : Type 1} → statement M
 first-twice-spec =
     tie.close
     (tie.spec
-    Inv-loop
-    μ-loop
-    loop-holds
-    mul-x
-    add-x
-    mul-x-2
-    shared-slice-read-x
-    look-requires
-    add-if1
-    returns
-    enter-requires
-    add-i
-    loop-less
-    loop-again
-    returns-2)
+    Inv-loop μ-loop loop-holds mul-x add-x mul-x-2 shared-slice-read-x look-requires add-if1 returns enter-requires (λ c. omega arith)
+    (λ c. omega arith) loop-again returns-2)

@@ -8,17 +8,11 @@ use borrow.Author.Needs.{needs}
 use Rattle.wires.proofs.look.Statement.{statement}
 use Rattle.wires.proofs.look.Tie as tie
 
-input-of-requires : tie.Need-input-of-requires
-input-of-requires c κs = search needs
-
 returns : tie.Need-returns
 returns c =
     let s = c .before .before .before in
     let a = s .args in
     looked-input (a .nets .now) (a .inputs .now) (a .heads .now) (a .links .now) (a .count) (a .i) (a .x) (s .pre .1) (c .before .input-of .result) (c .before .input-of .ensures) (c .if1 .taken)
-
-head-requires : tie.Need-head-requires
-head-requires c κs = search needs
 
 find-requires : tie.Need-find-requires
 find-requires c κs =
@@ -26,9 +20,6 @@ find-requires c κs =
     let a = s .args in
     let low : headOf (a .heads .now) (a .x) ≤ a .i = s .pre .1 .below (a .x % 16381) in
     (s .pre .1 .falling, omega (arith, c .head .ensures, s .pre .2), omega (arith, c .head .ensures, s .pre .3))
-
-add-result : tie.Need-add-result
-add-result c = search needs
 
 returns-2 : tie.Need-returns-2
 returns-2 c =
@@ -63,11 +54,4 @@ pub look-spec : {M : Type 1} → statement M
 look-spec =
     tie.close
     (tie.spec
-    input-of-requires
-    returns
-    head-requires
-    find-requires
-    add-result
-    returns-2
-    add-result-2
-    returns-3)
+    (λ c κs. search needs) returns (λ c κs. search needs) find-requires (λ c. search needs) returns-2 add-result-2 returns-3)

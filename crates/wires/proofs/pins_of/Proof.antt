@@ -30,7 +30,7 @@ returns : tie.Need-returns Inv-loop μ-loop
 returns c =
     let l = c .before .before .before in
     let p = c .before .pin-of in
-    record { long = l .loop .inv .1 .long; row = λ e. absurd (false≢true e); kept = l .loop .inv .1 .kept; loose = λ e. (l .loop .j, p .ensures .used (c .if1 .taken), p .ensures .none (c .if1 .taken)) }
+    record { long = l .loop .inv .1 .long; row = λ e. absurd (false≢true e); kept = l .loop .inv .1 .kept; behind = l .loop .inv .1 .behind; loose = λ e. (l .loop .j, p .ensures .used (c .if1 .taken), p .ensures .none (c .if1 .taken)) }
 
 cast-refs : tie.Need-cast-refs Inv-loop μ-loop
 cast-refs c =
@@ -49,12 +49,6 @@ mul-refs-2 c = omega (arith, c .before .before .before .before .before .pre .0 .
 element-write-refs : tie.Need-element-write-refs Inv-loop μ-loop
 element-write-refs c = omega (arith, c .before .before .before .before .before .pre .0 .few)
 
-add-j : tie.Need-add-j Inv-loop μ-loop
-add-j c = omega arith
-
-loop-less : tie.Need-loop-less Inv-loop μ-loop
-loop-less c = omega arith
-
 loop-again : tie.Need-loop-again Inv-loop μ-loop
 loop-again c =
     let l = c .before .before .before in
@@ -62,31 +56,18 @@ loop-again c =
     let a = s .args in
     let most : c .before .pin-of .result ≤ 12 + a .n = c .before .pin-of .ensures .most in (
       omega arith,
-      filled-next (a .nets .now) (a .inputs .now) (a .count) (a .n) (a .i) (a .refs .now) (l .loop .j) (c .before .pin-of .result) (l .loop .refs) (omega (arith, s .pre .0 .few, s .pre .3)) (l .loop .inv .1)
+      filled-next (a .nets .now) (a .inputs .now) (a .count) (a .n) (a .i) (a .refs .now) (l .loop .j) (c .before .pin-of .result) (l .loop .refs) (c .before .before .loop-test .taken) (omega (arith, s .pre .0 .few, s .pre .3)) (l .loop .inv .1)
           (c .before .pin-of .ensures .pin (omega arith)),
     )
 
 returns-2 : tie.Need-returns-2 Inv-loop μ-loop
 returns-2 c =
     let l = c .before in
-    record { long = l .loop .inv .1 .long; row = λ e j h. l .loop .inv .1 .pins j (omega arith); kept = l .loop .inv .1 .kept; loose = λ e. absurd (true≢false e) }
+    record { long = l .loop .inv .1 .long; row = λ e j h. l .loop .inv .1 .pins j (omega arith); kept = l .loop .inv .1 .kept; behind = l .loop .inv .1 .behind; loose = λ e. absurd (true≢false e) }
 
 pub pins-of-spec : {M : Type 1} → statement M
 pins-of-spec =
     tie.close
     (tie.spec
-    Inv-loop
-    μ-loop
-    loop-holds
-    pin-of-requires
-    add-if1
-    returns
-    cast-refs
-    mul-refs
-    add-refs
-    mul-refs-2
-    element-write-refs
-    add-j
-    loop-less
-    loop-again
-    returns-2)
+    Inv-loop μ-loop loop-holds pin-of-requires add-if1 returns cast-refs mul-refs add-refs mul-refs-2 element-write-refs (λ c. omega arith)
+    (λ c. omega arith) loop-again returns-2)

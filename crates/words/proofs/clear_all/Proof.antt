@@ -10,12 +10,6 @@ use borrow.Author.Needs.{needs}
 use Rattle.words.proofs.clear_all.Statement.{statement}
 use Rattle.words.proofs.clear_all.Tie as tie
 
-clear-requires : tie.Need-clear-requires
-clear-requires c κs = search needs
-
-same-length : tie.Need-same-length
-same-length c = search needs
-
 returns : tie.Need-returns
 returns c =
     let w : List ℕ = c .before .before .before .before .before .args .work .now in
@@ -23,4 +17,6 @@ returns c =
     c .before .before .clear .ensures ∙ ap (λ (n : ℕ). putAt w 0 (zeros n)) e ∙ put-whole w (zeros (length w)) (length-replicate (length w) 0)
 
 pub clear-all-spec : {M : Type 1} → statement M
-clear-all-spec = tie.close (tie.spec clear-requires same-length returns)
+clear-all-spec = tie.close
+    (tie.spec
+    (λ c κs. search needs) (λ c. search needs) returns)

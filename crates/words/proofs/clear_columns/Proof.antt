@@ -8,18 +8,6 @@ use borrow.Author.Needs.{needs}
 use Rattle.words.proofs.clear_columns.Statement.{statement}
 use Rattle.words.proofs.clear_columns.Tie as tie
 
-add-clear : tie.Need-add-clear
-add-clear c = search needs
-
-mul-clear : tie.Need-mul-clear
-mul-clear c = search needs
-
-clear-requires : tie.Need-clear-requires
-clear-requires c κs = search needs
-
-same-length : tie.Need-same-length
-same-length c = search needs
-
 returns : tie.Need-returns
 returns c =
     let s = c .before .before .before .before .before .args in
@@ -27,4 +15,6 @@ returns c =
     c .before .before .clear .ensures ∙ ap (λ (n : ℕ). putAt (s .work .now) 0 (zeros n)) e
 
 pub clear-columns-spec : {M : Type 1} → statement M
-clear-columns-spec = tie.close (tie.spec add-clear mul-clear clear-requires same-length returns)
+clear-columns-spec = tie.close
+    (tie.spec
+    (λ c. search needs) (λ c. search needs) (λ c κs. search needs) (λ c. search needs) returns)

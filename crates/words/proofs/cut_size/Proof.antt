@@ -7,15 +7,11 @@ use Rattle.words.specs.Record.{cutOf, cutBy}
 use Rattle.words.proofs.cut_size.Statement.{statement}
 use Rattle.words.proofs.cut_size.Tie as tie
 
-size-at-requires : tie.Need-size-at-requires
-size-at-requires c κs = search needs
-
-word-requires : tie.Need-word-requires
-word-requires c κs = search needs
-
 returns : tie.Need-returns
 unfolding cutOf cutBy
 returns c = c .word .ensures ∙ ap (λ (i : ℕ). getD (c .before .before .before .args .work .now) i 0) (c .before .size-at .ensures)
 
 pub cut-size-spec : {M : Type 1} → statement M
-cut-size-spec = tie.close (tie.spec size-at-requires word-requires returns)
+cut-size-spec = tie.close
+    (tie.spec
+    (λ c κs. search needs) (λ c κs. search needs) returns)

@@ -5,9 +5,6 @@ use borrow.Author.Needs.{needs}
 use Rattle.words.proofs.is_needed.Statement.{statement}
 use Rattle.words.proofs.is_needed.Tie as tie
 
-needed-requires : tie.Need-needed-requires
-needed-requires c κs = search needs
-
 returns : tie.Need-returns
 unfolding isNeeded
 returns c = rw (eq-eqb _ _ (c .if1 .taken), c .before .needed .ensures)
@@ -17,4 +14,6 @@ unfolding isNeeded
 returns-2 c = rw (ne-eqb _ _ (c .if1 .left), c .before .needed .ensures)
 
 pub is-needed-spec : {M : Type 1} → statement M
-is-needed-spec = tie.close (tie.spec needed-requires returns returns-2)
+is-needed-spec = tie.close
+    (tie.spec
+    (λ c κs. search needs) returns returns-2)

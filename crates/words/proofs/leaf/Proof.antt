@@ -11,15 +11,6 @@ use Rattle.words.proofs.leaf.Tie as tie
 far : (i next : ℕ) → i + 1 ≤ 4 → (i + 1) * next ≤ 4 * next
 far i next h = mul-le-mul-right next h
 
-size-at-requires : tie.Need-size-at-requires
-size-at-requires c κs = search needs
-
-add-result : tie.Need-add-result
-add-result c = search needs
-
-column-requires : tie.Need-column-requires
-column-requires c κs = search needs
-
 mul-result : tie.Need-mul-result
 mul-result c =
     let s = c .before .before .before in
@@ -49,4 +40,6 @@ returns c =
     leaf-word (a .work .now) (a .m) (a .v) (a .k) (a .i) (t .before .size-at .result) (t .column .result) (s .pre .3) (t .before .size-at .ensures) (t .column .ensures)
 
 pub leaf-spec : {M : Type 1} → statement M
-leaf-spec = tie.close (tie.spec size-at-requires add-result column-requires mul-result add-result-2 mul-result-2 shared-slice-read-result returns)
+leaf-spec = tie.close
+    (tie.spec
+    (λ c κs. search needs) (λ c. search needs) (λ c κs. search needs) mul-result add-result-2 mul-result-2 shared-slice-read-result returns)

@@ -10,51 +10,6 @@ use Rattle.words.specs.Record.{cutOf, cutBy}
 use Rattle.words.proofs.load_cut.Statement.{statement}
 use Rattle.words.proofs.load_cut.Tie as tie
 
-size-at-requires : tie.Need-size-at-requires
-size-at-requires c κs = search needs
-
-column-requires : tie.Need-column-requires
-column-requires c κs = search needs
-
-word-requires : tie.Need-word-requires
-word-requires c κs = search needs
-
-add-a : tie.Need-add-a
-add-a c = search needs
-
-add-b : tie.Need-add-b
-add-b c = search needs
-
-add-c : tie.Need-add-c
-add-c c = search needs
-
-mul-t12 : tie.Need-mul-t12
-mul-t12 c = search needs
-
-shared-slice-read-t14 : tie.Need-shared-slice-read-t14
-shared-slice-read-t14 c = search needs
-
-mul-t15 : tie.Need-mul-t15
-mul-t15 c = search needs
-
-shared-slice-read-t17 : tie.Need-shared-slice-read-t17
-shared-slice-read-t17 c = search needs
-
-mul-t18 : tie.Need-mul-t18
-mul-t18 c = search needs
-
-shared-slice-read-t20 : tie.Need-shared-slice-read-t20
-shared-slice-read-t20 c = search needs
-
-add-t21 : tie.Need-add-t21
-add-t21 c = search needs
-
-mul-t22 : tie.Need-mul-t22
-mul-t22 c = search needs
-
-shared-slice-read-t24 : tie.Need-shared-slice-read-t24
-shared-slice-read-t24 c = search needs
-
 returns : tie.Need-returns
 unfolding cutOf cutBy
 returns c =
@@ -76,19 +31,6 @@ pub load-cut-spec : {M : Type 1} → statement M
 load-cut-spec =
     tie.close
     (tie.spec
-    size-at-requires
-    column-requires
-    word-requires
-    add-a
-    add-b
-    add-c
-    mul-t12
-    shared-slice-read-t14
-    mul-t15
-    shared-slice-read-t17
-    mul-t18
-    shared-slice-read-t20
-    add-t21
-    mul-t22
-    shared-slice-read-t24
-    returns)
+    (λ c κs. search needs) (λ c κs. search needs) (λ c κs. search needs) (λ c. search needs) (λ c. search needs) (λ c. search needs)
+    (λ c. search needs) (λ c. search needs) (λ c. search needs) (λ c. search needs) (λ c. search needs) (λ c. search needs) (λ c. search needs)
+    (λ c. search needs) (λ c. search needs) returns)

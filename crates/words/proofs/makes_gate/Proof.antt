@@ -7,17 +7,11 @@ use borrow.Author.Needs.{needs}
 use Rattle.words.proofs.makes_gate.Statement.{statement}
 use Rattle.words.proofs.makes_gate.Tie as tie
 
-is-absent-requires : tie.Need-is-absent-requires
-is-absent-requires c κs = search needs
-
 returns : tie.Need-returns
 unfolding makesGate
 returns c =
     let s = c .before .before .args .p .source in
     sym (ap (λ (b : Bool). not b && not (isOwn s)) (sym (c .before .is-absent .ensures) ∙ c .if1 .taken))
-
-is-own-requires : tie.Need-is-own-requires
-is-own-requires c κs = search needs
 
 returns-2 : tie.Need-returns-2
 unfolding makesGate
@@ -26,4 +20,6 @@ returns-2 c =
     ap not (c .is-own .ensures) ∙ sym (ap (λ (b : Bool). not b && not (isOwn s)) (sym (c .before .before .is-absent .ensures) ∙ c .before .if1 .left))
 
 pub makes-gate-spec : {M : Type 1} → statement M
-makes-gate-spec = tie.close (tie.spec is-absent-requires is-own-requires returns returns-2)
+makes-gate-spec = tie.close
+    (tie.spec
+    (λ c κs. search needs) (λ c κs. search needs) returns returns-2)

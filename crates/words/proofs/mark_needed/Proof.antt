@@ -5,35 +5,11 @@ use borrow.Author.Needs.{needs}
 use Rattle.words.proofs.mark_needed.Statement.{statement}
 use Rattle.words.proofs.mark_needed.Tie as tie
 
-needed-requires : tie.Need-needed-requires
-needed-requires c κs = search needs
-
-add-set-needed : tie.Need-add-set-needed
-add-set-needed c = search needs
-
-set-needed-requires : tie.Need-set-needed-requires
-set-needed-requires c κs = search needs
-
-mul-set-needed : tie.Need-mul-set-needed
-mul-set-needed c = search needs
-
-add-set-needed-2 : tie.Need-add-set-needed-2
-add-set-needed-2 c = search needs
-
-set-needed-requires-2 : tie.Need-set-needed-requires-2
-set-needed-requires-2 c κs = search needs
-
-same-length : tie.Need-same-length
-same-length c = search needs
-
 returns : tie.Need-returns
 unfolding putNeeded
 returns c =
     let t = c .before .before .before .before in
     rw (eq-eqb _ _ (t .if1 .taken), ← t .before .needed .ensures) (c .before .before .set-needed .ensures)
-
-same-length-2 : tie.Need-same-length-2
-same-length-2 c = search needs
 
 returns-2 : tie.Need-returns-2
 unfolding putNeeded
@@ -45,13 +21,5 @@ pub mark-needed-spec : {M : Type 1} → statement M
 mark-needed-spec =
     tie.close
     (tie.spec
-    needed-requires
-    add-set-needed
-    set-needed-requires
-    mul-set-needed
-    add-set-needed-2
-    set-needed-requires-2
-    same-length
-    returns
-    same-length-2
-    returns-2)
+    (λ c κs. search needs) (λ c. search needs) (λ c κs. search needs) (λ c. search needs) (λ c. search needs) (λ c κs. search needs)
+    (λ c. search needs) returns (λ c. search needs) returns-2)

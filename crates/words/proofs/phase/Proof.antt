@@ -6,12 +6,6 @@ use borrow.Author.Needs.{needs}
 use Rattle.words.proofs.phase.Statement.{statement}
 use Rattle.words.proofs.phase.Tie as tie
 
-negative-requires : tie.Need-negative-requires
-negative-requires c κs = search needs
-
-positive-requires : tie.Need-positive-requires
-positive-requires c κs = search needs
-
 returns : tie.Need-returns
 unfolding phaseOf negated varOf
 returns c = rw (eq-eqb _ _ (c .before .if1 .taken)) (c .negative .ensures)
@@ -21,4 +15,6 @@ unfolding phaseOf negated varOf
 returns-2 c = rw (ne-eqb _ _ (c .before .if1 .left)) (c .positive .ensures)
 
 pub phase-spec : {M : Type 1} → statement M
-phase-spec = tie.close (tie.spec negative-requires positive-requires returns returns-2)
+phase-spec = tie.close
+    (tie.spec
+    (λ c κs. search needs) (λ c κs. search needs) returns returns-2)

@@ -10,17 +10,8 @@ use borrow.Author.Needs.{needs}
 use Rattle.words.proofs.phase_words.Statement.{statement}
 use Rattle.words.proofs.phase_words.Tie as tie
 
-cast-low : tie.Need-cast-low
-cast-low c = search needs
-
-cast-high : tie.Need-cast-high
-cast-high c = search needs
-
 enum-told : tie.Need-enum-told
 enum-told c = search needs
-
-enum-known-source : tie.Need-enum-known-source
-enum-known-source c = search needs
 
 cell-word-requires : tie.Need-cell-word-requires
 cell-word-requires c κs = subst SourceFits (c .before .source .given .1) (c .before .before .before .before .before .pre)
@@ -28,17 +19,11 @@ cell-word-requires c κs = subst SourceFits (c .before .source .given .1) (c .be
 match-word-requires : tie.Need-match-word-requires
 match-word-requires c κs = subst SourceFits (c .before .before .source .given .1) (c .before .before .before .before .before .before .pre)
 
-enum-known-source-2 : tie.Need-enum-known-source-2
-enum-known-source-2 c = search needs
-
 add-t11 : tie.Need-add-t11
 add-t11 c = let h : c .before .source2 .given .0 .0 < 256 = subst SourceFits (c .before .source2 .given .1) (c .before .before .before .before .before .pre) in omega arith
 
 cast-t12 : tie.Need-cast-t12
 cast-t12 c = let h : c .before .source2 .given .0 .0 < 256 = subst SourceFits (c .before .source2 .given .1) (c .before .before .before .before .before .pre) in omega arith
-
-enum-told-2 : tie.Need-enum-told-2
-enum-told-2 c = search needs
 
 returns : tie.Need-returns
 unfolding phaseWords
@@ -64,17 +49,5 @@ pub phase-words-spec : {M : Type 1} → statement M
 phase-words-spec =
     tie.close
     (tie.spec
-    cast-low
-    cast-high
-    enum-told
-    enum-known-source
-    cell-word-requires
-    match-word-requires
-    enum-known-source-2
-    add-t11
-    cast-t12
-    enum-told-2
-    returns
-    returns-2
-    returns-3
-    returns-4)
+    (λ c. search needs) (λ c. search needs) enum-told (λ c. search needs) cell-word-requires match-word-requires (λ c. search needs) add-t11 cast-t12
+    (λ c. search needs) returns returns-2 returns-3 returns-4)

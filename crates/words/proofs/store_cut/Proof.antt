@@ -9,66 +9,6 @@ use Rattle.words.proofs.Stored.{five-stores}
 use Rattle.words.proofs.store_cut.Statement.{statement}
 use Rattle.words.proofs.store_cut.Tie as tie
 
-size-at-requires : tie.Need-size-at-requires
-size-at-requires c κs = search needs
-
-column-requires : tie.Need-column-requires
-column-requires c κs = search needs
-
-array-read-set-word : tie.Need-array-read-set-word
-array-read-set-word c = search needs
-
-set-word-requires : tie.Need-set-word-requires
-set-word-requires c κs = search needs
-
-add-set-word : tie.Need-add-set-word
-add-set-word c = search needs
-
-array-read-set-word-2 : tie.Need-array-read-set-word-2
-array-read-set-word-2 c = search needs
-
-set-word-requires-2 : tie.Need-set-word-requires-2
-set-word-requires-2 c κs = search needs
-
-mul-set-word : tie.Need-mul-set-word
-mul-set-word c = search needs
-
-add-set-word-2 : tie.Need-add-set-word-2
-add-set-word-2 c = search needs
-
-array-read-set-word-3 : tie.Need-array-read-set-word-3
-array-read-set-word-3 c = search needs
-
-set-word-requires-3 : tie.Need-set-word-requires-3
-set-word-requires-3 c κs = search needs
-
-mul-set-word-2 : tie.Need-mul-set-word-2
-mul-set-word-2 c = search needs
-
-add-set-word-3 : tie.Need-add-set-word-3
-add-set-word-3 c = search needs
-
-array-read-set-word-4 : tie.Need-array-read-set-word-4
-array-read-set-word-4 c = search needs
-
-set-word-requires-4 : tie.Need-set-word-requires-4
-set-word-requires-4 c κs = search needs
-
-mul-set-word-3 : tie.Need-mul-set-word-3
-mul-set-word-3 c = search needs
-
-add-set-word-4 : tie.Need-add-set-word-4
-add-set-word-4 c = search needs
-
-array-read-set-word-5 : tie.Need-array-read-set-word-5
-array-read-set-word-5 c = search needs
-
-set-word-requires-5 : tie.Need-set-word-requires-5
-set-word-requires-5 c κs = search needs
-
-same-length : tie.Need-same-length
-same-length c = search needs
-
 returns : tie.Need-returns
 returns c =
     let x₄ = c .before .before in
@@ -95,24 +35,7 @@ pub store-cut-spec : {M : Type 1} → statement M
 store-cut-spec =
     tie.close
     (tie.spec
-    size-at-requires
-    column-requires
-    array-read-set-word
-    set-word-requires
-    add-set-word
-    array-read-set-word-2
-    set-word-requires-2
-    mul-set-word
-    add-set-word-2
-    array-read-set-word-3
-    set-word-requires-3
-    mul-set-word-2
-    add-set-word-3
-    array-read-set-word-4
-    set-word-requires-4
-    mul-set-word-3
-    add-set-word-4
-    array-read-set-word-5
-    set-word-requires-5
-    same-length
+    (λ c κs. search needs) (λ c κs. search needs) (λ c. search needs) (λ c κs. search needs) (λ c. search needs) (λ c. search needs)
+    (λ c κs. search needs) (λ c. search needs) (λ c. search needs) (λ c. search needs) (λ c κs. search needs) (λ c. search needs) (λ c. search needs)
+    (λ c. search needs) (λ c κs. search needs) (λ c. search needs) (λ c. search needs) (λ c. search needs) (λ c κs. search needs) (λ c. search needs)
     returns)

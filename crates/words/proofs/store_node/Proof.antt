@@ -9,18 +9,6 @@ use borrow.Author.Needs.{needs}
 use Rattle.words.proofs.store_node.Statement.{statement}
 use Rattle.words.proofs.store_node.Tie as tie
 
-set-kind-requires : tie.Need-set-kind-requires
-set-kind-requires c κs = search needs
-
-set-left-requires : tie.Need-set-left-requires
-set-left-requires c κs = search needs
-
-set-right-requires : tie.Need-set-right-requires
-set-right-requires c κs = search needs
-
-same-length : tie.Need-same-length
-same-length c = search needs
-
 returns : tie.Need-returns
 unfolding putNode
 returns c =
@@ -34,4 +22,6 @@ returns c =
 
 pub store-node-spec : {M : Type 1} → statement M
 store-node-spec =
-    tie.close (tie.spec set-kind-requires set-left-requires set-right-requires same-length returns)
+    tie.close
+    (tie.spec
+    (λ c κs. search needs) (λ c κs. search needs) (λ c κs. search needs) (λ c. search needs) returns)

@@ -5,18 +5,6 @@ use borrow.Author.Needs.{needs}
 use Rattle.words.proofs.store_phase.Statement.{statement}
 use Rattle.words.proofs.store_phase.Tie as tie
 
-phase-words-requires : tie.Need-phase-words-requires
-phase-words-requires c κs = search needs
-
-slice-aggregate-put : tie.Need-slice-aggregate-put
-slice-aggregate-put c = search needs
-
-put-requires : tie.Need-put-requires
-put-requires c κs = search needs
-
-same-length : tie.Need-same-length
-same-length c = search needs
-
 returns : tie.Need-returns
 returns c =
     let called = c .before .before .before .before .before in
@@ -25,4 +13,6 @@ returns c =
 
 pub store-phase-spec : {M : Type 1} → statement M
 store-phase-spec =
-    tie.close (tie.spec phase-words-requires slice-aggregate-put put-requires same-length returns)
+    tie.close
+    (tie.spec
+    (λ c κs. search needs) (λ c. search needs) (λ c κs. search needs) (λ c. search needs) returns)

@@ -274,11 +274,11 @@ fn main() {
         "seg7_d4.st",
     ] {
         for library in ["tiny.txt", "array.txt", "full.txt"] {
-            c.add(&read(library), &read(&format!("{name}.aag")), 65536, 65536);
+            c.add(&read(library), read(&format!("{name}.aag")), 65536, 65536);
         }
         if ["sorter4.st", "gt_w2.st", "mult2.st", "seg7_d4.st"].contains(&name) {
             let cells = String::from_utf8(gen::lowest_added(read("full.txt").as_bytes())).expect("a library");
-            c.add(&cells, &read(&format!("{name}.aag")), 65536, 65536);
+            c.add(&cells, read(&format!("{name}.aag")), 65536, 65536);
         }
     }
     assert!(c.input.len() <= 262144);

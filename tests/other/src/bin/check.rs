@@ -1,5 +1,5 @@
 //! Compares the call that checks a netlist with the reference: the verdict with its two
-//! numbers, and the whole work memory with margins.
+//! numbers, and the whole work memory, at the start of its pages and at their end.
 //!
 //! `--cases N`   so many random cases after the fixed ones
 //! `--seed S`    where they come from
@@ -9,8 +9,8 @@
 
 use other::check_gen::{self, Case};
 use other::gen::{self, Rng};
-use other::memory::Memory;
-use other::{check, ours};
+use other::memory::{Memory, ReadOnly, EDGES};
+use other::{check, gaps, ours, pages};
 use std::collections::BTreeMap;
 use std::time::{Duration, Instant};
 use std::{env, fs, process};
@@ -27,44 +27,37 @@ struct Counts {
     ours: Duration,
 }
 
-/// Runs behind the boundary with the mistake on.
-fn behind<T>(mutant: u32, call: impl FnOnce() -> T) -> T {
-    #[cfg(feature = "mutants")]
-    other::mutants::switch(mutant);
-    let answer = call();
-    #[cfg(feature = "mutants")]
-    other::mutants::switch(0);
-    let _ = mutant;
-    answer
-}
-
 fn compare(case: &Case, rng: &mut Rng, counts: &mut Counts, mutant: u32) -> Result<(), String> {
     let words = case.words();
     let start = Instant::now();
     let verdict = check::check(&case.cells, &case.graph, &case.netlist, words);
     counts.reference += start.elapsed();
     let wanted = verdict.numbers();
-    let mut work = Memory::new(words, || rng.word() as u16);
-    let start = Instant::now();
-    let got = behind(mutant, || ours::check(&case.cells, &case.graph, &case.netlist, work.lent()));
-    counts.ours += start.elapsed();
     let number = if wanted[0] == 2 { wanted[1] } else { 0 };
     *counts.verdicts.entry([wanted[0], number]).or_default() += 1;
-    if got != wanted {
-        return Err(format!("{words} words: wanted {wanted:?}, got {got:?}\n"));
+    let zeros = vec![0; if verdict.leaves_work_memory() { 0 } else { words }];
+    let held = rng.words(words);
+    for edge in EDGES {
+        let [cells, graph, netlist] = [&case.cells, &case.graph, &case.netlist].map(|text| ReadOnly::new(text, edge));
+        let mut work = Memory::new(held.clone(), edge);
+        let start = Instant::now();
+        let got = ours::behind(mutant, || ours::check(&cells, &graph, &netlist, work.lent()));
+        counts.ours += start.elapsed();
+        if got != wanted {
+            return Err(format!("{words} words: wanted {wanted:?}, got {got:?}\n"));
+        }
+        if let Some(at) = work.first_change(&zeros) {
+            return Err(format!("{wanted:?}: {words} words at their pages' {edge:?} differ at {at}\n"));
+        }
     }
-    let zeros = if verdict.leaves_work_memory() { 0 } else { words };
-    match work.first_change(&vec![0; zeros]) {
-        Some(at) => Err(format!("{wanted:?}: work memory of {words} words differs at {at}\n")),
-        None => Ok(()),
-    }
+    Ok(())
 }
 
-/// The limits, and every damage of case B's netlist.
+/// The limits, and every damage of case B's netlist, with every byte at every gap.
 fn fixed() -> Vec<Case> {
     let mut cases = check_gen::limits();
     let b = cases[0].clone();
-    for netlist in gen::all_damage(gen::LISTING.as_bytes()) {
+    for netlist in gen::all_damage(gen::LISTING.as_bytes()).into_iter().chain(gaps::netlists(false)) {
         cases.push(Case { what: "damaged".into(), netlist, knows: check_gen::Known::Nothing, ..b.clone() });
     }
     cases
@@ -85,8 +78,10 @@ fn main() {
             _ => usage(&name),
         }
     }
+    pages::watch();
     let mut counts = Counts::default();
     let mut run = |name: String, case: &Case, rng: &mut Rng| {
+        pages::tell(&format!("{name}, {}", case.what));
         let Err(wrong) = compare(case, rng, &mut counts, mutant) else { return };
         fs::create_dir_all(&out).expect("the folder for the difference");
         let write = |name: &str, bytes: &[u8]| fs::write(format!("{out}/{name}"), bytes).expect("a text");

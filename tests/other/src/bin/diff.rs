@@ -1,19 +1,20 @@
 //! Compares the mapper under test with the reference: answers, the whole text
-//! memory and the whole work memory, over fixed and random cases.
+//! memory and the whole work memory, over fixed and random cases, with everything
+//! at the start of its pages and at their end.
 //!
 //! `--cases N`   so many random cases after the fixed ones
 //! `--seed S`    where the random cases come from
 //! `--only K`    the random case number K alone
-//! `--pairs`     with the feature `pairs`: the call that wants pairs of cells
+//! `--pairs`     the call that wants pairs of cells
 //! `--graphs D`  also every `.aag` and `.aig` with every library `.txt` of a folder
 //! `--out D`     where the texts of the first difference go
 //! `--trace`     name every case before it runs, to find one that ends the run
 //! `--mutant K`  with the features `self,mutants`: a mistake behind the boundary
 
 use other::gen::{self, Case, Lent, Rng};
-use other::memory::Memory;
+use other::memory::{Memory, ReadOnly, EDGES};
 use other::reference::{self, Answer};
-use other::{checks, ours, NUMBERS, WORDS_EACH};
+use other::{checks, gaps, ours, pages, NUMBERS, WORDS_EACH};
 use std::path::{Path, PathBuf};
 use std::time::{Duration, Instant};
 use std::{env, fs, process};
@@ -50,7 +51,7 @@ fn options() -> Options {
             "--graphs" => options.graphs = Some(next().into()),
             "--out" => options.out = next().into(),
             "--trace" => options.trace = true,
-            "--pairs" if cfg!(feature = "pairs") => options.pairs = true,
+            "--pairs" => options.pairs = true,
             "--mutant" => options.mutant = next().parse().unwrap_or_else(|_| usage(&name)),
             _ => usage(&name),
         }
@@ -82,7 +83,7 @@ struct Difference {
 /// Work memory of any graph that is accepted, and some more.
 const MOST_WORDS: usize = WORDS_EACH * 4_096 + 4_096 + 2_000;
 
-fn compare(case: &Case, rng: &mut Rng, tally: &mut Tally) -> Result<(), Difference> {
+fn compare(case: &Case, rng: &mut Rng, tally: &mut Tally, mutant: u32) -> Result<(), Difference> {
     let words = case.words.of(reference::words_needed(&case.graph).unwrap_or(64)).min(MOST_WORDS);
     let start = Instant::now();
     let printed = reference::print_with(&case.cells, &case.graph, &case.arrivals, words, case.pairs);
@@ -90,63 +91,41 @@ fn compare(case: &Case, rng: &mut Rng, tally: &mut Tally) -> Result<(), Differen
     let length = printed.as_ref().map_or(64, |printed| printed.text.len());
     let text_len = case.text.of(length);
     let (wanted, netlist) = reference::answer(printed, text_len);
-
-    let mut work = Memory::new(words, || rng.word() as u16);
-    let mut text = Memory::new(text_len, || rng.word() as u8);
-    let start = Instant::now();
-    let got = behind_the_boundary(case, work.lent(), text.lent());
-    tally.ours += start.elapsed();
-
-    let zeros = if reference::leaves_work_memory(wanted.number) { 0 } else { words };
-    let wrong = if got != wanted {
-        Some("the answers differ".to_string())
-    } else if let Some(at) = text.first_change(&netlist) {
-        Some(format!("text memory of {text_len} bytes differs at {at}"))
-    } else if let Some(at) = work.first_change(&vec![0; zeros]) {
-        Some(format!("work memory of {words} words differs at {at}"))
-    } else {
-        checks::as_expected(case, &wanted).err()
-    };
     tally.counts[wanted.number as usize] += 1;
-    match wrong {
-        None => Ok(()),
-        Some(wrong) => {
-            let wrong = format!("{wrong}\nlent {words} words, {text_len} bytes of text");
-            Err(Difference { wrong, wanted, got, netlist, text: text.lent().to_vec() })
-        }
+    let zeros = if reference::leaves_work_memory(wanted.number) { 0 } else { words };
+    let (held_words, held_bytes) = (rng.words(words), rng.bytes(text_len));
+    for edge in EDGES {
+        let texts = [&case.cells, &case.graph, &case.arrivals].map(|text| ReadOnly::new(text, edge));
+        let mut work = Memory::new(held_words.clone(), edge);
+        let mut text = Memory::new(held_bytes.clone(), edge);
+        let start = Instant::now();
+        let got = ours::behind(mutant, || call(case.pairs, &texts, work.lent(), text.lent()));
+        tally.ours += start.elapsed();
+        let wrong = if got != wanted {
+            "the answers differ".to_string()
+        } else if let Some(at) = text.first_change(&netlist) {
+            format!("text memory of {text_len} bytes differs at {at}")
+        } else if let Some(at) = work.first_change(&vec![0; zeros]) {
+            format!("work memory of {words} words differs at {at}")
+        } else if let Err(wrong) = checks::as_expected(case, &wanted) {
+            wrong
+        } else {
+            continue;
+        };
+        let wrong = format!("{wrong}\nlent {words} words, {text_len} bytes of text, each at its pages' {edge:?}");
+        return Err(Difference { wrong, wanted, got, netlist, text: text.after().to_vec() });
     }
+    Ok(())
 }
 
-fn call(case: &Case, work: &mut [u16], text: &mut [u8]) -> Answer {
-    #[cfg(feature = "pairs")]
-    if case.pairs {
-        return ours::map_pairs(&case.cells, &case.graph, &case.arrivals, work, text);
-    }
-    ours::map(&case.cells, &case.graph, &case.arrivals, work, text)
-}
-
-#[cfg(not(feature = "mutants"))]
-fn behind_the_boundary(case: &Case, work: &mut [u16], text: &mut [u8]) -> Answer {
-    call(case, work, text)
-}
-
-/// The mistake is switched on only behind the boundary.
-#[cfg(feature = "mutants")]
-fn behind_the_boundary(case: &Case, work: &mut [u16], text: &mut [u8]) -> Answer {
-    other::mutants::switch(MUTANT.with(|mutant| mutant.get()));
-    let answer = call(case, work, text);
-    other::mutants::switch(0);
-    answer
-}
-
-#[cfg(feature = "mutants")]
-thread_local! {
-    static MUTANT: std::cell::Cell<u32> = const { std::cell::Cell::new(0) };
+fn call(pairs: bool, [cells, graph, arrivals]: &[ReadOnly; 3], work: &mut [u16], text: &mut [u8]) -> Answer {
+    let map = if pairs { ours::map_pairs } else { ours::map };
+    map(cells, graph, arrivals, work, text)
 }
 
 /// The marked cases' texts, every limit, every graph of two inputs and two
 /// ANDs in both forms, and every damage of a small library, a small graph, a small
-/// binary graph and a small arrivals text.
+/// binary graph and a small arrivals text, with every byte at every gap.
 fn fixed() -> Vec<Case> {
     let mut cases = gen::limits();
     let graph = |lines: &[&str]| lines.iter().map(|line| format!("{line}\n")).collect::<String>().into_bytes();
@@ -183,6 +162,10 @@ fn fixed() -> Vec<Case> {
     for damaged in gen::all_damage_of_ends(b"input arrival\n1 20\n0 7\n") {
         cases.push(Case::new("damaged arrivals", plain.clone(), b.clone()).arrivals(damaged));
     }
+    cases.extend(gaps::libraries().into_iter().map(|cells| Case::new("every byte at a gap", cells, b.clone())));
+    let of = |graph: &[u8]| Case::new("every byte at a gap", plain.clone(), graph.to_vec());
+    cases.extend(gaps::graphs().iter().map(|graph| of(graph)));
+    cases.extend(gaps::arrivals().into_iter().map(|arrivals| of(&b).arrivals(arrivals)));
     let mut rng = Rng::new(4);
     for graph in gen::every_small_graph() {
         let count = gen::library_size(&mut rng);
@@ -241,8 +224,7 @@ fn folder(path: &Path) -> Vec<Case> {
 
 fn main() {
     let options = options();
-    #[cfg(feature = "mutants")]
-    MUTANT.with(|mutant| mutant.set(options.mutant));
+    pages::watch();
     if options.mutant != 0 && cfg!(not(feature = "mutants")) {
         usage("--mutant without the feature `mutants`");
     }
@@ -251,7 +233,8 @@ fn main() {
         if options.trace {
             eprintln!("{name}: {}", case.what);
         }
-        let Err(difference) = compare(case, rng, &mut tally) else { return };
+        pages::tell(&format!("{name}, {}", case.what));
+        let Err(difference) = compare(case, rng, &mut tally, options.mutant) else { return };
         let Difference { wrong, wanted, got, netlist, text } = difference;
         fs::create_dir_all(&options.out).expect("the folder for the difference");
         let write =

@@ -1,5 +1,6 @@
 //! Compares the genlib reader under test with the other one: the answer and the
-//! whole text memory, lent exactly, with more, one byte short and short by chance.
+//! whole text memory, lent exactly, with more, one byte short and short by chance, at the
+//! start of its pages and at their end.
 //!
 //! `--cases N`   so many random texts of each kind after the fixed ones
 //! `--seed S`    where they come from
@@ -9,8 +10,8 @@
 
 use other::gen::Rng;
 use other::genlib_gen::{self, Case};
-use other::reference::Answer;
-use other::{genlib, ours};
+use other::memory::{Memory, ReadOnly, EDGES};
+use other::{gaps, genlib, ours, pages};
 use std::{env, fs, process};
 
 fn usage(at: &str) -> ! {
@@ -18,42 +19,30 @@ fn usage(at: &str) -> ! {
     process::exit(2)
 }
 
-const MARGIN: usize = 32;
-
 /// What is wrong with so many bytes of text memory, if something is.
 fn compare(case: &Case, memory: usize, rng: &mut Rng, mutant: u32) -> Option<String> {
     let (wanted, cells) = genlib::cells(&case.genlib, memory);
-    let before: Vec<u8> = (0..memory + 2 * MARGIN).map(|_| rng.word() as u8).collect();
-    let mut all = before.clone();
-    let got = behind_the_boundary(&case.genlib, &mut all[MARGIN..MARGIN + memory], mutant);
-    let mut after = before;
-    after[MARGIN..MARGIN + cells.len()].copy_from_slice(&cells);
-    let differs = (0..all.len()).find(|&at| all[at] != after[at]);
     let made = match &case.expected {
         Some(Err(refusal)) => (wanted.number, wanted.value as usize) == *refusal,
         Some(Ok(text)) => wanted.value as usize == text.len() && (wanted.number == 18 || cells == *text),
         None => true,
     };
-    match differs {
-        _ if got != wanted => Some(format!("wanted {wanted:?}\ngot    {got:?}")),
-        Some(at) => Some(format!("{wanted:?}, but text memory differs at {}", at as isize - MARGIN as isize)),
-        None if !made => Some(format!("both {wanted:?}, made for {:?}", case.expected)),
-        None => None,
+    if !made {
+        return Some(format!("{wanted:?}, made for {:?}", case.expected));
     }
-}
-
-#[cfg(not(feature = "mutants"))]
-fn behind_the_boundary(genlib: &[u8], text: &mut [u8], _: u32) -> Answer {
-    ours::cells(genlib, text)
-}
-
-/// The mistake is switched on only behind the boundary.
-#[cfg(feature = "mutants")]
-fn behind_the_boundary(genlib: &[u8], text: &mut [u8], mutant: u32) -> Answer {
-    other::mutants::switch(mutant);
-    let answer = ours::cells(genlib, text);
-    other::mutants::switch(0);
-    answer
+    let held = rng.bytes(memory);
+    for edge in EDGES {
+        let genlib = ReadOnly::new(&case.genlib, edge);
+        let mut text = Memory::new(held.clone(), edge);
+        let got = ours::behind(mutant, || ours::cells(&genlib, text.lent()));
+        if got != wanted {
+            return Some(format!("wanted {wanted:?}\ngot    {got:?}"));
+        }
+        if let Some(at) = text.first_change(&cells) {
+            return Some(format!("{wanted:?}, but text memory at its pages' {edge:?} differs at {at}"));
+        }
+    }
+    None
 }
 
 fn main() {
@@ -71,8 +60,10 @@ fn main() {
             _ => usage(&name),
         }
     }
+    pages::watch();
     let mut counts = [0usize; 25];
     let mut run = |name: String, case: &Case, rng: &mut Rng| {
+        pages::tell(&format!("{name}, {}", case.what));
         let (answer, _) = genlib::cells(&case.genlib, usize::MAX);
         counts[answer.number as usize] += 1;
         let length = if answer.number == 0 { answer.value as usize } else { 64 };
@@ -86,7 +77,11 @@ fn main() {
         }
     };
     let mut rng = Rng::new(seed);
-    for (index, case) in genlib_gen::edges().iter().chain(&genlib_gen::all_damage()).enumerate() {
+    let mut fixed = genlib_gen::edges();
+    fixed.extend(genlib_gen::all_damage());
+    let gaps = gaps::genlibs().into_iter();
+    fixed.extend(gaps.map(|genlib| Case { what: "every byte at a gap".into(), genlib, expected: None }));
+    for (index, case) in fixed.iter().enumerate() {
         run(format!("fixed text {index}"), case, &mut rng);
     }
     if let Some(folder) = graphs {

@@ -1,8 +1,8 @@
 //! Compares the program `checker` with the reference: runs it in a folder of its own with
 //! `cells.txt`, `graph.aag` and `netlist.blif` and compares every byte of its standard
-//! output: `accepted`, `differs SETTING OUTPUT`, or `refused N P`. It lends 32,768 words.
+//! output: `accepted`, `differs SETTING OUTPUT`, or `refused N P`.
 //!
-//! `program_check CHECKER [CASES [SEED]]`
+//! `program_check CHECKER [CASES [SEED [WORDS]]]`: the words that the program lends, 1,036,288.
 
 use other::check::{self, Verdict};
 use other::check_gen;
@@ -13,12 +13,12 @@ use std::{env, fs};
 fn main() {
     let mut arguments = env::args().skip(1);
     let Some(program) = arguments.next() else {
-        eprintln!("use: program_check CHECKER [CASES [SEED]]");
+        eprintln!("use: program_check CHECKER [CASES [SEED [WORDS]]]");
         process::exit(2)
     };
     let program = fs::canonicalize(&program).expect("the program");
     let mut number = |other: u64| arguments.next().map_or(other, |word| word.parse().expect("a number"));
-    let (count, seed) = (number(200), number(1));
+    let (count, seed, words) = (number(200), number(1), number(1_036_288) as usize);
     let folder = env::temp_dir().join(format!("check-{}", process::id()));
     fs::create_dir_all(&folder).expect("a folder");
     let mut rng = Rng::new(seed);
@@ -35,7 +35,7 @@ fn main() {
                 fs::write(path, text).expect("a text");
             }
         }
-        let verdict = check::check(&case.cells, &case.graph, &case.netlist, 32_768);
+        let verdict = check::check(&case.cells, &case.graph, &case.netlist, words);
         let wanted = match verdict {
             Verdict::Accepted => "accepted\n".to_string(),
             Verdict::Differs { setting, output } => format!("differs {setting} {output}\n"),

@@ -16,11 +16,8 @@ use std::{env, process};
 fn run(case: &Case) -> Answer {
     let words = reference::words_needed(&case.graph).unwrap_or(64).min(600_000);
     let (mut work, mut text) = (vec![0; words], vec![0; 1 << 17]);
-    #[cfg(feature = "pairs")]
-    if case.pairs {
-        return ours::map_pairs(&case.cells, &case.graph, &case.arrivals, &mut work, &mut text);
-    }
-    ours::map(&case.cells, &case.graph, &case.arrivals, &mut work, &mut text)
+    let map = if case.pairs { ours::map_pairs } else { ours::map };
+    map(&case.cells, &case.graph, &case.arrivals, &mut work, &mut text)
 }
 
 /// The case, and some of its nets as the only output.
@@ -63,8 +60,7 @@ fn main() {
     let (mut compared, mut numbers, mut areas) = (0, BTreeMap::new(), 0);
     for number in 0..count {
         let mut rng = Rng::new(seed.wrapping_mul(0x1_0000_0001).wrapping_add(number));
-        let pairs = cfg!(feature = "pairs") && number % 3 == 0;
-        let case = if pairs { gen::pair_case(&mut rng) } else { gen::case(&mut rng) };
+        let case = if number % 3 == 0 { gen::pair_case(&mut rng) } else { gen::case(&mut rng) };
         // Libraries that are accepted, line by line the same.
         if reference::read_library(&case.cells).is_err() {
             continue;

@@ -1,5 +1,5 @@
 //! Compares the calls that count and report with the reference: after each call the
-//! answer and the whole tally or text memory, with margins.
+//! answer and the whole tally or text memory, at the start of its pages and at their end.
 //!
 //! `--sequences N`  so many sequences of netlists, each of one library and one tally
 //! `--seed S`       where they come from
@@ -8,10 +8,10 @@
 //! `--mutant K`     with the features `self,mutants`: a mistake behind the boundary
 
 use other::gen::{self, Rng};
-use other::memory::Memory;
+use other::memory::{Memory, ReadOnly, EDGES};
 use other::reference::Answer;
 use other::tally_gen::{self, Listed};
-use other::{ours, tally};
+use other::{gaps, ours, pages, tally};
 use std::collections::BTreeMap;
 use std::{env, fs, process};
 
@@ -28,36 +28,21 @@ struct Counts {
     most: u64,
 }
 
-/// Runs behind the boundary with the mistake on.
-fn behind<T>(mutant: u32, call: impl FnOnce() -> T) -> T {
-    #[cfg(feature = "mutants")]
-    other::mutants::switch(mutant);
-    let answer = call();
-    #[cfg(feature = "mutants")]
-    other::mutants::switch(0);
-    let _ = mutant;
-    answer
-}
-
 /// Counts a netlist: what is wrong, or the tally handed on.
 fn counts(cells: &[u8], netlist: &[u8], before: &[u64], mutant: u32) -> Result<(Answer, Vec<u64>), String> {
     let (wanted, after) = tally::count(cells, netlist, before);
-    let mut figures = before.iter().copied();
-    // The margins have a figure of their own.
-    let (mut at, length) = (0, before.len());
-    let mut lent = Memory::new(length, || {
-        at += 1;
-        let inside = (33..33 + length).contains(&at);
-        inside.then(|| figures.next()).flatten().unwrap_or(0x5555_0000_5555)
-    });
-    let got = behind(mutant, || ours::count(cells, netlist, lent.lent()));
-    if got != wanted {
-        return Err(format!("count: wanted {wanted:?}, got {got:?}\n"));
+    for edge in EDGES {
+        let texts = [cells, netlist].map(|text| ReadOnly::new(text, edge));
+        let mut lent = Memory::new(before.to_vec(), edge);
+        let got = ours::behind(mutant, || ours::count(&texts[0], &texts[1], lent.lent()));
+        if got != wanted {
+            return Err(format!("count: wanted {wanted:?}, got {got:?}\n"));
+        }
+        if let Some(at) = lent.first_change(&after) {
+            return Err(format!("count: {wanted:?}, the tally at its pages' {edge:?} differs at {at}\n"));
+        }
     }
-    match lent.first_change(&after) {
-        Some(at) => Err(format!("count: {wanted:?}, the tally differs at {at}\n")),
-        None => Ok((wanted, after)),
-    }
+    Ok((wanted, after))
 }
 
 /// Reports with four lengths of text memory.
@@ -66,17 +51,38 @@ fn reports(cells: &[u8], figures: &[u64], rng: &mut Rng, mutant: u32) -> Result<
     let mut last = Answer::default();
     for length in [exact.saturating_sub(1), rng.below(exact + 1), exact + 1 + rng.below(40), exact] {
         let (wanted, text) = tally::report(cells, figures, length);
-        let mut lent = Memory::new(length, || rng.word() as u8);
-        let got = behind(mutant, || ours::report(cells, figures, lent.lent()));
-        if got != wanted {
-            return Err(format!("report, {length} bytes: wanted {wanted:?}, got {got:?}\n"));
-        }
-        if let Some(at) = lent.first_change(&text) {
-            return Err(format!("report, {length} bytes: {wanted:?}, text memory differs at {at}\n"));
+        let held = rng.bytes(length);
+        for edge in EDGES {
+            let (cells, figures) = (ReadOnly::new(cells, edge), ReadOnly::new(figures, edge));
+            let mut lent = Memory::new(held.clone(), edge);
+            let got = ours::behind(mutant, || ours::report(&cells, &figures, lent.lent()));
+            if got != wanted {
+                return Err(format!("report, {length} bytes: wanted {wanted:?}, got {got:?}\n"));
+            }
+            if let Some(at) = lent.first_change(&text) {
+                return Err(format!(
+                    "report, {length} bytes at their pages' {edge:?}: {wanted:?}, they differ at {at}\n"
+                ));
+            }
         }
         last = wanted;
     }
     Ok(last)
+}
+
+/// Every byte at every gap of a netlist, with either names line: how many were compared.
+fn at_gaps(mutant: u32) -> Result<usize, String> {
+    let cells = gen::small_library();
+    let mut compared = 0;
+    for ranged in [false, true] {
+        let text = if ranged { gen::ranged_text(&cells) } else { gen::library_text(&cells) };
+        for netlist in gaps::netlists(ranged) {
+            counts(&text, &netlist, &tally::empty(), mutant)
+                .map_err(|wrong| format!("{wrong}{:?}", String::from_utf8_lossy(&netlist)))?;
+            compared += 1;
+        }
+    }
+    Ok(compared)
 }
 
 /// A sequence by its number alone.
@@ -150,7 +156,14 @@ fn main() {
         }
     }
     let mut counted = Counts::default();
+    pages::watch();
+    let gaps = if only.is_none() { at_gaps(mutant) } else { Ok(0) };
+    let gaps = gaps.unwrap_or_else(|wrong| {
+        println!("every byte at a gap: {wrong}");
+        process::exit(1)
+    });
     for number in only.map_or(0..sequences, |only| only..only + 1) {
+        pages::tell(&format!("tally --seed {seed} --only {number}"));
         sequence(seed, number, &mut counted, mutant, &out);
     }
     let Counts { numbers, kinds, most } = counted;
@@ -163,6 +176,6 @@ fn main() {
     let calls: u64 = kinds.values().sum();
     println!(
         "{sequences} sequences, {calls} netlists with as many reports of four lengths, by number (a report's with 100 added) {numbers:?}, \
-         by kind {kinds:?}, at most {most} in one tally, 0 differences"
+         by kind {kinds:?}, at most {most} in one tally, {gaps} with a byte at a gap, 0 differences"
     );
 }

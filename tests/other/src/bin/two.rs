@@ -1,22 +1,21 @@
 //! Compares the call on two channels with the reference: both answers, both text
-//! memories and the work memory, each whole and with margins, over pairs of texts and
-//! four lengths of work memory: the sum of both needs, one word short of it, more, and
-//! fewer by chance.
+//! memories and the work memory, each whole, at the start of its pages and at their end,
+//! over pairs of texts and four lengths of work memory: the sum of both needs, one word
+//! short of it, more, and fewer by chance.
 //!
 //! `--pairs N`   so many pairs of texts
 //! `--seed S`    where they come from
 //! `--only K`    the pair number K alone
 //! `--out D`     where the texts of the first difference go
-//! `--joined`    with the feature `pairs`: the call that wants pairs of cells
+//! `--joined`    the call that wants pairs of cells
 //! `--mutant K`  with the features `self,mutants`: a mistake behind the boundary
 
 use other::gen::Rng;
-use other::memory::Memory;
-use other::reference::Answer;
-use other::two::{self, Outcome, Two};
+use other::memory::{Memory, ReadOnly, EDGES};
+use other::two::{self, Channel, Outcome, Two};
 use other::two_checks::Kinds;
 use other::two_gen::{self, Pair};
-use other::{ours, NUMBERS};
+use other::{ours, pages, NUMBERS};
 use std::time::{Duration, Instant};
 use std::{env, fs, process};
 
@@ -39,46 +38,36 @@ fn compare(
         pair.channels[side].text.of(length)
     });
     let wanted = two::answers(two::together(alone.clone(), pair.needs(), words), bytes);
-    let mut work = Memory::new(words, || rng.word() as u16);
-    let mut texts = bytes.map(|length| Memory::new(length, || rng.word() as u8));
-    let start = Instant::now();
-    let got = behind_the_boundary(pair, work.lent(), texts.each_mut().map(Memory::lent), mutant);
-    *ours += start.elapsed();
-    let zeros = if wanted.zeroes { words } else { 0 };
-    let wrong = if got != wanted.answers {
-        Some("the answers differ".to_string())
-    } else if let Some(side) = (0..2).find(|&side| texts[side].first_change(&wanted.netlists[side]).is_some()) {
-        let at = texts[side].first_change(&wanted.netlists[side]);
-        Some(format!("text memory {} differs at {at:?}", side + 1))
-    } else {
-        work.first_change(&vec![0; zeros]).map(|at| format!("work memory differs at {at}"))
-    };
-    let wrong = wrong.map(|wrong| {
-        format!("{wrong}\nlent {words} words, {bytes:?} bytes\nwanted {:?}\ngot    {got:?}\n", wanted.answers)
-    });
-    (wanted, wrong)
-}
-
-fn call(pair: &Pair, work: &mut [u16], texts: [&mut [u8]; 2]) -> [Answer; 2] {
-    #[cfg(feature = "pairs")]
-    if pair.joined {
-        return ours::map_two_pairs(&pair.cells, pair.texts(), work, texts);
+    let zeros = vec![0; if wanted.zeroes { words } else { 0 }];
+    let (held_words, held_bytes) = (rng.words(words), bytes.map(|length| rng.bytes(length)));
+    for edge in EDGES {
+        let cells = ReadOnly::new(&pair.cells, edge);
+        let channels =
+            pair.texts().map(|Channel { graph, arrivals }| [graph, arrivals].map(|text| ReadOnly::new(text, edge)));
+        let mut work = Memory::new(held_words.clone(), edge);
+        let mut texts = held_bytes.clone().map(|held| Memory::new(held, edge));
+        let start = Instant::now();
+        let got = ours::behind(mutant, || {
+            let map = if pair.joined { ours::map_two_pairs } else { ours::map_two };
+            let channels = channels.each_ref().map(|[graph, arrivals]| Channel { graph, arrivals });
+            map(&cells, channels, work.lent(), texts.each_mut().map(Memory::lent))
+        });
+        *ours += start.elapsed();
+        let wrong = if got != wanted.answers {
+            Some("the answers differ".to_string())
+        } else if let Some(side) = (0..2).find(|&side| texts[side].first_change(&wanted.netlists[side]).is_some()) {
+            let at = texts[side].first_change(&wanted.netlists[side]);
+            Some(format!("text memory {} differs at {at:?}", side + 1))
+        } else {
+            work.first_change(&zeros).map(|at| format!("work memory differs at {at}"))
+        };
+        if let Some(wrong) = wrong {
+            let lent = format!("lent {words} words, {bytes:?} bytes, each at its pages' {edge:?}");
+            let told = format!("{wrong}\n{lent}\nwanted {:?}\ngot    {got:?}\n", wanted.answers);
+            return (wanted, Some(told));
+        }
     }
-    ours::map_two(&pair.cells, pair.texts(), work, texts)
-}
-
-#[cfg(not(feature = "mutants"))]
-fn behind_the_boundary(pair: &Pair, work: &mut [u16], texts: [&mut [u8]; 2], _: u32) -> [Answer; 2] {
-    call(pair, work, texts)
-}
-
-/// The mistake is switched on only behind the boundary.
-#[cfg(feature = "mutants")]
-fn behind_the_boundary(pair: &Pair, work: &mut [u16], texts: [&mut [u8]; 2], mutant: u32) -> [Answer; 2] {
-    other::mutants::switch(mutant);
-    let answers = call(pair, work, texts);
-    other::mutants::switch(0);
-    answers
+    (wanted, None)
 }
 
 fn main() {
@@ -86,7 +75,7 @@ fn main() {
     let mut arguments = env::args().skip(1);
     let mut joined = false;
     while let Some(name) = arguments.next() {
-        if name == "--joined" && cfg!(feature = "pairs") {
+        if name == "--joined" {
             joined = true;
             continue;
         }
@@ -101,12 +90,14 @@ fn main() {
             _ => usage(&name),
         }
     }
+    pages::watch();
     let (mut kinds, mut counts) = (Kinds::default(), [0u64; NUMBERS]);
     let (start, mut ours) = (Instant::now(), Duration::ZERO);
     for number in only.map_or(0..pairs, |only| only..only + 1) {
         // A pair depends on its number alone, so that it can be run alone.
         let mut rng = Rng::new(seed.wrapping_mul(0x1_0000_0001).wrapping_add(number));
         let pair = if joined { two_gen::pair_of_pairs(&mut rng) } else { two_gen::pair(&mut rng) };
+        pages::tell(&format!("two --seed {seed} --only {number}{}", if joined { " --joined" } else { "" }));
         let alone = two::alone(&pair.cells, pair.texts(), joined);
         let early = alone.each_ref().map(|outcome| two::early(outcome).map(|refusal| refusal.number));
         for words in pair.words(&mut rng) {

@@ -9,9 +9,6 @@ use Rattle.text.proofs.Words.{some-end, end-fits}
 use Rattle.text.proofs.Cursor.line_end.Statement.{statement}
 use Rattle.text.proofs.Cursor.line_end.Tie as tie
 
-ends-at-requires : tie.Need-ends-at-requires
-ends-at-requires c κs = search needs
-
 add-t7 : tie.Need-add-t7
 add-t7 c =
     let a = c .before .before .before .args in
@@ -26,4 +23,6 @@ unfolding lineEndAt
 returns-2 c = rw (some-end _ (λ e. c .if1 .left (c .before .ends-at .ensures ∙ e)), sym (c .before .ends-at .ensures))
 
 pub line-end-spec : {M : Type 1} → statement M
-line-end-spec = tie.close (tie.spec ends-at-requires add-t7 returns returns-2)
+line-end-spec = tie.close
+    (tie.spec
+    (λ c κs. search needs) add-t7 returns returns-2)

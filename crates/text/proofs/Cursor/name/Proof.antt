@@ -15,9 +15,6 @@ returns : tie.Need-returns
 unfolding nameAt
 returns c = rw (word-out _ _ (c .if1 .taken), name-empty [] refl)
 
-field-end-requires : tie.Need-field-end-requires
-field-end-requires c κs = search needs
-
 sub-is-name : tie.Need-sub-is-name
 sub-is-name c = omega (arith, c .field-end .ensures, end-from (c .before .before .before .args .s .now) (c .before .before .before .args .self .at))
 
@@ -26,9 +23,6 @@ part-is-name-start c = omega (arith, c .field-end .ensures, end-from (c .before 
 
 part-is-name-end : tie.Need-part-is-name-end
 part-is-name-end c = omega (arith, c .field-end .ensures, end-le (c .before .before .before .args .s .now) (c .before .before .before .args .self .at) (omega arith))
-
-is-name-requires : tie.Need-is-name-requires
-is-name-requires c κs = search needs
 
 returns-2 : tie.Need-returns-2
 unfolding nameAt
@@ -42,11 +36,4 @@ pub name-spec : {M : Type 1} → statement M
 name-spec =
     tie.close
     (tie.spec
-    returns
-    field-end-requires
-    sub-is-name
-    part-is-name-start
-    part-is-name-end
-    is-name-requires
-    returns-2
-    returns-3)
+    returns (λ c κs. search needs) sub-is-name part-is-name-start part-is-name-end (λ c κs. search needs) returns-2 returns-3)

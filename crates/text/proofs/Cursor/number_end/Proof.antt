@@ -6,15 +6,11 @@ use Rattle.text.specs.Fields.{numberEnd}
 use Rattle.text.proofs.Cursor.number_end.Statement.{statement}
 use Rattle.text.proofs.Cursor.number_end.Tie as tie
 
-number-requires : tie.Need-number-requires
-number-requires c κs = search needs
-
-then-end-requires : tie.Need-then-end-requires
-then-end-requires c κs = search needs
-
 returns : tie.Need-returns
 unfolding numberEnd
 returns c = rw (sym (c .before .number .ensures)) (c .then-end .ensures)
 
 pub number-end-spec : {M : Type 1} → statement M
-number-end-spec = tie.close (tie.spec number-requires then-end-requires returns)
+number-end-spec = tie.close
+    (tie.spec
+    (λ c κs. search needs) (λ c κs. search needs) returns)

@@ -6,15 +6,11 @@ use Rattle.text.specs.Fields.{numberThen}
 use Rattle.text.proofs.Cursor.number_then.Statement.{statement}
 use Rattle.text.proofs.Cursor.number_then.Tie as tie
 
-number-requires : tie.Need-number-requires
-number-requires c κs = search needs
-
-then-byte-requires : tie.Need-then-byte-requires
-then-byte-requires c κs = search needs
-
 returns : tie.Need-returns
 unfolding numberThen
 returns c = rw (sym (c .before .number .ensures)) (c .then-byte .ensures)
 
 pub number-then-spec : {M : Type 1} → statement M
-number-then-spec = tie.close (tie.spec number-requires then-byte-requires returns)
+number-then-spec = tie.close
+    (tie.spec
+    (λ c κs. search needs) (λ c κs. search needs) returns)

@@ -13,9 +13,6 @@ returns : tie.Need-returns
 unfolding tableAt
 returns c = rw (word-out _ _ (c .if1 .taken), table-empty)
 
-field-end-requires : tie.Need-field-end-requires
-field-end-requires c κs = search needs
-
 sub-hex-of : tie.Need-sub-hex-of
 sub-hex-of c = omega (arith, c .field-end .ensures, end-from (c .before .before .before .args .s .now) (c .before .before .before .args .self .at))
 
@@ -24,12 +21,6 @@ part-hex-of-start c = omega (arith, c .field-end .ensures, end-from (c .before .
 
 part-hex-of-end : tie.Need-part-hex-of-end
 part-hex-of-end c = omega (arith, c .field-end .ensures, end-le (c .before .before .before .args .s .now) (c .before .before .before .args .self .at) (omega arith))
-
-hex-of-requires : tie.Need-hex-of-requires
-hex-of-requires c κs = search needs
-
-enum-known-n : tie.Need-enum-known-n
-enum-known-n c = search needs
 
 enum-told : tie.Need-enum-told
 enum-told c = search needs
@@ -46,13 +37,5 @@ pub table-spec : {M : Type 1} → statement M
 table-spec =
     tie.close
     (tie.spec
-    returns
-    field-end-requires
-    sub-hex-of
-    part-hex-of-start
-    part-hex-of-end
-    hex-of-requires
-    enum-known-n
-    enum-told
-    returns-2
+    returns (λ c κs. search needs) sub-hex-of part-hex-of-start part-hex-of-end (λ c κs. search needs) (λ c. search needs) enum-told returns-2
     returns-3)

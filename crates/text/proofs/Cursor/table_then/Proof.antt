@@ -6,15 +6,11 @@ use Rattle.text.specs.Fields.{tableThen}
 use Rattle.text.proofs.Cursor.table_then.Statement.{statement}
 use Rattle.text.proofs.Cursor.table_then.Tie as tie
 
-table-requires : tie.Need-table-requires
-table-requires c κs = search needs
-
-then-byte-requires : tie.Need-then-byte-requires
-then-byte-requires c κs = search needs
-
 returns : tie.Need-returns
 unfolding tableThen
 returns c = rw (sym (c .before .table .ensures)) (c .then-byte .ensures)
 
 pub table-then-spec : {M : Type 1} → statement M
-table-then-spec = tie.close (tie.spec table-requires then-byte-requires returns)
+table-then-spec = tie.close
+    (tie.spec
+    (λ c κs. search needs) (λ c κs. search needs) returns)

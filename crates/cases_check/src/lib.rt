@@ -1,0 +1,1 @@
+// Computed examples: an edited netlist checked; no code.

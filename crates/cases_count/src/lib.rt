@@ -1,0 +1,1 @@
+// Computed examples: what a count refuses, by the conditions over the bytes; no code.

@@ -1,0 +1,1 @@
+// Computed examples: genlib read, and the cell text written; no code.

@@ -1,0 +1,1 @@
+// Computed examples: late inputs, names of outputs, wires and figures read back; no code.

@@ -1,0 +1,1 @@
+// Computed examples: pairs of cells, and a library's lines in another order; no code.

@@ -1,0 +1,1 @@
+// Computed examples: delays given as a range; no code.

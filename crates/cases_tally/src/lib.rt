@@ -1,0 +1,1 @@
+// Computed examples: netlists counted, and the report; no code.

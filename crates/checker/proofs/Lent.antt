@@ -1,0 +1,26 @@
+-- 1,036,288 words are enough: 124 * 4096 + 4096 for the graph, and 8 for each byte of the netlist. Assumes nothing.
+use Prim.Native.Nat.{ℕ, suc, _≤_}
+use native.Mathlib.Omega.{arith}
+use mathlib.Core.Bool.{Bool, true, false, cond}
+use mathlib.Core.List.{List, [], _∷_}
+use lib.Dec.{eqb}
+use lib.ListN.{length}
+use Rattle.model.specs.Limits.{need}
+use Rattle.model.specs.Check.{lineEnds}
+use Rattle.theory_text.proofs.ReadGraph.{header-fits}
+use Rattle.checker.specs.Enough.{Enough}
+
+ends-within : (s : List ℕ) → lineEnds s ≤ length s
+unfolding lineEnds
+ends-within [] = omega arith
+ends-within (b ∷ bs) = go (eqb b 10) (ends-within bs)
+  where
+    go : (is : Bool) → lineEnds bs ≤ length bs → cond is (suc (lineEnds bs)) (lineEnds bs) ≤ suc (length bs)
+    go true h = omega arith
+    go false h = omega arith
+
+pub lent-enough : Enough 1036288
+unfolding need
+lent-enough graph netlist h e short =
+    let fits = header-fits graph h e in
+    omega (arith, fits .size, fits .outputs, ends-within netlist)

@@ -1,0 +1,2 @@
+-- `Lent`: what `main` lends is enough.
+pub mod Lent

@@ -1,0 +1,2 @@
+-- `Enough`: the words that every check takes.
+pub mod Enough

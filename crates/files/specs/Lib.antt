@@ -1,0 +1,2 @@
+-- `Loading`: what a file that was read leaves in the buffer.
+pub mod Loading

@@ -1,0 +1,370 @@
+-- The nets of an edited netlist are judged exactly as the conditions say: a net driven again, then one that no line drives, then a circle, each at the first such
+-- line. Assumes nothing.
+use Prim.Native.Nat.{ℕ}
+use native.Mathlib.Omega.{arith}
+use mathlib.Core.Path.{_≡_, refl, sym, _∙_, ap, ap₂, subst}
+use mathlib.Core.Logic.{_⊎_, inl, inr, _↔_}
+use mathlib.Core.Bool.{Bool, true, false, not, cond}
+use mathlib.Core.Option.{Option, none, some}
+use mathlib.Core.List.{List, [], _∷_, _++_, map-append, append-nil, append-assoc, nil≢cons, head-eq-of-cons-eq, tail-eq-of-cons-eq, List·Memᴰ, List·Memᴰ·head, List·Memᴰ·tail, List·Memᴰ·not-nil, List·Memᴰ·append-cases, Memᴰ·append-left, Memᴰ·append-right}
+use lib.Dec.{T, not-T, T-not}
+use mir.Facts.{or-yes}
+use Rattle.model.specs.Base.{any}
+use Rattle.model.specs.Reading.{Read, holds, fault}
+use Rattle.model.specs.Check.{Driver, among, firstLine, drivenTwice, undriven, onCircle, unlessAt, judgeNets}
+use Rattle.theory_graph.proofs.Lists.{is-true, is-false}
+use Rattle.theory_text.proofs.Steps.{fault-never}
+use Rattle.theory_text.proofs.Faults.{in-fault}
+use Rattle.promises.specs.Refusals.{Exactly}
+use Rattle.theory_refusals.proofs.FieldForms.{yes-or}
+use Rattle.theory_refusals.proofs.Results.{on, exactly-holds, exactly-map}
+use Rattle.theory_check.specs.CheckRefusals.{FirstLine, NoLine, Again, Undriven, Feeds, direct, onward, Circling, NetsFault, twice, unfed, circle, NetsHold, Judged}
+use Rattle.theory_check.proofs.Settling.{FeedsNet, directly, through, among-in, among-out, netsOf}
+use Rattle.theory_check.proofs.Circles.{circle-found, found-circle}
+use Rattle.theory_check.proofs.Judged.{twice-none, one-driver}
+
+-- ---- the first line that passes a test, by the lines before it
+
+unfoldable firstBy : (List Driver → Driver → Bool) → List Driver → List Driver → Option ℕ
+firstBy p bs [] = none
+firstBy p bs (d ∷ ds) = let r = firstBy p (bs ++ (d ∷ [])) ds in cond (p bs d) (some (d .offset)) r
+
+-- it stands behind lines that do not pass
+record Found (p : List Driver → Driver → Bool) (bs ds : List Driver) (k : ℕ) : Type 0 where
+  before : List Driver
+  driver : Driver
+  after : List Driver
+  isAll : ds ≡ before ++ (driver ∷ after)
+  is : T (p (bs ++ before) driver)
+  first : (xs : List Driver) (d : Driver) (ys : List Driver) → before ≡ xs ++ (d ∷ ys) → ¬ T (p (bs ++ xs) d)
+  isPlace : driver .offset ≡ k
+
+abbrev Unfound : (List Driver → Driver → Bool) → List Driver → List Driver → Type 0
+Unfound p bs ds = (xs : List Driver) (d : Driver) (ys : List Driver) → ds ≡ xs ++ (d ∷ ys) → ¬ T (p (bs ++ xs) d)
+
+no-split : (xs : List Driver) (x : Driver) (ys : List Driver) → [] ≡ xs ++ (x ∷ ys) → ⊥
+no-split [] x ys z = nil≢cons z
+no-split (w ∷ xs) x ys z = nil≢cons z
+
+module _ (p : List Driver → Driver → Bool) where
+  -- a line behind the others
+  behind : (bs : List Driver) (d : Driver) (xs : List Driver) → (bs ++ (d ∷ [])) ++ xs ≡ bs ++ (d ∷ xs)
+  behind bs d xs = append-assoc bs (d ∷ []) xs
+
+  none-cons : (bs : List Driver) (x : Driver) (zs : List Driver) → (¬ T (p bs x)) → Unfound p (bs ++ (x ∷ [])) zs → Unfound p bs (x ∷ zs)
+  none-cons bs x zs n f [] d ys e t = n (subst (λ (y : Driver). T (p bs y)) (sym (head-eq-of-cons-eq e)) (subst (λ (y : List Driver). T (p y d)) (append-nil bs) t))
+  none-cons bs x zs n f (w ∷ xs) d ys e t =
+      f xs d ys (tail-eq-of-cons-eq e) (subst (λ (y : List Driver). T (p y d)) (ap (λ (z : Driver). bs ++ (z ∷ xs)) (sym (head-eq-of-cons-eq e)) ∙ sym (behind bs x xs)) t)
+
+  found : (bs ds : List Driver) (k : ℕ) → firstBy p bs ds ≡ some k → Found p bs ds k
+  unfolding firstBy
+  found bs [] k e = let z : _≡_ {A = ℕ} 0 1 = cc in absurd (omega arith)
+  found bs (d ∷ ds) k e = go (p bs d) refl e (found (bs ++ (d ∷ [])) ds k)
+    where
+      go : (b : Bool) → p bs d ≡ b → cond b (some (d .offset)) (firstBy p (bs ++ (d ∷ [])) ds) ≡ some k → (firstBy p (bs ++ (d ∷ [])) ds ≡ some k → Found p (bs ++ (d ∷ [])) ds k) → Found p bs (d ∷ ds) k
+      go true q f later = record {
+        before = [];
+        driver = d;
+        after = ds;
+        isAll = refl;
+        is = subst (λ (y : List Driver). T (p y d)) (sym (append-nil bs)) (subst T (sym q) tt);
+        first = λ xs x ys z. absurd (no-split xs x ys z);
+        isPlace = cc;
+      }
+      go false q f later =
+          let r = later f in
+          record {
+            before = d ∷ r .before;
+            driver = r .driver;
+            after = r .after;
+            isAll = ap (λ (y : List Driver). d ∷ y) (r .isAll);
+            is = subst (λ (y : List Driver). T (p y (r .driver))) (behind bs d (r .before)) (r .is);
+            first = none-cons bs d (r .before) (λ t. subst T q t) (r .first);
+            isPlace = r .isPlace;
+          }
+
+  unfound : (bs ds : List Driver) → firstBy p bs ds ≡ none → Unfound p bs ds
+  unfolding firstBy
+  unfound bs [] e = λ xs d ys z. absurd (no-split xs d ys z)
+  unfound bs (x ∷ ds) e = go (p bs x) refl e (unfound (bs ++ (x ∷ [])) ds)
+    where
+      go : (b : Bool) → p bs x ≡ b → cond b (some (x .offset)) (firstBy p (bs ++ (x ∷ [])) ds) ≡ none → (firstBy p (bs ++ (x ∷ [])) ds ≡ none → Unfound p (bs ++ (x ∷ [])) ds) → Unfound p bs (x ∷ ds)
+      go true q f later = let z : _≡_ {A = ℕ} 0 1 = cc in absurd (omega arith)
+      go false q f later = none-cons bs x ds (λ t. subst T q t) (later f)
+
+  skip : (bs : List Driver) (x : Driver) (ds : List Driver) → (¬ T (p bs x)) → firstBy p bs (x ∷ ds) ≡ firstBy p (bs ++ (x ∷ [])) ds
+  unfolding firstBy
+  skip bs x ds n = ap (λ (b : Bool). cond b (some (x .offset)) (firstBy p (bs ++ (x ∷ [])) ds)) (is-false (p bs x) (not-T (p bs x) n))
+
+  -- lines that do not pass, from the first on
+  first-fails : (bs : List Driver) (x : Driver) (zs : List Driver) → Unfound p bs (x ∷ zs) → ¬ T (p bs x)
+  first-fails bs x zs f t = f [] x zs refl (subst (λ (y : List Driver). T (p y x)) (sym (append-nil bs)) t)
+
+  later-fail : (bs : List Driver) (x : Driver) (zs : List Driver) → Unfound p bs (x ∷ zs) → Unfound p (bs ++ (x ∷ [])) zs
+  later-fail bs x zs f xs d ys e t = f (x ∷ xs) d ys (ap (λ (y : List Driver). x ∷ y) e) (subst (λ (y : List Driver). T (p y d)) (behind bs x xs) t)
+
+  finds : (bs before : List Driver) (d : Driver) (after : List Driver) → Unfound p bs before → T (p (bs ++ before) d) → firstBy p bs (before ++ (d ∷ after)) ≡ some (d .offset)
+  unfolding firstBy
+  finds bs [] d after f t = ap (λ (b : Bool). cond b (some (d .offset)) (firstBy p (bs ++ (d ∷ [])) after)) (is-true (p bs d) (subst (λ (y : List Driver). T (p y d)) (append-nil bs) t))
+  finds bs (x ∷ before) d after f t =
+      skip bs x (before ++ (d ∷ after)) (first-fails bs x before f)
+      ∙ finds (bs ++ (x ∷ [])) before d after (later-fail bs x before f) (subst (λ (y : List Driver). T (p y d)) (sym (behind bs x before)) t)
+
+  finds-none : (bs ds : List Driver) → Unfound p bs ds → firstBy p bs ds ≡ none
+  unfolding firstBy
+  finds-none bs [] f = refl
+  finds-none bs (x ∷ ds) f = skip bs x ds (first-fails bs x ds f) ∙ finds-none (bs ++ (x ∷ [])) ds (later-fail bs x ds f)
+
+-- ---- a test against its condition, for the lines of a list
+module _ (P : List Driver → Driver → Type 0) (p : List Driver → Driver → Bool) (ds : List Driver)
+    (there : (bs : List Driver) (d : Driver) (cs : List Driver) → ds ≡ bs ++ (d ∷ cs) → T (p bs d) → P bs d)
+    (back : (bs : List Driver) (d : Driver) (cs : List Driver) → ds ≡ bs ++ (d ∷ cs) → P bs d → T (p bs d)) where
+  -- a part before a line is a part of all
+  within : (before : List Driver) (e : Driver) (after xs : List Driver) (d : Driver) (ys : List Driver) → ds ≡ before ++ (e ∷ after) → before ≡ xs ++ (d ∷ ys) → ds ≡ xs ++ (d ∷ (ys ++ (e ∷ after)))
+  within before e after xs d ys a b = a ∙ ap (λ (y : List Driver). y ++ (e ∷ after)) b ∙ append-assoc xs (d ∷ ys) (e ∷ after)
+
+  first-exactly : (k : ℕ) → (firstBy p [] ds ≡ some k) ↔ FirstLine P ds k
+  first-exactly k = (form, turn)
+    where
+      form : firstBy p [] ds ≡ some k → FirstLine P ds k
+      form e =
+          let f = found p [] ds k e in
+          record {
+            before = f .before;
+            driver = f .driver;
+            after = f .after;
+            isAll = f .isAll;
+            is = there (f .before) (f .driver) (f .after) (f .isAll) (f .is);
+            first = λ xs d ys z q. f .first xs d ys z (back xs d (ys ++ (f .driver ∷ f .after)) (within (f .before) (f .driver) (f .after) xs d ys (f .isAll) z) q);
+            isPlace = f .isPlace;
+          }
+
+      turn : FirstLine P ds k → firstBy p [] ds ≡ some k
+      turn f =
+          ap (firstBy p []) (f .isAll)
+          ∙ finds p [] (f .before) (f .driver) (f .after) (λ xs d ys z t. f .first xs d ys z (there xs d (ys ++ (f .driver ∷ f .after)) (within (f .before) (f .driver) (f .after) xs d ys (f .isAll) z) t)) (back (f .before) (f .driver) (f .after) (f .isAll) (f .is))
+          ∙ ap some (f .isPlace)
+
+  none-exactly : (firstBy p [] ds ≡ none) ↔ NoLine P ds
+  none-exactly = ((λ e bs d cs z q. unfound p [] ds e bs d cs z (back bs d cs z q)), λ f. finds-none p [] ds (λ bs d cs z t. f bs d cs z (there bs d cs z t)))
+
+-- ---- the three tests
+
+line-first : (q : Driver → Bool) (bs ds : List Driver) → firstLine q ds ≡ firstBy (λ _. q) bs ds
+unfolding firstLine firstBy
+line-first q bs [] = refl
+line-first q bs (d ∷ ds) = ap (λ (r : Option ℕ). cond (q d) (some (d .offset)) r) (line-first q (bs ++ (d ∷ [])) ds)
+
+abbrev known : List (List ℕ) → List Driver → Driver → Bool
+known inputs bs d = among (d .net) (inputs ++ netsOf bs)
+
+among-same : (n : List ℕ) (ms ns : List (List ℕ)) → (List·Memᴰ n ms → List·Memᴰ n ns) → (List·Memᴰ n ns → List·Memᴰ n ms) → among n ms ≡ among n ns
+among-same n ms ns f g =
+    on (among n ms) (λ t. is-true (among n ms) t ∙ sym (among-in n ns (f (among-out n ms t))))
+    (λ t. is-false (among n ms) t ∙ sym (is-false (among n ns) (not-T (among n ns) (λ u. T-not (among n ms) t (subst T (sym (among-in n ms (g (among-out n ns u)))) tt)))))
+
+twice-first : (inputs seen : List (List ℕ)) (bs ds : List Driver) → ((n : List ℕ) → List·Memᴰ n seen ↔ List·Memᴰ n (inputs ++ netsOf bs)) → drivenTwice seen ds ≡ firstBy (known inputs) bs ds
+unfolding drivenTwice firstBy
+twice-first inputs seen bs [] h = refl
+twice-first inputs seen bs (d ∷ ds) h =
+    ap₂ (λ (b : Bool) (r : Option ℕ). cond b (some (d .offset)) r) (among-same (d .net) seen (inputs ++ netsOf bs) (h (d .net) .0) (h (d .net) .1))
+    (twice-first inputs (d .net ∷ seen) (bs ++ (d ∷ [])) ds more)
+  where
+    nets : netsOf (bs ++ (d ∷ [])) ≡ netsOf bs ++ (d .net ∷ [])
+    nets = map-append (λ (e : Driver). e .net) bs (d ∷ [])
+
+    put : (n : List ℕ) → List·Memᴰ n (inputs ++ (netsOf bs ++ (d .net ∷ []))) → List·Memᴰ n (d .net ∷ seen)
+    put n m = go (List·Memᴰ·append-cases inputs m)
+      where
+        in-nets : List·Memᴰ n (netsOf bs) ⊎ List·Memᴰ n (d .net ∷ []) → List·Memᴰ n (d .net ∷ seen)
+        in-nets (inl i) = List·Memᴰ·tail (h n .1 (Memᴰ·append-right inputs i))
+        in-nets (inr (List·Memᴰ·head e)) = List·Memᴰ·head e
+        in-nets (inr (List·Memᴰ·tail i)) = absurd (List·Memᴰ·not-nil i)
+
+        go : List·Memᴰ n inputs ⊎ List·Memᴰ n (netsOf bs ++ (d .net ∷ [])) → List·Memᴰ n (d .net ∷ seen)
+        go (inl i) = List·Memᴰ·tail (h n .1 (Memᴰ·append-left (netsOf bs) i))
+        go (inr i) = in-nets (List·Memᴰ·append-cases (netsOf bs) i)
+
+    take : (n : List ℕ) → List·Memᴰ n (d .net ∷ seen) → List·Memᴰ n (inputs ++ (netsOf bs ++ (d .net ∷ [])))
+    take n (List·Memᴰ·head e) = Memᴰ·append-right inputs (Memᴰ·append-right (netsOf bs) (List·Memᴰ·head e))
+    take n (List·Memᴰ·tail m) = go (List·Memᴰ·append-cases inputs (h n .0 m))
+      where
+        go : List·Memᴰ n inputs ⊎ List·Memᴰ n (netsOf bs) → List·Memᴰ n (inputs ++ (netsOf bs ++ (d .net ∷ [])))
+        go (inl i) = Memᴰ·append-left (netsOf bs ++ (d .net ∷ [])) i
+        go (inr i) = Memᴰ·append-right inputs (Memᴰ·append-left (d .net ∷ []) i)
+
+    more : (n : List ℕ) → List·Memᴰ n (d .net ∷ seen) ↔ List·Memᴰ n (inputs ++ netsOf (bs ++ (d ∷ [])))
+    more n = ((λ m. subst (λ (ms : List (List ℕ)). List·Memᴰ n (inputs ++ ms)) (sym nets) (take n m)), λ m. put n (subst (λ (ms : List (List ℕ)). List·Memᴰ n (inputs ++ ms)) nets m))
+
+-- ---- the conditions
+
+listed : (ds bs : List Driver) (d : Driver) (cs : List Driver) → ds ≡ bs ++ (d ∷ cs) → List·Memᴰ d ds
+listed ds bs d cs e = subst (λ (xs : List Driver). List·Memᴰ d xs) (sym e) (Memᴰ·append-right bs (List·Memᴰ·head refl))
+
+again-form : (inputs : List (List ℕ)) (bs : List Driver) (d : Driver) → T (known inputs bs d) → Again inputs bs d
+again-form inputs bs d t = List·Memᴰ·append-cases inputs (among-out (d .net) (inputs ++ netsOf bs) t)
+
+again-back : (inputs : List (List ℕ)) (bs : List Driver) (d : Driver) → Again inputs bs d → T (known inputs bs d)
+again-back inputs bs d (inl m) = subst T (sym (among-in (d .net) (inputs ++ netsOf bs) (Memᴰ·append-left (netsOf bs) m))) tt
+again-back inputs bs d (inr m) = subst T (sym (among-in (d .net) (inputs ++ netsOf bs) (Memᴰ·append-right inputs m))) tt
+
+-- a name that stands in a list not
+stray-form : (nets us : List (List ℕ)) → T (any (λ (n : List ℕ). not (among n nets)) us) → (n : List ℕ) × List·Memᴰ n us × (¬ List·Memᴰ n nets)
+unfolding any
+stray-form nets [] t = absurd t
+stray-form nets (u ∷ us) t = go (or-yes (not (among u nets)) (any (λ (n : List ℕ). not (among n nets)) us) t) (stray-form nets us)
+  where
+    go : T (not (among u nets)) ⊎ T (any (λ (n : List ℕ). not (among n nets)) us) → (T (any (λ (n : List ℕ). not (among n nets)) us) → (n : List ℕ) × List·Memᴰ n us × (¬ List·Memᴰ n nets))
+        → (n : List ℕ) × List·Memᴰ n (u ∷ us) × (¬ List·Memᴰ n nets)
+    go (inl h) later = (u, List·Memᴰ·head refl, λ m. T-not (among u nets) h (subst T (sym (among-in u nets m)) tt))
+    go (inr h) later = let r = later h in (r .0, List·Memᴰ·tail (r .1), r .2)
+
+stray-back : (nets us : List (List ℕ)) (n : List ℕ) → List·Memᴰ n us → (¬ List·Memᴰ n nets) → T (any (λ (x : List ℕ). not (among x nets)) us)
+unfolding any
+stray-back nets (u ∷ us) n (List·Memᴰ·head e) f =
+    yes-or (not (among u nets)) (any (λ (x : List ℕ). not (among x nets)) us) (inl (not-T (among u nets) (λ t. f (subst (λ (x : List ℕ). List·Memᴰ x nets) (sym e) (among-out u nets t)))))
+stray-back nets (u ∷ us) n (List·Memᴰ·tail m) f = yes-or (not (among u nets)) (any (λ (x : List ℕ). not (among x nets)) us) (inr (stray-back nets us n m f))
+
+abbrev stray : List (List ℕ) → List Driver → Driver → Bool
+stray inputs ds d = any (λ (n : List ℕ). not (among n (inputs ++ netsOf ds))) (d .uses)
+
+undriven-form : (inputs : List (List ℕ)) (ds bs : List Driver) (d : Driver) → T (stray inputs ds d) → Undriven inputs ds bs d
+undriven-form inputs ds bs d t =
+    let r = stray-form (inputs ++ netsOf ds) (d .uses) t in
+    (r .0, r .1, (λ m. r .2 (Memᴰ·append-left (netsOf ds) m)), λ m. r .2 (Memᴰ·append-right inputs m))
+
+undriven-back : (inputs : List (List ℕ)) (ds bs : List Driver) (d : Driver) → Undriven inputs ds bs d → T (stray inputs ds d)
+undriven-back inputs ds bs d u = stray-back (inputs ++ netsOf ds) (d .uses) (u .0) (u .1) (λ m. go (List·Memᴰ·append-cases inputs m))
+  where
+    go : List·Memᴰ (u .0) inputs ⊎ List·Memᴰ (u .0) (netsOf ds) → ⊥
+    go (inl m) = u .2 m
+    go (inr m) = u .3 m
+
+feeds-form : {ds : List Driver} {x y : List ℕ} → FeedsNet ds x y → Feeds ds x y
+feeds-form (directly d m u) = direct d m u
+feeds-form (through d f m u) = onward d (feeds-form f) m u
+
+feeds-back : {ds : List Driver} {x y : List ℕ} → Feeds ds x y → FeedsNet ds x y
+feeds-back (direct d m u) = directly d m u
+feeds-back (onward d f m u) = through d (feeds-back f) m u
+
+-- ---- a refusal at a line, if there is one
+
+pub exactly-at : {A : Type 0} {H : A → Type 0} {F : ℕ → ℕ → Type 0} (S : ℕ → Type 0) (N : Type 0) (o : Option ℕ) (m : ℕ) (r : Read A) → ((k : ℕ) → (o ≡ some k) ↔ S k) → (o ≡ none) ↔ N → (N → Exactly H F r)
+    → Exactly (λ a. N × H a) (λ n k. ((n ≡ m) × S k) ⊎ (N × F n k)) (unlessAt o m r)
+unfolding unlessAt
+exactly-at {A} {H} {F} S N none m r s n e = record {
+  accepts = λ a. ((λ q. (n .0 refl, e (n .0 refl) .accepts a .0 q)), λ p. e (n .0 refl) .accepts a .1 (p .1));
+  refuses = λ i k. ((λ q. inr (n .0 refl, e (n .0 refl) .refuses i k .0 q)), up i k);
+}
+  where
+    up : (i k : ℕ) → ((i ≡ m) × S k) ⊎ (N × F i k) → r ≡ fault i k
+    up i k (inl p) = let z : _≡_ {A = Option ℕ} none (some k) = s k .1 (p .1) in let y : _≡_ {A = ℕ} 0 1 = cc in absurd (omega arith)
+    up i k (inr p) = e (p .0) .refuses i k .1 (p .1)
+exactly-at {A} {H} {F} S N (some j) m r s n e = record {
+  accepts = λ a. ((λ q. absurd (fault-never q)), λ p. absurd (never (n .1 (p .0))));
+  refuses = λ i k. (down i k, up i k);
+}
+  where
+    never : _≡_ {A = Option ℕ} (some j) none → ⊥
+    never z = let y : _≡_ {A = ℕ} 0 1 = cc in omega arith
+
+    down : (i k : ℕ) → _≡_ {A = Read A} (fault m j) (fault i k) → ((i ≡ m) × S k) ⊎ (N × F i k)
+    down i k q = in-fault {A = A} (λ x y. ((x ≡ m) × S y) ⊎ (N × F x y)) m j (inl (refl, s j .0 refl)) .has i k q
+
+    up : (i k : ℕ) → ((i ≡ m) × S k) ⊎ (N × F i k) → _≡_ {A = Read A} (fault m j) (fault i k)
+    up i k (inl p) = let z : some j ≡ some k = s k .1 (p .1) in let y : j ≡ k = cc in ap₂ (λ (u v : ℕ). fault u v) (sym (p .0)) y
+    up i k (inr p) = absurd (never (n .1 (p .0)))
+
+module _ (inputs : List (List ℕ)) (ds : List Driver) where
+  twice-is : drivenTwice inputs ds ≡ firstBy (known inputs) [] ds
+  twice-is = twice-first inputs inputs [] ds (λ n. ((λ m. subst (λ (x : List (List ℕ)). List·Memᴰ n x) (sym (append-nil inputs)) m), λ m. subst (λ (x : List (List ℕ)). List·Memᴰ n x) (append-nil inputs) m))
+
+  twice-some : (k : ℕ) → (drivenTwice inputs ds ≡ some k) ↔ FirstLine (Again inputs) ds k
+  twice-some k =
+      let x = first-exactly (Again inputs) (known inputs) ds (λ bs d cs e t. again-form inputs bs d t) (λ bs d cs e q. again-back inputs bs d q) k in
+      ((λ e. x .0 (sym twice-is ∙ e)), λ f. twice-is ∙ x .1 f)
+
+  twice-not : (drivenTwice inputs ds ≡ none) ↔ NoLine (Again inputs) ds
+  twice-not =
+      let x = none-exactly (Again inputs) (known inputs) ds (λ bs d cs e t. again-form inputs bs d t) (λ bs d cs e q. again-back inputs bs d q) in
+      ((λ e. x .0 (sym twice-is ∙ e)), λ f. twice-is ∙ x .1 f)
+
+  unfed-is : undriven inputs ds ≡ firstBy (λ _. stray inputs ds) [] ds
+  unfolding undriven
+  unfed-is = line-first (stray inputs ds) [] ds
+
+  unfed-some : (k : ℕ) → (undriven inputs ds ≡ some k) ↔ FirstLine (Undriven inputs ds) ds k
+  unfed-some k =
+      let x = first-exactly (Undriven inputs ds) (λ _. stray inputs ds) ds (λ bs d cs e t. undriven-form inputs ds bs d t) (λ bs d cs e q. undriven-back inputs ds bs d q) k in
+      ((λ e. x .0 (sym unfed-is ∙ e)), λ f. unfed-is ∙ x .1 f)
+
+  unfed-not : (undriven inputs ds ≡ none) ↔ NoLine (Undriven inputs ds) ds
+  unfed-not =
+      let x = none-exactly (Undriven inputs ds) (λ _. stray inputs ds) ds (λ bs d cs e t. undriven-form inputs ds bs d t) (λ bs d cs e q. undriven-back inputs ds bs d q) in
+      ((λ e. x .0 (sym unfed-is ∙ e)), λ f. unfed-is ∙ x .1 f)
+
+  -- where each net is driven once, what `onCircle` finds is on a circle, and all that is
+  module _ (once : NoLine (Again inputs) ds) where
+    circle-form : (bs : List Driver) (d : Driver) (cs : List Driver) → ds ≡ bs ++ (d ∷ cs) → T (onCircle ds d) → Circling ds bs d
+    circle-form bs d cs e t = feeds-form (found-circle ds d (listed ds bs d cs e) (is-true (onCircle ds d) t))
+
+    circle-back : (bs : List Driver) (d : Driver) (cs : List Driver) → ds ≡ bs ++ (d ∷ cs) → Circling ds bs d → T (onCircle ds d)
+    circle-back bs d cs e f = subst T (sym (circle-found ds (one-driver ds (twice-none inputs ds (twice-not .1 once) .0)) d (listed ds bs d cs e) (feeds-back f))) tt
+
+    circle-is : firstLine (onCircle ds) ds ≡ firstBy (λ _. onCircle ds) [] ds
+    circle-is = line-first (onCircle ds) [] ds
+
+    circle-some : (k : ℕ) → (firstLine (onCircle ds) ds ≡ some k) ↔ FirstLine (Circling ds) ds k
+    circle-some k =
+        let x = first-exactly (Circling ds) (λ _. onCircle ds) ds circle-form circle-back k in
+        ((λ e. x .0 (sym circle-is ∙ e)), λ f. circle-is ∙ x .1 f)
+
+    circle-not : (firstLine (onCircle ds) ds ≡ none) ↔ NoLine (Circling ds) ds
+    circle-not =
+        let x = none-exactly (Circling ds) (λ _. onCircle ds) ds circle-form circle-back in
+        ((λ e. x .0 (sym circle-is ∙ e)), λ f. circle-is ∙ x .1 f)
+
+  abbrev All : List Driver → Type 0
+  All es = NoLine (Again inputs) ds × (NoLine (Undriven inputs ds) ds × (NoLine (Circling ds) ds × (ds ≡ es)))
+
+  abbrev Not : ℕ → ℕ → Type 0
+  Not n k =
+      ((n ≡ 33) × FirstLine (Again inputs) ds k)
+      ⊎ (NoLine (Again inputs) ds × (((n ≡ 33) × FirstLine (Undriven inputs ds) ds k) ⊎ (NoLine (Undriven inputs ds) ds × (((n ≡ 33) × FirstLine (Circling ds) ds k) ⊎ (NoLine (Circling ds) ds × ⊥)))))
+
+  all-exactly : Exactly All Not (judgeNets inputs ds)
+  unfolding judgeNets
+  all-exactly =
+      exactly-at (FirstLine (Again inputs) ds) (NoLine (Again inputs) ds) (drivenTwice inputs ds) 33 _ twice-some twice-not
+      (λ once. exactly-at (FirstLine (Undriven inputs ds) ds) (NoLine (Undriven inputs ds) ds) (undriven inputs ds) 33 _ unfed-some unfed-not
+      (λ fed. exactly-at (FirstLine (Circling ds) ds) (NoLine (Circling ds) ds) (firstLine (onCircle ds) ds) 33 (holds ds) (circle-some once) (circle-not once) (λ straight. exactly-holds ds)))
+
+  pub nets-exactly : Judged inputs ds
+  nets-exactly = exactly-map (judgeNets inputs ds) (λ es. (there es, back es)) (λ n k. (down n k, up n k)) all-exactly
+    where
+      there : (es : List Driver) → All es → NetsHold inputs ds es
+      there es p = record { once = p .0; fed = p .1 .0; straight = p .1 .1 .0; same = p .1 .1 .1 }
+
+      back : (es : List Driver) → NetsHold inputs ds es → All es
+      back es h = (h .once, (h .fed, (h .straight, h .same)))
+
+      as-33 : (n k : ℕ) → n ≡ 33 → NetsFault inputs ds 33 k → NetsFault inputs ds n k
+      as-33 n k e f = subst (λ (i : ℕ). NetsFault inputs ds i k) (sym e) f
+
+      down : (n k : ℕ) → Not n k → NetsFault inputs ds n k
+      down n k (inl p) = as-33 n k (p .0) (twice (p .1))
+      down n k (inr p) = go (p .1)
+        where
+          last : NoLine (Undriven inputs ds) ds → ((n ≡ 33) × FirstLine (Circling ds) ds k) ⊎ (NoLine (Circling ds) ds × ⊥) → NetsFault inputs ds n k
+          last fed (inl q) = as-33 n k (q .0) (circle (p .0) fed (q .1))
+          last fed (inr q) = absurd (q .1)
+
+          go : ((n ≡ 33) × FirstLine (Undriven inputs ds) ds k) ⊎ (NoLine (Undriven inputs ds) ds × (((n ≡ 33) × FirstLine (Circling ds) ds k) ⊎ (NoLine (Circling ds) ds × ⊥))) → NetsFault inputs ds n k
+          go (inl q) = as-33 n k (q .0) (unfed (p .0) (q .1))
+          go (inr q) = last (q .0) (q .1)
+
+      up : (n k : ℕ) → NetsFault inputs ds n k → Not n k
+      up n k (twice f) = inl (refl, f)
+      up n k (unfed once f) = inr (once, inl (refl, f))
+      up n k (circle once fed f) = inr (once, inr (fed, inl (refl, f)))

@@ -1,0 +1,61 @@
+-- Groups one after the other: "gate by gate", the first that is refused refuses the text. Assumes nothing.
+use Prim.Native.Nat.{ℕ, _≤_}
+use mathlib.Core.Path.{_≡_, refl, subst}
+use mathlib.Core.Logic.{_⊎_, inl, inr}
+use mathlib.Core.List.{List, [], _∷_, cons≢nil, List·Memᴰ, List·Memᴰ·head, List·Memᴰ·tail}
+use lib.ListN.{length}
+use Rattle.model.specs.Reading.{holds, next}
+use Rattle.model.specs.Genlib.{Gate, Group, readGroup, readGroups}
+use Rattle.promises.specs.Refusals.{Exactly}
+use Rattle.theory_refusals.proofs.Results.{exactly-next, exactly-holds, exactly-map}
+use Rattle.theory_foundry.proofs.GroupExactly.{GroupHolds, GroupFault, group-exactly}
+
+-- a cell for each group, in order
+pub data GroupsHold : List Group → List Gate → Type 0 where
+  noGroup : GroupsHold [] []
+  aGroup : {g : Group} {gs : List Group} {c : Gate} {cs : List Gate} → GroupHolds g c → GroupsHold gs cs → GroupsHold (g ∷ gs) (c ∷ cs)
+
+-- the first group that is refused, behind some that are not
+pub data GroupsFault : List Group → ℕ → ℕ → Type 0 where
+  thisOne : {g : Group} {gs : List Group} {n k : ℕ} → GroupFault g n k → GroupsFault (g ∷ gs) n k
+  laterOne : {g : Group} {gs : List Group} {c : Gate} {n k : ℕ} → GroupHolds g c → GroupsFault gs n k → GroupsFault (g ∷ gs) n k
+
+fault-some : {gs : List Group} {n k : ℕ} → GroupsFault gs n k → ¬ (gs ≡ [])
+fault-some (thisOne f) e = cons≢nil e
+fault-some (laterOne x f) e = cons≢nil e
+
+pub groups-exactly : (gs : List Group) → ((g : Group) → List·Memᴰ g gs → length (g .head .bytes) ≤ 65536) → Exactly (GroupsHold gs) (GroupsFault gs) (readGroups gs)
+unfolding readGroups
+groups-exactly [] short = exactly-map (holds []) (λ cs. (empty cs, back cs)) (λ n k. (absurd, none n k)) (exactly-holds [])
+  where
+    empty : (cs : List Gate) → [] ≡ cs → GroupsHold [] cs
+    empty cs e = subst (GroupsHold []) e noGroup
+
+    back : (cs : List Gate) → GroupsHold [] cs → [] ≡ cs
+    back cs noGroup = refl
+
+    none : (n k : ℕ) → GroupsFault [] n k → ⊥
+    none n k f = fault-some f refl
+groups-exactly (g ∷ gs) short =
+    exactly-map (next (readGroup g) (λ c. next (readGroups gs) (λ cs. holds (c ∷ cs)))) (λ cs. (there cs, back cs)) (λ n k. (down n k, up n k))
+    (exactly-next (λ c x ds. (cs : List Gate) × GroupsHold gs cs × (c ∷ cs ≡ ds)) (λ c x n k. GroupsFault gs n k ⊎ ((cs : List Gate) × GroupsHold gs cs × ⊥)) (readGroup g)
+    (λ c. next (readGroups gs) (λ cs. holds (c ∷ cs))) (group-exactly g (short g (List·Memᴰ·head refl)))
+    (λ c x. exactly-next (λ cs y ds. c ∷ cs ≡ ds) (λ cs y n k. ⊥) (readGroups gs) (λ cs. holds (c ∷ cs)) (groups-exactly gs (λ q m. short q (List·Memᴰ·tail m))) (λ cs y. exactly-holds (c ∷ cs))))
+  where
+    there : (ds : List Gate) → ((c : Gate) × (x : GroupHolds g c) × ((cs : List Gate) × GroupsHold gs cs × (c ∷ cs ≡ ds))) → GroupsHold (g ∷ gs) ds
+    there ds p = subst (GroupsHold (g ∷ gs)) (p .2 .2) (aGroup (p .1) (p .2 .1))
+
+    back : (ds : List Gate) → GroupsHold (g ∷ gs) ds → (c : Gate) × (x : GroupHolds g c) × ((cs : List Gate) × GroupsHold gs cs × (c ∷ cs ≡ ds))
+    back ds (aGroup {c = c} {cs} x y) = (c, x, (cs, y, refl))
+
+    down : (n k : ℕ) → GroupFault g n k ⊎ ((c : Gate) × (x : GroupHolds g c) × (GroupsFault gs n k ⊎ ((cs : List Gate) × GroupsHold gs cs × ⊥))) → GroupsFault (g ∷ gs) n k
+    down n k (inl f) = thisOne f
+    down n k (inr p) = go (p .0) (p .1) (p .2)
+      where
+        go : (c : Gate) → GroupHolds g c → GroupsFault gs n k ⊎ ((cs : List Gate) × GroupsHold gs cs × ⊥) → GroupsFault (g ∷ gs) n k
+        go c x (inl f) = laterOne x f
+        go c x (inr q) = absurd (q .2)
+
+    up : (n k : ℕ) → GroupsFault (g ∷ gs) n k → GroupFault g n k ⊎ ((c : Gate) × (x : GroupHolds g c) × (GroupsFault gs n k ⊎ ((cs : List Gate) × GroupsHold gs cs × ⊥)))
+    up n k (thisOne f) = inl f
+    up n k (laterOne {c = c} x f) = inr (c, x, inl f)

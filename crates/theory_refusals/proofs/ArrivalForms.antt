@@ -1,0 +1,302 @@
+-- The arrivals' text is read exactly where it has the form, and 25 and 26 come exactly by their conditions. Assumes nothing.
+use Prim.Native.Nat.{ℕ, _+_, _≤_, _<_}
+use native.Mathlib.Omega.{arith}
+use mathlib.Core.Path.{_≡_, refl, sym, _∙_, ap, subst}
+use mathlib.Core.Logic.{_⊎_, inl, inr, _↔_}
+use mathlib.Core.Bool.{Bool, true, false, not, false≢true, _&&_}
+use mathlib.Core.Option.{Option, none, some}
+use mathlib.Core.List.{List, [], _∷_, _++_, map, append-nil, append-assoc, nil≢cons, List·Memᴰ, List·Memᴰ·head, List·Memᴰ·tail, List·Memᴰ·not-nil}
+use lib.Dec.{T, ltb}
+use lib.ListN.{length, getD, length-append}
+use mir.Facts.{and-yes, yes-and, and-no, ltb-yes, ltb-no, not-T, T-not-not}
+use Rattle.model.specs.Base.{all, elem, same, andThen, only}
+use Rattle.model.specs.Text.{Line, ended, text, linesFrom}
+use Rattle.model.specs.Reading.{Read, holds, fault, next, unless, from?}
+use Rattle.model.specs.ArrivalsText.{Late, lateNumbers, readLate, readLateLines, readArrivals}
+use Rattle.theory_graph.proofs.Lists.{same-eq, is-true, is-false, elem-in, elem-out}
+use Rattle.theory_text.proofs.Steps.{then-out, only-out}
+use Rattle.theory_text.proofs.Plain.{Free}
+use Rattle.promises.specs.Forms.{Begins, NumberLine, Title, title, TitleLine}
+use Rattle.promises.specs.Refusals.{Exactly, LatesIn, noLate, aLate, LateFault, twentyFive, twentySix, ArrivalsFault, noTitle, atLate, ArrivalsHold}
+use Rattle.theory_refusals.proofs.LineForms.{Reads, Found, reads-line, first-split, no-line, lines-none, free-above, found-begins, begins-read}
+use Rattle.theory_refusals.proofs.Results.{Result, held, refused, exactly, unless-yes, unless-no, on, next-holds, next-fault, next-next, next-same, result-next, result-map, result-as}
+use Rattle.theory_refusals.proofs.NumberLines.{reads-late}
+
+-- ---- the first line
+
+abbrev titles : List ℕ → Option (Unit {0})
+titles w = only (same w (text "input arrival")) tt
+
+abbrev titleOf : Line → Option (Unit {0})
+titleOf l = andThen (only (ended l) (l .bytes)) titles
+
+titles-form : (w : List ℕ) (u : Unit {0}) → titles w ≡ some u → Title w u
+titles-form w u e = let p = only-out (same w (text "input arrival")) tt u e in subst (λ (x : List ℕ). Title x u) (sym (same-eq w (text "input arrival") (p .0))) title
+
+titles-back : (w : List ℕ) (u : Unit {0}) → Title w u → titles w ≡ some u
+unfolding same text only
+titles-back w u title = refl
+
+titles-free : (s : ℕ) → s < 32 → (w : List ℕ) (u : Unit {0}) → Title w u → Free s w
+unfolding text all
+titles-free s h w u title = free-above s h (text "input arrival") tt
+
+reads-title : Reads titleOf TitleLine
+reads-title = reads-line false titles Title titleOf (λ l. refl) titles-form titles-back titles-free
+
+abbrev isTitle : Line → Bool
+isTitle l = ended l && same (l .bytes) (text "input arrival")
+
+title-is : (l : Line) → titleOf l ≡ some tt → T (isTitle l)
+title-is l e =
+    let o = then-out (only (ended l) (l .bytes)) titles tt e in
+    let p = only-out (ended l) (l .bytes) (o .0) (o .1) in
+    let q = only-out (same (o .0) (text "input arrival")) tt tt (o .2) in
+    yes-and (ended l) (same (l .bytes) (text "input arrival")) (p .0) (subst (λ (x : List ℕ). T (same x (text "input arrival"))) (sym (p .1)) (q .0))
+
+is-title : (l : Line) → T (isTitle l) → titleOf l ≡ some tt
+unfolding andThen only
+is-title l t =
+    let p = and-yes (ended l) (same (l .bytes) (text "input arrival")) t in
+    through (ended l) (p .0) ∙ ap (λ (b : Bool). only {A = Unit {0}} b (tt {0})) (is-true (same (l .bytes) (text "input arrival")) (p .1))
+  where
+    through : (e : Bool) → T e → andThen (only e (l .bytes)) titles ≡ titles (l .bytes)
+    through true u = refl
+    through false u = absurd u
+
+-- ---- 26
+
+abbrev indexes : List Late → List ℕ
+indexes es = map (λ (e : Late). e .index) es
+
+abbrev Known : List ℕ → List Late → Type 0
+Known before es = (v : ℕ) → List·Memᴰ v before ↔ List·Memᴰ v (indexes es)
+
+abbrev isGood : ℕ → List ℕ → ℕ → Bool
+isGood inputs before index = ltb index inputs && not (elem index before)
+
+good-form : (inputs : ℕ) (before : List ℕ) (es : List Late) (index : ℕ) → Known before es → T (isGood inputs before index) → (index < inputs) × (¬ List·Memᴰ index (indexes es))
+good-form inputs before es index known t =
+    let p = and-yes (ltb index inputs) (not (elem index before)) t in
+    (ltb-yes (p .0), λ m. false≢true (sym (is-false (elem index before) (p .1)) ∙ elem-in index before (known index .1 m)))
+
+good-back : (inputs : ℕ) (before : List ℕ) (es : List Late) (index : ℕ) → Known before es → T (not (isGood inputs before index)) → (inputs ≤ index) ⊎ List·Memᴰ index (indexes es)
+good-back inputs before es index known t = go (and-no (ltb index inputs) (not (elem index before)) t)
+  where
+    go : T (not (ltb index inputs)) ⊎ T (not (not (elem index before))) → (inputs ≤ index) ⊎ List·Memᴰ index (indexes es)
+    go (inl u) = inl (ltb-no u)
+    go (inr u) = inr (known index .0 (elem-out index before (is-true (elem index before) (T-not-not (elem index before) u))))
+
+known-more : (before : List ℕ) (es : List Late) (e : Late) → Known before es → Known (e .index ∷ before) (es ++ (e ∷ []))
+known-more before es e known v = (there, back)
+  where
+    front : (xs : List Late) → List·Memᴰ v (indexes xs) → List·Memᴰ v (indexes (xs ++ (e ∷ [])))
+    front (x ∷ xs) (List·Memᴰ·head q) = List·Memᴰ·head q
+    front (x ∷ xs) (List·Memᴰ·tail m) = List·Memᴰ·tail (front xs m)
+
+    last : (xs : List Late) → v ≡ e .index → List·Memᴰ v (indexes (xs ++ (e ∷ [])))
+    last [] q = List·Memᴰ·head q
+    last (x ∷ xs) q = List·Memᴰ·tail (last xs q)
+
+    out : (xs : List Late) → List·Memᴰ v (indexes (xs ++ (e ∷ []))) → (v ≡ e .index) ⊎ List·Memᴰ v (indexes xs)
+    out [] (List·Memᴰ·head q) = inl q
+    out [] (List·Memᴰ·tail m) = absurd (List·Memᴰ·not-nil m)
+    out (x ∷ xs) (List·Memᴰ·head q) = inr (List·Memᴰ·head q)
+    out (x ∷ xs) (List·Memᴰ·tail m) = go (out xs m)
+      where
+        go : (v ≡ e .index) ⊎ List·Memᴰ v (indexes xs) → (v ≡ e .index) ⊎ List·Memᴰ v (indexes (x ∷ xs))
+        go (inl q) = inl q
+        go (inr n) = inr (List·Memᴰ·tail n)
+
+    there : List·Memᴰ v (e .index ∷ before) → List·Memᴰ v (indexes (es ++ (e ∷ [])))
+    there (List·Memᴰ·head q) = last es q
+    there (List·Memᴰ·tail m) = front es (known v .0 m)
+
+    back : List·Memᴰ v (indexes (es ++ (e ∷ []))) → List·Memᴰ v (e .index ∷ before)
+    back m = go (out es m)
+      where
+        go : (v ≡ e .index) ⊎ List·Memᴰ v (indexes es) → List·Memᴰ v (e .index ∷ before)
+        go (inl q) = List·Memᴰ·head q
+        go (inr n) = List·Memᴰ·tail (known v .1 n)
+
+-- two numbers
+two : {s ns : List ℕ} → NumberLine false 2 s ns → ns ≡ getD ns 0 0 ∷ getD ns 1 0 ∷ []
+two {ns = ns} l = go ns (l .is .count)
+  where
+    go : (xs : List ℕ) → length xs ≡ 2 → xs ≡ getD xs 0 0 ∷ getD xs 1 0 ∷ []
+    go [] e = let z : ⊥ = omega arith in absurd z
+    go (x ∷ []) e = let z : ⊥ = omega arith in absurd z
+    go (x ∷ y ∷ []) e = refl
+    go (x ∷ y ∷ z ∷ xs) e = let w : ⊥ = omega arith in absurd w
+
+-- ---- the lines
+
+module _ (inputs : ℕ) where
+  abbrev lateOf : List ℕ → Late
+  lateOf ns = record { index = getD ns 0 0; arrival = getD ns 1 0 }
+
+  abbrev later : List ℕ → List Line → List ℕ → Read (List Late)
+  later before ls ns = next (readLate inputs (getD ns 0 0 ∷ before) ls) (λ es. holds (lateOf ns ∷ es))
+
+  abbrev judged : List ℕ → List Line → ℕ → List ℕ → Read (List Late)
+  judged before ls at ns = unless (isGood inputs before (getD ns 0 0)) 26 at (later before ls ns)
+
+  late-line : (before : List ℕ) (l : Line) (ls : List Line) (ns : List ℕ) → lateNumbers l ≡ some ns → readLate inputs before (l ∷ ls) ≡ judged before ls (l .offset) ns
+  unfolding readLate from? next
+  late-line before l ls ns e = ap (λ (o : Option (List ℕ)). next (from? o 25 (l .offset)) (judged before ls (l .offset))) e
+
+  late-none : (before : List ℕ) (l : Line) (ls : List Line) → lateNumbers l ≡ none → readLate inputs before (l ∷ ls) ≡ fault 25 (l .offset)
+  unfolding readLate from? next
+  late-none before l ls e = ap (λ (o : Option (List ℕ)). next (from? o 25 (l .offset)) (judged before ls (l .offset))) e
+
+  late-passes : (before : List ℕ) (l : Line) (ls : List Line) (ns : List ℕ) → lateNumbers l ≡ some ns → T (isGood inputs before (getD ns 0 0)) → readLate inputs before (l ∷ ls) ≡ later before ls ns
+  late-passes before l ls ns e a = late-line before l ls ns e ∙ unless-yes (isGood inputs before (getD ns 0 0)) 26 (l .offset) _ a
+
+  record Run (s : List ℕ) (es : List Late) : Type 0 where
+    before : List ℕ
+    known : Known before es
+    run : (rest : List ℕ) → readArrivals inputs (s ++ rest) ≡ next (readLate inputs before (linesFrom (length s) [] rest)) (λ ds. holds (es ++ ds))
+
+  late-run : {s : List ℕ} {es : List Late} → LatesIn inputs s es → Run s es
+  unfolding readArrivals readLateLines
+  late-run (noLate {s} t) = record {
+    before = [];
+    known = λ v. ((λ n. absurd (List·Memᴰ·not-nil n)), λ n. absurd (List·Memᴰ·not-nil n));
+    run = λ rest.
+        let b = reads-title .back 0 s rest tt t in
+        ap (readLateLines inputs) (b .lines ∙ ap (λ (n : ℕ). b .line ∷ linesFrom n [] rest) (let q : 0 + length s ≡ length s = omega arith in q))
+        ∙ unless-yes (isTitle (b .line)) 25 (b .line .offset) (readLate inputs [] (linesFrom (length s) [] rest)) (title-is (b .line) (b .read))
+        ∙ sym (next-holds (readLate inputs [] (linesFrom (length s) [] rest)));
+  }
+  late-run (aLate {s} {l} {es} {index} {arrival} lines line inside new) = more (late-run lines)
+    where
+      more : Run s es → Run (s ++ l) (es ++ (record { index = index; arrival = arrival } ∷ []))
+      more r = record {
+        before = index ∷ r .before;
+        known = known-more (r .before) es (record { index = index; arrival = arrival }) (r .known);
+        run = λ rest.
+            let b = reads-late .back (length s) l rest (index ∷ arrival ∷ []) line in
+            let ls = linesFrom (length s + length l) [] rest in
+            ap (readArrivals inputs) (append-assoc s l rest)
+            ∙ r .run (l ++ rest)
+            ∙ ap (λ (xs : List Line). next (readLate inputs (r .before) xs) (λ ds. holds (es ++ ds))) (b .lines)
+            ∙ ap (λ (x : Read (List Late)). next x (λ ds. holds (es ++ ds)))
+            (late-passes (r .before) (b .line) ls (index ∷ arrival ∷ []) (b .read) (on (isGood inputs (r .before) index) (λ t. t) (λ t. absurd (out (good-back inputs (r .before) es index (r .known) t)))))
+            ∙ next-next (readLate inputs (index ∷ r .before) ls) (λ ds. record { index = index; arrival = arrival } ∷ ds) (λ ds. es ++ ds)
+            ∙ next-same (readLate inputs (index ∷ r .before) ls) (λ ds. es ++ (record { index = index; arrival = arrival } ∷ ds)) (λ ds. (es ++ (record { index = index; arrival = arrival } ∷ [])) ++ ds)
+            (λ ds. sym (append-assoc es (record { index = index; arrival = arrival } ∷ []) ds))
+            ∙ ap (λ (n : ℕ). next (readLate inputs (index ∷ r .before) (linesFrom n [] rest)) (λ ds. holds ((es ++ (record { index = index; arrival = arrival } ∷ [])) ++ ds))) (sym (length-append s l));
+      }
+        where
+          out : (inputs ≤ index) ⊎ List·Memᴰ index (indexes es) → ⊥
+          out (inl h) = omega arith
+          out (inr m) = new m
+
+  late-fault : (before : List ℕ) (es : List Late) → Known before es → (at : ℕ) (t : List ℕ) (l : Line) (ls : List Line) (n : ℕ) → linesFrom at [] t ≡ l ∷ ls → LateFault inputs es t n
+      → readLate inputs before (l ∷ ls) ≡ fault n (l .offset)
+  late-fault before es known at t l ls n e (twentyFive x) = go (lateNumbers l) refl
+    where
+      go : (o : Option (List ℕ)) → lateNumbers l ≡ o → readLate inputs before (l ∷ ls) ≡ fault 25 (l .offset)
+      go none f = late-none before l ls f
+      go (some ns) f = absurd (x (ns, found-begins reads-late (reads-late .form at t l ls e ns f)))
+  late-fault before es known at t l ls n e (twentySix {index} {arrival} b x) =
+      late-line before l ls (index ∷ arrival ∷ []) (begins-read reads-late at t l ls e (index ∷ arrival ∷ []) b)
+      ∙ unless-no (isGood inputs before index) 26 (l .offset) _ (not-T (isGood inputs before index) (λ u. out (good-form inputs before es index known u) x))
+    where
+      out : (index < inputs) × (¬ List·Memᴰ index (indexes es)) → (inputs ≤ index) ⊎ List·Memᴰ index (indexes es) → ⊥
+      out p (inl h) = let q : index < inputs = p .0 in omega arith
+      out p (inr m) = p .1 m
+
+  late-result : (ls : List Line) (s rest : List ℕ) (es : List Late) (before : List ℕ) → LatesIn inputs s es → Known before es → linesFrom (length s) [] rest ≡ ls
+      → Result (λ ds. LatesIn inputs (s ++ rest) (es ++ ds)) (ArrivalsFault inputs (s ++ rest)) (readLate inputs before ls)
+  unfolding readLate linesFrom
+  late-result [] s rest es before lines known e =
+      held (subst (λ (x : List ℕ). LatesIn inputs x (es ++ [])) (sym (append-nil s) ∙ ap (λ (y : List ℕ). s ++ y) (sym (lines-none (length s) rest e))) (subst (LatesIn inputs s) (sym (append-nil es)) lines))
+  late-result (l ∷ ls) s rest es before lines known e = go (lateNumbers l) refl (late-result ls)
+    where
+      Here : Read (List Late) → Type 0
+      Here = Result (λ ds. LatesIn inputs (s ++ rest) (es ++ ds)) (ArrivalsFault inputs (s ++ rest))
+
+      whole : Read (List Late)
+      whole = readLate inputs before (l ∷ ls)
+
+      fails : (n : ℕ) → whole ≡ fault n (l .offset) → LateFault inputs es rest n → Here whole
+      fails n f x =
+          result-as (fault n (length s)) whole (f ∙ ap (fault n) (first-split (length s) rest l ls e .offset)) (refused (atLate lines (λ z. nil≢cons (sym (ap (linesFrom (length s) []) z) ∙ e)) x))
+
+      Later : Type 0
+      Later = (s′ rest′ : List ℕ) (es′ : List Late) (before′ : List ℕ) → LatesIn inputs s′ es′ → Known before′ es′ → linesFrom (length s′) [] rest′ ≡ ls
+          → Result (λ ds. LatesIn inputs (s′ ++ rest′) (es′ ++ ds)) (ArrivalsFault inputs (s′ ++ rest′)) (readLate inputs before′ ls)
+
+      accepted : (ns : List ℕ) → lateNumbers l ≡ some ns → T (isGood inputs before (getD ns 0 0)) → Found (NumberLine false 2) (length s) rest ls ns → Later → Here whole
+      accepted ns f a x ih =
+          let text-is : (s ++ x .front) ++ x .behind ≡ s ++ rest = append-assoc s (x .front) (x .behind) ∙ ap (λ (y : List ℕ). s ++ y) (sym (x .whole)) in
+          let good = good-form inputs before es (getD ns 0 0) known a in
+          let r = ih (s ++ x .front) (x .behind) (es ++ (lateOf ns ∷ [])) (getD ns 0 0 ∷ before)
+          (aLate lines (subst (NumberLine false 2 (x .front)) (two (x .is)) (x .is)) (good .0) (good .1)) (known-more before es (lateOf ns) known)
+          (ap (λ (n : ℕ). linesFrom n [] (x .behind)) (length-append s (x .front)) ∙ x .later) in
+          result-as (later before ls ns) whole (late-passes before l ls ns f a)
+          (result-next (readLate inputs (getD ns 0 0 ∷ before) ls) (λ ds. lateOf ns ∷ ds)
+          (λ ds h. subst (λ (y : List ℕ). LatesIn inputs y (es ++ (lateOf ns ∷ ds))) text-is (subst (LatesIn inputs ((s ++ x .front) ++ x .behind)) (append-assoc es (lateOf ns ∷ []) ds) h))
+          (λ n k h. subst (λ (y : List ℕ). ArrivalsFault inputs y n k) text-is h) r)
+
+      go : (o : Option (List ℕ)) → lateNumbers l ≡ o → Later → Here whole
+      go none f ih =
+          fails 25 (late-none before l ls f)
+          (twentyFive (λ p. let z : none ≡ some (p .0) = sym f ∙ begins-read reads-late (length s) rest l ls e (p .0) (p .1) in let y : false ≡ true = cc in false≢true y))
+      go (some ns) f ih =
+          let x = reads-late .form (length s) rest l ls e ns f in
+          on (isGood inputs before (getD ns 0 0))
+          (λ t. accepted ns f t x ih)
+          (λ t. fails 26 (late-line before l ls ns f ∙ unless-no (isGood inputs before (getD ns 0 0)) 26 (l .offset) _ t)
+          (twentySix (subst (Begins (NumberLine false 2) rest) (two (x .is)) (found-begins reads-late x)) (good-back inputs before es (getD ns 0 0) known t)))
+
+  result : (t : List ℕ) → Result (ArrivalsHold inputs t) (ArrivalsFault inputs t) (readArrivals inputs t)
+  unfolding readArrivals readLateLines
+  result t = go (linesFrom 0 [] t) refl
+    where
+      go : (ls : List Line) → linesFrom 0 [] t ≡ ls → Result (ArrivalsHold inputs t) (ArrivalsFault inputs t) (readLateLines inputs ls)
+      go [] e = held (inl (lines-none 0 t e, refl))
+      go (l ∷ ls) e = on (isTitle l) yes? no?
+        where
+          yes? : T (isTitle l) → Result (ArrivalsHold inputs t) (ArrivalsFault inputs t) (readLateLines inputs (l ∷ ls))
+          yes? u =
+              let x = reads-title .form 0 t l ls e tt (is-title l u) in
+              result-as (readLate inputs [] ls) (readLateLines inputs (l ∷ ls)) (unless-yes (isTitle l) 25 (l .offset) (readLate inputs [] ls) u)
+              (result-map (readLate inputs [] ls) (λ ds h. inr (subst (λ (y : List ℕ). LatesIn inputs y ds) (sym (x .whole)) h)) (λ n k h. subst (λ (y : List ℕ). ArrivalsFault inputs y n k) (sym (x .whole)) h)
+              (late-result ls (x .front) (x .behind) [] [] (noLate (x .is)) (λ v. ((λ n. absurd (List·Memᴰ·not-nil n)), λ n. absurd (List·Memᴰ·not-nil n)))
+              (ap (λ (n : ℕ). linesFrom n [] (x .behind)) (let q : length (x .front) ≡ 0 + length (x .front) = omega arith in q) ∙ x .later)))
+
+          no? : T (not (isTitle l)) → Result (ArrivalsHold inputs t) (ArrivalsFault inputs t) (readLateLines inputs (l ∷ ls))
+          no? u =
+              result-as (fault 25 0) (readLateLines inputs (l ∷ ls)) (unless-no (isTitle l) 25 (l .offset) (readLate inputs [] ls) u ∙ ap (fault 25) (first-split 0 t l ls e .offset))
+              (refused (noTitle (λ z. none-lines z) (λ p. lib.Dec.T-not (isTitle l) u (title-is l (begins-read reads-title 0 t l ls e tt (p .1))))))
+            where
+              none-lines : t ≡ [] → ⊥
+              none-lines z = no-line 0 l ls (sym (ap (linesFrom 0 []) z) ∙ e)
+
+  arrivals-held : (t : List ℕ) (es : List Late) → ArrivalsHold inputs t es → readArrivals inputs t ≡ holds es
+  unfolding readArrivals readLateLines readLate linesFrom next
+  arrivals-held t es (inl h) = ap (readArrivals inputs) (h .0) ∙ ap holds (sym (h .1))
+  arrivals-held t es (inr h) = ap (readArrivals inputs) (sym (append-nil t)) ∙ late-run h .run [] ∙ ap holds (append-nil es)
+
+  arrivals-refused : (t : List ℕ) (n k : ℕ) → ArrivalsFault inputs t n k → readArrivals inputs t ≡ fault n k
+  unfolding readArrivals readLateLines
+  arrivals-refused t n k (noTitle some? x) = go (linesFrom 0 [] t) refl
+    where
+      go : (ls : List Line) → linesFrom 0 [] t ≡ ls → readLateLines inputs ls ≡ fault 25 0
+      go [] e = absurd (some? (lines-none 0 t e))
+      go (l ∷ ls) e =
+          unless-no (isTitle l) 25 (l .offset) (readLate inputs [] ls) (not-T (isTitle l) (λ u. x (tt, found-begins reads-title (reads-title .form 0 t l ls e tt (is-title l u)))))
+          ∙ ap (fault 25) (first-split 0 t l ls e .offset)
+  arrivals-refused t n k (atLate {s} {t = u} {es} lines some? f) = let r = late-run lines in r .run u ∙ go (r .before) (r .known) (linesFrom (length s) [] u) refl
+    where
+      go : (before : List ℕ) → Known before es → (ls : List Line) → linesFrom (length s) [] u ≡ ls → next (readLate inputs before ls) (λ ds. holds (es ++ ds)) ≡ fault n (length s)
+      go before known [] e = absurd (some? (lines-none (length s) u e))
+      go before known (l ∷ ls) e =
+          next-fault (readLate inputs before (l ∷ ls)) (λ ds. holds (es ++ ds)) n (length s)
+          (late-fault before es known (length s) u l ls n e f ∙ ap (fault n) (first-split (length s) u l ls e .offset))
+
+  -- the arrivals, whole
+  pub arrivals-exactly : (t : List ℕ) → Exactly (ArrivalsHold inputs t) (ArrivalsFault inputs t) (readArrivals inputs t)
+  arrivals-exactly t = exactly (readArrivals inputs t) (result t) (arrivals-held t) (arrivals-refused t)

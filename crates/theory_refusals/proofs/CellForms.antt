@@ -1,0 +1,316 @@
+-- A cell line is read exactly where its bytes have the form, and with the form's meaning; and the tests of 5, 6 and 27 are their conditions. Assumes nothing.
+use Prim.Native.Nat.{ℕ, zero, suc, _/_, _%_, _^_, _≤_, _<_}
+use native.Mathlib.Omega.{arith}
+use mathlib.Core.Path.{_≡_, refl, sym, _∙_, ap, ap₂, subst}
+use mathlib.Core.Bool.{Bool, true, false, cond, true≢false, _&&_}
+use mathlib.Core.Option.{Option, some}
+use mathlib.Core.List.{List, [], _∷_, _++_, append-nil}
+use lib.Dec.{T, eqb, leb, ltb, lit<}
+use lib.ListN.{length, getD, take, drop, length-append, length-take, length-drop, take-append-drop}
+use mir.Facts.{and-yes, yes-and, eqb-yes, yes-eqb, no-eqb, leb-yes, yes-leb, ltb-yes, yes-ltb}
+use Rattle.model.specs.Base.{bit, all, andThen, only}
+use Rattle.model.specs.Text.{ended, fields, numbers, hexTable}
+use Rattle.model.specs.Text.{isName as isNamed}
+use Rattle.model.specs.LibraryText.{nameBytes, cellOfFields, cellOfLine, isClean, noLower}
+use Rattle.model.specs.declared.Cell.{Cell}
+use Rattle.theory_graph.proofs.Lists.{is-true, is-false}
+use Rattle.theory_text.proofs.Steps.{then-out, only-out}
+use Rattle.theory_text.proofs.Plain.{Free}
+use Rattle.promises.specs.Forms.{Name, Numbers, Table, Lows, given, same as sameLows, CellFields, CellLine, joined}
+use Rattle.promises.specs.Forms.Numbers.{none as noNumbers, one as aNumber}
+use Rattle.promises.specs.Refusals.{Clean, Ranged}
+use Rattle.theory_refusals.proofs.FieldForms.{AllFree, joins, number-free, name-form, name-back, name-free, numbers-form, numbers-back, numbers-count, numbers-free, table-form, table-back, table-free, fields-joined, joined-free}
+use Rattle.theory_refusals.proofs.LineForms.{Reads, reads-line}
+
+-- ---- lists
+
+take-all : {A : Type 0} (n : ℕ) (xs : List A) → length xs ≡ n → take n xs ≡ xs
+take-all zero [] e = refl
+take-all zero (x ∷ xs) e = let z : ⊥ = omega arith in absurd z
+take-all (suc n) [] e = refl
+take-all (suc n) (x ∷ xs) e = ap (λ (ys : List _). x ∷ ys) (take-all n xs (omega arith))
+
+take-front : {A : Type 0} (n : ℕ) (xs ys : List A) → length xs ≡ n → take n (xs ++ ys) ≡ xs
+take-front zero [] ys e = refl
+take-front zero (x ∷ xs) ys e = let z : ⊥ = omega arith in absurd z
+take-front (suc n) [] ys e = let z : ⊥ = omega arith in absurd z
+take-front (suc n) (x ∷ xs) ys e = ap (λ (zs : List _). x ∷ zs) (take-front n xs ys (omega arith))
+
+drop-front : {A : Type 0} (n : ℕ) (xs ys : List A) → length xs ≡ n → drop n (xs ++ ys) ≡ ys
+drop-front zero [] ys e = refl
+drop-front zero (x ∷ xs) ys e = let z : ⊥ = omega arith in absurd z
+drop-front (suc n) [] ys e = let z : ⊥ = omega arith in absurd z
+drop-front (suc n) (x ∷ xs) ys e = drop-front n xs ys (omega arith)
+
+numbers-take : (k : ℕ) {ws : List (List ℕ)} {ns : List ℕ} → Numbers ws ns → Numbers (take k ws) (take k ns)
+numbers-take zero p = noNumbers
+numbers-take (suc k) noNumbers = noNumbers
+numbers-take (suc k) (aNumber p q) = aNumber p (numbers-take k q)
+
+numbers-drop : (k : ℕ) {ws : List (List ℕ)} {ns : List ℕ} → Numbers ws ns → Numbers (drop k ws) (drop k ns)
+numbers-drop zero p = p
+numbers-drop (suc k) noNumbers = noNumbers
+numbers-drop (suc k) (aNumber p q) = numbers-drop k q
+
+numbers-append : {ws vs : List (List ℕ)} {ns ms : List ℕ} → Numbers ws ns → Numbers vs ms → Numbers (ws ++ vs) (ns ++ ms)
+numbers-append noNumbers q = q
+numbers-append (aNumber p r) q = aNumber p (numbers-append r q)
+
+-- ---- the fields of a cell
+
+abbrev made : Bool → List ℕ → List ℕ → ℕ → Cell
+made ranged w ns table = record {
+  name = nameBytes w;
+  len = length w;
+  pins = getD ns 0 0;
+  table = table;
+  area = getD ns 1 0;
+  delays = take 4 (drop 2 ns);
+  lows = drop (cond ranged 6 2) ns;
+}
+
+-- what is read of four fields and the delays
+abbrev readFields : Bool → List ℕ → List ℕ → List ℕ → List (List ℕ) → Option Cell
+readFields ranged w p t rest =
+    andThen (only (eqb (suc (suc (suc (length rest)))) (cond ranged 12 8) && isNamed w) (w ∷ p ∷ t ∷ rest)) (λ _.
+    andThen (numbers (p ∷ rest)) (λ ns.
+    andThen (hexTable t) (λ table. only (leb (getD ns 0 0) 4) (made ranged w ns table))))
+
+cell-fields : (ranged : Bool) (w p t : List ℕ) (rest : List (List ℕ)) → cellOfFields ranged (w ∷ p ∷ t ∷ rest) ≡ readFields ranged w p t rest
+unfolding cellOfFields
+cell-fields ranged w p t rest = refl
+
+few-fields : (ranged : Bool) (ws : List (List ℕ)) (c : Cell) → cellOfFields ranged ws ≡ some c → length ws ≡ cond ranged 12 8
+unfolding cellOfFields
+few-fields ranged ws c e =
+    let o = then-out (only (eqb (length ws) (cond ranged 12 8) && isNamed (getD ws 0 [])) ws) _ c e in
+    let p = only-out (eqb (length ws) (cond ranged 12 8) && isNamed (getD ws 0 [])) ws (o .0) (o .1) in
+    eqb-yes (and-yes (eqb (length ws) (cond ranged 12 8)) (isNamed (getD ws 0 [])) (p .0) .0)
+
+-- the numbers of a line apart: pins, area, and the delays
+form-made : (ranged : Bool) (w p t : List ℕ) (rest : List (List ℕ)) (ns : List ℕ) (table : ℕ) → length rest ≡ cond ranged 9 5 → Name w → Numbers (p ∷ rest) ns → Table t table → getD ns 0 0 ≤ 4
+    → CellFields ranged (joined (w ∷ p ∷ t ∷ rest)) (made ranged w ns table)
+unfolding nameBytes
+form-made true w p t (a ∷ ds) (n ∷ m ∷ ms) table count named (aNumber hp (aNumber ha q)) tab few =
+    let long : length ms ≡ 8 = omega (arith, numbers-count q) in
+    record {
+      nameField = w;
+      pinsField = p;
+      tableField = t;
+      areaField = a;
+      delayFields = take 4 ds;
+      lowFields = drop 4 ds;
+      whole = ap (λ (fs : List (List ℕ)). joined (w ∷ p ∷ t ∷ a ∷ fs)) (sym (take-append-drop 4 ds));
+      isName = named;
+      name = refl;
+      len = refl;
+      pins = hp;
+      few = few;
+      table = tab;
+      area = ha;
+      delays = numbers-take 4 q;
+      four = omega (arith, length-take 4 ms);
+      lows = given (numbers-drop 4 q) (omega (arith, length-drop 4 ms));
+    }
+form-made false w p t (a ∷ ds) (n ∷ m ∷ ms) table count named (aNumber hp (aNumber ha q)) tab few =
+    let long : length ms ≡ 4 = omega (arith, numbers-count q) in
+    record {
+      nameField = w;
+      pinsField = p;
+      tableField = t;
+      areaField = a;
+      delayFields = ds;
+      lowFields = [];
+      whole = ap (λ (fs : List (List ℕ)). joined (w ∷ p ∷ t ∷ a ∷ fs)) (sym (append-nil ds));
+      isName = named;
+      name = refl;
+      len = refl;
+      pins = hp;
+      few = few;
+      table = tab;
+      area = ha;
+      delays = subst (Numbers ds) (sym (take-all 4 ms long)) q;
+      four = omega (arith, length-take 4 ms);
+      lows = subst (λ (ls : List ℕ). Lows false [] (take 4 ms) ls) (take-all 4 ms long) sameLows;
+    }
+form-made true w p t (a ∷ ds) (n ∷ []) table count named q tab few = let z : ⊥ = omega (arith, numbers-count q) in absurd z
+form-made false w p t (a ∷ ds) (n ∷ []) table count named q tab few = let z : ⊥ = omega (arith, numbers-count q) in absurd z
+form-made true w p t [] ns table count named q tab few = let z : ⊥ = omega arith in absurd z
+form-made false w p t [] ns table count named q tab few = let z : ⊥ = omega arith in absurd z
+
+fields-form : (ranged : Bool) (w : List ℕ) (c : Cell) → cellOfFields ranged (fields w) ≡ some c → CellFields ranged w c
+fields-form ranged w c e =
+    let j = joins w in
+    let f : cellOfFields ranged (j .first ∷ j .others) ≡ some c = ap (cellOfFields ranged) (sym (j .areFields)) ∙ e in
+    subst (λ (x : List ℕ). CellFields ranged x c) (sym (j .isWhole)) (many (j .first) (j .others) f (few-fields ranged (j .first ∷ j .others) c f))
+  where
+    small : (r : Bool) (n : ℕ) → n < 3 → n ≡ cond r 12 8 → ⊥
+    small true n h e = omega arith
+    small false n h e = omega arith
+
+    left : (r : Bool) (n : ℕ) → suc (suc (suc n)) ≡ cond r 12 8 → n ≡ cond r 9 5
+    left true n e = omega arith
+    left false n e = omega arith
+
+    many : (w : List ℕ) (ws : List (List ℕ)) → cellOfFields ranged (w ∷ ws) ≡ some c → suc (length ws) ≡ cond ranged 12 8 → CellFields ranged (joined (w ∷ ws)) c
+    many w [] f n = absurd (small ranged 1 (lit< tt) n)
+    many w (p ∷ []) f n = absurd (small ranged 2 (lit< tt) n)
+    many w (p ∷ t ∷ rest) f n =
+        let g : readFields ranged w p t rest ≡ some c = sym (cell-fields ranged w p t rest) ∙ f in
+        let o = then-out (only (eqb (suc (suc (suc (length rest)))) (cond ranged 12 8) && isNamed w) (w ∷ p ∷ t ∷ rest))
+        (λ _. andThen (numbers (p ∷ rest)) (λ ns. andThen (hexTable t) (λ table. only (leb (getD ns 0 0) 4) (made ranged w ns table)))) c g in
+        let x = only-out (eqb (suc (suc (suc (length rest)))) (cond ranged 12 8) && isNamed w) (w ∷ p ∷ t ∷ rest) (o .0) (o .1) in
+        let y = and-yes (eqb (suc (suc (suc (length rest)))) (cond ranged 12 8)) (isNamed w) (x .0) in
+        let a = then-out (numbers (p ∷ rest)) (λ ns. andThen (hexTable t) (λ table. only (leb (getD ns 0 0) 4) (made ranged w ns table))) c (o .2) in
+        let b = then-out (hexTable t) (λ table. only (leb (getD (a .0) 0 0) 4) (made ranged w (a .0) table)) c (a .2) in
+        let d = only-out (leb (getD (a .0) 0 0) 4) (made ranged w (a .0) (b .0)) c (b .2) in
+        subst (CellFields ranged (joined (w ∷ p ∷ t ∷ rest))) (d .1)
+        (form-made ranged w p t rest (a .0) (b .0) (left ranged (length rest) n) (name-form w (y .1)) (numbers-form (p ∷ rest) (a .0) (a .1)) (table-form t (b .0) (b .1)) (leb-yes (d .0)))
+
+-- a cell by its seven values
+abbrev cell : List ℕ → ℕ → ℕ → ℕ → ℕ → List ℕ → List ℕ → Cell
+cell n l p t a d w = record { name = n; len = l; pins = p; table = t; area = a; delays = d; lows = w }
+
+same-cell : {n n′ : List ℕ} {l l′ : ℕ} (p t a : ℕ) {d d′ w w′ : List ℕ} → n ≡ n′ → l ≡ l′ → d ≡ d′ → w ≡ w′ → cell n l p t a d w ≡ cell n′ l′ p t a d′ w′
+same-cell {n} {n′} {l} {l′} p t a {d} {d′} {w} {w′} e f g h =
+    ap₂ (λ (x : List ℕ) (y : ℕ). cell x y p t a d w) e f ∙ ap₂ (λ (x y : List ℕ). cell n′ l′ p t a x y) g h
+
+-- the delays and lowest delays, read behind one another
+record Behind (ranged : Bool) (fs gs : List (List ℕ)) (ds ls : List ℕ) : Type 0 where
+  all : List ℕ
+  read : Numbers (fs ++ gs) all
+  count : length (fs ++ gs) ≡ cond ranged 8 4
+  front : take 4 all ≡ ds
+  back : drop (cond ranged 4 0) all ≡ ls
+
+behind : (ranged : Bool) (fs gs : List (List ℕ)) (ds ls : List ℕ) → Numbers fs ds → length ds ≡ 4 → Lows ranged gs ds ls → Behind ranged fs gs ds ls
+behind ranged fs gs ds ls p four (given q n) = record {
+  all = ds ++ ls;
+  read = numbers-append p q;
+  count = omega (arith, length-append fs gs, numbers-count p, numbers-count q, four, n);
+  front = take-front 4 ds ls four;
+  back = drop-front 4 ds ls four;
+}
+behind ranged fs gs ds ls p four sameLows = record {
+  all = ds;
+  read = subst (λ (ws : List (List ℕ)). Numbers ws ds) (sym (append-nil fs)) p;
+  count = omega (arith, length-append fs [], numbers-count p, four);
+  front = take-all 4 ds four;
+  back = refl;
+}
+
+fields-back : (ranged : Bool) (w : List ℕ) (c : Cell) → CellFields ranged w c → cellOfFields ranged (fields w) ≡ some c
+unfolding nameBytes andThen only
+fields-back ranged w c f =
+    let b = behind ranged (f .delayFields) (f .lowFields) (c .delays) (c .lows) (f .delays) (f .four) (f .lows) in
+    let rest = f .areaField ∷ f .delayFields ++ f .lowFields in
+    let all : Numbers (f .pinsField ∷ rest) (c .pins ∷ c .area ∷ b .all) = aNumber (f .pins) (aNumber (f .area) (b .read)) in
+    let free : AllFree 32 (f .nameField ∷ f .pinsField ∷ f .tableField ∷ rest) =
+    (name-free 32 (lit< tt) (f .isName), (number-free 32 (lit< tt) (f .pins), (table-free 32 (lit< tt) (f .table), (number-free 32 (lit< tt) (f .area), numbers-free 32 (lit< tt) (b .read))))) in
+    ap (λ (x : List ℕ). cellOfFields ranged (fields x)) (f .whole)
+    ∙ ap (cellOfFields ranged) (fields-joined (f .nameField) (f .pinsField ∷ f .tableField ∷ rest) free)
+    ∙ cell-fields ranged (f .nameField) (f .pinsField) (f .tableField) rest
+    ∙ ap (λ (x : Bool). andThen (only x (f .nameField ∷ f .pinsField ∷ f .tableField ∷ rest)) (λ _. andThen (numbers (f .pinsField ∷ rest)) (λ ns. andThen (hexTable (f .tableField)) (λ table. only (leb (getD ns 0 0) 4) (made ranged (f .nameField) ns table)))))
+    (is-true (eqb (suc (suc (suc (length rest)))) (cond ranged 12 8) && isNamed (f .nameField))
+    (yes-and (eqb (suc (suc (suc (length rest)))) (cond ranged 12 8)) (isNamed (f .nameField)) (yes-eqb {a = suc (suc (suc (length rest)))} {b = cond ranged 12 8} (twelve ranged (length (f .delayFields ++ f .lowFields)) (b .count))) (name-back (f .nameField) (f .isName))))
+    ∙ ap (λ (o : Option (List ℕ)). andThen o (λ ns. andThen (hexTable (f .tableField)) (λ table. only (leb (getD ns 0 0) 4) (made ranged (f .nameField) ns table)))) (numbers-back all)
+    ∙ ap (λ (o : Option ℕ). andThen o (λ table. only (leb (c .pins) 4) (made ranged (f .nameField) (c .pins ∷ c .area ∷ b .all) table))) (table-back (f .tableField) (c .table) (f .table))
+    ∙ ap (λ (x : Bool). only x (made ranged (f .nameField) (c .pins ∷ c .area ∷ b .all) (c .table))) (is-true (leb (c .pins) 4) (yes-leb (f .few)))
+    ∙ ap some (same-cell (c .pins) (c .table) (c .area) (sym (f .name)) (sym (f .len)) (b .front) (low ranged (c .pins) (c .area) (b .all) ∙ b .back))
+  where
+    twelve : (r : Bool) (n : ℕ) → n ≡ cond r 8 4 → suc (suc (suc (suc n))) ≡ cond r 12 8
+    twelve true n e = omega arith
+    twelve false n e = omega arith
+
+    low : (r : Bool) (p a : ℕ) (ns : List ℕ) → drop (cond r 6 2) (p ∷ a ∷ ns) ≡ drop (cond r 4 0) ns
+    low true p a ns = refl
+    low false p a ns = refl
+
+fields-free : (ranged : Bool) (s : ℕ) → s < 32 → (w : List ℕ) (c : Cell) → CellFields ranged w c → Free s w
+fields-free ranged s h w c f =
+    let b = behind ranged (f .delayFields) (f .lowFields) (c .delays) (c .lows) (f .delays) (f .four) (f .lows) in
+    let k : s < 48 = omega arith in
+    subst (Free s) (sym (f .whole)) (joined-free s h (f .nameField ∷ f .pinsField ∷ f .tableField ∷ f .areaField ∷ f .delayFields ++ f .lowFields)
+    (name-free s k (f .isName), (number-free s k (f .pins), (table-free s k (f .table), (number-free s k (f .area), numbers-free s k (b .read))))))
+
+pub reads-cell : (ranged : Bool) → Reads (cellOfLine ranged) (CellLine ranged)
+unfolding cellOfLine andThen only
+reads-cell ranged = reads-line false (λ w. cellOfFields ranged (fields w)) (CellFields ranged) (cellOfLine ranged) (λ l. go (ended l) (l .bytes)) (fields-form ranged) (fields-back ranged) (fields-free ranged)
+  where
+    go : (b : Bool) (w : List ℕ) → andThen (only b (fields w)) (cellOfFields ranged) ≡ andThen (only b w) (λ x. cellOfFields ranged (fields x))
+    go true w = refl
+    go false w = refl
+
+-- ---- 6 and 27
+
+low-bits : (k n : ℕ) → n < 2 ^ k → (r : ℕ) → k ≤ r → bit n r ≡ false
+unfolding bit
+low-bits zero n h zero l = is-false (eqb (n % 2) 1) (no-eqb (let d : ¬ (n % 2 ≡ 1) = λ e. omega arith in d))
+low-bits zero n h (suc r) l = low-bits zero (n / 2) (omega arith) r (omega arith)
+low-bits (suc k) n h zero l = let z : ⊥ = omega arith in absurd z
+low-bits (suc k) n h (suc r) l = low-bits k (n / 2) (omega arith) r (omega arith)
+
+no-bits : (f n : ℕ) → n ≤ f → ((r : ℕ) → bit n r ≡ false) → n ≡ 0
+unfolding bit
+no-bits zero n h b = omega arith
+no-bits (suc f) n h b =
+    let q : ¬ (n % 2 ≡ 1) = λ e. true≢false (sym (is-true (eqb (n % 2) 1) (yes-eqb e)) ∙ b 0) in
+    let i : n / 2 ≡ 0 = no-bits f (n / 2) (omega arith) (λ r. b (suc r)) in
+    omega arith
+
+bits-low : (k n : ℕ) → ((r : ℕ) → k ≤ r → bit n r ≡ false) → n < 2 ^ k
+unfolding bit
+bits-low zero n b = let z : n ≡ 0 = no-bits n n (omega arith) (λ r. b r (omega arith)) in omega arith
+bits-low (suc k) n b = let i : n / 2 < 2 ^ k = bits-low k (n / 2) (λ r l. b (suc r) (omega arith)) in omega arith
+
+zeros : (p : ℕ) (xs : List ℕ) → T (all (eqb 0) (drop p xs)) → (j : ℕ) → p ≤ j → getD xs j 0 ≡ 0
+unfolding all
+zeros p [] t j h = refl
+zeros zero (x ∷ xs) t zero h = sym (eqb-yes (and-yes (eqb 0 x) (all (eqb 0) xs) t .0))
+zeros zero (x ∷ xs) t (suc j) h = zeros zero xs (and-yes (eqb 0 x) (all (eqb 0) xs) t .1) j (omega arith)
+zeros (suc p) (x ∷ xs) t zero h = let z : ⊥ = omega arith in absurd z
+zeros (suc p) (x ∷ xs) t (suc j) h = zeros p xs t j (omega arith)
+
+all-zeros : (p : ℕ) (xs : List ℕ) → ((j : ℕ) → p ≤ j → getD xs j 0 ≡ 0) → T (all (eqb 0) (drop p xs))
+unfolding all
+all-zeros zero [] f = tt
+all-zeros (suc p) [] f = tt
+all-zeros zero (x ∷ xs) f = yes-and (eqb 0 x) (all (eqb 0) xs) (yes-eqb (sym (f 0 (omega arith)))) (all-zeros zero xs (λ j h. f (suc j) (omega arith)))
+all-zeros (suc p) (x ∷ xs) f = all-zeros p xs (λ j h. f (suc j) (omega arith))
+
+pub clean-form : (c : Cell) → T (isClean c) → Clean c
+unfolding isClean
+clean-form c t =
+    let a = and-yes (ltb (c .table) (2 ^ 2 ^ c .pins)) (all (eqb 0) (drop (c .pins) (c .delays)) && all (eqb 0) (drop (c .pins) (c .lows))) t in
+    let b = and-yes (all (eqb 0) (drop (c .pins) (c .delays))) (all (eqb 0) (drop (c .pins) (c .lows))) (a .1) in
+    record { rows = λ r h. low-bits (2 ^ c .pins) (c .table) (ltb-yes (a .0)) r h; delays = zeros (c .pins) (c .delays) (b .0); lows = zeros (c .pins) (c .lows) (b .1) }
+
+pub clean-back : (c : Cell) → Clean c → T (isClean c)
+unfolding isClean
+clean-back c h =
+    yes-and (ltb (c .table) (2 ^ 2 ^ c .pins)) (all (eqb 0) (drop (c .pins) (c .delays)) && all (eqb 0) (drop (c .pins) (c .lows))) (yes-ltb (bits-low (2 ^ c .pins) (c .table) (h .rows)))
+    (yes-and (all (eqb 0) (drop (c .pins) (c .delays))) (all (eqb 0) (drop (c .pins) (c .lows))) (all-zeros (c .pins) (c .delays) (h .delays)) (all-zeros (c .pins) (c .lows) (h .lows)))
+
+lower-form : (ls ds : List ℕ) → T (noLower ls ds) → (j : ℕ) → getD ls j 0 ≤ getD ds j 0
+unfolding noLower
+lower-form [] ds t j = omega arith
+lower-form (l ∷ ls) [] t j = absurd t
+lower-form (l ∷ ls) (d ∷ ds) t zero = leb-yes (and-yes (leb l d) (noLower ls ds) t .0)
+lower-form (l ∷ ls) (d ∷ ds) t (suc j) = lower-form ls ds (and-yes (leb l d) (noLower ls ds) t .1) j
+
+lower-back : (ls ds : List ℕ) → length ls ≡ length ds → ((j : ℕ) → getD ls j 0 ≤ getD ds j 0) → T (noLower ls ds)
+unfolding noLower
+lower-back [] ds e f = tt
+lower-back (l ∷ ls) [] e f = let z : ⊥ = omega arith in absurd z
+lower-back (l ∷ ls) (d ∷ ds) e f = yes-and (leb l d) (noLower ls ds) (yes-leb (f 0)) (lower-back ls ds (omega arith) (λ j. f (suc j)))
+
+pub ranged-form : (c : Cell) → T (noLower (c .lows) (c .delays)) → Ranged c
+ranged-form c t = lower-form (c .lows) (c .delays) t
+
+lows-four : {r : Bool} {fs : List (List ℕ)} {ds ls : List ℕ} → Lows r fs ds ls → length ds ≡ 4 → length ls ≡ 4
+lows-four (given q n) e = n
+lows-four sameLows e = e
+
+-- of a cell that a line gives
+pub ranged-back : (ranged : Bool) {s : List ℕ} {c : Cell} → CellLine ranged s c → Ranged c → T (noLower (c .lows) (c .delays))
+ranged-back ranged {c = c} l f = lower-back (c .lows) (c .delays) (lows-four (l .is .lows) (l .is .four) ∙ sym (l .is .four)) f

@@ -1,0 +1,348 @@
+-- Due lines are read exactly where the text has them, and 11, 12 and 13 come exactly by their conditions. Assumes nothing.
+use Prim.Native.Nat.{ℕ, suc, _+_, _-_, _*_, _/_, _%_}
+use native.Mathlib.Omega.{arith}
+use mathlib.Core.Path.{_≡_, refl, sym, _∙_, ap, ap₂, subst}
+use mathlib.Core.Logic.{_⊎_, inl, inr, _↔_}
+use mathlib.Core.Bool.{Bool, true, false, not, cond, false≢true, _&&_, _||_}
+use mathlib.Core.Option.{Option, none, some}
+use mathlib.Core.List.{List, [], _∷_, _++_, map, append-nil, append-assoc, List·Memᴰ, List·Memᴰ·head, List·Memᴰ·tail, List·Memᴰ·not-nil, List·Memᴰ·append-cases, Memᴰ·append-left, Memᴰ·append-right}
+use lib.Dec.{T, eqb, leb}
+use lib.ListN.{length, getD, length-append}
+use mir.Facts.{and-yes, yes-and, leb-yes, yes-leb, eqb-yes, yes-eqb, eqb-no, no-eqb, not-T, T-not-not}
+use Rattle.model.specs.Base.{all, elem}
+use Rattle.model.specs.Text.{Line, linesFrom}
+use Rattle.model.specs.Reading.{Read, holds, fault, next, unless, from?}
+use Rattle.model.specs.GraphText.{closed, Kind, anInput, anOutput, anAnd, defines, Item, itemLiterals, readDue}
+use Rattle.theory_graph.proofs.Lists.{is-true, all-of, all-in, elem-in, elem-out}
+use Rattle.promises.specs.Refusals.{Exactly, Defining, inputDefines, andDefines, firstVar, DueLine, Lawful, DefinedBy, Again, DueIn, noLine, aLine, DueFault, eleven, twelve, thirteen, DueHolds, DueRefused}
+use Rattle.theory_refusals.proofs.LineForms.{Found, first-split, lines-none, found-begins, begins-read, none-begins}
+use Rattle.theory_refusals.proofs.Results.{Result, held, refused, exactly, unless-yes, unless-no, on, next-holds, next-fault, next-next, next-same, result-next, result-as}
+use Rattle.theory_refusals.proofs.NumberLines.{reads-due}
+
+-- ---- what a kind defines
+
+defining : (k : Kind) → T (defines k) → Defining k
+unfolding defines
+defining anInput t = inputDefines
+defining anOutput t = absurd t
+defining anAnd t = andDefines
+
+defined : {k : Kind} → Defining k → T (defines k)
+unfolding defines
+defined inputDefines = tt
+defined andDefines = tt
+
+-- ---- 12
+
+abbrev isLawful : ℕ → Kind → List ℕ → Bool
+isLawful m k ns = all (λ (n : ℕ). leb n (2 * m + 1)) ns && (not (defines k) || (eqb (getD ns 0 0 % 2) 0 && not (eqb (getD ns 0 0) 0)))
+
+lawful-form : (m : ℕ) (k : Kind) (ns : List ℕ) → T (isLawful m k ns) → Lawful m k ns
+lawful-form m k ns t = record {
+  low = λ l i. leb-yes (all-of (λ (n : ℕ). leb n (2 * m + 1)) ns (p .0) l i);
+  even = λ d. half (getD ns 0 0) (on-defined (defines k) (defined d) (p .1));
+}
+  where
+    p : T (all (λ (n : ℕ). leb n (2 * m + 1)) ns) × T (not (defines k) || (eqb (getD ns 0 0 % 2) 0 && not (eqb (getD ns 0 0) 0)))
+    p = and-yes (all (λ (n : ℕ). leb n (2 * m + 1)) ns) (not (defines k) || (eqb (getD ns 0 0 % 2) 0 && not (eqb (getD ns 0 0) 0))) t
+
+    on-defined : (b : Bool) → T b → T (not b || (eqb (getD ns 0 0 % 2) 0 && not (eqb (getD ns 0 0) 0))) → T (eqb (getD ns 0 0 % 2) 0 && not (eqb (getD ns 0 0) 0))
+    on-defined true u v = v
+    on-defined false u v = absurd u
+
+    half : (x : ℕ) → T (eqb (x % 2) 0 && not (eqb x 0)) → (v : ℕ) × (x ≡ 2 * suc v)
+    half x u =
+        let q = and-yes (eqb (x % 2) 0) (not (eqb x 0)) u in
+        let e : x % 2 ≡ 0 = eqb-yes (q .0) in
+        let n : ¬ (x ≡ 0) = eqb-no (q .1) in
+        (x / 2 - 1, omega arith)
+
+lawful-back : (m : ℕ) (k : Kind) (ns : List ℕ) → Lawful m k ns → T (isLawful m k ns)
+lawful-back m k ns h =
+    yes-and (all (λ (n : ℕ). leb n (2 * m + 1)) ns) (not (defines k) || (eqb (getD ns 0 0 % 2) 0 && not (eqb (getD ns 0 0) 0))) (all-in (λ (n : ℕ). leb n (2 * m + 1)) ns (λ l i. yes-leb (h .low l i)))
+    (either (defines k) (λ t. h .even (defining k t)))
+  where
+    either : (b : Bool) → (T b → (v : ℕ) × (getD ns 0 0 ≡ 2 * suc v)) → T (not b || (eqb (getD ns 0 0 % 2) 0 && not (eqb (getD ns 0 0) 0)))
+    either true f =
+        let v = f tt in
+        let e : getD ns 0 0 ≡ 2 * suc (v .0) = v .1 in
+        yes-and (eqb (getD ns 0 0 % 2) 0) (not (eqb (getD ns 0 0) 0)) (yes-eqb {a = getD ns 0 0 % 2} {b = 0} (omega arith)) (no-eqb (let d : ¬ (getD ns 0 0 ≡ 0) = λ z. omega arith in d))
+    either false f = tt
+
+-- ---- 13
+
+-- the variables that the reader has noted are those that the lines define
+abbrev Known : List ℕ → List Item → Type 0
+Known before is = (v : ℕ) → List·Memᴰ v before ↔ DefinedBy is v
+
+abbrev isNew : Kind → List ℕ → List ℕ → Bool
+isNew k before ns = not (defines k && elem (firstVar ns) before)
+
+new-form : (k : Kind) (before : List ℕ) (is : List Item) (ns : List ℕ) → Known before is → T (isNew k before ns) → ¬ Again k is ns
+new-form k before is ns known t a =
+    go (defines k) (elem (firstVar ns) before) (defined (a .0)) (elem-in (firstVar ns) before (known (firstVar ns) .1 (a .1))) t
+  where
+    go : (x y : Bool) → T x → y ≡ true → T (not (x && y)) → ⊥
+    go true true u v w = w
+    go true false u v w = false≢true v
+    go false y u v w = u
+
+new-back : (k : Kind) (before : List ℕ) (is : List Item) (ns : List ℕ) → Known before is → T (not (isNew k before ns)) → Again k is ns
+new-back k before is ns known t =
+    let p = and-yes (defines k) (elem (firstVar ns) before) (T-not-not (defines k && elem (firstVar ns) before) t) in
+    (defining k (p .0), known (firstVar ns) .0 (elem-out (firstVar ns) before (is-true (elem (firstVar ns) before) (p .1))))
+
+-- the lines with one more, and what the reader then has noted
+abbrev noted : Kind → List ℕ → List ℕ → List ℕ
+noted k ns before = cond (defines k) (firstVar ns ∷ before) before
+
+known-more : (before : List ℕ) (is : List Item) (i : Item) → Known before is → Known (noted (i .kind) (i .literals) before) (is ++ (i ∷ []))
+known-more before is i known v = go (defines (i .kind)) (defining (i .kind)) (λ d. defined d)
+  where
+    there : DefinedBy is v → DefinedBy (is ++ (i ∷ [])) v
+    there d = (d .0, Memᴰ·append-left (i ∷ []) (d .1), d .2, d .3)
+
+    back : (j : Item) → List·Memᴰ j is ⊎ List·Memᴰ j (i ∷ []) → Defining (j .kind) → v ≡ firstVar (j .literals) → DefinedBy is v ⊎ (Defining (i .kind) × (v ≡ firstVar (i .literals)))
+    back j (inl m) d e = inl (j, m, d, e)
+    back j (inr (List·Memᴰ·head q)) d e = inr (subst (λ (x : Item). Defining (x .kind)) q d, e ∙ ap (λ (x : Item). firstVar (x .literals)) q)
+    back j (inr (List·Memᴰ·tail n)) d e = absurd (List·Memᴰ·not-nil n)
+
+    out : DefinedBy (is ++ (i ∷ [])) v → DefinedBy is v ⊎ (Defining (i .kind) × (v ≡ firstVar (i .literals)))
+    out d = back (d .0) (List·Memᴰ·append-cases is (d .1)) (d .2) (d .3)
+
+    go : (b : Bool) → (T b → Defining (i .kind)) → (Defining (i .kind) → T b) → List·Memᴰ v (cond b (firstVar (i .literals) ∷ before) before) ↔ DefinedBy (is ++ (i ∷ [])) v
+    go true f g = (from-head, λ d. to-head (out d))
+      where
+        from-head : List·Memᴰ v (firstVar (i .literals) ∷ before) → DefinedBy (is ++ (i ∷ [])) v
+        from-head (List·Memᴰ·head e) = (i, Memᴰ·append-right is (List·Memᴰ·head refl), f tt, e)
+        from-head (List·Memᴰ·tail m) = there (known v .0 m)
+
+        to-head : DefinedBy is v ⊎ (Defining (i .kind) × (v ≡ firstVar (i .literals))) → List·Memᴰ v (firstVar (i .literals) ∷ before)
+        to-head (inl d) = List·Memᴰ·tail (known v .1 d)
+        to-head (inr d) = List·Memᴰ·head (d .1)
+    go false f g = ((λ m. there (known v .0 m)), λ d. to-old (out d))
+      where
+        to-old : DefinedBy is v ⊎ (Defining (i .kind) × (v ≡ firstVar (i .literals))) → List·Memᴰ v before
+        to-old (inl d) = known v .1 d
+        to-old (inr d) = absurd (g (d .0))
+
+-- ---- the lines
+
+kinds-more : (is : List Item) (i : Item) (ks : List Kind) → map (λ (x : Item). x .kind) (is ++ (i ∷ [])) ++ ks ≡ map (λ (x : Item). x .kind) is ++ (i .kind ∷ ks)
+kinds-more [] i ks = refl
+kinds-more (j ∷ is) i ks = ap (λ (xs : List Kind). j .kind ∷ xs) (kinds-more is i ks)
+
+module _ (isBinary : Bool) (end m start : ℕ) where
+  abbrev itemOf : Kind → ℕ → List ℕ → Item
+  itemOf k at ns = record { kind = k; offset = at; literals = ns }
+
+  abbrev read : List ℕ → List Kind → List Line → Read (List Item)
+  read before ks ls = readDue (closed isBinary) end m before ks ls
+
+  abbrev later : List ℕ → List Kind → List Line → Kind → ℕ → List ℕ → Read (List Item)
+  later before ks ls k at ns = next (read (noted k ns before) ks ls) (λ is. holds (itemOf k at ns ∷ is))
+
+  abbrev judged : List ℕ → List Kind → List Line → Kind → ℕ → List ℕ → Read (List Item)
+  judged before ks ls k at ns = unless (isLawful m k ns) 12 at (unless (isNew k before ns) 13 at (later before ks ls k at ns))
+
+  due-line : (before : List ℕ) (k : Kind) (ks : List Kind) (l : Line) (ls : List Line) (ns : List ℕ) → itemLiterals (closed isBinary) k l ≡ some ns
+      → read before (k ∷ ks) (l ∷ ls) ≡ judged before ks ls k (l .offset) ns
+  unfolding readDue from? next
+  due-line before k ks l ls ns e = ap (λ (o : Option (List ℕ)). next (from? o 11 (l .offset)) (judged before ks ls k (l .offset))) e
+
+  due-none : (before : List ℕ) (k : Kind) (ks : List Kind) (l : Line) (ls : List Line) → itemLiterals (closed isBinary) k l ≡ none → read before (k ∷ ks) (l ∷ ls) ≡ fault 11 (l .offset)
+  unfolding readDue from? next
+  due-none before k ks l ls e = ap (λ (o : Option (List ℕ)). next (from? o 11 (l .offset)) (judged before ks ls k (l .offset))) e
+
+  due-passes : (before : List ℕ) (k : Kind) (ks : List Kind) (l : Line) (ls : List Line) (ns : List ℕ) → itemLiterals (closed isBinary) k l ≡ some ns → T (isLawful m k ns) → T (isNew k before ns)
+      → read before (k ∷ ks) (l ∷ ls) ≡ later before ks ls k (l .offset) ns
+  due-passes before k ks l ls ns e a b = due-line before k ks l ls ns e ∙ unless-yes (isLawful m k ns) 12 (l .offset) _ a ∙ unless-yes (isNew k before ns) 13 (l .offset) _ b
+
+  -- the reader behind lines that are accepted
+  record Run (s : List ℕ) (is : List Item) : Type 0 where
+    before : List ℕ
+    known : Known before is
+    run : (ks : List Kind) (rest : List ℕ)
+        → read [] (map (λ (x : Item). x .kind) is ++ ks) (linesFrom start [] (s ++ rest)) ≡ next (read before ks (linesFrom (start + length s) [] rest)) (λ js. holds (is ++ js))
+
+  due-run : {s : List ℕ} {is : List Item} → DueIn isBinary m start s is → Run s is
+  due-run noLine = record {
+    before = [];
+    known = λ v. ((λ n. absurd (List·Memᴰ·not-nil n)), λ d. absurd (List·Memᴰ·not-nil (d .1)));
+    run = λ ks rest.
+        ap (λ (n : ℕ). read [] ks (linesFrom n [] rest)) (let q : start ≡ start + 0 = omega arith in q) ∙ sym (next-holds (read [] ks (linesFrom (start + 0) [] rest)));
+  }
+  due-run (aLine {s} {l} {is} {k} {ns} lines line lawful new) = more (due-run lines)
+    where
+      more : Run s is → Run (s ++ l) (is ++ (itemOf k (start + length s) ns ∷ []))
+      more r = record {
+        before = noted k ns (r .before);
+        known = known-more (r .before) is (itemOf k (start + length s) ns) (r .known);
+        run = λ ks rest.
+            let b = reads-due isBinary k .back (start + length s) l rest ns line in
+            let ls = linesFrom (start + length s + length l) [] rest in
+            let at : b .line .offset ≡ start + length s = first-split (start + length s) (l ++ rest) (b .line) ls (b .lines) .offset in
+            ap₂ (λ (xs : List Kind) (t : List ℕ). read [] xs (linesFrom start [] t)) (kinds-more is (itemOf k (start + length s) ns) ks) (append-assoc s l rest)
+            ∙ r .run (k ∷ ks) (l ++ rest)
+            ∙ ap (λ (xs : List Line). next (read (r .before) (k ∷ ks) xs) (λ js. holds (is ++ js))) (b .lines)
+            ∙ ap (λ (x : Read (List Item)). next x (λ js. holds (is ++ js)))
+            (due-passes (r .before) k ks (b .line) ls ns (b .read) (lawful-back m k ns lawful) (on (isNew k (r .before) ns) (λ t. t) (λ t. absurd (new (new-back k (r .before) is ns (r .known) t))))
+            ∙ ap (λ (x : ℕ). later (r .before) ks ls k x ns) at)
+            ∙ next-next (read (noted k ns (r .before)) ks ls) (λ js. itemOf k (start + length s) ns ∷ js) (λ js. is ++ js)
+            ∙ next-same (read (noted k ns (r .before)) ks ls) (λ js. is ++ (itemOf k (start + length s) ns ∷ js)) (λ js. (is ++ (itemOf k (start + length s) ns ∷ [])) ++ js)
+            (λ js. sym (append-assoc is (itemOf k (start + length s) ns ∷ []) js))
+            ∙ ap (λ (n : ℕ). next (read (noted k ns (r .before)) ks (linesFrom n [] rest)) (λ js. holds ((is ++ (itemOf k (start + length s) ns ∷ [])) ++ js)))
+            (let q : start + length s + length l ≡ start + length (s ++ l) = omega (arith, length-append s l) in q);
+      }
+
+  -- ---- what comes of the lines
+
+  due-fault : (before : List ℕ) (is : List Item) → Known before is → (k : Kind) (ks : List Kind) (at : ℕ) (t : List ℕ) (l : Line) (ls : List Line) (n : ℕ) → linesFrom at [] t ≡ l ∷ ls
+      → DueFault isBinary m is k t n → read before (k ∷ ks) (l ∷ ls) ≡ fault n (l .offset)
+  due-fault before is known k ks at t l ls n e (eleven x) = go (itemLiterals (closed isBinary) k l) refl
+    where
+      go : (o : Option (List ℕ)) → itemLiterals (closed isBinary) k l ≡ o → read before (k ∷ ks) (l ∷ ls) ≡ fault 11 (l .offset)
+      go none f = due-none before k ks l ls f
+      go (some ns) f = absurd (x (ns, found-begins (reads-due isBinary k) (reads-due isBinary k .form at t l ls e ns f)))
+  due-fault before is known k ks at t l ls n e (twelve {ns} b x) =
+      due-line before k ks l ls ns (begins-read (reads-due isBinary k) at t l ls e ns b) ∙ unless-no (isLawful m k ns) 12 (l .offset) _ (not-T (isLawful m k ns) (λ u. x (lawful-form m k ns u)))
+  due-fault before is known k ks at t l ls n e (thirteen {ns} b y x) =
+      due-line before k ks l ls ns (begins-read (reads-due isBinary k) at t l ls e ns b) ∙ unless-yes (isLawful m k ns) 12 (l .offset) _ (lawful-back m k ns y)
+      ∙ unless-no (isNew k before ns) 13 (l .offset) _ (not-T (isNew k before ns) (λ u. new-form k before is ns known u x))
+
+  lines-held : (ks : List Kind) (t : List ℕ) (is : List Item) → DueHolds isBinary m start ks t is → read [] ks (linesFrom start [] t) ≡ holds is
+  unfolding readDue next
+  lines-held ks t is h =
+      let r = due-run (h .lines) in
+      ap₂ (λ (xs : List Kind) (y : List ℕ). read [] xs (linesFrom start [] y)) (sym (h .kinds) ∙ sym (append-nil (map (λ (x : Item). x .kind) is))) (h .whole)
+      ∙ r .run [] (h .behind) ∙ ap holds (append-nil is)
+
+  no-lines : (at : ℕ) (t : List ℕ) (k : Kind) (is : List Item) (n : ℕ) → linesFrom at [] t ≡ [] → DueFault isBinary m is k t n → n ≡ 11
+  no-lines at t k is n e (eleven x) = refl
+  no-lines at t k is n e (twelve {ns} b x) = absurd (none-begins (reads-due isBinary k) at t e ns b)
+  no-lines at t k is n e (thirteen {ns} b y x) = absurd (none-begins (reads-due isBinary k) at t e ns b)
+
+  lines-refused : (ks : List Kind) (t : List ℕ) (n place : ℕ) → end ≡ start + length t → DueRefused isBinary m start ks t n place → read [] ks (linesFrom start [] t) ≡ fault n place
+  unfolding readDue
+  lines-refused ks t n place ends h =
+      let r = due-run (h .lines) in
+      ap₂ (λ (xs : List Kind) (y : List ℕ). read [] xs (linesFrom start [] y)) (sym (h .kinds)) (h .whole)
+      ∙ r .run (h .kind ∷ h .later) (h .behind)
+      ∙ go (r .before) (r .known) (linesFrom (start + length (h .front)) [] (h .behind)) refl
+    where
+      go : (before : List ℕ) → Known before (h .items) → (ls : List Line) → linesFrom (start + length (h .front)) [] (h .behind) ≡ ls
+          → next (read before (h .kind ∷ h .later) ls) (λ js. holds (h .items ++ js)) ≡ fault n place
+      go before known [] e =
+          let none-left : h .behind ≡ [] = lines-none (start + length (h .front)) (h .behind) e in
+          let long : length t ≡ length (h .front) + length (h .behind) = ap length (h .whole) ∙ length-append (h .front) (h .behind) in
+          let zero-left : length (h .behind) ≡ 0 = ap length none-left in
+          next-fault (read before (h .kind ∷ h .later) []) (λ js. holds (h .items ++ js)) n place
+          (ap₂ (λ (x y : ℕ). fault x y) (sym (no-lines (start + length (h .front)) (h .behind) (h .kind) (h .items) n e (h .isFault))) (let q : end ≡ place = omega (arith, ends, h .isPlace) in q))
+      go before known (l ∷ ls) e =
+          next-fault (read before (h .kind ∷ h .later) (l ∷ ls)) (λ js. holds (h .items ++ js)) n place
+          (due-fault before (h .items) known (h .kind) (h .later) (start + length (h .front)) (h .behind) l ls n e (h .isFault)
+          ∙ ap (fault n) (first-split (start + length (h .front)) (h .behind) l ls e .offset ∙ sym (h .isPlace)))
+
+  due-result : (ls : List Line) (ks : List Kind) (s rest : List ℕ) (is : List Item) (before : List ℕ) → DueIn isBinary m start s is → Known before is
+      → linesFrom (start + length s) [] rest ≡ ls → end ≡ start + (length s + length rest)
+      → Result (λ js. DueHolds isBinary m start (map (λ (x : Item). x .kind) is ++ ks) (s ++ rest) (is ++ js)) (DueRefused isBinary m start (map (λ (x : Item). x .kind) is ++ ks) (s ++ rest)) (read before ks ls)
+  unfolding readDue
+  due-result ls [] s rest is before lines known e ends =
+      held (record {
+        front = s;
+        behind = rest;
+        whole = refl;
+        lines = subst (DueIn isBinary m start s) (sym (append-nil is)) lines;
+        kinds = ap (map (λ (x : Item). x .kind)) (append-nil is) ∙ sym (append-nil (map (λ (x : Item). x .kind) is));
+      })
+  due-result [] (k ∷ ks) s rest is before lines known e ends =
+      let zero-left : length rest ≡ 0 = ap length (lines-none (start + length s) rest e) in
+      let at-end : end ≡ start + length s = omega arith in
+      refused (record {
+        front = s;
+        behind = rest;
+        items = is;
+        kind = k;
+        later = ks;
+        whole = refl;
+        lines = lines;
+        kinds = refl;
+        isFault = eleven (λ p. none-begins (reads-due isBinary k) (start + length s) rest e (p .0) (p .1));
+        isPlace = at-end;
+      })
+  due-result (l ∷ ls) (k ∷ ks) s rest is before lines known e ends = go (itemLiterals (closed isBinary) k l) refl (due-result ls ks)
+    where
+      Here : Read (List Item) → Type 0
+      Here = Result (λ js. DueHolds isBinary m start (map (λ (x : Item). x .kind) is ++ (k ∷ ks)) (s ++ rest) (is ++ js)) (DueRefused isBinary m start (map (λ (x : Item). x .kind) is ++ (k ∷ ks)) (s ++ rest))
+
+      whole : Read (List Item)
+      whole = read before (k ∷ ks) (l ∷ ls)
+
+      fails : (n : ℕ) → whole ≡ fault n (l .offset) → DueFault isBinary m is k rest n → Here whole
+      fails n f x =
+          result-as (fault n (start + length s)) whole (f ∙ ap (fault n) (first-split (start + length s) rest l ls e .offset))
+          (refused (record { front = s; behind = rest; items = is; kind = k; later = ks; whole = refl; lines = lines; kinds = refl; isFault = x; isPlace = refl }))
+
+      Later : Type 0
+      Later = (s′ rest′ : List ℕ) (is′ : List Item) (before′ : List ℕ) → DueIn isBinary m start s′ is′ → Known before′ is′
+          → linesFrom (start + length s′) [] rest′ ≡ ls → end ≡ start + (length s′ + length rest′)
+          → Result (λ js. DueHolds isBinary m start (map (λ (x : Item). x .kind) is′ ++ ks) (s′ ++ rest′) (is′ ++ js)) (DueRefused isBinary m start (map (λ (x : Item). x .kind) is′ ++ ks) (s′ ++ rest′)) (read before′ ks ls)
+
+      accepted : (ns : List ℕ) → itemLiterals (closed isBinary) k l ≡ some ns → T (isLawful m k ns) → T (isNew k before ns) → Found (DueLine isBinary k) (start + length s) rest ls ns → Later → Here whole
+      accepted ns f a b x ih =
+          let i = itemOf k (start + length s) ns in
+          let text-is : (s ++ x .front) ++ x .behind ≡ s ++ rest = append-assoc s (x .front) (x .behind) ∙ ap (λ (y : List ℕ). s ++ y) (sym (x .whole)) in
+          let kinds-are : map (λ (y : Item). y .kind) (is ++ (itemOf k (start + length s) ns ∷ [])) ++ ks ≡ map (λ (y : Item). y .kind) is ++ (k ∷ ks) = kinds-more is (itemOf k (start + length s) ns) ks in
+          let long : length rest ≡ length (x .front) + length (x .behind) = ap length (x .whole) ∙ length-append (x .front) (x .behind) in
+          let front-long : length (s ++ x .front) ≡ length s + length (x .front) = length-append s (x .front) in
+          let r = ih (s ++ x .front) (x .behind) (is ++ (itemOf k (start + length s) ns ∷ [])) (noted k ns before) (aLine lines (x .is) (lawful-form m k ns a) (new-form k before is ns known b))
+          (known-more before is (itemOf k (start + length s) ns) known)
+          (ap (λ (n : ℕ). linesFrom n [] (x .behind)) (let q : start + length (s ++ x .front) ≡ start + length s + length (x .front) = omega arith in q) ∙ x .later) (omega arith) in
+          result-as (later before ks ls k (start + length s) ns) whole
+          (due-passes before k ks l ls ns f a b ∙ ap (λ (n : ℕ). later before ks ls k n ns) (first-split (start + length s) rest l ls e .offset))
+          (result-next (read (noted k ns before) ks ls) (λ js. itemOf k (start + length s) ns ∷ js)
+          (λ js h.
+          record {
+            front = h .front;
+            behind = h .behind;
+            whole = sym text-is ∙ h .whole;
+            lines = subst (DueIn isBinary m start (h .front)) (append-assoc is (itemOf k (start + length s) ns ∷ []) js) (h .lines);
+            kinds = ap (map (λ (y : Item). y .kind)) (sym (append-assoc is (itemOf k (start + length s) ns ∷ []) js)) ∙ h .kinds ∙ kinds-are;
+          })
+          (λ n place h.
+          record {
+            front = h .front;
+            behind = h .behind;
+            items = h .items;
+            kind = h .kind;
+            later = h .later;
+            whole = sym text-is ∙ h .whole;
+            lines = h .lines;
+            kinds = h .kinds ∙ kinds-are;
+            isFault = h .isFault;
+            isPlace = h .isPlace;
+          }) r)
+
+      go : (o : Option (List ℕ)) → itemLiterals (closed isBinary) k l ≡ o → Later → Here whole
+      go none f ih =
+          fails 11 (due-none before k ks l ls f)
+          (eleven (λ p. let z : none ≡ some (p .0) = sym f ∙ begins-read (reads-due isBinary k) (start + length s) rest l ls e (p .0) (p .1) in let y : false ≡ true = cc in false≢true y))
+      go (some ns) f ih =
+          let x = reads-due isBinary k .form (start + length s) rest l ls e ns f in
+          let b = found-begins (reads-due isBinary k) x in
+          let is-judged = due-line before k ks l ls ns f in
+          on (isLawful m k ns)
+          (λ t. on (isNew k before ns)
+          (λ u. accepted ns f t u x ih)
+          (λ u. fails 13 (is-judged ∙ unless-yes (isLawful m k ns) 12 (l .offset) _ t ∙ unless-no (isNew k before ns) 13 (l .offset) _ u)
+          (thirteen b (lawful-form m k ns t) (new-back k before is ns known u))))
+          (λ t. fails 12 (is-judged ∙ unless-no (isLawful m k ns) 12 (l .offset) _ t) (twelve b (λ h. lib.Dec.T-not (isLawful m k ns) t (lawful-back m k ns h))))
+
+-- the due lines, whole: of a text `t` from place `start` on, of which `end` is the end
+pub due-exactly : (isBinary : Bool) (m start : ℕ) (ks : List Kind) (t : List ℕ) (end : ℕ) → end ≡ start + length t
+    → Exactly (DueHolds isBinary m start ks t) (DueRefused isBinary m start ks t) (readDue (closed isBinary) end m [] ks (linesFrom start [] t))
+due-exactly isBinary m start ks t end ends =
+    exactly (readDue (closed isBinary) end m [] ks (linesFrom start [] t))
+    (subst (λ (n : ℕ). Result (DueHolds isBinary m start ks t) (DueRefused isBinary m start ks t) (readDue (closed isBinary) end m [] ks (linesFrom n [] t))) (let q : start + 0 ≡ start = omega arith in q)
+    (due-result isBinary end m start (linesFrom (start + 0) [] t) ks [] t [] [] noLine (λ v. ((λ n. absurd (List·Memᴰ·not-nil n)), λ d. absurd (List·Memᴰ·not-nil (d .1)))) refl (omega arith)))
+    (λ is h. lines-held isBinary end m start ks t is h) (λ n k h. lines-refused isBinary end m start ks t n k ends h)

@@ -1,0 +1,267 @@
+-- The header is read exactly where the text begins with a line of its form, and 7, 8, 9 and 19 come exactly by their conditions. Assumes nothing.
+use Prim.Native.Nat.{ℕ, suc, _+_, _≤_, _<_}
+use native.Mathlib.Omega.{arith}
+use mathlib.Core.Path.{_≡_, refl, sym, _∙_, ap, subst}
+use mathlib.Core.Logic.{_⊎_, inl, inr}
+use mathlib.Core.Bool.{Bool, true, false, not, false≢true, _&&_, _||_}
+use mathlib.Core.Option.{Option, none, some}
+use mathlib.Core.List.{List, [], _∷_, _++_, append-assoc}
+use lib.Dec.{T, eqb, leb, lit<}
+use lib.ListN.{length, getD, drop}
+use mir.Facts.{and-yes, yes-and, and-no, or-yes, eqb-yes, yes-eqb, eqb-no, no-eqb, leb-yes, leb-no, not-T}
+use Rattle.model.specs.Base.{same, andThen, only}
+use Rattle.model.specs.Text.{Line, text, nextOf, linesFrom, fields, numbers}
+use Rattle.model.specs.Reading.{Read, holds, fault, next, unless, from?}
+use Rattle.model.specs.GraphText.{closed, headerOfNumbers, headerOf, inLimits, inSequence, readHeader}
+use Rattle.model.specs.declared.Header.{Header}
+use Rattle.theory_graph.proofs.Lists.{same-eq, is-true}
+use Rattle.theory_text.proofs.Steps.{then-out, only-out}
+use Rattle.theory_text.proofs.Plain.{Free}
+use Rattle.promises.specs.Forms.{Begins, Word, aag, aig, Numbers, HeaderLine, joined}
+use Rattle.promises.specs.Refusals.{Exceeds, OutOfSequence, HeaderFault, seven, eight, nine, nineteen, HeaderHolds, Exactly}
+use Rattle.theory_refusals.proofs.FieldForms.{joins, numbers-form, numbers-back, numbers-count, numbers-free, AllFree, fields-joined, joined-free}
+use Rattle.theory_refusals.proofs.LineForms.{first-split, ended-lines}
+use Rattle.theory_refusals.proofs.Results.{Result, held, refused, exactly, unless-yes, unless-no, on}
+
+-- ---- the line
+
+-- what is read of a line's fields
+abbrev readFields : Line → List (List ℕ) → Option Header
+readFields l ws =
+    let isBinary = same (getD ws 0 []) (text "aig") in
+    andThen (only (closed isBinary l && (eqb (length ws) 6 && (isBinary || same (getD ws 0 []) (text "aag")))) (drop 1 ws)) (λ vs.
+    andThen (numbers vs) (λ ns. some (headerOfNumbers isBinary (nextOf l) ns)))
+
+head-fields : (l : Line) (ls : List Line) → headerOf (l ∷ ls) ≡ readFields l (fields (l .bytes))
+unfolding headerOf
+head-fields l ls = refl
+
+-- five numbers
+five : (fs : List (List ℕ)) (ns : List ℕ) (isBinary : Bool) (end : ℕ) → length ns ≡ 5 → Numbers fs ns
+    → let h = headerOfNumbers isBinary end ns in Numbers fs (h .size ∷ h .inputs ∷ h .latches ∷ h .outputs ∷ h .ands ∷ [])
+unfolding headerOfNumbers
+five fs (m ∷ i ∷ l ∷ o ∷ a ∷ []) isBinary end e p = p
+five fs [] isBinary end e p = let z : ⊥ = omega arith in absurd z
+five fs (m ∷ []) isBinary end e p = let z : ⊥ = omega arith in absurd z
+five fs (m ∷ i ∷ []) isBinary end e p = let z : ⊥ = omega arith in absurd z
+five fs (m ∷ i ∷ l ∷ []) isBinary end e p = let z : ⊥ = omega arith in absurd z
+five fs (m ∷ i ∷ l ∷ o ∷ []) isBinary end e p = let z : ⊥ = omega arith in absurd z
+five fs (m ∷ i ∷ l ∷ o ∷ a ∷ x ∷ xs) isBinary end e p = let z : ⊥ = omega arith in absurd z
+
+word-is : (w : List ℕ) → T (same w (text "aig") || same w (text "aag")) → Word w (same w (text "aig"))
+word-is w t = go (same w (text "aig")) (λ u. same-eq w (text "aig") u) (λ u. same-eq w (text "aag") u) t
+  where
+    go : (b : Bool) → (T b → w ≡ text "aig") → (T (same w (text "aag")) → w ≡ text "aag") → T (b || same w (text "aag")) → Word w b
+    go true u v t = subst (λ (x : List ℕ). Word x true) (sym (u tt)) aig
+    go false u v t = subst (λ (x : List ℕ). Word x false) (sym (v t)) aag
+
+-- a header is read from the line with which the text begins ..
+line-form : (t : List ℕ) (l : Line) (ls : List Line) → linesFrom 0 [] t ≡ l ∷ ls → (h : Header) → headerOf (l ∷ ls) ≡ some h → Begins HeaderLine t h
+unfolding headerOfNumbers
+line-form t l ls e h r =
+    let j = joins (l .bytes) in
+    let f : readFields l (j .first ∷ j .others) ≡ some h = ap (readFields l) (sym (j .areFields)) ∙ sym (head-fields l ls) ∙ r in
+    from-fields (j .first) (j .others) (j .isWhole) f
+  where
+    made : (w : List ℕ) (ws : List (List ℕ)) → l .bytes ≡ joined (w ∷ ws) → (ns : List ℕ) → T (closed (same w (text "aig")) l) → length ns ≡ 5 → Numbers ws ns
+        → T (same w (text "aig") || same w (text "aag")) → Begins HeaderLine t (headerOfNumbers (same w (text "aig")) (nextOf l) ns)
+    made w ws whole ns end count p word =
+        let s = first-split 0 t l ls e in
+        record {
+          front = l .bytes ++ s .ending;
+          behind = s .rest;
+          whole = s .whole ∙ sym (append-assoc (l .bytes) (s .ending) (s .rest));
+          is = record {
+            line = record {
+              contents = l .bytes;
+              ending = s .ending;
+              whole = refl;
+              ends = s .ends (same w (text "aig")) end;
+              is = record { word = w; fields = ws; whole = whole; isWord = word-is w word; numbers = five ws ns (same w (text "aig")) (nextOf l) count p };
+            };
+            next = s .next ∙ (let q : 0 + length (l .bytes ++ s .ending) ≡ length (l .bytes ++ s .ending) = omega arith in q);
+          };
+        }
+
+    from-fields : (w : List ℕ) (ws : List (List ℕ)) → l .bytes ≡ joined (w ∷ ws) → readFields l (w ∷ ws) ≡ some h → Begins HeaderLine t h
+    from-fields w ws whole f =
+        let b = same w (text "aig") in
+        let o = then-out (only (closed b l && (eqb (suc (length ws)) 6 && (b || same w (text "aag")))) ws) (λ vs. andThen (numbers vs) (λ ns. some (headerOfNumbers b (nextOf l) ns))) h f in
+        let c = only-out (closed b l && (eqb (suc (length ws)) 6 && (b || same w (text "aag")))) ws (o .0) (o .1) in
+        let n = then-out (numbers (o .0)) (λ ns. some (headerOfNumbers b (nextOf l) ns)) h (o .2) in
+        let x = and-yes (closed b l) (eqb (suc (length ws)) 6 && (b || same w (text "aag"))) (c .0) in
+        let y = and-yes (eqb (suc (length ws)) 6) (b || same w (text "aag")) (x .1) in
+        let p : Numbers ws (n .0) = numbers-form ws (n .0) (ap numbers (c .1) ∙ n .1) in
+        let z : some (headerOfNumbers b (nextOf l) (n .0)) ≡ some h = n .2 in
+        let is : headerOfNumbers b (nextOf l) (n .0) ≡ h = cc in
+        let six : suc (length ws) ≡ 6 = eqb-yes (y .0) in
+        subst (Begins HeaderLine t) is (made w ws whole (n .0) (x .0) (omega (arith, numbers-count p, six)) p (y .1))
+
+-- .. and from every such line
+word-free : (s : ℕ) → T (eqb s 10 || (eqb s 13 || eqb s 32)) → {w : List ℕ} {b : Bool} → Word w b → Free s w
+unfolding text
+word-free s t {w} {b} p = go (or-yes (eqb s 10) (eqb s 13 || eqb s 32) t)
+  where
+    at-ten : {w : List ℕ} {b : Bool} → Word w b → Free 10 w
+    at-ten aag = (refl, (refl, (refl, tt)))
+    at-ten aig = (refl, (refl, (refl, tt)))
+
+    at-thirteen : {w : List ℕ} {b : Bool} → Word w b → Free 13 w
+    at-thirteen aag = (refl, (refl, (refl, tt)))
+    at-thirteen aig = (refl, (refl, (refl, tt)))
+
+    at-space : {w : List ℕ} {b : Bool} → Word w b → Free 32 w
+    at-space aag = (refl, (refl, (refl, tt)))
+    at-space aig = (refl, (refl, (refl, tt)))
+
+    rest : T (eqb s 13) ⊎ T (eqb s 32) → Free s w
+    rest (inl h) = subst (λ (x : ℕ). Free x w) (sym (eqb-yes h)) (at-thirteen p)
+    rest (inr h) = subst (λ (x : ℕ). Free x w) (sym (eqb-yes h)) (at-space p)
+
+    go : T (eqb s 10) ⊎ T (eqb s 13 || eqb s 32) → Free s w
+    go (inl h) = subst (λ (x : ℕ). Free x w) (sym (eqb-yes h)) (at-ten p)
+    go (inr h) = rest (or-yes (eqb s 13) (eqb s 32) h)
+
+fields-read : (l : Line) (w : List ℕ) (ws : List (List ℕ)) (ns : List ℕ) (b : Bool) → Word w b → T (closed b l) → Numbers ws ns → length ns ≡ 5
+    → readFields l (w ∷ ws) ≡ some (headerOfNumbers b (nextOf l) ns)
+unfolding same text andThen only
+fields-read l w ws ns b p end q count = ap (λ (x : Bool). andThen (only (closed x l && (eqb (suc (length ws)) 6 && (x || same w (text "aag")))) ws) (λ vs. andThen (numbers vs) (λ ms. some (headerOfNumbers x (nextOf l) ms)))) (is-word p)
+    ∙ ap (λ (x : Bool). andThen (only x ws) (λ vs. andThen (numbers vs) (λ ms. some (headerOfNumbers b (nextOf l) ms))))
+    (is-true (closed b l && (eqb (suc (length ws)) 6 && (b || same w (text "aag"))))
+    (yes-and (closed b l) (eqb (suc (length ws)) 6 && (b || same w (text "aag"))) end (yes-and (eqb (suc (length ws)) 6) (b || same w (text "aag")) (yes-eqb {a = suc (length ws)} {b = 6} (omega (arith, numbers-count q, count))) (or-word p))))
+    ∙ ap (λ (o : Option (List ℕ)). andThen o (λ ms. some (headerOfNumbers b (nextOf l) ms))) (numbers-back q)
+  where
+    is-word : {v : List ℕ} {c : Bool} → Word v c → same v (text "aig") ≡ c
+    is-word aag = refl
+    is-word aig = refl
+
+    or-word : {v : List ℕ} {c : Bool} → Word v c → T (c || same v (text "aag"))
+    or-word aag = tt
+    or-word aig = tt
+
+line-back : (t : List ℕ) (h : Header) → Begins HeaderLine t h → headerOf (linesFrom 0 [] t) ≡ some h
+unfolding headerOfNumbers
+line-back t h b =
+    let k = b .is .line in
+    let x = k .is in
+    let free : (s : ℕ) → T (eqb s 10 || (eqb s 13 || eqb s 32)) → s < 48 → AllFree s (x .word ∷ x .fields) = λ s u v. (word-free s u (x .isWord), numbers-free s v (x .numbers)) in
+    let clear : (s : ℕ) → T (eqb s 10 || (eqb s 13 || eqb s 32)) → s < 32 → Free s (k .contents) = λ s u v. subst (Free s) (sym (x .whole)) (joined-free s v (x .word ∷ x .fields) (free s u (omega arith))) in
+    let e = ended-lines (h .binary) 0 (k .contents) (k .ending) (b .behind) (k .ends) (clear 10 tt (lit< tt)) (clear 13 tt (lit< tt)) in
+    let front : k .contents ++ k .ending ≡ b .front = sym (k .whole) in
+    let lines : linesFrom 0 [] t ≡ e .0 ∷ linesFrom (0 + length (k .contents ++ k .ending)) [] (b .behind) = ap (linesFrom 0 []) (b .whole ∙ ap (λ (y : List ℕ). y ++ b .behind) (k .whole)) ∙ e .1 in
+    let after : nextOf (e .0) ≡ h .next = e .4 ∙ ap (λ (y : List ℕ). 0 + length y) front ∙ (let q : 0 + length (b .front) ≡ length (b .front) = omega arith in q) ∙ sym (b .is .next) in
+    ap headerOf lines
+    ∙ head-fields (e .0) (linesFrom (0 + length (k .contents ++ k .ending)) [] (b .behind))
+    ∙ ap (readFields (e .0)) (ap fields (e .2 ∙ x .whole) ∙ fields-joined (x .word) (x .fields) (free 32 tt (lit< tt)))
+    ∙ fields-read (e .0) (x .word) (x .fields) (h .size ∷ h .inputs ∷ h .latches ∷ h .outputs ∷ h .ands ∷ []) (h .binary) (x .isWord) (e .3) (x .numbers) refl
+    ∙ ap (λ (n : ℕ). some (headerOfNumbers (h .binary) n (h .size ∷ h .inputs ∷ h .latches ∷ h .outputs ∷ h .ands ∷ []))) after
+
+-- ---- 7, 8, 9 and 19
+
+within : (h : Header) → T (inLimits h) → ¬ Exceeds h
+unfolding inLimits
+within h t = go
+  where
+    a : T (leb (h .size) 4095) × T (leb (h .outputs) 4096 && leb (h .inputs + h .ands) (h .size))
+    a = and-yes (leb (h .size) 4095) (leb (h .outputs) 4096 && leb (h .inputs + h .ands) (h .size)) t
+
+    b : T (leb (h .outputs) 4096) × T (leb (h .inputs + h .ands) (h .size))
+    b = and-yes (leb (h .outputs) 4096) (leb (h .inputs + h .ands) (h .size)) (a .1)
+
+    go : ¬ Exceeds h
+    go (inl x) = let q : h .size ≤ 4095 = leb-yes (a .0) in omega arith
+    go (inr (inl x)) = let q : h .outputs ≤ 4096 = leb-yes (b .0) in omega arith
+    go (inr (inr x)) = let q : h .inputs + h .ands ≤ h .size = leb-yes (b .1) in omega arith
+
+without : (h : Header) → T (not (inLimits h)) → Exceeds h
+unfolding inLimits
+without h t = go (and-no (leb (h .size) 4095) (leb (h .outputs) 4096 && leb (h .inputs + h .ands) (h .size)) t)
+  where
+    rest : T (not (leb (h .outputs) 4096)) ⊎ T (not (leb (h .inputs + h .ands) (h .size))) → Exceeds h
+    rest (inl u) = inr (inl (leb-no u))
+    rest (inr u) = inr (inr (leb-no u))
+
+    go : T (not (leb (h .size) 4095)) ⊎ T (not (leb (h .outputs) 4096 && leb (h .inputs + h .ands) (h .size))) → Exceeds h
+    go (inl u) = inl (leb-no u)
+    go (inr u) = rest (and-no (leb (h .outputs) 4096) (leb (h .inputs + h .ands) (h .size)) u)
+
+in-sequence : (h : Header) → T (inSequence h) → ¬ OutOfSequence h
+unfolding inSequence
+in-sequence h t o = go (h .binary) (o .0) t
+  where
+    go : (b : Bool) → b ≡ true → T (not b || eqb (h .size) (h .inputs + h .ands)) → ⊥
+    go true e u = o .1 (eqb-yes u)
+    go false e u = false≢true e
+
+out-of-sequence : (h : Header) → T (not (inSequence h)) → OutOfSequence h
+unfolding inSequence
+out-of-sequence h t = go (h .binary) t
+  where
+    go : (b : Bool) → T (not (not b || eqb (h .size) (h .inputs + h .ands))) → (b ≡ true) × (¬ (h .size ≡ h .inputs + h .ands))
+    go true u = (refl, eqb-no u)
+    go false u = absurd u
+
+-- the refusals of a header that has its form
+abbrev judged : Header → Read Header
+judged h = unless (eqb (h .latches) 0) 8 0 (unless (inLimits h) 9 0 (unless (inSequence h) 19 0 (holds h)))
+
+read-judged : (t : List ℕ) (h : Header) → headerOf (linesFrom 0 [] t) ≡ some h → readHeader t ≡ judged h
+unfolding readHeader from? next
+read-judged t h e = ap (λ (o : Option Header). next (from? o 7 0) judged) e
+
+read-none : (t : List ℕ) → headerOf (linesFrom 0 [] t) ≡ none → readHeader t ≡ fault 7 0
+unfolding readHeader from? next
+read-none t e = ap (λ (o : Option Header). next (from? o 7 0) judged) e
+
+begins-header : (t : List ℕ) (h : Header) → headerOf (linesFrom 0 [] t) ≡ some h → Begins HeaderLine t h
+unfolding headerOf
+begins-header t h e = go (linesFrom 0 [] t) refl e
+  where
+    go : (ls : List Line) → linesFrom 0 [] t ≡ ls → headerOf ls ≡ some h → Begins HeaderLine t h
+    go [] l f = let z : false ≡ true = cc in absurd (false≢true z)
+    go (l ∷ ls) q f = line-form t l ls q h f
+
+result : (t : List ℕ) → Result (HeaderHolds t) (HeaderFault t) (readHeader t)
+result t = go (headerOf (linesFrom 0 [] t)) refl
+  where
+    comes : (r : Read Header) → readHeader t ≡ r → Result (HeaderHolds t) (HeaderFault t) r → Result (HeaderHolds t) (HeaderFault t) (readHeader t)
+    comes r e x = subst (Result (HeaderHolds t) (HeaderFault t)) (sym e) x
+
+    go : (o : Option Header) → headerOf (linesFrom 0 [] t) ≡ o → Result (HeaderHolds t) (HeaderFault t) (readHeader t)
+    go none e = comes (fault 7 0) (read-none t e) (refused (seven (λ p. let z : none ≡ some (p .0) = sym e ∙ line-back t (p .0) (p .1) in let y : false ≡ true = cc in false≢true y)))
+    go (some h) e =
+        let b = begins-header t h e in
+        on (eqb (h .latches) 0)
+        (λ u. on (inLimits h)
+        (λ v. on (inSequence h)
+        (λ w. comes (holds h)
+        (read-judged t h e ∙ unless-yes (eqb (h .latches) 0) 8 0 _ u ∙ unless-yes (inLimits h) 9 0 _ v ∙ unless-yes (inSequence h) 19 0 (holds h) w)
+        (held (record { begins = b; noLatch = eqb-yes u; inLimits = within h v; inSequence = in-sequence h w })))
+        (λ w. comes (fault 19 0)
+        (read-judged t h e ∙ unless-yes (eqb (h .latches) 0) 8 0 _ u ∙ unless-yes (inLimits h) 9 0 _ v ∙ unless-no (inSequence h) 19 0 (holds h) w)
+        (refused (nineteen b (eqb-yes u) (within h v) (out-of-sequence h w)))))
+        (λ v. comes (fault 9 0) (read-judged t h e ∙ unless-yes (eqb (h .latches) 0) 8 0 _ u ∙ unless-no (inLimits h) 9 0 _ v) (refused (nine b (eqb-yes u) (without h v)))))
+        (λ u. comes (fault 8 0) (read-judged t h e ∙ unless-no (eqb (h .latches) 0) 8 0 _ u) (refused (eight b (eqb-no u))))
+
+refusals-read : (t : List ℕ) (n k : ℕ) → HeaderFault t n k → readHeader t ≡ fault n k
+refusals-read t n k (seven x) = go (headerOf (linesFrom 0 [] t)) refl
+  where
+    go : (o : Option Header) → headerOf (linesFrom 0 [] t) ≡ o → readHeader t ≡ fault 7 0
+    go none e = read-none t e
+    go (some h) e = absurd (x (h, begins-header t h e))
+refusals-read t n k (eight {h} b x) = read-judged t h (line-back t h b) ∙ unless-no (eqb (h .latches) 0) 8 0 _ (no-eqb x)
+refusals-read t n k (nine {h} b z x) =
+    read-judged t h (line-back t h b) ∙ unless-yes (eqb (h .latches) 0) 8 0 _ (yes-eqb z) ∙ unless-no (inLimits h) 9 0 _ (not-T (inLimits h) (λ u. within h u x))
+refusals-read t n k (nineteen {h} b z y x) =
+    read-judged t h (line-back t h b) ∙ unless-yes (eqb (h .latches) 0) 8 0 _ (yes-eqb z)
+    ∙ unless-yes (inLimits h) 9 0 _ (on (inLimits h) (λ u. u) (λ u. absurd (y (without h u)))) ∙ unless-no (inSequence h) 19 0 (holds h) (not-T (inSequence h) (λ u. in-sequence h u x))
+
+headers-read : (t : List ℕ) (h : Header) → HeaderHolds t h → readHeader t ≡ holds h
+headers-read t h x =
+    read-judged t h (line-back t h (x .begins)) ∙ unless-yes (eqb (h .latches) 0) 8 0 _ (yes-eqb (x .noLatch))
+    ∙ unless-yes (inLimits h) 9 0 _ (on (inLimits h) (λ u. u) (λ u. absurd (x .inLimits (without h u))))
+    ∙ unless-yes (inSequence h) 19 0 (holds h) (on (inSequence h) (λ u. u) (λ u. absurd (x .inSequence (out-of-sequence h u))))
+
+-- the header, whole
+pub header-exactly : (t : List ℕ) → Exactly (HeaderHolds t) (HeaderFault t) (readHeader t)
+header-exactly t = exactly (readHeader t) (result t) (headers-read t) (refusals-read t)

@@ -1,0 +1,21 @@
+-- The readers of the texts against the conditions of specs/, from the fields up:
+--     FieldForms, LineForms, NumberLines      numbers, names, tables; lines and their ends; lines of numbers
+--     HeaderForms, CellForms, LibraryForms    7 to 9 and 19; a cell line; 2 to 6 and 27
+--     DueForms, UseForms, DifferenceForms     11 to 13; 14; 20 and 21
+--     GraphForms, ArrivalForms, TextForms     the graph in either form; 25 and 26; the texts of a call, in checking order
+--     OutcomeForms                            the outcome of a call: 15 and 16 too
+--     Inhabited                               calls of which the premises of demand 3 and of N13 hold
+pub mod Results
+pub mod FieldForms
+pub mod LineForms
+pub mod HeaderForms
+pub mod CellForms
+pub mod LibraryForms
+pub mod NumberLines
+pub mod DueForms
+pub mod ArrivalForms
+pub mod UseForms
+pub mod DifferenceForms
+pub mod GraphForms
+pub mod TextForms
+pub mod OutcomeForms

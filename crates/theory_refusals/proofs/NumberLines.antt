@@ -1,0 +1,99 @@
+-- Lines of numbers are read exactly where their bytes have the form. Assumes nothing.
+use Prim.Native.Nat.{ℕ, _<_}
+use native.Mathlib.Omega.{arith}
+use mathlib.Core.Path.{_≡_, refl, sym, _∙_, ap, subst}
+use mathlib.Core.Bool.{Bool, true, false, _&&_}
+use mathlib.Core.Option.{Option, some}
+use mathlib.Core.List.{List, [], _∷_}
+use lib.Dec.{eqb, lit<}
+use lib.ListN.{length}
+use mir.Facts.{eqb-yes, yes-eqb}
+use Rattle.model.specs.Base.{andThen, only}
+use Rattle.model.specs.Text.{Line, fields, numbers}
+use Rattle.model.specs.GraphText.{closed, Kind, anInput, anOutput, anAnd, howMany, itemLiterals}
+use Rattle.model.specs.ArrivalsText.{lateNumbers}
+use Rattle.theory_graph.proofs.Lists.{is-true}
+use Rattle.theory_text.proofs.Steps.{then-out, only-out}
+use Rattle.theory_text.proofs.Plain.{Free}
+use Rattle.promises.specs.Forms.{Numbers, NumberFields, NumberLine, joined}
+use Rattle.promises.specs.Refusals.{Wants, inputWants, outputWants, andWants, DueLine}
+use Rattle.theory_refusals.proofs.FieldForms.{joins, numbers-form, numbers-back, numbers-count, numbers-free, fields-joined, joined-free}
+use Rattle.theory_refusals.proofs.LineForms.{Reads, reads-line}
+
+-- so many numbers of a line's contents
+abbrev counted : ℕ → List (List ℕ) → Option (List ℕ)
+counted n ws = andThen (only (eqb (length ws) n) ws) numbers
+
+fields-form : (n : ℕ) (w ns : List ℕ) → counted n (fields w) ≡ some ns → NumberFields n w ns
+fields-form n w ns e =
+    let j = joins w in
+    let f : counted n (j .first ∷ j .others) ≡ some ns = ap (counted n) (sym (j .areFields)) ∙ e in
+    let o = then-out (only (eqb (length (j .first ∷ j .others)) n) (j .first ∷ j .others)) numbers ns f in
+    let p = only-out (eqb (length (j .first ∷ j .others)) n) (j .first ∷ j .others) (o .0) (o .1) in
+    let q : Numbers (j .first ∷ j .others) ns = numbers-form (j .first ∷ j .others) ns (ap numbers (p .1) ∙ o .2) in
+    record { fields = j .first ∷ j .others; whole = j .isWhole; numbers = q; count = sym (numbers-count q) ∙ eqb-yes (p .0) }
+
+fields-back : (n : ℕ) → 0 < n → (w ns : List ℕ) → NumberFields n w ns → counted n (fields w) ≡ some ns
+unfolding andThen only
+fields-back n h w ns f = go (f .fields) (f .whole) (f .numbers)
+  where
+    go : (ws : List (List ℕ)) → w ≡ joined ws → Numbers ws ns → counted n (fields w) ≡ some ns
+    go [] e p = let z : ⊥ = omega (arith, numbers-count p, f .count) in absurd z
+    go (v ∷ ws) e p =
+        ap (λ (x : List ℕ). counted n (fields x)) e
+        ∙ ap (counted n) (fields-joined v ws (numbers-free 32 (lit< tt) p))
+        ∙ ap (λ (x : Bool). andThen (only x (v ∷ ws)) numbers) (is-true (eqb (length (v ∷ ws)) n) (yes-eqb (numbers-count p ∙ f .count)))
+        ∙ numbers-back p
+
+fields-free : (n s : ℕ) → s < 32 → (w ns : List ℕ) → NumberFields n w ns → Free s w
+fields-free n s h w ns f = subst (Free s) (sym (f .whole)) (joined-free s h (f .fields) (numbers-free s (omega arith) (f .numbers)))
+
+abbrev numbersOf : Bool → ℕ → Line → Option (List ℕ)
+numbersOf isBinary n l = andThen (only (closed isBinary l && eqb (length (fields (l .bytes))) n) (fields (l .bytes))) numbers
+
+reads-numbers : (isBinary : Bool) (n : ℕ) → 0 < n → Reads (numbersOf isBinary n) (NumberLine isBinary n)
+unfolding andThen only
+reads-numbers isBinary n h =
+    reads-line isBinary (λ w. counted n (fields w)) (NumberFields n) (numbersOf isBinary n) (λ l. go (closed isBinary l) (l .bytes)) (fields-form n) (fields-back n h) (fields-free n)
+  where
+    go : (b : Bool) (w : List ℕ) → andThen (only (b && eqb (length (fields w)) n) (fields w)) numbers ≡ andThen (only b w) (λ x. counted n (fields x))
+    go true w = refl
+    go false w = refl
+
+-- ---- a line of two numbers, of the arrivals
+
+pub reads-late : Reads lateNumbers (NumberLine false 2)
+unfolding lateNumbers
+reads-late = reads-numbers false 2 (lit< tt)
+
+-- ---- due lines
+
+wants : (k : Kind) → Wants k (howMany k)
+unfolding howMany
+wants anInput = inputWants
+wants anOutput = outputWants
+wants anAnd = andWants
+
+wanted : {k : Kind} {n : ℕ} → Wants k n → n ≡ howMany k
+unfolding howMany
+wanted inputWants = refl
+wanted outputWants = refl
+wanted andWants = refl
+
+some-wanted : (k : Kind) → 0 < howMany k
+unfolding howMany
+some-wanted anInput = lit< tt
+some-wanted anOutput = lit< tt
+some-wanted anAnd = lit< tt
+
+pub reads-due : (isBinary : Bool) (k : Kind) → Reads (itemLiterals (closed isBinary) k) (DueLine isBinary k)
+unfolding itemLiterals
+reads-due isBinary k = record {
+  form = λ at t l ls e ns f.
+      let x = r .form at t l ls e ns f in
+      record { front = x .front; behind = x .behind; whole = x .whole; is = (howMany k, wants k, x .is); later = x .later };
+  back = λ at s rest ns d. r .back at s rest ns (subst (λ (n : ℕ). NumberLine isBinary n s ns) (wanted (d .1)) (d .2));
+}
+  where
+    r : Reads (numbersOf isBinary (howMany k)) (NumberLine isBinary (howMany k))
+    r = reads-numbers isBinary (howMany k) (some-wanted k)

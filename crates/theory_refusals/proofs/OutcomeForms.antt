@@ -1,0 +1,199 @@
+-- The outcome of a call is refused exactly by the conditions of `Outcomes`. Assumes nothing.
+use Prim.Native.Nat.{ℕ}
+use native.Mathlib.Omega.{arith}
+use mathlib.Core.Path.{_≡_, refl, sym, _∙_, ap, ap₂, subst}
+use mathlib.Core.Logic.{_⊎_, inl, inr, _↔_}
+use mathlib.Core.Bool.{Bool, true, false, not, cond}
+use mathlib.Core.Option.{Option, none, some}
+use mathlib.Core.List.{List, [], _∷_, _++_}
+use lib.Dec.{T, leb}
+use lib.ListN.{length}
+use mir.Facts.{yes-and}
+use Rattle.model.specs.Base.{lowest, elem}
+use Rattle.model.specs.Reading.{Read, holds, fault, firstOf}
+use Rattle.model.specs.Graph.{Graph, unplaced, andVars}
+use Rattle.model.specs.Cuts.{crowded}
+use Rattle.model.specs.ArrivalsText.{timedBy}
+use Rattle.model.specs.Netlist.{Outcome, refused, mapped, mapGraph, mapPlaced, mapCut, mapChosen, printed, uncovered, gates, figuresOf, netlistText}
+use Rattle.model.specs.Timing.{lowOf, timingLines, followed}
+use Rattle.model.specs.Choice.{chosen}
+use Rattle.model.specs.Mapper.{Call, Design, readTexts, mapTexts, mapDesign, within}
+use Rattle.model.specs.Demands.{Distinct, Mappable}
+use Rattle.model.specs.declared.Cell.{Cell}
+use Rattle.model.specs.declared.Phase.{Phase}
+use Rattle.model.specs.declared.Figures.{Figures}
+use Rattle.theory_graph.specs.Accepted.{distinct}
+use Rattle.theory_order.proofs.Orders.{in-not, unplaced-none-iff, unplaced-lowest-iff}
+use Rattle.theory_order.proofs.Crowded.{crowded-first-iff, crowded-none-iff}
+use Rattle.theory_text.proofs.ReadGraph.{graph-known}
+use Rattle.theory_text.proofs.ReadTexts.{texts-read, design-accepted}
+use Rattle.theory_text.proofs.Outcomes.{outcome-is, refused-never}
+use Rattle.promises.specs.Refusals.{ToDesign, TextsFault}
+use Rattle.promises.specs.Outcomes.{LowestUnplaced, NoneCrowded, Outcomes}
+use Rattle.model.specs.OrderDemands.{OrderOfAll, FirstCrowded}
+use Rattle.theory_refusals.proofs.TextForms.{texts-exactly}
+
+numberIn : Outcome → ℕ
+numberIn (refused n k) = n
+numberIn (mapped t f) = 0
+
+placeIn : Outcome → ℕ
+placeIn (refused n k) = k
+placeIn (mapped t f) = 0
+
+same-number : {n k m j : ℕ} → refused n k ≡ refused m j → n ≡ m
+unfolding numberIn
+same-number e = ap numberIn e
+
+same-place : {n k m j : ℕ} → refused n k ≡ refused m j → k ≡ j
+unfolding placeIn
+same-place e = ap placeIn e
+
+-- ---- the numbers behind 16
+
+module _ (bytes : ℕ) (ranged : Bool) (listed cells : List Cell) (g : Graph) where
+  abbrev ends : Outcome → Outcome
+  ends o = within bytes (followed ranged cells g o)
+
+  ends-refused : (n k : ℕ) → ends (refused n k) ≡ refused n k
+  unfolding within followed
+  ends-refused n k = refl
+
+  within-number : (t : List ℕ) (f : Figures) (n k : ℕ) → within bytes (mapped t f) ≡ refused n k → n ≡ 18
+  unfolding within
+  within-number t f n k e = go (leb (length t) bytes) e
+    where
+      go : (b : Bool) → cond b (mapped t f) (refused 18 (length t)) ≡ refused n k → n ≡ 18
+      go true q = absurd (refused-never (sym q))
+      go false q = sym (same-number q)
+
+  mapped-number : (r : Bool) (t : List ℕ) (f : Figures) (n k : ℕ) → within bytes (followed r cells g (mapped t f)) ≡ refused n k → n ≡ 18
+  unfolding followed
+  mapped-number true t f n k e = within-number (t ++ timingLines (lowOf cells g) (λ (l : ℕ). chosen cells g l .arrival) 0 (g .outputs)) f n k e
+  mapped-number false t f n k e = within-number t f n k e
+
+  printed-number : (phase : ℕ → Phase) (us : List ℕ) (n k : ℕ) → ends (printed listed cells g phase us) ≡ refused n k → (n ≡ 17) ⊎ (n ≡ 18)
+  unfolding printed
+  printed-number phase (u ∷ us) n k e = inl (sym (same-number (sym (ends-refused 17 u) ∙ e)))
+  printed-number phase [] n k e =
+      let ts = gates listed cells g phase in inr (mapped-number ranged (netlistText g ts (figuresOf g phase ts)) (figuresOf g phase ts) n k e)
+
+  cut-number : (vs : List ℕ) (n k : ℕ) → ends (mapCut listed cells g vs) ≡ refused n k → (n ≡ 16) ⊎ (n ≡ 17) ⊎ (n ≡ 18)
+  unfolding mapCut mapChosen chosen
+  cut-number (v ∷ vs) n k e = inl (sym (same-number (sym (ends-refused 16 v) ∙ e)))
+  cut-number [] n k e = inr (printed-number (chosen cells g) (uncovered (chosen cells g) 0 (g .outputs)) n k e)
+
+  placed-number : (o : Option ℕ) (n k : ℕ) → ends (mapPlaced listed cells g o) ≡ refused n k → (n ≡ 15) ⊎ (n ≡ 16) ⊎ (n ≡ 17) ⊎ (n ≡ 18)
+  unfolding mapPlaced
+  placed-number (some v) n k e = inl (sym (same-number (sym (ends-refused 15 v) ∙ e)))
+  placed-number none n k e = inr (cut-number (crowded g) n k e)
+
+  -- 15
+  fifteen-is : (o : Option ℕ) (v : ℕ) → (ends (mapPlaced listed cells g o) ≡ refused 15 v) ↔ (o ≡ some v)
+  unfolding mapPlaced
+  fifteen-is (some u) v = ((λ e. ap some (same-place (sym (ends-refused 15 u) ∙ e))), λ q. ap (λ (x : Option ℕ). ends (mapPlaced listed cells g x)) q ∙ ends-refused 15 v)
+  fifteen-is none v = ((λ e. absurd (other (cut-number (crowded g) 15 v e))), λ q. ap (λ (x : Option ℕ). ends (mapPlaced listed cells g x)) q ∙ ends-refused 15 v)
+    where
+      other : (_≡_ {A = ℕ} 15 16) ⊎ (_≡_ {A = ℕ} 15 17) ⊎ (_≡_ {A = ℕ} 15 18) → ⊥
+      other (inl q) = omega arith
+      other (inr (inl q)) = omega arith
+      other (inr (inr q)) = omega arith
+
+  -- 16
+  sixteen-is : (vs : List ℕ) (v : ℕ) → (ends (mapCut listed cells g vs) ≡ refused 16 v) ↔ (firstOf vs ≡ some v)
+  unfolding mapCut mapChosen chosen firstOf
+  sixteen-is (u ∷ us) v = ((λ e. ap some (same-place (sym (ends-refused 16 u) ∙ e))), λ q. let z : u ≡ v = cc in ends-refused 16 u ∙ ap (refused 16) z)
+  sixteen-is [] v = ((λ e. absurd (other (printed-number (chosen cells g) (uncovered (chosen cells g) 0 (g .outputs)) 16 v e))), λ q. absurd (let z : false ≡ true = cc in mathlib.Core.Bool.false≢true z))
+    where
+      other : (_≡_ {A = ℕ} 16 17) ⊎ (_≡_ {A = ℕ} 16 18) → ⊥
+      other (inl q) = omega arith
+      other (inr q) = omega arith
+
+-- ---- a design's graph defines nothing twice
+
+pub once-distinct : (xs : List ℕ) → Distinct xs → T (distinct xs)
+unfolding distinct
+once-distinct [] h = tt
+once-distinct (x ∷ xs) h = yes-and (not (elem x xs)) (distinct xs) (in-not x xs (h .0)) (once-distinct xs (h .1))
+
+design-once : (c : Call) (d : Design) → readTexts c ≡ holds d → T (distinct (0 ∷ d .graph .inputs ++ andVars (d .graph)))
+unfolding timedBy
+design-once c d e =
+    let t = texts-read c d e in
+    once-distinct (0 ∷ d .graph .inputs ++ andVars (d .graph))
+    (subst (λ (g : Graph). Distinct (0 ∷ g .inputs ++ andVars g)) (t .isTimed) (graph-known (c .graph) (t .header) (t .meant) (t .isHeader) (t .isGraph) .once))
+
+module _ (c : Call) where
+  read : (d : Design) → ToDesign c d → readTexts c ≡ holds d
+  read d x = texts-exactly c .accepts d .1 x
+
+  of-texts : (n k : ℕ) → TextsFault c n k → mapTexts c ≡ refused n k
+  unfolding mapTexts mapDesign
+  of-texts n k x = ap (mapDesign (c .bytes)) (texts-exactly c .refuses n k .1 x)
+
+  fifteen : (d : Design) → ToDesign c d → (v : ℕ) → (mapTexts c ≡ refused 15 v) ↔ LowestUnplaced (d .graph) v
+  unfolding mapGraph
+  fifteen d x v =
+      let is = outcome-is c d (read d x) in
+      let f = fifteen-is (c .bytes) (d .ranged) (d .listed) (d .cells) (d .graph) (lowest (unplaced (d .graph))) v in
+      let i = unplaced-lowest-iff (d .graph) (design-once c d (read d x)) v in (
+        (λ e. let p = i .0 (f .0 (sym is ∙ e)) in record { isAnd = p .0; noOrder = p .1; lower = p .2 }),
+        (λ l. is ∙ f .1 (i .1 (l .isAnd, l .noOrder, l .lower))),
+      )
+
+  placed : (d : Design) → ToDesign c d → OrderOfAll (d .graph) → unplaced (d .graph) ≡ []
+  placed d x o = unplaced-none-iff (d .graph) (design-once c d (read d x)) .1 o
+
+  lowest-nil : (xs : List ℕ) → xs ≡ [] → lowest xs ≡ none
+  unfolding lowest
+  lowest-nil xs e = ap lowest e
+
+  cut-is : (d : Design) (x : ToDesign c d) → OrderOfAll (d .graph) → mapTexts c ≡ within (c .bytes) (followed (d .ranged) (d .cells) (d .graph) (mapCut (d .listed) (d .cells) (d .graph) (crowded (d .graph))))
+  unfolding mapGraph mapPlaced
+  cut-is d x o =
+      outcome-is c d (read d x)
+      ∙ ap (λ (y : Option ℕ). within (c .bytes) (followed (d .ranged) (d .cells) (d .graph) (mapPlaced (d .listed) (d .cells) (d .graph) y))) (lowest-nil (unplaced (d .graph)) (placed d x o))
+
+  sixteen : (d : Design) → ToDesign c d → OrderOfAll (d .graph) → (v : ℕ) → (mapTexts c ≡ refused 16 v) ↔ FirstCrowded (d .graph) v
+  sixteen d x o v =
+      let is = cut-is d x o in
+      let f = sixteen-is (c .bytes) (d .ranged) (d .listed) (d .cells) (d .graph) (crowded (d .graph)) v in
+      let i = crowded-first-iff (d .graph) (design-accepted c d (read d x) (placed d x o)) v in
+      ((λ e. i .0 (f .0 (sym is ∙ e))), (λ l. is ∙ f .1 (i .1 l)))
+
+  mappable : (d : Design) → Mappable c d ↔ (ToDesign c d × OrderOfAll (d .graph) × NoneCrowded (d .graph))
+  mappable d = (there, back)
+    where
+      there : Mappable c d → ToDesign c d × OrderOfAll (d .graph) × NoneCrowded (d .graph)
+      there m = (
+        texts-exactly c .accepts d .0 (m .design),
+        unplaced-none-iff (d .graph) (design-once c d (m .design)) .0 (m .placed),
+        crowded-none-iff (d .graph) (design-accepted c d (m .design) (m .placed)) .0 (m .few),
+      )
+
+      back : (ToDesign c d × OrderOfAll (d .graph) × NoneCrowded (d .graph)) → Mappable c d
+      back p =
+          let e = read d (p .0) in
+          let q = placed d (p .0) (p .1) in
+          record { design = e; placed = q; few = crowded-none-iff (d .graph) (design-accepted c d e q) .1 (p .2) }
+
+  only-these : (n k : ℕ) → mapTexts c ≡ refused n k → TextsFault c n k ⊎ ((n ≡ 15) ⊎ (n ≡ 16) ⊎ (n ≡ 17) ⊎ (n ≡ 18))
+  unfolding mapTexts mapDesign mapGraph numberIn placeIn
+  only-these n k e = go (readTexts c) refl
+    where
+      go : (r : Read Design) → readTexts c ≡ r → TextsFault c n k ⊎ ((n ≡ 15) ⊎ (n ≡ 16) ⊎ (n ≡ 17) ⊎ (n ≡ 18))
+      go (holds d) q = inr (placed-number (c .bytes) (d .ranged) (d .listed) (d .cells) (d .graph) (lowest (unplaced (d .graph))) n k (sym (outcome-is c d q) ∙ e))
+      go (fault m j) q =
+          let z : refused m j ≡ refused n k = sym (ap (mapDesign (c .bytes)) q) ∙ e in
+          inl (texts-exactly c .refuses n k .0 (q ∙ ap₂ (λ (x y : ℕ). fault x y) (same-number z) (same-place z)))
+
+-- the refusals of every call
+pub demand-refusals : (c : Call) → Outcomes c
+demand-refusals c = record {
+  texts = texts-exactly c;
+  ofTexts = of-texts c;
+  fifteen = fifteen c;
+  sixteen = sixteen c;
+  mappable = mappable c;
+  only = only-these c;
+}
