@@ -3,16 +3,17 @@
 -- Assumes nothing.
 use Prim.Native.Nat.{ℕ}
 use Prim.Native.String.{String}
-use mathlib.Core.Bool.{Bool, _&&_}
+use mathlib.Core.Bool.{Bool, false, _&&_}
 use mathlib.Core.List.{List, [], _∷_, _++_}
 use lib.Dec.{T, eqb}
+use lib.ListN.{replicate}
 use Rattle.model.specs.Base.{all, same}
 use Rattle.model.specs.Limits.{need}
 use Rattle.model.specs.Text.{text}
 use Rattle.model.specs.Netlist.{refused, mapped}
 use Rattle.model.specs.Reading.{Ruling, verdictRuling}
 use Rattle.model.specs.GraphText.{readHeader, headerAnswer, headerRuling, headerValues}
-use Rattle.model.specs.Mapper.{mapTexts, answerOf, returned, returnedBy, textAfter, workAfter}
+use Rattle.model.specs.Mapper.{callOf, mapTexts, answerOf, returned, returnedBy, textAfter, workAfter}
 use Rattle.model.specs.declared.Verdict.the-variants.{Accepted, Refused}
 use Rattle.cases.proofs.Said.{library, listing, with, graphB, graphC, graphF, Case, given, mapText, holds, isReturned, prints, gives, refuses, lists, computes, takes}
 
@@ -177,3 +178,13 @@ rulings-are = tt
 pub need-is : T (eqb (need 0 0) 124 && (eqb (need 3 1) 497 && (eqb (need 260 404) 32768 && eqb (need 4095 4096) 512000)))
 unfolding need
 need-is = tt
+
+-- a call on texts and lent memory: each text in its place, and as many words and bytes as are lent. With input 0 at 40 B's output comes at 70
+pub call-is : T (
+    isReturned 0 134 2 3 30 (returnedBy (mapTexts (callOf false library (text graphB) [] (replicate 497 0) (replicate 134 0))))
+    && (isReturned 10 0 0 0 0 (returnedBy (mapTexts (callOf false library (text graphB) [] (replicate 496 0) (replicate 134 0))))
+    && (isReturned 18 134 0 0 0 (returnedBy (mapTexts (callOf false library (text graphB) [] (replicate 497 0) (replicate 133 0))))
+    && isReturned 0 134 2 3 70 (returnedBy (mapTexts (callOf false library (text graphB) (text "input arrival\n0 40\n") (replicate 497 0) (replicate 134 0))))))
+    )
+unfolding isReturned returnedBy mapTexts library graphB text
+call-is = tt
