@@ -1,69 +1,69 @@
--- What the loop of `insert` goes by: a number is carried along the list, and the lesser of it and each key stays behind.
---     turn, turn-rising           one turn
---     found, last                 the carried number is there already; it comes last
+-- What the loops of `place` and `move_up` go by: the keys that stand in an array from a place on.
+--     one-more, put-more, put-at  a key more before a place, and a key put there
+--     passed, stopped, same       the key at a place is below the one that is put in, above it, or the same
 --     added-room, added-full      what adding a key comes to
---     added-rising, row-rising .. lists that are built stay ascending
 -- Assumes nothing.
-use mathlib.Core.Path.{_≡_, sym, ap, _∙_, subst}
-use mathlib.Core.Bool.{Bool, true, false, cond}
+use mathlib.Core.Path.{_≡_, sym, ap, _∙_}
 use mathlib.Core.List.{List, [], _∷_, _++_}
-use Prim.Native.Nat.{ℕ, suc, _+_, _≤_, _<_, min, max, compare}
+use Prim.Native.Nat.{ℕ, suc, _+_, _≤_, _<_, compare}
 use native.Mathlib.Omega.{arith}
 use native.Mathlib.Numerals.{add-one}
-use lib.Dec.{ltb, leb}
-use lib.ListN.{length, take, drop, getD, set, take-append-drop, drop-of-length-le}
-use lib.Seq.{drop-cons, take-suc-set, drop-set-lt, append-snoc, take-all}
+use lib.ListN.{length, take, drop, getD, set, take-append-drop, drop-of-length-le, length-take}
+use lib.Seq.{drop-cons, take-suc, take-suc-set, set-split, drop-append-le, append-snoc, length-take-le}
 use borrow.Author.Tests.{lt-ltb, le-ltb}
-use Rattle.model.specs.Base.{insert, union}
-use Rattle.cuts.specs.Keys.{Rising, added, addedCut, rowKeys, crossKeys, key, keyRoom}
-use Rattle.cuts.proofs.Merging.{three, insert-first, insert-past, insert-same, insert-rising}
+use Rattle.model.specs.Base.{insert}
+use Rattle.cuts.specs.Keys.{added, keyRoom}
+use Rattle.cuts.proofs.Merging.{insert-before, insert-past, insert-same}
 
-carry : (x y : ℕ) (l : List ℕ) → (x ≡ y → ⊥) → Rising (suc y) l → insert compare x (y ∷ l) ≡ min x y ∷ insert compare (max x y) l
-carry x y l other r =
-    three x y
-    (λ h.
-    let a : x ≡ min x y = omega arith in
-    let b : y ≡ max x y = omega arith in
-    insert-first x (y ∷ l) (h, r) ∙ ap (λ (s : List ℕ). x ∷ s) (sym (insert-first y l r)) ∙ (λ i. a i ∷ insert compare (b i) l))
-    (λ h. absurd (other h))
-    (λ h.
-    let a : y ≡ min x y = omega arith in
-    let b : x ≡ max x y = omega arith in
-    insert-past x y l h ∙ (λ i. a i ∷ insert compare (b i) l))
+pub none-between : (L : List ℕ) (p : ℕ) → drop p (take p L) ≡ []
+none-between L p = drop-of-length-le (take p L) {i = p} (omega (arith, length-take p L))
 
-module _ (L : List ℕ) (i : ℕ) (h : i < length L) (r : Rising 0 (drop i L)) where
-  here : drop i L ≡ getD L i 0 ∷ drop (suc i) L
-  here = drop-cons L i 0 h
+module _ (L : List ℕ) (p i : ℕ) (h : p ≤ i) where
+  -- what stands behind the keys from p on that stand before i
+  behind : (Z : List ℕ) → i ≤ length L → drop p (take i L ++ Z) ≡ drop p (take i L) ++ Z
+  behind Z l = drop-append-le p (take i L) Z (omega (arith, length-take-le i L l))
 
-  rest : Rising (suc (getD L i 0)) (drop (suc i) L)
-  rest = subst (Rising 0) here r .1
+  pub rejoin : i ≤ length L → drop p (take i L) ++ drop i L ≡ drop p L
+  rejoin l = sym (behind (drop i L) l) ∙ ap (drop p) (take-append-drop i L)
 
-  pub turn : (x v n : ℕ) → (x ≡ getD L i 0 → ⊥) → v ≡ min x (getD L i 0) → n ≡ max x (getD L i 0)
-      → take i L ++ insert compare x (drop i L) ≡ take (i + 1) (set L i v) ++ insert compare n (drop (i + 1) (set L i v))
-  turn x v n other ev en =
-      let y : ℕ = getD L i 0 in
-      ap (λ (s : List ℕ). take i L ++ insert compare x s) here
-      ∙ ap (λ (s : List ℕ). take i L ++ s) (carry x y (drop (suc i) L) other rest)
-      ∙ (λ j. take i L ++ (sym ev j ∷ insert compare (sym en j) (drop (suc i) L)))
-      ∙ sym (append-snoc (take i L) v (insert compare n (drop (suc i) L)))
-      ∙ ap (λ (s : List ℕ). s ++ insert compare n (drop (suc i) L)) (sym (take-suc-set L i v h))
-      ∙ ap (λ (s : List ℕ). take (suc i) (set L i v) ++ insert compare n s) (sym (drop-set-lt (suc i) L i v (omega arith)))
-      ∙ rw add-one
+  module _ (l : i < length L) where
+    pub one-more : drop p (take (suc i) L) ≡ drop p (take i L) ++ (getD L i 0 ∷ [])
+    one-more = ap (drop p) (take-suc L i 0 l) ∙ behind (getD L i 0 ∷ []) (omega arith)
 
-  pub turn-rising : (v : ℕ) → Rising 0 (drop (i + 1) (set L i v))
-  turn-rising v =
-      rw (add-one, drop-set-lt (suc i) L i v (omega arith))
-      (Rattle.cuts.proofs.Merging.rising-from (drop (suc i) L) (omega arith) rest)
+    pub put-more : (v : ℕ) → drop p (take (suc i) (set L i v)) ≡ drop p (take i L) ++ (v ∷ [])
+    put-more v = ap (drop p) (take-suc-set L i v l) ∙ behind (v ∷ []) (omega arith)
 
-  pub found : (x : ℕ) → x ≡ getD L i 0 → take i L ++ insert compare x (drop i L) ≡ L
-  found x e =
-      ap (λ (s : List ℕ). take i L ++ insert compare x s) here
-      ∙ ap (λ (s : List ℕ). take i L ++ s) (insert-same x (getD L i 0) (drop (suc i) L) e ∙ sym here)
-      ∙ take-append-drop i L
+    pub put-at : (v : ℕ) → drop p (set L i v) ≡ drop p (take i L) ++ (v ∷ drop (suc i) L)
+    put-at v = ap (drop p) (set-split L i v l) ∙ behind (v ∷ drop (suc i) L) (omega arith)
 
-pub last : (L : List ℕ) (i x : ℕ) → length L ≤ i → take i L ++ insert compare x (drop i L) ≡ L ++ (x ∷ [])
+    module _ (k : ℕ) where
+      at-hand : insert compare k (drop i L) ≡ insert compare k (getD L i 0 ∷ drop (suc i) L)
+      at-hand = ap (insert compare k) (drop-cons L i 0 l)
+
+      pub passed : getD L i 0 < k
+          → drop p (take i L) ++ insert compare k (drop i L) ≡ drop p (take (i + 1) L) ++ insert compare k (drop (i + 1) L)
+      passed y =
+          ap (λ (s : List ℕ). drop p (take i L) ++ s) (at-hand ∙ insert-past k (getD L i 0) (drop (suc i) L) y)
+          ∙ sym (append-snoc (drop p (take i L)) (getD L i 0) (insert compare k (drop (suc i) L)))
+          ∙ rw add-one (ap (λ (s : List ℕ). s ++ insert compare k (drop (suc i) L)) (sym one-more))
+
+      pub stopped : k < getD L i 0 → insert compare k (drop i L) ≡ k ∷ drop i L
+      stopped y =
+          at-hand ∙ insert-before k (getD L i 0) (drop (suc i) L) y ∙ ap (λ (s : List ℕ). k ∷ s) (sym (drop-cons L i 0 l))
+
+      pub same : k ≡ getD L i 0 → insert compare k (drop i L) ≡ drop i L
+      same e = at-hand ∙ insert-same k (getD L i 0) (drop (suc i) L) e ∙ sym (drop-cons L i 0 l)
+
+pub ended : (L : List ℕ) (i k : ℕ) → length L ≤ i → insert compare k (drop i L) ≡ k ∷ drop i L
 unfolding insert
-last L i x h = rw (drop-of-length-le L h, take-all i L h)
+ended L i k h = rw (drop-of-length-le L {i = i} h)
+
+-- two lists that are the same from i on
+pub heads : (L K : List ℕ) (i : ℕ) → i < length L → i < length K → drop i L ≡ drop i K
+    → (getD L i 0 ≡ getD K i 0) × (drop (suc i) L ≡ drop (suc i) K)
+heads L K i l k e =
+    let both : getD L i 0 ∷ drop (suc i) L ≡ getD K i 0 ∷ drop (suc i) K = sym (drop-cons L i 0 l) ∙ e ∙ drop-cons K i 0 k in
+    (cc, cc)
 
 pub added-room : (k : ℕ) (ks : List ℕ) → length ks < keyRoom → added k ks ≡ insert compare k ks
 unfolding added
@@ -72,29 +72,3 @@ added-room k ks h = rw (lt-ltb (length ks) keyRoom h)
 pub added-full : (k : ℕ) (ks : List ℕ) → keyRoom ≤ length ks → added k ks ≡ ks
 unfolding added
 added-full k ks h = rw (le-ltb (length ks) keyRoom h)
-
-pub added-rising : (k : ℕ) (ks : List ℕ) → Rising 0 ks → Rising 0 (added k ks)
-unfolding added
-added-rising k ks r = by (ltb (length ks) keyRoom)
-  where
-    by : (t : Bool) → Rising 0 (cond t (insert compare k ks) ks)
-    by true = insert-rising 0 k ks (omega arith) r
-    by false = r
-
-pub added-cut-rising : (z ks : List ℕ) → Rising 0 ks → Rising 0 (addedCut z ks)
-unfolding addedCut
-added-cut-rising z ks r = by (leb (length z) 4)
-  where
-    by : (t : Bool) → Rising 0 (cond t (added (key z) ks) ks)
-    by true = added-rising (key z) ks r
-    by false = r
-
-pub row-rising : (c : List ℕ) (ds : List (List ℕ)) (ks : List ℕ) → Rising 0 ks → Rising 0 (rowKeys c ds ks)
-unfolding rowKeys
-row-rising c [] ks r = r
-row-rising c (d ∷ ds) ks r = added-cut-rising (union compare c d) (rowKeys c ds ks) (row-rising c ds ks r)
-
-pub cross-rising : (cs ds : List (List ℕ)) → Rising 0 (crossKeys cs ds)
-unfolding crossKeys
-cross-rising [] ds = tt
-cross-rising (c ∷ cs) ds = row-rising c ds (crossKeys cs ds) (cross-rising cs ds)

@@ -1,7 +1,7 @@
 -- What the merge of two cuts goes by:
 --     compare-..                  the native comparison and the order
 --     first-less, first-same ..   the union by the heads of the two lists
---     union-long                  a union is no shorter than either list
+--     union-long                  a union is no shorter than either list; where it is no longer, that one's signature has the other's
 -- Assumes nothing.
 use mathlib.Core.Path.{_≡_, refl, sym, ap, _∙_, subst}
 use mathlib.Core.Bool.{Bool, true, false}
@@ -15,6 +15,7 @@ use Rattle.model.specs.Base.{put, insert, union}
 use Rattle.theory_graph.proofs.CutFacts.{compare-found}
 use Rattle.theory_order.proofs.Ascending.{compare-less, compare-more, less-compare}
 use Rattle.cuts.specs.Keys.{Rising}
+use Rattle.cuts.proofs.Signing.{Within, mark, signed, one-within, within-more, within-both}
 
 -- the native comparison, by the order
 pub compare-eq : (x y : ℕ) → x ≡ y → compare x y ≡ Ordering·eq
@@ -42,6 +43,10 @@ pub insert-first : (x : ℕ) (l : List ℕ) → Rising (suc x) l → insert comp
 unfolding insert put
 insert-first x [] r = refl
 insert-first x (y ∷ ys) r = rw (less-compare x y (r .0))
+
+pub insert-before : (x y : ℕ) (l : List ℕ) → x < y → insert compare x (y ∷ l) ≡ x ∷ y ∷ l
+unfolding insert put
+insert-before x y l h = rw (less-compare x y h)
 
 pub insert-past : (x y : ℕ) (l : List ℕ) → y < x → insert compare x (y ∷ l) ≡ y ∷ insert compare x l
 unfolding insert put
@@ -98,26 +103,41 @@ unfolding union
 first-same x y A B same r =
     ap (insert compare x) (union-past y A B (rising-from A (omega arith) r)) ∙ insert-same x y (union compare A B) same
 
-of-nil : (B : List ℕ) → length B ≤ length (union compare [] B)
-unfolding union
-of-nil B = omega arith
+-- a union is no shorter than d, and where it is no longer either, c's signature is within d's
+abbrev pub Beside : List ℕ → List ℕ → List ℕ → Type 0
+Beside c d u = (length d ≤ length u) × (length u ≤ length d → Within (signed c) (signed d))
 
--- a union is no shorter than either list
-pub union-long : (lo : ℕ) (A B : List ℕ) → Rising lo A → Rising lo B → (length A ≤ length (union compare A B)) × (length B ≤ length (union compare A B))
+of-nil : (B : List ℕ) → Beside B [] (union compare [] B) × Beside [] B (union compare [] B)
+unfolding union signed
+of-nil [] = ((omega arith, λ h. refl), (omega arith, λ h. refl))
+of-nil (y ∷ B) = ((omega arith, λ h. absurd (omega arith)), (omega arith, λ h. one-within (y ∷ B)))
+
+-- what a union with either list comes to
+pub union-long : (lo : ℕ) (A B : List ℕ) → Rising lo A → Rising lo B → Beside B A (union compare A B) × Beside A B (union compare A B)
+unfolding signed
 union-long lo A B ra rb = go (length A + length B) lo A B (omega arith) ra rb
   where
-    go : (n lo : ℕ) (A B : List ℕ) → length A + length B ≤ n → Rising lo A → Rising lo B → (length A ≤ length (union compare A B)) × (length B ≤ length (union compare A B))
-    go n lo [] B h ra rb = (omega arith, of-nil B)
-    go n lo (x ∷ A) [] h ra rb = let e = ap length (union-nil lo (x ∷ A) ra) in (omega (arith, e), omega arith)
+    go : (n lo : ℕ) (A B : List ℕ) → length A + length B ≤ n → Rising lo A → Rising lo B
+        → Beside B A (union compare A B) × Beside A B (union compare A B)
+    go n lo [] B h ra rb = of-nil B
+    go n lo (x ∷ A) [] h ra rb =
+        let e = ap length (union-nil lo (x ∷ A) ra) in
+        ((omega (arith, e), λ l. one-within (x ∷ A)), (omega arith, λ l. absurd (omega (arith, e, l))))
     go zero lo (x ∷ A) (y ∷ B) h ra rb = absurd (omega arith)
     go (suc n) lo (x ∷ A) (y ∷ B) h ra rb =
         three x y
         (λ less. let e = ap length (first-less x y A B less (ra .1) (rb .1)) in
-        let r = go n (suc x) A (y ∷ B) (omega arith) (ra .1) (less, rb .1) in
-        (omega (arith, e, r .0), omega (arith, e, r .1)))
+        let r = go n (suc x) A (y ∷ B) (omega arith) (ra .1) (less, rb .1) in (
+          (omega (arith, e, r .0 .0), λ l. within-more (signed (y ∷ B)) (signed A) (mark x) (r .0 .1 (omega (arith, e, l)))),
+          (omega (arith, e, r .1 .0), λ l. absurd (omega (arith, e, l, r .1 .0))),
+        ))
         (λ same. let e = ap length (first-same x y A B same (ra .1)) in
-        let r = go n (suc x) A B (omega arith) (ra .1) (rising-from B (omega arith) (rb .1)) in
-        (omega (arith, e, r .0), omega (arith, e, r .1)))
+        let r = go n (suc x) A B (omega arith) (ra .1) (rising-from B (omega arith) (rb .1)) in (
+          (omega (arith, e, r .0 .0), λ l. rw same (within-both (signed B) (signed A) (mark y) (r .0 .1 (omega (arith, e, l))))),
+          (omega (arith, e, r .1 .0), λ l. rw same (within-both (signed A) (signed B) (mark y) (r .1 .1 (omega (arith, e, l))))),
+        ))
         (λ more. let e = ap length (union-past y (x ∷ A) B (more, ra .1)) in
-        let r = go n (suc y) (x ∷ A) B (omega arith) (more, ra .1) (rb .1) in
-        (omega (arith, e, r .0), omega (arith, e, r .1)))
+        let r = go n (suc y) (x ∷ A) B (omega arith) (more, ra .1) (rb .1) in (
+          (omega (arith, e, r .0 .0), λ l. absurd (omega (arith, e, l, r .0 .0))),
+          (omega (arith, e, r .1 .0), λ l. within-more (signed (x ∷ A)) (signed B) (mark y) (r .1 .1 (omega (arith, e, l)))),
+        ))

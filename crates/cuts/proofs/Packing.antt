@@ -1,22 +1,30 @@
 -- What the merge of two packed cuts goes by.
 --     pack-digits                 four digits are the leaves of a cut
 --     left-leads ..               of two heads the greater digit is the lesser leaf
---     key-1 ..                    the key of a union of so many leaves
+--     key-more, leaf-fits         the key of a union with one leaf more
 --     Merged                      the merge under way; `start`, `on-left`, `on-right`, `on-both` its steps
 --     over-left, over-right       a fifth leaf
 --     at-end                      the union is done
+--     barred                      masks with a bit in common say that a fifth leaf comes
 -- Assumes nothing.
 use mathlib.Core.Path.{_≡_, refl, sym, ap, _∙_}
+use mathlib.Core.Bool.{Bool, true, false, cond}
 use mathlib.Core.List.{List, [], _∷_, _++_, append-nil, append-assoc}
-use Prim.Native.Nat.{ℕ, zero, suc, _+_, _-_, _*_, _/_, _%_, _≤_, _<_, compare}
+use Prim.Native.Nat.{ℕ, zero, suc, _+_, _-_, _*_, _/_, _%_, _^_, _≤_, _<_, compare}
+use native.Mathlib.Numerals.{add-one}
 use native.Mathlib.Omega.{arith}
+use lib.Bits.{bitAnd, bitOr, or-lt, and-comm, and-block}
+use lib.Dec.{eqb}
 use lib.ListN.{length, take, getD, length-append}
+use lib.Pow.{pow-lt}
 use lib.Seq.{getD-take, length-take-le}
+use borrow.Author.Tests.{eqb-true}
 use Rattle.model.specs.Base.{union}
 use Rattle.words.specs.Record.{Leaves, Good}
 use Rattle.cuts.specs.Keys.{keyFrom, key}
-use Rattle.cuts.specs.Packs.{Digit, pack, number, Small}
-use Rattle.cuts.proofs.Merging.{first-less, first-same, union-past, union-nil}
+use Rattle.cuts.specs.Packs.{Digit, pack, signature, shut, columnMask, rowMask, unitAt}
+use Rattle.cuts.proofs.Signing.{Within, signed, within-shut}
+use Rattle.cuts.proofs.Merging.{three, union-long, first-less, first-same, union-past, union-nil}
 use Rattle.cuts.proofs.Rows.{leaves-from, leaves-rising, left-wide, right-wide}
 
 -- a leaf is a variable
@@ -40,23 +48,13 @@ pack-digits (w ∷ x ∷ y ∷ z ∷ e ∷ ls) n a b c d l h da db dc dd = absur
 pack-digits (w ∷ x ∷ y ∷ z ∷ []) zero a b c d l h da db dc dd =
     omega (arith, da .past (omega arith), db .past (omega arith), dc .past (omega arith), dd .past (omega arith))
 pack-digits (w ∷ x ∷ y ∷ z ∷ []) (suc zero) a b c d l h da db dc dd =
-    let p : a ≡ 4096 - w = da .there (omega arith) in
-    omega (arith, p, db .past (omega arith), dc .past (omega arith), dd .past (omega arith))
+    omega (arith, da .there (omega arith), db .past (omega arith), dc .past (omega arith), dd .past (omega arith))
 pack-digits (w ∷ x ∷ y ∷ z ∷ []) (suc (suc zero)) a b c d l h da db dc dd =
-    let p : a ≡ 4096 - w = da .there (omega arith) in
-    let q : b ≡ 4096 - x = db .there (omega arith) in
-    omega (arith, p, q, dc .past (omega arith), dd .past (omega arith))
+    omega (arith, da .there (omega arith), db .there (omega arith), dc .past (omega arith), dd .past (omega arith))
 pack-digits (w ∷ x ∷ y ∷ z ∷ []) (suc (suc (suc zero))) a b c d l h da db dc dd =
-    let p : a ≡ 4096 - w = da .there (omega arith) in
-    let q : b ≡ 4096 - x = db .there (omega arith) in
-    let r : c ≡ 4096 - y = dc .there (omega arith) in
-    omega (arith, p, q, r, dd .past (omega arith))
+    omega (arith, da .there (omega arith), db .there (omega arith), dc .there (omega arith), dd .past (omega arith))
 pack-digits (w ∷ x ∷ y ∷ z ∷ []) (suc (suc (suc (suc zero)))) a b c d l h da db dc dd =
-    let p : a ≡ 4096 - w = da .there (omega arith) in
-    let q : b ≡ 4096 - x = db .there (omega arith) in
-    let r : c ≡ 4096 - y = dc .there (omega arith) in
-    let s : d ≡ 4096 - z = dd .there (omega arith) in
-    omega (arith, p, q, r, s)
+    omega (arith, da .there (omega arith), db .there (omega arith), dc .there (omega arith), dd .there (omega arith))
 pack-digits (w ∷ x ∷ y ∷ z ∷ []) (suc (suc (suc (suc (suc n))))) a b c d l h da db dc dd = absurd (omega arith)
 
 -- the first digit is that of the first leaf, and the others are those of the rest
@@ -128,80 +126,30 @@ none-leads : (A : List ℕ) → Leaves 0 A → pack A % 65536 ≡ 0 → A ≡ []
 none-leads [] ga h = refl
 none-leads (x ∷ A) ga h = let a = led x A ga in absurd (omega (arith, h, a .digit, a .low))
 
--- leaves of a union, one more
-key-more : (acc : ℕ) (ls : List ℕ) (v : ℕ) → keyFrom (length (ls ++ (v ∷ []))) acc (ls ++ (v ∷ [])) ≡ keyFrom (length ls) acc ls * 4096 + v
-unfolding keyFrom
-key-more acc [] v = refl
-key-more acc (x ∷ ls) v = key-more (acc * 4096 + x) ls v
+-- the key of a union with one leaf more, and that a key has room for it
+key-more : (ls : List ℕ) (v : ℕ) → length ls ≤ 3 → key (ls ++ (v ∷ [])) ≡ key ls + 281474976710656 + v * unitAt (length ls)
+unfolding key keyFrom unitAt
+key-more [] v h = omega arith
+key-more (a ∷ []) v h = omega arith
+key-more (a ∷ b ∷ []) v h = omega arith
+key-more (a ∷ b ∷ c ∷ []) v h = omega arith
+key-more (a ∷ b ∷ c ∷ d ∷ ls) v h = absurd (omega arith)
 
-number-more : (ls : List ℕ) (v : ℕ) → number (ls ++ (v ∷ [])) ≡ number ls * 4096 + v
-unfolding number
-number-more ls v = key-more 0 ls v
+leaf-fits : (n v : ℕ) → n ≤ 3 → v ≤ 4096 → v * unitAt n ≤ 281474976710656
+unfolding unitAt
+leaf-fits zero v h l = omega arith
+leaf-fits (suc zero) v h l = omega arith
+leaf-fits (suc (suc zero)) v h l = omega arith
+leaf-fits (suc (suc (suc zero))) v h l = omega arith
+leaf-fits (suc (suc (suc (suc n)))) v h l = absurd (omega arith)
 
-small-more : (ls : List ℕ) (v : ℕ) → Small ls → v < 4096 → Small (ls ++ (v ∷ []))
-small-more [] v s h = (h, tt)
-small-more (x ∷ ls) v s h = (s .0, small-more ls v (s .1) h)
+next-unit : (n u : ℕ) → u ≡ unitAt n → u / 4096 ≡ unitAt (n + 1)
+unfolding unitAt
+next-unit n u e = rw add-one (ap (λ (x : ℕ). x / 4096) e)
 
--- the number and the key of so many leaves
-number-0 : number [] ≡ 0
-unfolding number keyFrom
-number-0 = refl
-
-at-1 : (a : ℕ) → (number (a ∷ []) ≡ 0 * 4096 + a) × (key (a ∷ []) ≡ (((1 * 4096 + a) * 4096 + 0) * 4096 + 0) * 4096 + 0)
-unfolding number key keyFrom
-at-1 a = (refl, refl)
-
-at-2 : (a b : ℕ) → (number (a ∷ b ∷ []) ≡ (0 * 4096 + a) * 4096 + b) × (key (a ∷ b ∷ []) ≡ (((2 * 4096 + a) * 4096 + b) * 4096 + 0) * 4096 + 0)
-unfolding number key keyFrom
-at-2 a b = (refl, refl)
-
-at-3 : (a b c : ℕ) → (number (a ∷ b ∷ c ∷ []) ≡ ((0 * 4096 + a) * 4096 + b) * 4096 + c) × (key (a ∷ b ∷ c ∷ []) ≡ (((3 * 4096 + a) * 4096 + b) * 4096 + c) * 4096 + 0)
-unfolding number key keyFrom
-at-3 a b c = (refl, refl)
-
-at-4 : (a b c d : ℕ)
-    → (number (a ∷ b ∷ c ∷ d ∷ []) ≡ (((0 * 4096 + a) * 4096 + b) * 4096 + c) * 4096 + d) × (key (a ∷ b ∷ c ∷ d ∷ []) ≡ (((4 * 4096 + a) * 4096 + b) * 4096 + c) * 4096 + d)
-unfolding number key keyFrom
-at-4 a b c d = (refl, refl)
-
-pub key-0 : (ls : List ℕ) → length ls ≡ 0 → key ls ≡ 0
-unfolding key keyFrom
-key-0 [] h = refl
-key-0 (a ∷ ls) h = absurd (omega arith)
-
-pub key-1 : (ls : List ℕ) → length ls ≡ 1 → (key ls ≡ 281474976710656 + number ls * 68719476736) × (Small ls → number ls < 4096)
-key-1 [] h = absurd (omega arith)
-key-1 (a ∷ []) h = let e = at-1 a in (omega (arith, e .0, e .1), λ s. omega (arith, e .0, s .0))
-key-1 (a ∷ b ∷ ls) h = absurd (omega arith)
-
-pub key-2 : (ls : List ℕ) → length ls ≡ 2 → (key ls ≡ 562949953421312 + number ls * 16777216) × (Small ls → number ls < 16777216)
-key-2 [] h = absurd (omega arith)
-key-2 (a ∷ []) h = absurd (omega arith)
-key-2 (a ∷ b ∷ []) h = let e = at-2 a b in (omega (arith, e .0, e .1), λ s. omega (arith, e .0, s .0, s .1 .0))
-key-2 (a ∷ b ∷ c ∷ ls) h = absurd (omega arith)
-
-pub key-3 : (ls : List ℕ) → length ls ≡ 3 → (key ls ≡ 844424930131968 + number ls * 4096) × (Small ls → number ls < 68719476736)
-key-3 [] h = absurd (omega arith)
-key-3 (a ∷ []) h = absurd (omega arith)
-key-3 (a ∷ b ∷ []) h = absurd (omega arith)
-key-3 (a ∷ b ∷ c ∷ []) h = let e = at-3 a b c in (omega (arith, e .0, e .1), λ s. omega (arith, e .0, s .0, s .1 .0, s .1 .1 .0))
-key-3 (a ∷ b ∷ c ∷ d ∷ ls) h = absurd (omega arith)
-
-pub key-4 : (ls : List ℕ) → length ls ≡ 4 → (key ls ≡ 1125899906842624 + number ls) × (Small ls → number ls < 281474976710656)
-key-4 [] h = absurd (omega arith)
-key-4 (a ∷ []) h = absurd (omega arith)
-key-4 (a ∷ b ∷ []) h = absurd (omega arith)
-key-4 (a ∷ b ∷ c ∷ []) h = absurd (omega arith)
-key-4 (a ∷ b ∷ c ∷ d ∷ []) h = let e = at-4 a b c d in (omega (arith, e .0, e .1), λ s. omega (arith, e .0, s .0, s .1 .0, s .1 .1 .0, s .1 .1 .1 .0))
-key-4 (a ∷ b ∷ c ∷ d ∷ e ∷ ls) h = absurd (omega arith)
-
--- with room for one more
-roomy : (ls : List ℕ) → Small ls → length ls ≤ 3 → number ls < 68719476736
-roomy [] s h = omega (arith, number-0)
-roomy (a ∷ []) s h = omega (arith, key-1 (a ∷ []) refl .1 s)
-roomy (a ∷ b ∷ []) s h = omega (arith, key-2 (a ∷ b ∷ []) refl .1 s)
-roomy (a ∷ b ∷ c ∷ []) s h = key-3 (a ∷ b ∷ c ∷ []) refl .1 s
-roomy (a ∷ b ∷ c ∷ d ∷ ls) s h = absurd (omega arith)
+begun : (0 ≡ key []) × (68719476736 ≡ unitAt 0)
+unfolding key keyFrom unitAt
+begun = (refl, refl)
 
 -- p and n are a cut, packed, and its size
 pub record Packs (p n : ℕ) (c : List ℕ) : Type 0 where
@@ -210,7 +158,7 @@ pub record Packs (p n : ℕ) (c : List ℕ) : Type 0 where
   pub good : Good c
 
 -- the merge of X and Y under way: what is left of them is packed in a and b, `ls` are the leaves that are done; a may have `left` leaves that b has not, and b `right`
-pub record Merged (X Y : List ℕ) (left right a b done : ℕ) : Type 0 where
+pub record Merged (X Y : List ℕ) (left right a b done unit : ℕ) : Type 0 where
   pub ls : List ℕ
   pub A : List ℕ
   pub B : List ℕ
@@ -220,11 +168,12 @@ pub record Merged (X Y : List ℕ) (left right a b done : ℕ) : Type 0 where
   pub second-good : Leaves 0 B
   pub left-room : left + (length ls + length B) ≡ 4
   pub right-room : right + (length ls + length A) ≡ 4
-  pub sum : done ≡ number ls
-  pub small : Small ls
+  pub sum : done ≡ key ls
+  pub counts : unit ≡ unitAt (length ls)
+  pub low : done ≤ length ls * 562949953421312
   pub whole : union compare X Y ≡ ls ++ union compare A B
 
-pub start : (X Y : List ℕ) (xs xn ys yn : ℕ) → Packs xs xn X → Packs ys yn Y → Merged X Y (4 - yn) (4 - xn) xs ys 0
+pub start : (X Y : List ℕ) (xs xn ys yn : ℕ) → Packs xs xn X → Packs ys yn Y → Merged X Y (4 - yn) (4 - xn) xs ys 0 68719476736
 start X Y xs xn ys yn p q =
     record {
       ls = [];
@@ -236,18 +185,24 @@ start X Y xs xn ys yn p q =
       second-good = q .good .1;
       left-room = omega (arith, q .size, q .good .0);
       right-room = omega (arith, p .size, p .good .0);
-      sum = sym number-0;
-      small = tt;
+      sum = begun .0;
+      counts = begun .1;
+      low = omega arith;
       whole = refl;
     }
 
-module _ {X Y : List ℕ} {left right a b done : ℕ} (g : Merged X Y left right a b done) where
+module _ {X Y : List ℕ} {left right a b done unit : ℕ} (g : Merged X Y left right a b done unit) where
+  -- there is room for a leaf more
+  fits : (d : ℕ) → d ≤ 4096 → length (g .ls) ≤ 3 → (d ≤ 4096) × ((4096 - d) * unit ≤ 281474976710656) × (done ≤ 1688849860263936)
+  fits d h r = (h, rw (g .counts) (leaf-fits (length (g .ls)) (4096 - d) r (omega arith)), omega (arith, g .low))
+
   -- the leaf that was next is done: what is left of either is as it was, or has lost it
   next : (v : ℕ) (A B : List ℕ) (l r a' b' d : ℕ) → v < 4096 → d ≡ 4096 - v → a' ≡ pack A → b' ≡ pack B → Leaves 0 A → Leaves 0 B
       → l + (length (g .ls) + 1 + length B) ≡ 4 → r + (length (g .ls) + 1 + length A) ≡ 4 → union compare (g .A) (g .B) ≡ v ∷ union compare A B
-      → Merged X Y l r a' b' (done * 4096 + (4096 - d))
+      → Merged X Y l r a' b' (done + 281474976710656 + (4096 - d) * unit) (unit / 4096)
   next v A B l r a' b' d low digit fa fb ga gb hl hr e =
       let more : length (g .ls ++ (v ∷ [])) ≡ length (g .ls) + 1 = length-append (g .ls) (v ∷ []) in
+      let leaf : 4096 - d ≡ v = omega (arith, digit, low) in
       record {
         ls = g .ls ++ (v ∷ []);
         A = A;
@@ -258,8 +213,9 @@ module _ {X Y : List ℕ} {left right a b done : ℕ} (g : Merged X Y left right
         second-good = gb;
         left-room = omega (arith, hl, more);
         right-room = omega (arith, hr, more);
-        sum = omega (arith, g .sum, number-more (g .ls) v, digit, low);
-        small = small-more (g .ls) v (g .small) low;
+        sum = (λ i. g .sum i + 281474976710656 + leaf i * g .counts i) ∙ sym (key-more (g .ls) v (omega (arith, hl)));
+        counts = next-unit (length (g .ls)) unit (g .counts) ∙ ap unitAt (sym more);
+        low = omega (arith, g .low, more, fits d (omega (arith, digit)) (omega (arith, hl)));
         whole = g .whole ∙ ap (λ (r : List ℕ). g .ls ++ r) e ∙ sym (append-assoc (g .ls) (v ∷ []) (union compare A B));
       }
 
@@ -275,21 +231,21 @@ module _ {X Y : List ℕ} {left right a b done : ℕ} (g : Merged X Y left right
       → (leaf : ℕ) × (A : List ℕ) × (B : List ℕ) × Led (g .A) leaf A × Led (g .B) leaf B × (union compare (g .A) (g .B) ≡ leaf ∷ union compare A B)
   lead-both e h = both-lead (g .A) (g .B) (g .first-good) (g .second-good) (omega (arith, e, g .first, g .second)) (omega (arith, h, g .first))
 
-  pub on-left : b % 65536 < a % 65536 → 0 < left → Merged X Y (left - 1) right (a / 65536) b (done * 4096 + (4096 - a % 65536))
+  pub on-left : b % 65536 < a % 65536 → 0 < left → Merged X Y (left - 1) right (a / 65536) b (done + 281474976710656 + (4096 - a % 65536) * unit) (unit / 4096)
   on-left h r =
       let t = leads-left h in
       let e = t .2 in
       next (t .0) (t .1) (g .B) (left - 1) right (a / 65536) b (a % 65536) (e .low) (omega (arith, e .digit, g .first)) (omega (arith, e .past, g .first)) (g .second) (e .good) (g .second-good)
       (omega (arith, g .left-room, r)) (omega (arith, g .right-room, e .long)) (t .3)
 
-  pub on-right : a % 65536 < b % 65536 → 0 < right → Merged X Y left (right - 1) a (b / 65536) (done * 4096 + (4096 - b % 65536))
+  pub on-right : a % 65536 < b % 65536 → 0 < right → Merged X Y left (right - 1) a (b / 65536) (done + 281474976710656 + (4096 - b % 65536) * unit) (unit / 4096)
   on-right h r =
       let t = leads-right h in
       let e = t .2 in
       next (t .0) (g .A) (t .1) left (right - 1) a (b / 65536) (b % 65536) (e .low) (omega (arith, e .digit, g .second)) (g .first) (omega (arith, e .past, g .second)) (g .first-good) (e .good)
       (omega (arith, g .left-room, e .long)) (omega (arith, g .right-room, r)) (t .3)
 
-  pub on-both : a % 65536 ≡ b % 65536 → 0 < a % 65536 → Merged X Y left right (a / 65536) (b / 65536) (done * 4096 + (4096 - a % 65536))
+  pub on-both : a % 65536 ≡ b % 65536 → 0 < a % 65536 → Merged X Y left right (a / 65536) (b / 65536) (done + 281474976710656 + (4096 - a % 65536) * unit) (unit / 4096)
   on-both q h =
       let t = lead-both q h in
       let e = t .3 in
@@ -298,18 +254,16 @@ module _ {X Y : List ℕ} {left right a b done : ℕ} (g : Merged X Y left right
       (omega (arith, g .left-room, f .long)) (omega (arith, g .right-room, e .long)) (t .5)
 
   -- there is room in a key for the leaf that is next
-  pub left-fits : b % 65536 < a % 65536 → 0 < left → (done < 68719476736) × (a % 65536 ≤ 4096)
-  left-fits h r =
-      (omega (arith, g .sum, roomy (g .ls) (g .small) (omega (arith, g .left-room, r))), omega (arith, g .first, leads-left h .2 .digit))
+  pub left-fits : b % 65536 < a % 65536 → 0 < left → (a % 65536 ≤ 4096) × ((4096 - a % 65536) * unit ≤ 281474976710656) × (done ≤ 1688849860263936)
+  left-fits h r = fits (a % 65536) (omega (arith, g .first, leads-left h .2 .digit)) (omega (arith, g .left-room, r))
 
-  pub right-fits : a % 65536 < b % 65536 → 0 < right → (done < 68719476736) × (b % 65536 ≤ 4096)
-  right-fits h r =
-      (omega (arith, g .sum, roomy (g .ls) (g .small) (omega (arith, g .right-room, r))), omega (arith, g .second, leads-right h .2 .digit))
+  pub right-fits : a % 65536 < b % 65536 → 0 < right → (b % 65536 ≤ 4096) × ((4096 - b % 65536) * unit ≤ 281474976710656) × (done ≤ 1688849860263936)
+  right-fits h r = fits (b % 65536) (omega (arith, g .second, leads-right h .2 .digit)) (omega (arith, g .right-room, r))
 
-  pub both-fits : a % 65536 ≡ b % 65536 → 0 < a % 65536 → (done < 68719476736) × (a % 65536 ≤ 4096)
+  pub both-fits : a % 65536 ≡ b % 65536 → 0 < a % 65536 → (a % 65536 ≤ 4096) × ((4096 - a % 65536) * unit ≤ 281474976710656) × (done ≤ 1688849860263936)
   both-fits q h =
       let e = lead-both q h .3 in
-      (omega (arith, g .sum, roomy (g .ls) (g .small) (omega (arith, g .right-room, e .long))), omega (arith, g .first, e .digit))
+      fits (a % 65536) (omega (arith, g .first, e .digit)) (omega (arith, g .right-room, e .long))
 
   pub over-left : b % 65536 < a % 65536 → left ≡ 0 → 4 < length (union compare X Y)
   over-left h r =
@@ -328,3 +282,65 @@ module _ {X Y : List ℕ} {left right a b done : ℕ} (g : Merged X Y left right
       let na : g .A ≡ [] = none-leads (g .A) (g .first-good) (omega (arith, h, g .first)) in
       let nb : g .B ≡ [] = none-leads (g .B) (g .second-good) (omega (arith, k, g .second)) in
       (g .whole ∙ (λ i. g .ls ++ union compare (na i) (nb i)) ∙ nothing-left (g .ls), omega (arith, g .left-room, ap length nb))
+
+-- ---- masks
+
+-- the signature of a packed cut is that of its leaves
+signature-pack : (n : ℕ) (c : List ℕ) → length c ≤ n → Leaves 0 c → signature n (pack c) ≡ signed c
+unfolding signature signed
+signature-pack zero [] h g = refl
+signature-pack zero (x ∷ c) h g = absurd (omega arith)
+signature-pack (suc n) [] h g =
+    let rest = rw none at (signature-pack n [] (omega arith) tt) in
+    rw none (ap (λ (s : ℕ). bitOr s 1) rest)
+signature-pack (suc n) (x ∷ c) h g =
+    let a = led x c g in
+    let low : pack (x ∷ c) % 32 ≡ (4096 - x) % 32 = omega (arith, pack-is x c) in
+    rw (a .past, low, signature-pack n c (omega arith) (a .good))
+
+signature-small : (n p : ℕ) → signature n p < 4294967296
+unfolding signature
+signature-small zero p = omega arith
+signature-small (suc n) p =
+    let h : p % 32 < 32 = omega arith in
+    or-lt 32 (signature n (p / 65536)) (2 ^ (p % 32)) (signature-small n (p / 65536)) (pow-lt h)
+
+shut-small : (n s : ℕ) → shut n s < 4294967296
+unfolding shut
+shut-small n s = by (eqb n 4)
+  where
+    by : (t : Bool) → cond t (4294967295 - s) 0 < 4294967296
+    by true = omega arith
+    by false = omega arith
+
+-- a cut that is within another of four leaves has nothing that this one shuts out
+not-shut : (A B : List ℕ) → Good A → Good B → (length B ≡ 4 → Within (signed A) (signed B))
+    → bitAnd (shut (length B) (signature 4 (pack B))) (signature 4 (pack A)) ≡ 0
+unfolding shut
+not-shut A B ga gb full = by (eqb (length B) 4) refl
+  where
+    by : (t : Bool) → eqb (length B) 4 ≡ t → bitAnd (cond t (4294967295 - signature 4 (pack B)) 0) (signature 4 (pack A)) ≡ 0
+    by true e =
+        within-shut 32 (signature 4 (pack A)) (signature 4 (pack B)) (signature-small 4 (pack B))
+        (rw (signature-pack 4 A (ga .0) (ga .1), signature-pack 4 B (gb .0) (gb .1)) (full (eqb-true (length B) 4 e)))
+    by false e = refl
+
+masks-apart : (X Y : List ℕ) → Good X → Good Y → length (union compare X Y) ≤ 4
+    → bitAnd (columnMask (length Y) (pack Y)) (rowMask (length X) (pack X)) ≡ 0
+masks-apart X Y gx gy h =
+    let sx : ℕ = signature 4 (pack X) in
+    let sy : ℕ = signature 4 (pack Y) in
+    let bx : ℕ = shut (length X) sx in
+    let beside = union-long 0 X Y (leaves-rising 0 X (gx .1)) (leaves-rising 0 Y (gy .1)) in
+    and-block 32 (shut (length Y) sy) sx sy bx (signature-small 4 (pack Y)) (shut-small (length X) sx)
+    ∙ rw (
+      not-shut X Y gx gy (λ e. beside .1 .1 (omega (arith, h, e))),
+      and-comm sy bx,
+      not-shut Y X gy gx (λ e. beside .0 .1 (omega (arith, h, e))),
+    )
+
+pub barred : (X Y : List ℕ) {xs xn : ℕ} → Packs xs xn X → Good Y → ¬ (bitAnd (columnMask (length Y) (pack Y)) (rowMask xn xs) ≡ 0)
+    → 4 < length (union compare X Y)
+barred X Y p gy common =
+    let apart : length (union compare X Y) ≤ 4 → ⊥ = λ h. common (rw (p .is, p .size) (masks-apart X Y (p .good) gy h)) in
+    three 4 (length (union compare X Y)) (λ h. h) (λ e. absurd (apart (omega arith))) (λ h. absurd (apart (omega arith)))

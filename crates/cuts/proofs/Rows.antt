@@ -32,10 +32,10 @@ module _ (U ls : List ℕ) (v : ℕ) (A B : List ℕ) (e : U ≡ ls ++ (v ∷ un
   size = ap length e ∙ length-append ls (v ∷ union compare A B)
 
   pub left-wide : 4 ≤ length ls + length A → 4 < length U
-  left-wide h = omega (arith, size, union-long 0 A B ra rb .0)
+  left-wide h = omega (arith, size, union-long 0 A B ra rb .0 .0)
 
   pub right-wide : 4 ≤ length ls + length B → 4 < length U
-  right-wide h = omega (arith, size, union-long 0 A B ra rb .1)
+  right-wide h = omega (arith, size, union-long 0 A B ra rb .1 .0)
 
 pub row-narrow : (c d : List ℕ) (ds : List (List ℕ)) (ks : List ℕ) → length (union compare c d) ≤ 4
     → rowKeys c (d ∷ ds) ks ≡ added (key (union compare c d)) (rowKeys c ds ks)

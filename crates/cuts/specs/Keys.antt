@@ -1,10 +1,10 @@
 -- A cut as one number, its key: its size and its four leaves, the first highest, so that "by size, then by ascending leaves compared left to right" is the order of the keys.
 -- A list being built has room for one cut more than the limit; what comes after that is left out. Assumes nothing.
 use mathlib.Core.Bool.{cond}
-use mathlib.Core.List.{List, [], _∷_, map}
-use Prim.Native.Nat.{ℕ, zero, suc, _+_, _*_, _/_, _%_, _≤_, compare}
+use mathlib.Core.List.{List, [], _∷_, _++_, map}
+use Prim.Native.Nat.{ℕ, zero, suc, _+_, _-_, _*_, _/_, _%_, _≤_, _<_, compare}
 use lib.Dec.{ltb, leb}
-use lib.ListN.{length, take}
+use lib.ListN.{length, take, drop}
 use mathlib.Core.Path.{_≡_}
 use Rattle.model.specs.Base.{insert, union}
 use Rattle.model.specs.Graph.{Node, constant, input, undefined, both, varOf}
@@ -41,11 +41,20 @@ abbrev pub Rising : ℕ → List ℕ → Type 0
 Rising lo [] = Unit {0}
 Rising lo (x ∷ xs) = (lo ≤ x) × Rising (suc x) xs
 
--- a list that can be added to: the first n keys
-pub record Building (keys : List ℕ) (n : ℕ) : Type 0 where
+-- a list that can be added to: the keys from a place on
+pub record Building (keys : List ℕ) (from : ℕ) : Type 0 where
   pub room : length keys ≡ keyRoom
-  pub fits : n ≤ keyRoom
-  pub rising : Rising 0 (take n keys)
+  pub fits : from ≤ keyRoom
+
+-- r is where k goes among the keys, or 0 where it is one of them
+pub record Place (keys : List ℕ) (from k r : ℕ) : Type 0 where
+  pub there : r ≡ 0 → insert compare k (drop from keys) ≡ drop from keys
+  pub free : 0 < r → (from ≤ r) × (r ≤ keyRoom) × (insert compare k (drop from keys) ≡ drop from (take r keys) ++ (k ∷ drop r keys))
+
+-- the keys before `to` stand one place before where they were, and those behind where they were
+pub record Moved (keys : List ℕ) (from to : ℕ) (out : List ℕ) : Type 0 where
+  pub ahead : drop (from - 1) (take (to - 1) out) ≡ drop from (take to keys)
+  pub behind : drop to out ≡ drop to keys
 
 -- "Equal sets count once"; past the room nothing is added
 unfoldable pub added : ℕ → List ℕ → List ℕ

@@ -6,9 +6,6 @@ use borrow.Author.Needs.{needs}
 use Rattle.cuts.proofs.digit.Statement.{statement}
 use Rattle.cuts.proofs.digit.Tie as tie
 
-sub-result : tie.Need-sub-result
-sub-result c = omega (arith, c .wide .ensures, c .before .before .pre .1 (c .before .if1 .taken))
-
 returns : tie.Need-returns
 returns c =
     record {
@@ -23,4 +20,5 @@ returns-2 c = record { there = λ h. absurd (omega (arith, h, c .if1 .left)); pa
 pub digit-spec : {M : Type 1} → statement M
 digit-spec = tie.close
     (tie.spec
-    (λ c. search needs) (λ c. search needs) (λ c κs. search needs) sub-result returns returns-2)
+    (λ c. search needs) (λ c. search needs) (λ c κs. search needs)
+    (λ c. omega (arith, c .wide .ensures, c .before .before .pre .1 (c .before .if1 .taken))) returns returns-2)

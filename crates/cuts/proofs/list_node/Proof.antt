@@ -2,10 +2,9 @@
 -- Assumes nothing.
 use mathlib.Core.Path.{_≡_, _∙_}
 use mathlib.Core.List.{List}
-use Prim.Native.Nat.{ℕ}
+use Prim.Native.Nat.{ℕ, _-_}
 use native.Mathlib.Omega.{arith}
-use lib.ListN.{length, take, getD}
-use lib.Seq.{length-take-le, getD-take}
+use lib.ListN.{length, drop, length-drop}
 use Rattle.cuts.specs.Keys.{keyRoom}
 use Rattle.cuts.proofs.Nodes.{too-many, few-enough, keys-small}
 use borrow.Author.Needs.{needs}
@@ -20,8 +19,8 @@ room : (k : tie.After-node-keys) → length (made k) ≡ keyRoom
 unfolding made
 room k = k .node-keys .kept .1 .1 .1 .0
 
-counted : (k : tie.After-node-keys) → length (take (k .node-keys .result) (made k)) ≡ k .node-keys .result
-counted k = length-take-le (k .node-keys .result) (made k) (omega (arith, room k, k .node-keys .ensures .1))
+counted : (k : tie.After-node-keys) → length (drop (k .node-keys .result) (made k)) ≡ keyRoom - k .node-keys .result
+counted k = omega (arith, length-drop (k .node-keys .result) (made k), room k)
 
 returns : tie.Need-returns
 unfolding made
@@ -34,23 +33,22 @@ store-keys-requires : tie.Need-store-keys-requires
 unfolding made
 store-keys-requires c κs =
     let k = c .before .before .before .before in
-    let s = c .before .before .before .before .before .before .before .before in
+    let s = k .before .before .before .before in
     let n : ℕ = k .node-keys .result in (
       s .pre .0 .room,
       s .pre .1,
       omega (arith, c .before .before .if1 .left),
-      room k,
-      λ i h.
-          let e : getD (take n (made k)) i 0 ≡ getD (made k) i 0 = getD-take n (made k) i 0 h in
-          rw e at (keys-small (s .args .work .now) (s .args .m) (s .args .v) (s .pre .0) (s .pre .1) (take n (made k)) (k .node-keys .ensures .0) i (omega (arith, counted k))),
+      record { room = room k; fits = k .node-keys .ensures .1 },
+      λ i h. keys-small (s .args .work .now) (s .args .m) (s .args .v) (s .pre .0) (s .pre .1) (drop n (made k)) (k .node-keys .ensures .0) i (omega (arith, counted k)),
     )
 
 returns-2 : tie.Need-returns-2
 unfolding made
 returns-2 c =
-    let k = c .before .before .before .before .before .before .before in
-    let s = c .before .before .before .before .before .before .before .before .before .before .before in
-    let few = few-enough (s .args .work .now) (s .args .m) (s .args .v) (s .pre .0) (s .pre .1) _ (k .node-keys .ensures .0) (omega (arith, counted k, c .before .before .before .before .before .if1 .left)) in
+    let e = c .before .before .before .before .before in
+    let k = e .before .before in
+    let s = k .before .before .before .before in
+    let few = few-enough (s .args .work .now) (s .args .m) (s .args .v) (s .pre .0) (s .pre .1) _ (k .node-keys .ensures .0) (omega (arith, counted k, e .if1 .left)) in
     (few .0, c .before .before .store-keys .ensures ∙ few .1)
 
 pub list-node-spec : {M : Type 1} → statement M

@@ -72,5 +72,5 @@ pub lists-spec : {M : Type 1} → statement M
 lists-spec =
     tie.close
     (tie.spec
-    Inv-loop μ-loop loop-holds slot-requires list-node-requires (λ c. search needs) returns (λ c. search needs) (λ c. search needs) loop-again
-    (λ c. search needs) returns-2)
+    Inv-loop μ-loop loop-holds slot-requires list-node-requires (λ c. search needs) returns (λ c. search needs) (λ c. search needs)
+    loop-again (λ c. search needs) returns-2)

@@ -1,7 +1,8 @@
 -- `cuts::packed` meets its contract. Assumes nothing.
 use mathlib.Core.Path.{_≡_}
+use Prim.Native.Nat.{ℕ, _<_}
 use native.Mathlib.Omega.{arith}
-use lib.ListN.{length}
+use lib.ListN.{length, getD}
 use Rattle.cuts.proofs.Packing.{leaf-small, pack-digits}
 use borrow.Author.Needs.{needs}
 use Rattle.cuts.proofs.packed.Statement.{statement}
@@ -10,25 +11,9 @@ use Rattle.cuts.proofs.packed.Tie as tie
 four : (s : tie.Start) → length (s .args .c .leaves) ≡ 4
 four s = search needs
 
-digit-requires : tie.Need-digit-requires
-digit-requires c κs =
-    let s = c .before in
-    (omega arith, λ h. leaf-small (s .args .c .leaves) (s .args .c .count) 0 (omega (arith, s .pre .0, four s)) (s .pre .1) h)
-
-digit-requires-2 : tie.Need-digit-requires-2
-digit-requires-2 c κs =
-    let s = c .before .before in
-    (omega arith, λ h. leaf-small (s .args .c .leaves) (s .args .c .count) 1 (omega (arith, s .pre .0, four s)) (s .pre .1) h)
-
-digit-requires-3 : tie.Need-digit-requires-3
-digit-requires-3 c κs =
-    let s = c .before .before .before in
-    (omega arith, λ h. leaf-small (s .args .c .leaves) (s .args .c .count) 2 (omega (arith, s .pre .0, four s)) (s .pre .1) h)
-
-digit-requires-4 : tie.Need-digit-requires-4
-digit-requires-4 c κs =
-    let s = c .before .before .before .before in
-    (omega arith, λ h. leaf-small (s .args .c .leaves) (s .args .c .count) 3 (omega (arith, s .pre .0, four s)) (s .pre .1) h)
+-- a leaf of the cut is a variable
+low : (s : tie.Start) (i : ℕ) → i < s .args .c .count → getD (s .args .c .leaves) i 0 < 4096
+low s i h = leaf-small (s .args .c .leaves) (s .args .c .count) i (omega (arith, s .pre .0, four s)) (s .pre .1) h
 
 returns : tie.Need-returns
 returns c =
@@ -39,5 +24,6 @@ pub packed-spec : {M : Type 1} → statement M
 packed-spec =
     tie.close
     (tie.spec
-    digit-requires digit-requires-2 digit-requires-3 digit-requires-4 (λ c. search needs) (λ c. search needs) (λ c. search needs) (λ c. search needs)
-    (λ c. search needs) (λ c. search needs) returns)
+    (λ c κs. (omega arith, low (c .before) 0)) (λ c κs. (omega arith, low (c .before .before) 1))
+    (λ c κs. (omega arith, low (c .before .before .before) 2)) (λ c κs. (omega arith, low (c .before .before .before .before) 3))
+    (λ c. search needs) (λ c. search needs) (λ c. search needs) (λ c. search needs) (λ c. search needs) (λ c. search needs) returns)

@@ -1,22 +1,20 @@
--- `cuts::single` meets its contract.
--- Assumes nothing.
-use mathlib.Core.Path.{_≡_, refl}
-use mathlib.Core.List.{List, [], _∷_}
-use Prim.Native.Nat.{ℕ, _<_}
+-- `cuts::single` meets its contract. Assumes nothing.
+use mathlib.Core.Path.{_∙_}
+use mathlib.Core.List.{List, _∷_, _++_}
+use Prim.Native.Nat.{ℕ}
 use native.Mathlib.Omega.{arith}
-use lib.ListN.{length, take, set}
+use lib.ListN.{drop-of-length-le}
 use borrow.Author.Needs.{needs}
+use Rattle.cuts.proofs.Inserting.{none-between, put-at}
 use Rattle.cuts.proofs.single.Statement.{statement}
 use Rattle.cuts.proofs.single.Tie as tie
 
-first : (ks : List ℕ) (k : ℕ) → 0 < length ks → take 1 (set ks 0 k) ≡ k ∷ []
-first [] k h = absurd (omega arith)
-first (x ∷ ks) k h = refl
-
 returns : tie.Need-returns
-returns c = (first (c .args .keys .now) (c .args .k) (omega (arith, c .pre)), omega arith)
+returns c =
+    let L : List ℕ = c .args .keys .now in
+    let k : ℕ = c .args .k in
+    let e = drop-of-length-le L {i = 19} (omega (arith, c .pre)) in
+    (put-at L 18 18 (omega arith) (omega (arith, c .pre)) k ∙ (λ i. none-between L 18 i ++ (k ∷ e i)), omega arith)
 
 pub single-spec : {M : Type 1} → statement M
-single-spec = tie.close
-    (tie.spec
-    (λ c. search needs) (λ c. search needs) returns)
+single-spec = tie.close (tie.spec (λ c. search needs) (λ c. search needs) returns)
