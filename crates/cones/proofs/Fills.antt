@@ -1,6 +1,6 @@
 -- What the pass over all cuts goes by:
 --     under-..                    words that agree below the functions: the same graph, lists and functions to be found
---     recalled                    a function that is stored is what the walk would find
+--     walked-recalled             a function that is stored is what the walk would find
 --     reached-under               it stays a variable's turn while its own functions are stored
 --     one-filled                  one cut's function
 --     node-begin, node-turn, node-end     the cuts of one variable, one after the other
@@ -11,20 +11,20 @@ use mathlib.Core.Path.{_≡_, refl, sym, ap, _∙_, subst}
 use mathlib.Core.Bool.{Bool, true, false}
 use mathlib.Core.List.{List, [], _∷_, map}
 use Prim.Native.Nat.{ℕ, zero, suc, _+_, _/_, _≤_, _<_}
-use native.Mathlib.Numerals.{add-one}
+use native.Mathlib.Numerals.{add-one, lt-of-le-of-ne}
 use native.Mathlib.Omega.{arith}
-use lib.Dec.{ltb, eqb}
-use lib.ListN.{length, take, getD, length-map}
+use lib.Dec.{eqb}
+use lib.ListN.{length, take, getD, set, length-map}
 use lib.Seq.{take-all, length-take-le}
-use borrow.Author.Tests.{ltb-true, ltb-false, eqb-true, eqb-false}
+use borrow.Author.Tests.{eqb-true, eqb-false}
 use Rattle.model.specs.Limits.{cutLimit}
 use Rattle.words.specs.Layout.{Room, andKind, kindAt, leftAt, rightAt, placeAt, slotAt, countAt, kindAddr, leftAddr, rightAddr, placeAddr, countAddr, outputAddr, slotAddr, listsTo}
 use Rattle.words.specs.Record.{nodeAt, leavesOf, leavesAt, cutsAt, functionOf, putFunctions, Sound}
 use Rattle.words.proofs.Stored.{count-listed, cut-listed, cut-same, cuts-same, sound-same}
 use Rattle.words.proofs.Tabled.{function-stored, function-apart, functions-none, functions-more, put-functions-length, put-functions-before, put-functions-behind}
-use Rattle.cones.specs.Table.{walkWord, Placed}
+use Rattle.cones.specs.Table.{walkWord, Noted, Placed, Walked}
 use Rattle.cones.specs.Filling.{cutWord, functionsOf, filled, Done, Reached, Earlier, Ready}
-use Rattle.cones.proofs.Walks.{placed-kept, same-place, same-walk, fuel}
+use Rattle.cones.proofs.Walks.{placed-kept, same-place, same-walk, fuel, noted-more}
 
 -- words v that agree with w below the functions
 pub record Under (w : List ℕ) (m : ℕ) (v : List ℕ) : Type 0 where
@@ -38,6 +38,15 @@ module _ (w v : List ℕ) (m : ℕ) (under : Under w m v) (p : Placed w m) where
   module _ (u : ℕ) (inside : u ≤ m) where
     same-count : countAt v m u ≡ countAt w m u
     same-count = under .low (countAddr m u) (omega arith)
+
+    same-kind : kindAt v m u ≡ kindAt w m u
+    same-kind = under .low (kindAddr m u) (omega arith)
+
+    same-left : leftAt v m u ≡ leftAt w m u
+    same-left = under .low (leftAddr m u) (omega arith)
+
+    same-right : rightAt v m u ≡ rightAt w m u
+    same-right = under .low (rightAddr m u) (omega arith)
 
     pub under-sound : Sound w m u → Sound v m u
     under-sound s = sound-same v w m (λ i a b. under .low i b) u inside same-count s
@@ -73,6 +82,19 @@ module _ (w v : List ℕ) (m : ℕ) (under : Under w m v) (p : Placed w m) where
               same k few ∙ d .stored k l ∙ sym (under-word (leavesAt v m u k) ∙ ap (cutWord w m u) (under-leaves k few));
         }
 
+  -- it stays u's turn
+  under-reached : (u : ℕ) (inside : u ≤ m) → 0 < placeAt w m u → ((x : ℕ) → x ≤ m → Sound w m x)
+      → (kindAt w m u ≡ andKind → Done v m (leftAt w m u / 2)) → (kindAt w m u ≡ andKind → Done v m (rightAt w m u / 2)) → Reached v m u
+  under-reached u inside alive sound left right =
+      record {
+        placed = under-placed;
+        inside = inside;
+        alive = omega (arith, under .low (placeAddr m u) (omega arith));
+        sound = λ x l. under-sound x l (sound x l);
+        left-done = λ e. subst (λ (q : ℕ). Done v m (q / 2)) (sym (same-left u inside)) (left (sym (same-kind u inside) ∙ e));
+        right-done = λ e. subst (λ (q : ℕ). Done v m (q / 2)) (sym (same-right u inside)) (right (sym (same-kind u inside) ∙ e));
+      }
+
 under-refl : (w : List ℕ) (m : ℕ) → Under w m w
 under-refl w m = record { long = refl; low = λ i h. refl }
 
@@ -84,34 +106,44 @@ under-put w t m u k fs under room inside few =
       low = λ i h. put-functions-before t m u k fs room inside few i h ∙ under .low i h;
     }
 
--- a function that is stored is what the walk would find, at any fuel that is enough
-pub recalled : (w : List ℕ) (m u : ℕ) → Placed w m → u ≤ m → 0 < placeAt w m u → Done w m u → (k : ℕ) → k < countAt w m u → (ls : List ℕ) → leavesAt w m u k ≡ ls
-    → (f : ℕ) → placeAt w m u ≤ suc f → functionOf w m u k ≡ walkWord (suc f) (nodeAt w m) ls u
+-- a function that is stored is what the walk would find; ls are the cut's leaves
+pub walked-recalled : {w : List ℕ} {m u : ℕ} → Placed w m → u ≤ m → kindAt w m u ≡ andKind → Done w m u → {k : ℕ} → k < countAt w m u
+    → {ls : List ℕ} → leavesAt w m u k ≡ ls → {base : ℕ} {notes : List ℕ} → u < length notes → Noted w m ls base notes
+    → {x : ℕ} → x ≡ functionOf w m u k → Walked w m ls base u (set notes u (base + x)) x
 unfolding cutWord
-recalled w m u p inside alive d k h ls el f l =
-    d .stored k h ∙ ap (cutWord w m u) el ∙ fuel w m p ls (placeAt w m u) (suc f) u inside alive (omega arith) l
+walked-recalled {w} {m} {u} p inside kind d {k} h {ls} el {base} {notes} room noted {x} ex =
+    record { table = at; noted = noted-more w m base u x notes room ls noted (λ f l. at (suc f) l) }
+  where
+    at : (f : ℕ) → placeAt w m u ≤ f → x ≡ walkWord f (nodeAt w m) ls u
+    at f l =
+        let alive : 0 < placeAt w m u = omega (arith, p .left-first u inside kind) in
+        ex ∙ d .stored k h ∙ ap (cutWord w m u) el ∙ fuel w m p ls (placeAt w m u) f u inside alive (omega arith) l
 
 -- one cut's function: ls are the cut's leaves, x what the walk over them found
-pub one-filled : (w : List ℕ) (m v k x : ℕ) (ls out : List ℕ) → ls ≡ leavesAt w m v k → x ≡ walkWord (placeAt w m v) (nodeAt w m) ls v → out ≡ putFunctions w m v k (x ∷ [])
-    → out ≡ putFunctions w m v k (cutWord w m v (leavesAt w m v k) ∷ [])
-unfolding cutWord
+pub one-filled : (w : List ℕ) (m v k x : ℕ) (ls out : List ℕ) → ls ≡ leavesAt w m v k → x ≡ cutWord w m v ls
+    → out ≡ putFunctions w m v k (x ∷ []) → out ≡ putFunctions w m v k (cutWord w m v (leavesAt w m v k) ∷ [])
 one-filled w m v k x ls out el ex eo = eo ∙ ap (λ (y : ℕ). putFunctions w m v k (y ∷ [])) (ex ∙ ap (cutWord w m v) el)
+
+map-get : (f : List ℕ → ℕ) (cs : List (List ℕ)) (j : ℕ) → j < length cs → getD (map f cs) j 0 ≡ f (getD cs j [])
+map-get f [] j l = absurd (omega arith)
+map-get f (c ∷ cs) zero l = refl
+map-get f (c ∷ cs) (suc j) l = map-get f cs j (omega arith)
 
 -- the words with the first k functions of v
 unfoldable pub part : List ℕ → ℕ → ℕ → ℕ → List ℕ
 part w m v k = putFunctions w m v 0 (take k (functionsOf w m v))
+
+counted : (w : List ℕ) (m u : ℕ) → length (functionsOf w m u) ≡ countAt w m u
+unfolding functionsOf
+counted w m u = simp length-map (count-listed w m u)
 
 -- the cuts of one variable
 module _ (w : List ℕ) (m v : ℕ) (r : Reached w m v) where
   sound-v : Sound w m v
   sound-v = r .sound v (r .inside)
 
-  count-functions : length (functionsOf w m v) ≡ countAt w m v
-  unfolding functionsOf
-  count-functions = simp length-map (count-listed w m v)
-
   few-functions : length (functionsOf w m v) ≤ cutLimit
-  few-functions = omega (arith, count-functions, sound-v .few)
+  few-functions = omega (arith, counted w m v, sound-v .few)
 
   pub node-begin : w ≡ part w m v 0
   unfolding part
@@ -119,7 +151,7 @@ module _ (w : List ℕ) (m v : ℕ) (r : Reached w m v) where
 
   -- the first k functions are as many
   first-few : (k : ℕ) → k ≤ countAt w m v → 0 + length (take k (functionsOf w m v)) ≤ cutLimit
-  first-few k h = omega (arith, length-take-le k (functionsOf w m v) (omega (arith, count-functions)), sound-v .few)
+  first-few k h = omega (arith, length-take-le k (functionsOf w m v) (omega (arith, counted w m v)), sound-v .few)
 
   node-under : (k : ℕ) → k ≤ countAt w m v → Under w m (part w m v k)
   unfolding part
@@ -137,40 +169,19 @@ module _ (w : List ℕ) (m v : ℕ) (r : Reached w m v) where
 
   pub node-reached : (k : ℕ) → k ≤ countAt w m v → Reached (part w m v k) m v
   node-reached k h =
-      record {
-        placed = under-placed w t m under (r .placed);
-        inside = r .inside;
-        alive = omega (arith, under .low (placeAddr m v) (omega (arith, r .inside)), r .alive);
-        sound = λ u l. under-sound w t m under (r .placed) u l (r .sound u l);
-        left-done =
-            λ e.
-            let three : kindAt w m v ≡ andKind = sym kind ∙ e in
-            subst (λ (q : ℕ). Done t m (q / 2)) (sym left)
-            (operand-done k h (leftAt w m v / 2) (omega (arith, r .placed .lefts v (r .inside))) (r .placed .left-first v (r .inside) three) (r .left-done three));
-        right-done =
-            λ e.
-            let three : kindAt w m v ≡ andKind = sym kind ∙ e in
-            subst (λ (q : ℕ). Done t m (q / 2)) (sym right)
-            (operand-done k h (rightAt w m v / 2) (omega (arith, r .placed .rights v (r .inside))) (r .placed .right-first v (r .inside) three) (r .right-done three));
-      }
-    where
-      t : List ℕ
-      t = part w m v k
+      let p = r .placed in
+      under-reached w (part w m v k) m (node-under k h) p v (r .inside) (r .alive) (r .sound)
+      (λ e. operand-done k h _ (omega (arith, p .lefts v (r .inside))) (p .left-first v (r .inside) e) (r .left-done e))
+      (λ e. operand-done k h _ (omega (arith, p .rights v (r .inside))) (p .right-first v (r .inside) e) (r .right-done e))
 
-      under : Under w m t
-      under = node-under k h
-
-      kind : kindAt t m v ≡ kindAt w m v
-      kind = under .low (kindAddr m v) (omega (arith, r .inside))
-
-      left : leftAt t m v ≡ leftAt w m v
-      left = under .low (leftAddr m v) (omega (arith, r .inside))
-
-      right : rightAt t m v ≡ rightAt w m v
-      right = under .low (rightAddr m v) (omega (arith, r .inside))
-
-  pub node-count : (k : ℕ) → k ≤ countAt w m v → countAt (part w m v k) m v ≡ countAt w m v
-  node-count k h = node-under k h .low (countAddr m v) (omega (arith, r .inside))
+  -- v is what it was, and has as many cuts
+  pub node-same : (k : ℕ) → k ≤ countAt w m v → (q : List ℕ) → q ≡ part w m v k
+      → (countAt q m v ≡ countAt w m v) × (kindAt q m v ≡ kindAt w m v) × (leftAt q m v ≡ leftAt w m v) × (rightAt q m v ≡ rightAt w m v)
+  node-same k h q e =
+      let under : Under w m q = subst (Under w m) (sym e) (node-under k h) in
+      let p = r .placed in
+      let i = r .inside in
+      (same-count w q m under p v i, same-kind w q m under p v i, same-left w q m under p v i, same-right w q m under p v i)
 
   pub node-turn : (k : ℕ) → k < countAt w m v → (q : List ℕ) → q ≡ part w m v k → (out : List ℕ) → out ≡ putFunctions q m v k (cutWord q m v (leavesAt q m v k) ∷ [])
       → out ≡ part w m v (k + 1)
@@ -183,29 +194,20 @@ module _ (w : List ℕ) (m v : ℕ) (r : Reached w m v) where
       let word : cutWord t m v (leavesAt t m v k) ≡ cutWord w m v (leavesAt w m v k) =
       under-word w t m under (r .placed) v (r .inside) (leavesAt t m v k) ∙ ap (cutWord w m v) (under-leaves w t m under (r .placed) v (r .inside) k few) in
       let get : getD fs k 0 ≡ cutWord w m v (leavesAt w m v k) =
-      default (cutsAt w m v) k (omega (arith, count-functions)) ∙ ap (cutWord w m v) (cut-listed w m v k h) in
+      map-get (cutWord w m v) (cutsAt w m v) k (omega (arith, count-listed w m v)) ∙ ap (cutWord w m v) (cut-listed w m v k h) in
       eo
       ∙ ap (λ (q : List ℕ). putFunctions q m v k (cutWord q m v (leavesAt q m v k) ∷ [])) eq
       ∙ ap (λ (y : ℕ). putFunctions t m v k (y ∷ [])) (word ∙ sym get)
-      ∙ functions-more w m v k fs (r .placed .room) (r .inside) few-functions (omega (arith, count-functions))
-    where
-      default : (cs : List (List ℕ)) (j : ℕ) → j < length (map (cutWord w m v) cs) → getD (map (cutWord w m v) cs) j 0 ≡ cutWord w m v (getD cs j [])
-      default [] j l = absurd (omega arith)
-      default (c ∷ cs) zero l = refl
-      default (c ∷ cs) (suc j) l = default cs j (omega arith)
+      ∙ functions-more w m v k fs (r .placed .room) (r .inside) few-functions (omega (arith, counted w m v))
 
   pub node-end : (k : ℕ) → k ≡ countAt w m v → part w m v k ≡ putFunctions w m v 0 (functionsOf w m v)
   unfolding part
-  node-end k e = ap (putFunctions w m v 0) (take-all k (functionsOf w m v) (omega (arith, count-functions)))
+  node-end k e = ap (putFunctions w m v 0) (take-all k (functionsOf w m v) (omega (arith, counted w m v)))
 
 -- all variables, in placing order
 module _ (w : List ℕ) (m n : ℕ) (r : Ready w m n) where
-  counted : (u : ℕ) → length (functionsOf w m u) ≡ countAt w m u
-  unfolding functionsOf
-  counted u = simp length-map (count-listed w m u)
-
   functions-short : (u : ℕ) → u ≤ m → length (functionsOf w m u) ≤ cutLimit
-  functions-short u h = omega (arith, counted u, r .sound u h .few)
+  functions-short u h = omega (arith, counted w m u, r .sound u h .few)
 
   pub filled-under : (i : ℕ) → i ≤ n → Under w m (filled w m i)
   unfolding filled
@@ -269,7 +271,7 @@ module _ (w : List ℕ) (m n : ℕ) (r : Ready w m n) where
           → functionOf (putFunctions (filled w m i) m x 0 fs) m y k ≡ getD (functionsOf w m y) k 0
       by true e before =
           let same : y ≡ x = eqb-true y x e in
-          let count : length (functionsOf w m y) ≡ countAt w m y = counted y in
+          let count : length (functionsOf w m y) ≡ countAt w m y = counted w m y in
           let few : k < length fs = subst (λ (q : ℕ). k < length (functionsOf w m q)) same (omega arith) in
           let here : k ≡ 0 + k = omega arith in
           (λ q. functionOf (putFunctions (filled w m i) m x 0 fs) m (same q) (here q))
@@ -277,17 +279,11 @@ module _ (w : List ℕ) (m n : ℕ) (r : Ready w m n) where
           ∙ ap (λ (q : ℕ). getD (functionsOf w m q) k 0) (sym same)
       by false e before =
           let other : (y ≡ x) → ⊥ = eqb-false y x e in
-          let less : j < i = earlier j i l other in
+          let least : j ≤ i = omega arith in
+          let less : j < i = lt-of-le-of-ne least (λ same. other (ap (slotAt w m) same)) in
           let few : k < cutLimit = omega (arith, r .sound y inside-y .few) in
           function-apart (filled w m i) m x 0 fs (room-filled i (omega arith)) inside-x short y k inside-y few (λ q b′ o s. other o)
           ∙ before less
-        where
-          earlier : (j i : ℕ) → j < suc i → (slotAt w m j ≡ slotAt w m i → ⊥) → j < i
-          earlier j i l n = by-test (ltb j i) refl
-            where
-              by-test : (t : Bool) → ltb j i ≡ t → j < i
-              by-test true e = ltb-true j i e
-              by-test false e = let s : j ≡ i = omega (arith, ltb-false j i e) in absurd (n (ap (slotAt w m) s))
 
   -- ---- a turn of the pass
 
@@ -308,17 +304,12 @@ module _ (w : List ℕ) (m n : ℕ) (r : Ready w m n) where
       under : Under w m (filled w m i)
       under = filled-under i h
 
-      mapped : (cs : List (List ℕ)) (j : ℕ) → j < length cs → getD (map (cutWord w m x) cs) j 0 ≡ cutWord w m x (getD cs j [])
-      mapped [] j l = absurd (omega arith)
-      mapped (c ∷ cs) zero l = refl
-      mapped (c ∷ cs) (suc j) l = mapped cs j (omega arith)
-
       at : (k : ℕ) → k < countAt (filled w m i) m x → functionOf (filled w m i) m x k ≡ cutWord (filled w m i) m x (leavesAt (filled w m i) m x k)
       at k l =
           let b : k < countAt w m x = omega (arith, under .low (countAddr m x) (omega (arith, inside))) in
           let few : k < cutLimit = omega (arith, r .sound x inside .few) in
           filled-word i h (e .slot) (e .before) k b
-          ∙ mapped (cutsAt w m x) k (omega (arith, count-listed w m x))
+          ∙ map-get (cutWord w m x) (cutsAt w m x) k (omega (arith, count-listed w m x))
           ∙ ap (cutWord w m x) (cut-listed w m x k b)
           ∙ sym (under-word w (filled w m i) m under (r .placed) x inside (leavesAt (filled w m i) m x k)
           ∙ ap (cutWord w m x) (under-leaves w (filled w m i) m under (r .placed) x inside k few))
@@ -341,26 +332,8 @@ module _ (w : List ℕ) (m n : ℕ) (r : Ready w m n) where
     at-slot : Reached (filled w m i) m y
     unfolding y
     at-slot =
-        record {
-          placed = under-placed w t m under-i (r .placed);
-          inside = inside-y;
-          alive = omega (arith, under-i .low (placeAddr m y) (omega (arith, inside-y)), r .alive i h);
-          sound = λ u l. under-sound w t m under-i (r .placed) u l (r .sound u l);
-          left-done = λ e. subst (λ (q : ℕ). Done t m (q / 2)) (sym left) (earlier-done i (omega arith) (leftAt w m y / 2) (r .left-earlier i h (sym kind ∙ e)));
-          right-done = λ e. subst (λ (q : ℕ). Done t m (q / 2)) (sym right) (earlier-done i (omega arith) (rightAt w m y / 2) (r .right-earlier i h (sym kind ∙ e)));
-        }
-      where
-        t : List ℕ
-        t = filled w m i
-
-        kind : kindAt t m y ≡ kindAt w m y
-        kind = under-i .low (kindAddr m y) (omega (arith, inside-y))
-
-        left : leftAt t m y ≡ leftAt w m y
-        left = under-i .low (leftAddr m y) (omega (arith, inside-y))
-
-        right : rightAt t m y ≡ rightAt w m y
-        right = under-i .low (rightAddr m y) (omega (arith, inside-y))
+        under-reached w (filled w m i) m under-i (r .placed) y inside-y (r .alive i h) (r .sound)
+        (λ e. earlier-done i (omega arith) _ (r .left-earlier i h e)) (λ e. earlier-done i (omega arith) _ (r .right-earlier i h e))
 
     pub pass-reached : Reached v m x
     pass-reached = subst (λ (q : List ℕ). Reached q m x) (sym ev) (subst (Reached (filled w m i) m) (sym same-slot) at-slot)

@@ -7,20 +7,21 @@
 -- Assumes nothing.
 use mathlib.Core.Path.{_≡_, refl, sym, ap, _∙_, subst}
 use mathlib.Core.Bool.{Bool, true, false, cond}
+use mathlib.Core.Logic.{_⊎_, inl, inr, ⊎-elim}
 use mathlib.Core.List.{List, [], _∷_}
 use Prim.Native.Nat.{ℕ, zero, suc, _+_, _≤_, _<_}
 use native.Mathlib.Nat.{not-suc-le-zero, le-of-suc-le-suc}
 use native.Mathlib.Omega.{arith}
-use lib.Dec.{eqb, ltb}
+use lib.Dec.{eqb}
 use lib.ListN.{length, drop, getD, set, length-set, drop-of-length-le}
 use lib.Seq.{drop-cons, getD-set-same, getD-set-other, ext-getD, length-take-le, getD-take}
-use borrow.Author.Tests.{lt-ltb, ltb-true, eqb-true, eqb-false}
+use borrow.Author.Tests.{eqb-true, eqb-false}
 use Rattle.truth.specs.Variant.{leafTable}
 use Rattle.model.specs.declared.Cut.{Cut}
-use Rattle.words.specs.Layout.{placeAt, countAt}
+use Rattle.words.specs.Layout.{countAt}
 use Rattle.words.specs.Record.{nodeAt, leavesOf, leavesAt, cutOf, cutsAt, Leaves, Sound}
 use Rattle.words.proofs.Stored.{four-leaves, count-listed, cut-listed, good-get}
-use Rattle.cones.specs.Table.{leafWord, walkWord, leafNotes, Early, Noted}
+use Rattle.cones.specs.Table.{leafWord, leafNotes, Early, Noted}
 use Rattle.cones.proofs.Truth.{leaf-small}
 use Rattle.cones.proofs.Walks.{walk-leaf}
 
@@ -41,56 +42,49 @@ unfolding leafNotes
 length-noted [] i base notes = refl
 length-noted (x ∷ xs) i base notes = length-set (leafNotes xs (suc i) base notes) x (base + leafTable i) ∙ length-noted xs (suc i) base notes
 
--- a note behind the leaves' is the leaf's, or what it was
+-- a note n behind the leaves', where l is its leaf's word: the leaf's, or what it was
+abbrev Behind : ℕ → ℕ → ℕ → ℕ → Type 0
+Behind base l n was = ((l < 65536) × (n ≡ base + l)) ⊎ ((65536 ≤ l) × (n ≡ was))
+
 note-at : (ls : List ℕ) (i base : ℕ) (notes : List ℕ) → ((j : ℕ) → j < length ls → getD ls j 0 < length notes) → (u : ℕ)
-    → getD (leafNotes ls i base notes) u 0 ≡ cond (ltb (leafWord ls i u) 65536) (base + leafWord ls i u) (getD notes u 0)
+    → Behind base (leafWord ls i u) (getD (leafNotes ls i base notes) u 0) (getD notes u 0)
 unfolding leafNotes leafWord
-note-at [] i base notes h u = refl
+note-at [] i base notes h u = inr (omega arith, refl)
 note-at (x ∷ xs) i base notes h u = by (eqb u x) refl (note-at xs (suc i) base notes (λ j l. h (suc j) (omega arith)) u)
   where
     rest : List ℕ
     rest = leafNotes xs (suc i) base notes
 
-    by : (t : Bool) → eqb u x ≡ t → getD rest u 0 ≡ cond (ltb (leafWord xs (suc i) u) 65536) (base + leafWord xs (suc i) u) (getD notes u 0)
-        → getD (set rest x (base + leafTable i)) u 0
-        ≡ cond (ltb (cond t (leafTable i) (leafWord xs (suc i) u)) 65536) (base + cond t (leafTable i) (leafWord xs (suc i) u)) (getD notes u 0)
+    by : (t : Bool) → eqb u x ≡ t → Behind base (leafWord xs (suc i) u) (getD rest u 0) (getD notes u 0)
+        → Behind base (cond t (leafTable i) (leafWord xs (suc i) u)) (getD (set rest x (base + leafTable i)) u 0) (getD notes u 0)
     by true e before =
-        let same : u ≡ x = eqb-true u x e in
-        ap (λ (q : ℕ). getD (set rest x (base + leafTable i)) q 0) same
-        ∙ getD-set-same rest x (base + leafTable i) 0 (omega (arith, length-noted xs (suc i) base notes, h 0 (omega arith)))
-        ∙ sym (rw (lt-ltb (leafTable i) 65536 (leaf-small i)))
-    by false e before = getD-set-other rest x u (base + leafTable i) 0 (eqb-false u x e) ∙ before
+        inl (
+          leaf-small i,
+          ap (λ (q : ℕ). getD (set rest x (base + leafTable i)) q 0) (eqb-true u x e)
+              ∙ getD-set-same rest x (base + leafTable i) 0 (omega (arith, length-noted xs (suc i) base notes, h 0 (omega arith))),
+        )
+    by false e before = rw (getD-set-other rest x u (base + leafTable i) 0 (eqb-false u x e)) before
 
 -- a walk that begins has noted the leaves alone
-module _ (m base : ℕ) (notes : List ℕ) (early : Early m base notes) (ls : List ℕ) (inside : (j : ℕ) → j < length ls → getD ls j 0 < length notes) where
+module _ (m base : ℕ) (notes : List ℕ) (early : Early m base notes) (ls : List ℕ)
+    (inside : (j : ℕ) → j < length ls → getD ls j 0 < length notes) where
   pub fresh-noted : (w : List ℕ) → Noted w m ls base (leafNotes ls 0 base notes)
-  fresh-noted w = record { right = right-at; leaves = λ u h l. omega (arith, is-leaf u l) }
-    where
-      is-leaf : (u : ℕ) → leafWord ls 0 u < 65536 → getD (leafNotes ls 0 base notes) u 0 ≡ base + leafWord ls 0 u
-      is-leaf u l = note-at ls 0 base notes inside u ∙ rw (lt-ltb (leafWord ls 0 u) 65536 l)
-
-      right-at : (u : ℕ) → u ≤ m → base ≤ getD (leafNotes ls 0 base notes) u 0 → (f : ℕ) → placeAt w m u ≤ suc f
-          → getD (leafNotes ls 0 base notes) u 0 ≡ base + walkWord (suc f) (nodeAt w m) ls u
-      right-at u h b f p = by (ltb (leafWord ls 0 u) 65536) refl
-        where
-          by : (t : Bool) → ltb (leafWord ls 0 u) 65536 ≡ t → getD (leafNotes ls 0 base notes) u 0 ≡ base + walkWord (suc f) (nodeAt w m) ls u
-          by true e =
-              let l : leafWord ls 0 u < 65536 = ltb-true (leafWord ls 0 u) 65536 e in
-              is-leaf u l ∙ ap (λ (x : ℕ). base + x) (sym (walk-leaf f (nodeAt w m) ls u l))
-          by false e =
-              let none : getD (leafNotes ls 0 base notes) u 0 ≡ getD notes u 0 = note-at ls 0 base notes inside u ∙ rw e in
-              absurd (omega (arith, early .before u h))
+  fresh-noted w =
+      record {
+        right =
+            λ u h b f p.
+            ⊎-elim (λ y. y .1 ∙ ap (λ (x : ℕ). base + x) (sym (walk-leaf f (nodeAt w m) ls u (y .0))))
+            (λ n. absurd (omega (arith, n .1, early .before u h))) (note-at ls 0 base notes inside u);
+        leaves = λ u h l. ⊎-elim (λ y. omega (arith, y .1)) (λ n. absurd (omega (arith, n .0))) (note-at ls 0 base notes inside u);
+      }
 
   pub fresh-early : Early m (base + 65536) (leafNotes ls 0 base notes)
-  fresh-early = record { long = length-noted ls 0 base notes ∙ early .long; before = λ u h. by u h (ltb (leafWord ls 0 u) 65536) refl }
-    where
-      by : (u : ℕ) → u ≤ m → (t : Bool) → ltb (leafWord ls 0 u) 65536 ≡ t → getD (leafNotes ls 0 base notes) u 0 < base + 65536
-      by u h true e =
-          let is : getD (leafNotes ls 0 base notes) u 0 ≡ base + leafWord ls 0 u = note-at ls 0 base notes inside u ∙ rw e in
-          omega (arith, ltb-true (leafWord ls 0 u) 65536 e)
-      by u h false e =
-          let none : getD (leafNotes ls 0 base notes) u 0 ≡ getD notes u 0 = note-at ls 0 base notes inside u ∙ rw e in
-          omega (arith, early .before u h)
+  fresh-early =
+      record {
+        long = length-noted ls 0 base notes ∙ early .long;
+        before =
+            λ u h. ⊎-elim (λ y. omega (arith, y .0, y .1)) (λ n. omega (arith, n .1, early .before u h)) (note-at ls 0 base notes inside u);
+      }
 
 pub leaves-small : (lo : ℕ) (ls : List ℕ) → Leaves lo ls → (j : ℕ) → j < length ls → getD ls j 0 < 4096
 leaves-small lo [] good j h = absurd (not-suc-le-zero h)

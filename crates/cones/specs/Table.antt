@@ -67,11 +67,20 @@ pub record Placed (w : List ℕ) (m : ℕ) : Type 0 where
   pub left-first : (v : ℕ) → v ≤ m → kindAt w m v ≡ andKind → placeAt w m (leftAt w m v / 2) < placeAt w m v
   pub right-first : (v : ℕ) → v ≤ m → kindAt w m v ≡ andKind → placeAt w m (rightAt w m v / 2) < placeAt w m v
 
--- what a walk from v down answers, r, and leaves, out, whichever the leaves are that are noted
-pub record Walked (w : List ℕ) (m base v : ℕ) (notes out : List ℕ) (r : ℕ) : Type 0 where
-  pub table : (ls : List ℕ) → Noted w m ls base notes → (f : ℕ) → placeAt w m v ≤ f → r ≡ walkWord f (nodeAt w m) ls v
-  pub noted : (ls : List ℕ) → Noted w m ls base notes → Noted w m ls base out
+-- what a walk from v down over the leaves ls answers, r, and leaves, out
+pub record Walked (w : List ℕ) (m : ℕ) (ls : List ℕ) (base v : ℕ) (out : List ℕ) (r : ℕ) : Type 0 where
+  pub table : (f : ℕ) → placeAt w m v ≤ f → r ≡ walkWord f (nodeAt w m) ls v
+  pub noted : Noted w m ls base out
+
+-- the same where r is a table, whichever the leaves are that are noted; elsewhere v is an AND that is not noted, and what is noted
+-- stays right. Notes of variables that are placed after v stay.
+pub record Near (w : List ℕ) (m base v : ℕ) (notes out : List ℕ) (r : ℕ) : Type 0 where
+  pub walked : r < 65536 → (ls : List ℕ) → Noted w m ls base notes → Walked w m ls base v out r
+  pub kept : 65536 ≤ r → (ls : List ℕ) → Noted w m ls base notes → Noted w m ls base out
+  pub kind : 65536 ≤ r → kindAt w m v ≡ andKind
+  pub unnoted : 65536 ≤ r → getD out v 0 < base
   pub early : Early m (base + 65536) out
+  pub later : (i : ℕ) → placeAt w m v < placeAt w m i → getD out i 0 ≡ getD notes i 0
 
 -- the AND of two literals whose variables have the tables x and y
 unfoldable pub joined : ℕ → ℕ → ℕ → ℕ → ℕ

@@ -1,14 +1,14 @@
 // The function of a cut: the walk from the root down to the leaves, with each variable's table noted, so that none is walked twice. Where an operand of
 // the root has the very same cut its function is stored already, and the walk stops there.
 ghost use mathlib.Core.Path.{_≡_};
-ghost use mathlib.Core.Bool.{true};
+ghost use mathlib.Core.Bool.{true, false};
 ghost use mathlib.Core.List.{_∷_, []};
 ghost use Prim.Native.Nat.{ℕ, _+_, _*_, _/_, _≤_, _<_};
-ghost use lib.ListN.{take, getD};
+ghost use lib.ListN.{take, getD, set};
 ghost use Rattle.model.specs.Limits.{cutLimit};
-ghost use Rattle.words.specs.Layout.{Room, andKind, kindAt, countAt, placeAt};
+ghost use Rattle.words.specs.Layout.{Room, andKind, kindAt, leftAt, rightAt, countAt, placeAt};
 ghost use Rattle.words.specs.Record.{leavesAt, putFunctions};
-ghost use Rattle.cones.specs.Table.{literalWord, leafNotes, Early, Noted, Placed, Walked, joined};
+ghost use Rattle.cones.specs.Table.{leafNotes, Early, Noted, Placed, Walked, Near, joined};
 ghost use Rattle.cones.specs.Filling.{cutWord, functionsOf, SameCut, Done, Reached, Ready, filled};
 
 // A note for each variable: "M exceeds 4,095" is turned back.
@@ -17,67 +17,114 @@ const NOTES: usize = 4096;
 // The notes of one walk go from 65536 times its number on, so that a higher number makes all earlier ones void.
 const STEP: usize = 65536;
 
+// In the place of a table that asks for a walk: above every table.
+const MISSING: usize = 65536;
+
 fn wide(x: u16) -> usize
     ensures { λ r. ⌜ r ≡ x ⌝ }
 {
     x as usize
 }
 
-// The leaves' tables noted, "leaf number i (ascending, from 0) is bit i of the row".
+// The leaves' tables noted, "leaf number i (ascending, from 0) is bit i of the row". A cut has four leaves at most, and four turns are
+// compiled without a loop.
 fn note_leaves(notes: &mut [usize; NOTES], base: usize, leaves: [u16; 4], n: usize)
     requires { ⌜ (n ≤ 4) × (base < 65536000000) × ((i : ℕ) → i < n → getD leaves i 0 < 4096) ⌝ }
     ensures { λ _. ⌜ now (notes .exit) ≡ leafNotes (take n leaves) 0 base (now (notes .entry)) ⌝ }
 {
-    let mut i = n;
+    let mut i = 4;
     while i > 0 {
         i -= 1;
-        let u = wide(leaves[i]);
-        notes[u] = base + wide(truth::pattern(i));
+        if i < n {
+            let u = wide(leaves[i]);
+            notes[u] = base + wide(truth::pattern(i));
+        }
     }
 }
 
-// A literal's table, from its variable's.
-fn literal_word(l: usize, x: u16) -> u16
-    ensures { λ r. ⌜ r ≡ literalWord (λ u. x) l ⌝ }
-{
-    truth::in_phase(l % 2 == 1, x)
-}
-
-// The AND of two literals.
+// The AND of two literals, from their variables' tables.
 fn and_word(l: usize, x: u16, r: usize, y: u16) -> u16
     ensures { λ z. ⌜ z ≡ joined l x r y ⌝ }
 {
-    literal_word(l, x) & literal_word(r, y)
+    truth::in_phase(l % 2 == 1, x) & truth::in_phase(r % 2 == 1, y)
 }
 
-// The table of v over the leaves: "a leaf gives its bit and the walk stops there", and so at all that is noted.
-fn table(work: &[u16], m: usize, notes: &mut [usize; NOTES], base: usize, v: usize) -> u16
-    requires { ⌜ Placed (now work) m × Early m (base + 65536) (now notes) × (base < 65536000000) × (v ≤ m) × (0 < placeAt (now work) m v) ⌝ }
-    ensures { λ r. ⌜ Walked (now (work .entry)) m base v (now (notes .entry)) (now (notes .exit)) r ⌝ }
+// The AND of two literals, noted of v.
+fn note_and(
+    notes: &mut [usize; NOTES],
+    base: usize,
+    v: usize,
+    l: usize,
+    x: u16,
+    r: usize,
+    y: u16,
+) -> u16
+    requires { ⌜ (v < 4096) × (base < 65536000000) ⌝ }
+    ensures { λ z. ⌜ (z ≡ joined l x r y) × (now (notes .exit) ≡ set (now (notes .entry)) v (base + z)) ⌝ }
 {
-    let x = notes[v];
-    if base <= x {
-        return (x - base) as u16;
-    }
-    if words::kind(work, m, v) == words::AND {
-        return walk(work, m, notes, base, v);
-    }
-    0
-}
-
-// That of an AND that is not noted.
-fn walk(work: &[u16], m: usize, notes: &mut [usize; NOTES], base: usize, v: usize) -> u16
-    requires { ⌜ Placed (now work) m × Early m (base + 65536) (now notes) × (base < 65536000000) × (v ≤ m) × (kindAt (now work) m v ≡ andKind) ×
-        (getD (now notes) v 0 < base) ⌝ }
-    ensures { λ r. ⌜ Walked (now (work .entry)) m base v (now (notes .entry)) (now (notes .exit)) r ⌝ }
-{
-    let l = words::left(work, m, v);
-    let r = words::right(work, m, v);
-    let x = table(work, m, notes, base, l / 2);
-    let y = table(work, m, notes, base, r / 2);
     let z = and_word(l, x, r, y);
     notes[v] = base + wide(z);
     z
+}
+
+// The table of u over the leaves, where no walk is wanted: "a leaf gives its bit and the walk stops there", and so at all that is noted, at
+// what is no AND, and one step above what is noted. Callers have it without a call when compiled.
+fn near(work: &[u16], m: usize, notes: &mut [usize; NOTES], base: usize, u: usize) -> usize
+    requires { ⌜ Placed (now work) m × Early m (base + 65536) (now notes) × (base < 65536000000) × (u ≤ m) ×
+        (0 < placeAt (now work) m u) ⌝ }
+    ensures { λ r. ⌜ Near (now (work .entry)) m base u (now (notes .entry)) (now (notes .exit)) r ⌝ }
+{
+    let t = notes[u];
+    if base <= t {
+        return t - base;
+    }
+    if words::kind(work, m, u) != words::AND {
+        return 0;
+    }
+    let l = words::left(work, m, u);
+    let x = notes[l / 2];
+    if x < base {
+        return MISSING;
+    }
+    let r = words::right(work, m, u);
+    let y = notes[r / 2];
+    if y < base {
+        return MISSING;
+    }
+    wide(note_and(notes, base, u, l, (x - base) as u16, r, (y - base) as u16))
+}
+
+// The table of an AND that is not noted, by a walk; where it is to be shallow, `MISSING` in the place of a walk from an operand on.
+fn deep(
+    work: &[u16],
+    m: usize,
+    notes: &mut [usize; NOTES],
+    base: usize,
+    v: usize,
+    shallow: bool,
+) -> usize
+    requires { ⌜ Placed (now work) m × Early m (base + 65536) (now notes) × (base < 65536000000) × (v ≤ m) × (kindAt (now work) m v ≡ andKind) ×
+        (getD (now notes) v 0 < base) ⌝ }
+    ensures { λ r. ⌜ Near (now (work .entry)) m base v (now (notes .entry)) (now (notes .exit)) r ⌝ }
+    ensures { λ r. ⌜ (shallow ≡ false → r < 65536) ⌝ }
+{
+    let l = words::left(work, m, v);
+    let r = words::right(work, m, v);
+    let mut x = near(work, m, notes, base, l / 2);
+    if x >= MISSING {
+        if shallow {
+            return MISSING;
+        }
+        x = deep(work, m, notes, base, l / 2, false);
+    }
+    let mut y = near(work, m, notes, base, r / 2);
+    if y >= MISSING {
+        if shallow {
+            return MISSING;
+        }
+        y = deep(work, m, notes, base, r / 2, false);
+    }
+    wide(note_and(notes, base, v, l, x as u16, r, y as u16))
 }
 
 fn same_leaves(a: [u16; 4], b: [u16; 4]) -> bool
@@ -133,33 +180,42 @@ fn same_cut(work: &[u16], m: usize, u: usize, leaves: [u16; 4]) -> usize
     words::LIMIT
 }
 
-// The function of u's cut with these four leaves noted, where u has that cut and is no leaf.
-fn recall(
+// The table of u, an operand of the root that is not noted. A cut of four leaves may have a cone as long as the graph, as a chain of ANDs
+// that takes four inputs in turn has at each. Then the operand has the same cut, and its function is stored. An operand that has not
+// reaches three of the leaves at most, and each variable that it has inside them, made a leaf, is one of another cut of the operand. Those
+// are 18 at most, so a walk meets at most 17 variables below each operand. A shallow walk costs less than a look at the operand's cuts.
+fn far(
     work: &[u16],
     m: usize,
     notes: &mut [usize; NOTES],
     base: usize,
     leaves: [u16; 4],
+    n: usize,
     u: usize,
-)
-    requires { ⌜ Placed (now work) m × Noted (now work) m leaves base (now notes) × Early m (base + 65536) (now notes) × Done (now work) m u ×
-        (base < 65536000000) × (u ≤ m) × (0 < placeAt (now work) m u) × (countAt (now work) m u ≤ cutLimit) ⌝ }
-    ensures { λ _. ⌜ Noted (now (work .entry)) m leaves base (now (notes .exit)) × Early m (base + 65536) (now (notes .exit)) ⌝ }
+) -> u16
+    requires { ⌜ Placed (now work) m × Noted (now work) m (take n leaves) base (now notes) × Early m (base + 65536) (now notes) ×
+        Done (now work) m u × (base < 65536000000) × (u ≤ m) × (countAt (now work) m u ≤ cutLimit) × (kindAt (now work) m u ≡ andKind) ×
+        (getD (now notes) u 0 < base) × (n ≤ 4) ⌝ }
+    ensures { λ r. ⌜ Walked (now (work .entry)) m (take n leaves) base u (now (notes .exit)) r ×
+        Early m (base + 65536) (now (notes .exit)) ⌝ }
 {
-    if base <= notes[u] {
-        return;
+    let x = deep(work, m, notes, base, u, true);
+    if x < MISSING {
+        return x as u16;
     }
-    let k = same_cut(work, m, u, leaves);
-    if k < words::LIMIT {
-        let x = words::function(work, m, u, k);
-        notes[u] = base + x;
+    if n == 4 {
+        let k = same_cut(work, m, u, leaves);
+        if k < words::LIMIT {
+            let f = words::function(work, m, u, k);
+            notes[u] = base + f;
+            return f as u16;
+        }
     }
+    deep(work, m, notes, base, u, false) as u16
 }
 
-// A cut of four leaves may have a cone as long as the graph, as a chain of ANDs that takes four inputs in turn has at each. Then an operand has the
-// same cut. An operand that has not reaches three of the leaves at most, and each variable that it has inside them, made a leaf, is one of another
-// cut of the operand. Those are 18 at most, so a walk meets at most 17 variables below each operand.
-fn recall_operands(
+// The function of a cut of v: v is of this kind and has the operands l and r.
+fn cut_word(
     work: &[u16],
     m: usize,
     notes: &mut [usize; NOTES],
@@ -167,25 +223,50 @@ fn recall_operands(
     leaves: [u16; 4],
     n: usize,
     v: usize,
-)
+    kind: usize,
+    l: usize,
+    r: usize,
+) -> u16
     requires { ⌜ Reached (now work) m v × Noted (now work) m (take n leaves) base (now notes) × Early m (base + 65536) (now notes) × (base < 65536000000) ×
-        (n ≤ 4) ⌝ }
-    ensures { λ _. ⌜ Noted (now (work .entry)) m (take n leaves) base (now (notes .exit)) × Early m (base + 65536) (now (notes .exit)) ⌝ }
+        (n ≤ 4) × (kind ≡ kindAt (now work) m v) × (l ≡ leftAt (now work) m v) × (r ≡ rightAt (now work) m v) ⌝ }
+    ensures { λ z. ⌜ (z ≡ cutWord (now (work .entry)) m v (take n leaves)) × Early m (base + 65536) (now (notes .exit)) ⌝ }
 {
-    if n < 4 {
-        return;
+    let t = notes[v];
+    if base <= t {
+        return (t - base) as u16;
     }
-    if words::kind(work, m, v) == words::AND {
-        let l = words::left(work, m, v);
-        let r = words::right(work, m, v);
-        recall(work, m, notes, base, leaves, l / 2);
-        recall(work, m, notes, base, leaves, r / 2);
+    if kind != words::AND {
+        return 0;
     }
+    let x = near(work, m, notes, base, l / 2);
+    let p = if x < MISSING {
+        x as u16
+    } else {
+        far(work, m, notes, base, leaves, n, l / 2)
+    };
+    let y = near(work, m, notes, base, r / 2);
+    let q = if y < MISSING {
+        y as u16
+    } else {
+        far(work, m, notes, base, leaves, n, r / 2)
+    };
+    and_word(l, p, r, q)
 }
 
-// The function of cut k of v, by a walk whose notes go from `base` on.
-fn fill_one(work: &mut [u16], m: usize, notes: &mut [usize; NOTES], base: usize, v: usize, k: usize)
-    requires { ⌜ Reached (now work) m v × Early m base (now notes) × (base < 65536000000) × (k < countAt (now work) m v) ⌝ }
+// The function of cut k of v stored, by a walk whose notes go from `base` on.
+fn fill_one(
+    work: &mut [u16],
+    m: usize,
+    notes: &mut [usize; NOTES],
+    base: usize,
+    v: usize,
+    kind: usize,
+    l: usize,
+    r: usize,
+    k: usize,
+)
+    requires { ⌜ Reached (now work) m v × Early m base (now notes) × (base < 65536000000) × (k < countAt (now work) m v) ×
+        (kind ≡ kindAt (now work) m v) × (l ≡ leftAt (now work) m v) × (r ≡ rightAt (now work) m v) ⌝ }
     ensures { λ _. ⌜ now (work .exit) ≡ putFunctions (now (work .entry)) m v k (cutWord (now (work .entry)) m v (leavesAt (now (work .entry)) m v k) ∷ []) ⌝ }
     ensures { λ _. ⌜ Early m (base + 65536) (now (notes .exit)) ⌝ }
 {
@@ -193,8 +274,7 @@ fn fill_one(work: &mut [u16], m: usize, notes: &mut [usize; NOTES], base: usize,
     let leaves = c.leaves;
     let n = c.count;
     note_leaves(notes, base, leaves, n);
-    recall_operands(work, m, notes, base, leaves, n, v);
-    let x = table(work, m, notes, base, v);
+    let x = cut_word(work, m, notes, base, leaves, n, v, kind, l, r);
     words::set_function(work, m, v, k, x);
 }
 
@@ -205,10 +285,13 @@ fn fill_node(work: &mut [u16], m: usize, notes: &mut [usize; NOTES], base: usize
     ensures { λ r. ⌜ Early m r (now (notes .exit)) × (r ≤ base + 65536 * cutLimit) ⌝ }
 {
     let n = words::count(work, m, v);
+    let kind = words::kind(work, m, v);
+    let l = words::left(work, m, v);
+    let r = words::right(work, m, v);
     let mut next = base;
     let mut k = 0;
     while k < n {
-        fill_one(work, m, notes, next, v, k);
+        fill_one(work, m, notes, next, v, kind, l, r, k);
         next += STEP;
         k += 1;
     }

@@ -1,7 +1,7 @@
--- `cones::note_leaves` meets its contract. The invariant: the leaves from the i-th on are noted. The measure is the leaves that are left.
+-- `cones::note_leaves` meets its contract. The invariant: the leaves from the i-th on are noted. The measure is the turns that are left.
 -- Assumes nothing.
 use mathlib.Core.Path.{_≡_, sym, _∙_}
-use Prim.Native.Nat.{_-_, _≤_}
+use Prim.Native.Nat.{_-_, _≤_, _<_}
 use native.Mathlib.Omega.{arith}
 use borrow.Author.Needs.{needs}
 use lib.ListN.{length, take, drop, getD}
@@ -12,7 +12,7 @@ use Rattle.cones.proofs.note_leaves.Statement.{statement}
 use Rattle.cones.proofs.note_leaves.Tie as tie
 
 abbrev Inv-loop : tie.InvT-loop
-Inv-loop notes₀ base n leaves i₀ notes i = (i ≤ n) × (notes ≡ leafNotes (drop i (take n leaves)) i base notes₀)
+Inv-loop notes₀ base n leaves i₀ notes i = (i ≤ 4) × (notes ≡ leafNotes (drop i (take n leaves)) i base notes₀)
 
 abbrev μ-loop : tie.MeasureT-loop
 μ-loop notes₀ base n leaves i₀ notes i = i
@@ -25,33 +25,38 @@ counted c =
 loop-holds : tie.Need-loop-holds Inv-loop μ-loop
 loop-holds c =
     let n : length (take (c .args .n) (c .args .t3)) ≡ c .args .n = counted c in
-    (omega arith, leaf-begin (take (c .args .n) (c .args .t3)) (c .args .n) (c .args .base) (c .args .notes .now) (omega arith))
+    (omega arith, leaf-begin (take (c .args .n) (c .args .t3)) 4 (c .args .base) (c .args .notes .now) (omega arith))
 
-mul-notes : tie.Need-mul-notes Inv-loop μ-loop
-mul-notes c =
-    let u = c .before .before in
-    let l = u .before .before in
-    let s = l .before in
-    omega (arith, u .wide .ensures, s .pre .2 (l .loop .i - 1) (omega (arith, u .before .loop-test .taken)))
-
-element-write-notes : tie.Need-element-write-notes Inv-loop μ-loop
-element-write-notes c =
-    let u = c .before .before in
-    let l = u .before .before in
-    let s = l .before in
-    omega (arith, u .wide .ensures, s .pre .2 (l .loop .i - 1) (omega (arith, u .before .loop-test .taken)))
+inside : (c : tie.After-wide Inv-loop μ-loop) → c .wide .result < 4096
+inside c =
+    let l = c .before .before .before in
+    omega (arith, c .wide .ensures, l .before .pre .2 (l .loop .i - 1) (c .before .if1 .taken))
 
 loop-again : tie.Need-loop-again Inv-loop μ-loop
 loop-again c =
     let u = c .before .before in
-    let l = u .before .before in
+    let in-loop = u .before .before in
+    let l = in-loop .before in
     let a = l .before .args in
     let j = l .loop .i - 1 in
     let n : length (take (a .n) (a .t3)) ≡ a .n = counted (l .before) in
-    let e : getD (take (a .n) (a .t3)) j 0 ≡ getD (a .t3) j 0 = getD-take (a .n) (a .t3) j 0 (omega (arith, u .before .loop-test .taken)) in (
+    let e : getD (take (a .n) (a .t3)) j 0 ≡ getD (a .t3) j 0 = getD-take (a .n) (a .t3) j 0 (u .before .if1 .taken) in (
       omega arith,
       leaf-turn (take (a .n) (a .t3)) (l .loop .i) j (a .base) (a .notes .now) (l .loop .notes) (u .wide .result) (c .wide2 .result)
-          (omega (arith, u .before .loop-test .taken)) (omega (arith, u .before .loop-test .taken)) (l .loop .inv .1) (u .wide .ensures ∙ sym e) (c .wide2 .ensures ∙ c .before .pattern .ensures),
+          (omega (arith, in-loop .loop-test .taken)) (omega (arith, u .before .if1 .taken)) (l .loop .inv .1) (u .wide .ensures ∙ sym e)
+          (c .wide2 .ensures ∙ c .before .pattern .ensures),
+    )
+
+-- a leaf that the cut has not
+loop-again-2 : tie.Need-loop-again-2 Inv-loop μ-loop
+loop-again-2 c =
+    let l = c .before .before in
+    let a = l .before .args in
+    let n : length (take (a .n) (a .t3)) ≡ a .n = counted (l .before) in (
+      omega arith,
+      l .loop .inv .1
+          ∙ sym (leaf-begin (take (a .n) (a .t3)) (l .loop .i) (a .base) (a .notes .now) (omega (arith, c .if1 .left)))
+          ∙ leaf-begin (take (a .n) (a .t3)) (l .loop .i - 1) (a .base) (a .notes .now) (omega (arith, c .if1 .left)),
     )
 
 returns : tie.Need-returns Inv-loop μ-loop
@@ -66,4 +71,5 @@ note-leaves-spec =
     tie.close
     (tie.spec
     Inv-loop μ-loop loop-holds (λ c. search needs) (λ c. search needs) (λ c. search needs) (λ c κs. search needs) (λ c κs. search needs)
-    (λ c κs. search needs) (λ c. search needs) mul-notes element-write-notes (λ c. search needs) loop-again returns)
+    (λ c κs. search needs) (λ c. search needs) (λ c. omega (arith, inside (c .before .before)))
+    (λ c. omega (arith, inside (c .before .before))) (λ c. search needs) loop-again (λ c. search needs) loop-again-2 returns)

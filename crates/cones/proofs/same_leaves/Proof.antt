@@ -1,27 +1,13 @@
 -- `cones::same_leaves` meets its contract: equal one by one.
 -- Assumes nothing.
-use mathlib.Core.Path.{_≡_}
-use mathlib.Core.Bool.{true, false}
-use Prim.Native.Nat.{ℕ}
-use native.Mathlib.Omega.{arith}
+use mathlib.Core.Path.{_≡_, refl}
 use lib.ListN.{length}
 use borrow.Author.Tests.{eqb-true}
+use Rattle.cones.proofs.Walks.{never}
 use Rattle.cones.proofs.Leaves.{four-same}
 use borrow.Author.Needs.{needs}
 use Rattle.cones.proofs.same_leaves.Statement.{statement}
 use Rattle.cones.proofs.same_leaves.Tie as tie
-
-never : (false ≡ true) → ⊥
-never e = let z : _≡_ {A = ℕ} 0 1 = cc in omega arith
-
-returns : tie.Need-returns
-returns c = λ e. absurd (never e)
-
-returns-2 : tie.Need-returns-2
-returns-2 c = λ e. absurd (never e)
-
-returns-3 : tie.Need-returns-3
-returns-3 c = λ e. absurd (never e)
 
 returns-4 : tie.Need-returns-4
 returns-4 c = λ e.
@@ -34,5 +20,6 @@ pub same-leaves-spec : {M : Type 1} → statement M
 same-leaves-spec =
     tie.close
     (tie.spec
-    (λ c. search needs) (λ c. search needs) returns (λ c. search needs) (λ c. search needs) returns-2 (λ c. search needs) (λ c. search needs)
-    returns-3 (λ c. search needs) (λ c. search needs) returns-4)
+    (λ c. search needs) (λ c. search needs) (λ c e. absurd (never e refl)) (λ c. search needs) (λ c. search needs)
+    (λ c e. absurd (never e refl)) (λ c. search needs) (λ c. search needs) (λ c e. absurd (never e refl)) (λ c. search needs)
+    (λ c. search needs) returns-4)
