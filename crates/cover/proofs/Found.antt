@@ -2,18 +2,21 @@
 --     few-leaves, table-..        a cut has at most four leaves, and a table fits in either phase
 --     on-best, on-none            the best of the chain of its function, or none where the chain is empty
 --     at-alone, at-cut            nothing on the variable alone
---     from-more, from-none        one cut more, from the last to the first
+--     from-more, from-none        one cut more, from the first to the last
 -- Assumes nothing.
-use Prim.Native.Nat.{ℕ, suc, _-_, _≤_, _<_}
+use Prim.Native.Nat.{ℕ, zero, suc, _+_, _≤_, _<_}
+use native.Mathlib.Nat.{add-zero, zero-add, add-suc, suc-add}
+use native.Mathlib.Numerals.{add-one}
 use native.Mathlib.Omega.{arith}
 use mathlib.Core.Path.{_≡_, refl, sym, ap, _∙_}
 use mathlib.Core.Bool.{Bool, true, false, cond}
-use mathlib.Core.List.{List, [], _∷_}
+use mathlib.Core.List.{List, [], _∷_, _++_, append-nil, append-assoc}
 use lib.ListN.{length, getD, length-take}
 use Rattle.model.specs.Base.{same}
 use Rattle.model.specs.Matching.{phaseTable}
 use Rattle.model.specs.Choice.{noPhase, choose, earlier}
 use Rattle.model.specs.declared.Cell.{Cell}
+use Rattle.model.specs.declared.Phase.{Phase}
 use Rattle.words.specs.Layout.{countAt}
 use Rattle.words.specs.Record.{cutOf, leavesAt, functionOf}
 use Rattle.words.proofs.Stored.{four-leaves}
@@ -60,24 +63,26 @@ module _ (cells : List Cell) (w : List ℕ) (m v : ℕ) (neg : Bool) where
   unfolding foundAt
   at-cut k e = sym (ap (λ (b : Bool). choose (cond b [] (foundOn cells w m k (leavesAt w m v k) (phaseTable neg (functionOf w m v k))))) e)
 
-  -- the cuts from number k on, of n
-  pub from-none : (n : ℕ) → noPhase ≡ choose (foundFrom cells w m v neg n (n - n))
+  -- the cuts below number k
+  pub from-none : noPhase ≡ choose (foundFrom cells w m v neg 0 0)
   unfolding foundFrom choose
-  from-none n = let e : n - n ≡ 0 = omega arith in sym (ap (λ (i : ℕ). choose (foundFrom cells w m v neg n i)) e)
+  from-none = refl
 
-  pub from-more : (k n : ℕ) → 0 < k → k ≤ n
-      → earlier (choose (foundAt cells w m v neg (k - 1))) (choose (foundFrom cells w m v neg k (n - k))) ≡ choose (foundFrom cells w m v neg (k - 1) (n - (k - 1)))
+  from-last : (n i : ℕ) → foundFrom cells w m v neg i (suc n) ≡ foundFrom cells w m v neg i n ++ foundAt cells w m v neg (i + n)
   unfolding foundFrom
-  from-more k n p h =
-      let e : n - (k - 1) ≡ suc (n - k) = omega arith in
-      let s : k ≡ suc (k - 1) = omega arith in
-      sym (ap (λ (i : ℕ). choose (foundFrom cells w m v neg (k - 1) i)) e
-      ∙ choose-append (foundAt cells w m v neg (k - 1)) (foundFrom cells w m v neg (suc (k - 1)) (n - k))
-      ∙ ap (λ (i : ℕ). earlier (choose (foundAt cells w m v neg (k - 1))) (choose (foundFrom cells w m v neg i (n - k)))) (sym s))
+  from-last zero i = append-nil (foundAt cells w m v neg i) ∙ ap (foundAt cells w m v neg) (sym (add-zero i))
+  from-last (suc n) i =
+      let e : suc i + n ≡ i + suc n = suc-add i n ∙ sym (add-suc i n) in
+      ap (λ (l : List Phase). foundAt cells w m v neg i ++ l) (from-last n (suc i) ∙ ap (λ (k : ℕ). foundFrom cells w m v neg (suc i) n ++ foundAt cells w m v neg k) e)
+      ∙ sym (append-assoc (foundAt cells w m v neg i) (foundFrom cells w m v neg (suc i) n) (foundAt cells w m v neg (i + suc n)))
 
-  pub from-all : (k : ℕ) → k ≤ 0 → choose (foundFrom cells w m v neg k (countAt w m v - k)) ≡ bestAt cells w m v neg
+  pub from-more : (k : ℕ)
+      → earlier (choose (foundFrom cells w m v neg 0 k)) (choose (foundAt cells w m v neg k)) ≡ choose (foundFrom cells w m v neg 0 (k + 1))
+  from-more k =
+      sym (ap (λ (n : ℕ). choose (foundFrom cells w m v neg 0 n)) (add-one k)
+      ∙ ap choose (from-last k 0 ∙ ap (λ (i : ℕ). foundFrom cells w m v neg 0 k ++ foundAt cells w m v neg i) (zero-add k))
+      ∙ choose-append (foundFrom cells w m v neg 0 k) (foundAt cells w m v neg k))
+
+  pub from-all : (k : ℕ) → k ≡ countAt w m v → choose (foundFrom cells w m v neg 0 k) ≡ bestAt cells w m v neg
   unfolding bestAt
-  from-all k h =
-      let e : k ≡ 0 = omega arith in
-      let d : countAt w m v - 0 ≡ countAt w m v = omega arith in
-      ap (λ (i : ℕ). choose (foundFrom cells w m v neg i (countAt w m v - i))) e ∙ ap (λ (i : ℕ). choose (foundFrom cells w m v neg 0 i)) d
+  from-all k e = ap (λ (n : ℕ). choose (foundFrom cells w m v neg 0 n)) e

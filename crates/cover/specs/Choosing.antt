@@ -20,7 +20,8 @@ use Rattle.words.specs.Phases.{phaseWords, phasesAt, phaseAt}
 use Rattle.matching.specs.Sheet.{SheetOf}
 use Rattle.matching.specs.Inverters.{inverterOf}
 use Rattle.matching.specs.declared.Inverter.{Inverter}
-use Rattle.matching.specs.Best.{never, timeOf}
+use Rattle.matching.specs.Best.{never, timeOf, phaseAs}
+use Rattle.cover.specs.declared.CutMatch.{CutMatch}
 use Rattle.cover.specs.Asked.{SlotsIn, CutsIn, LateIn}
 
 -- ---- what the matches give
@@ -37,6 +38,10 @@ timesAt w m cut =
     leafTime w m cut 0 false ∷ leafTime w m cut 0 true ∷ leafTime w m cut 1 false ∷ leafTime w m cut 1 true
     ∷ leafTime w m cut 2 false ∷ leafTime w m cut 2 true ∷ leafTime w m cut 3 false ∷ leafTime w m cut 3 true
     ∷ 0 ∷ 0 ∷ 0 ∷ 0 ∷ 0 ∷ 0 ∷ 0 ∷ 0 ∷ []
+
+-- the phase that a best match gives
+abbrev pub foundPhase : CutMatch → Phase
+foundPhase found = phaseAs (found .cut) (found .best)
 
 -- what the matches on a cut give, f its function in the phase
 unfoldable pub foundOn : List Cell → List ℕ → ℕ → ℕ → List ℕ → ℕ → List Phase

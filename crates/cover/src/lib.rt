@@ -1,4 +1,5 @@
 // The cover: the choice for both phases of every variable, refusal 17, and the needed phases.
+use matching::Best;
 use matching::Inverter;
 use model::Cut;
 use model::Header;
@@ -26,12 +27,12 @@ ghost use Rattle.pairs.specs.Codes.{Joinable, cellsBy, Coded};
 ghost use Rattle.cover.specs.Asked.{PinsOf, PinsIn, LeavesIn, OutputsIn, SlotsIn, CutsIn, MatchIn, MatchesIn};
 ghost use Rattle.matching.specs.Variants.{Usable, Matchable};
 ghost use Rattle.matching.specs.Sheet.{sheetLong, listMatched, SheetOf, isListed};
-ghost use Rattle.matching.specs.Best.{Timely, timeOf, bestOf, boundOf, phaseAs};
+ghost use Rattle.matching.specs.Best.{Timely, timeOf, bestOf, phaseAs};
 ghost use Rattle.matching.specs.Inverters.{inverted};
 ghost use Rattle.model.specs.declared.Cell.{Cell};
 ghost use Rattle.matching.specs.declared.Inverter.the-variants.{Is};
-ghost use Rattle.cover.specs.Choosing.{leafTime, timesAt, foundOn, foundAt, bestAt, ownPhase, directAt, chosenTurn, chosenUp, ToolsIn, Choosable};
-ghost use Rattle.cover.specs.Choosing.{Unchosen};
+ghost use Rattle.cover.specs.Choosing.{leafTime, timesAt, foundPhase, foundOn, foundAt, bestAt, ownPhase, directAt, chosenTurn, chosenUp};
+ghost use Rattle.cover.specs.Choosing.{ToolsIn, Choosable, Unchosen};
 ghost use Rattle.cover.specs.Missing.{missing};
 ghost use Rattle.cover.specs.Marking.{putAll, putOutputs, feedsAt, fedOnce, fedTurn, fedDown, marked};
 
@@ -165,32 +166,51 @@ fn is_matched(sheet: &[u32], f: u16) -> bool
     }
 }
 
-// What a match must be earlier than to be chosen before a phase of a later cut.
-fn bound_of(p: Phase) -> u32
-    ensures { λ r. ⌜ r ≡ boundOf p ⌝ }
-{
-    let t = time(p);
-    if t < matching::NEVER {
-        t + 1
-    } else {
-        matching::NEVER
-    }
+// A best match, and the number of its cut.
+struct CutMatch {
+    cut: usize,
+    best: Best,
 }
 
-// The best match on cut number k or the phase of the cuts behind it, f the cut's function in the phase and t the arrivals of its leaves.
-fn match_phase(sheet: &[u32], k: usize, f: u16, t: &[u32; 16], rest: Phase) -> Phase
+fn none_found() -> CutMatch
+    ensures { λ r. ⌜ foundPhase r ≡ noPhase ⌝ }
+{
+    let best = Best {
+        variant: 0,
+        arrival: matching::NEVER,
+    };
+    CutMatch { cut: 0, best }
+}
+
+// The phase that it gives.
+fn found_phase(found: CutMatch) -> Phase
+    ensures { λ r. ⌜ r ≡ foundPhase found ⌝ }
+{
+    let best = found.best;
+    matching::phase_as(found.cut, best)
+}
+
+// The best match of the cuts before, or that on cut number k, if it is earlier; f is the cut's function in the phase, t the arrivals of its leaves.
+fn match_phase(sheet: &[u32], k: usize, f: u16, t: &[u32; 16], former: CutMatch) -> CutMatch
     requires { ⌜ ((cells : List Cell) × SheetOf cells (now sheet)) × Timely (now t) ⌝ }
-    ensures { λ r. ⌜ ((cells : List Cell) → SheetOf cells (now (sheet .entry)) → r ≡ earlier (phaseAs k (bestOf cells f (now (t .entry)))) rest) ⌝ }
+    ensures { λ r. ⌜ ((cells : List Cell) → SheetOf cells (now (sheet .entry)) →
+        foundPhase r ≡ earlier (foundPhase former) (phaseAs k (bestOf cells f (now (t .entry))))) ⌝ }
 {
-    let bound = bound_of(rest);
-    let b = matching::best_match(sheet, f, t, bound);
-    if b.arrival < bound {
-        return matching::phase_as(k, b);
+    let last = former.best;
+    let best = matching::best_match(sheet, f, t, last.arrival);
+    if best.arrival < last.arrival {
+        return CutMatch { cut: k, best };
     }
-    rest
+    former
 }
 
-// The best matches on cut number k of v, f its function, or the phases of the cuts behind it.
+// The best matches in both phases.
+struct CutMatches {
+    positive: CutMatch,
+    negative: CutMatch,
+}
+
+// The best matches of the cuts before, or those on cut number k of v, f its function.
 fn match_cut(
     work: &[u16],
     m: usize,
@@ -198,18 +218,21 @@ fn match_cut(
     k: usize,
     f: u16,
     sheet: &[u32],
-    positive: Phase,
-    negative: Phase,
-) -> Both
+    positive: CutMatch,
+    negative: CutMatch,
+) -> CutMatches
     requires { ⌜ ((cells : List Cell) × SheetOf cells (now sheet)) × Choosable (now work) m × (v ≤ m) × (k < countAt (now work) m v) ⌝ }
     ensures { λ r. ⌜ ((cells : List Cell) → SheetOf cells (now (sheet .entry)) →
-        (r .positive ≡ earlier (choose (foundOn cells (now (work .entry)) m k (leavesAt (now (work .entry)) m v k) f)) positive) ×
-        (r .negative ≡ earlier (choose (foundOn cells (now (work .entry)) m k (leavesAt (now (work .entry)) m v k) (phaseTable true f))) negative)) ⌝ }
+        (foundPhase (r .positive) ≡
+        earlier (foundPhase positive) (choose (foundOn cells (now (work .entry)) m k (leavesAt (now (work .entry)) m v k) f))) ×
+        (foundPhase (r .negative) ≡
+        earlier (foundPhase negative)
+        (choose (foundOn cells (now (work .entry)) m k (leavesAt (now (work .entry)) m v k) (phaseTable true f))))) ⌝ }
 {
     let t = times(work, m, words::load_cut(work, m, v, k));
     let p = match_phase(sheet, k, f, &t, positive);
     let n = match_phase(sheet, k, truth::in_phase(true, f), &t, negative);
-    Both {
+    CutMatches {
         positive: p,
         negative: n,
     }
@@ -223,47 +246,53 @@ fn table(work: &[u16], m: usize, v: usize, k: usize) -> u16
     words::function(work, m, v, k) as u16
 }
 
-// The best matches on cut number k of v, "a cut other than the variable alone", or the phases of the cuts behind it.
+// The best matches of the cuts before, or those on cut number k of v, "a cut other than the variable alone".
 fn cut_phases(
     work: &[u16],
     m: usize,
     v: usize,
     k: usize,
     sheet: &[u32],
-    positive: Phase,
-    negative: Phase,
-) -> Both
+    positive: CutMatch,
+    negative: CutMatch,
+) -> CutMatches
     requires { ⌜ ((cells : List Cell) × SheetOf cells (now sheet)) × Choosable (now work) m × (v ≤ m) × (k < countAt (now work) m v) ⌝ }
     ensures { λ r. ⌜ ((cells : List Cell) → SheetOf cells (now (sheet .entry)) →
-        (r .positive ≡ earlier (choose (foundAt cells (now (work .entry)) m v false k)) positive) ×
-        (r .negative ≡ earlier (choose (foundAt cells (now (work .entry)) m v true k)) negative)) ⌝ }
+        (foundPhase (r .positive) ≡ earlier (foundPhase positive) (choose (foundAt cells (now (work .entry)) m v false k))) ×
+        (foundPhase (r .negative) ≡ earlier (foundPhase negative) (choose (foundAt cells (now (work .entry)) m v true k)))) ⌝ }
 {
     if alone(work, m, v, k) {
-        return Both { positive, negative };
+        return CutMatches { positive, negative };
     }
     let f = table(work, m, v, k);
     if !is_matched(sheet, f) {
-        return Both { positive, negative };
+        return CutMatches { positive, negative };
     }
     match_cut(work, m, v, k, f, sheet, positive, negative)
 }
 
-// The best matches of v, from its last cut to its first: of equal arrivals the lowest cut's.
+// The best matches of v, from its first cut to its last: of equal arrivals the lowest cut's.
 fn best_phases(work: &[u16], m: usize, v: usize, sheet: &[u32]) -> Both
     requires { ⌜ ((cells : List Cell) × SheetOf cells (now sheet)) × Choosable (now work) m × (v ≤ m) ⌝ }
     ensures { λ r. ⌜ ((cells : List Cell) → SheetOf cells (now (sheet .entry)) → (r .positive ≡ bestAt cells (now (work .entry)) m v false) ×
         (r .negative ≡ bestAt cells (now (work .entry)) m v true)) ⌝ }
 {
-    let mut positive = nothing();
-    let mut negative = nothing();
-    let mut k = words::count(work, m, v);
-    while k > 0 {
-        k -= 1;
+    let mut positive = none_found();
+    let mut negative = none_found();
+    let n = words::count(work, m, v);
+    let mut k: usize = 0;
+    while k < n {
         let b = cut_phases(work, m, v, k, sheet, positive, negative);
         positive = b.positive;
         negative = b.negative;
+        k += 1;
     }
-    Both { positive, negative }
+    let p = found_phase(positive);
+    let n = found_phase(negative);
+    Both {
+        positive: p,
+        negative: n,
+    }
 }
 
 // "an input's own positive net": "every arrival starts from it".

@@ -1,16 +1,15 @@
 -- The best variant of a cut's function is 01's choice among the cut's matches.
 --     best-chosen         the phase of the best variant is the first of the earliest over the variants
 --     best-match-chosen   and so over the matches of the cut
---     under-first, under-rest     the best that is earlier than a phase's bound, or that phase, is the choice of both
+--     under-first, under-rest     the best that is earlier than one of a former cut, or that one, is the choice of both
 -- Assumes nothing.
-use Prim.Native.Nat.{ℕ, suc, _≤_, _<_}
+use Prim.Native.Nat.{ℕ, _≤_, _<_}
 use mathlib.Core.Path.{_≡_, refl, sym, ap, _∙_}
-use mathlib.Core.Bool.{Bool, true, false, cond}
+use mathlib.Core.Bool.{Bool, false, cond}
 use mathlib.Core.List.{List, [], _∷_, map}
-use mathlib.Core.Logic.{_⊎_, inl, inr}
+use mathlib.Core.Logic.{_⊎_, inl, inr, ⊎-elim}
 use native.Mathlib.Omega.{arith}
 use lib.ListN.{length}
-use borrow.Author.Tests.{lt-ltb, le-ltb}
 use Rattle.model.specs.Base.{keep}
 use Rattle.model.specs.Choice.{Phases, absent, earlier, choose, noPhase, matchPhase, cutMatches}
 use Rattle.model.specs.declared.Cell.{Cell}
@@ -19,7 +18,7 @@ use Rattle.model.specs.declared.Source.the-variants.{Cell as Matched}
 use Rattle.theory_graph.proofs.Lists.{map-map, map-same}
 use Rattle.matching.specs.declared.Best.{Best}
 use Rattle.matching.specs.Variants.{Matchable, lineOf, matchOf, placesAt, variants}
-use Rattle.matching.specs.Best.{never, timeOf, TimesOf, Quick, arrivalAt, unmatchedUnder, unmatched, better, bestFrom, bestUnder, bestOf, boundOf, phaseAs}
+use Rattle.matching.specs.Best.{never, TimesOf, Quick, arrivalAt, unmatchedUnder, unmatched, better, bestFrom, bestUnder, bestOf, phaseAs}
 use Rattle.matching.proofs.Choosing.{by-bool, by-less, none-absent, earlier-none, earlier-assoc, earlier-first, earlier-strict, earlier-tie, choose-kept}
 use Rattle.matching.proofs.Fresh.{better-not}
 use Rattle.matching.proofs.Listing.{variant-matches}
@@ -134,64 +133,57 @@ module _ (cells : List Cell) (times : List ℕ) (bound : ℕ) where
   near-from [] b u k = k
   near-from (x ∷ xs) b u k = near-from xs (better b x (arrivalAt cells times x)) (better u x (arrivalAt cells times x)) (near-better b u x (arrivalAt cells times x) k)
 
-  near-best : (f : ℕ) → bound ≤ never → Near (bestUnder cells f times bound) (bestOf cells f times)
-  unfolding bestOf bestUnder Near
-  near-best f h = near-from (variants cells f) (unmatchedUnder bound) unmatched (inr (refl, h))
+  near-best : (f wide : ℕ) → bound ≤ wide → Near (bestUnder cells f times bound) (bestUnder cells f times wide)
+  unfolding bestUnder Near
+  near-best f wide h = near-from (variants cells f) (unmatchedUnder bound) (unmatchedUnder wide) (inr (refl, h))
 
-module _ (rest : Phase) where
-  bound-absent : absent (rest .source) ≡ true → boundOf rest ≡ never
-  unfolding boundOf timeOf
-  bound-absent e = rw e
+module _ (j : ℕ) (r : Best) (cells : List Cell) (times : List ℕ) (k f : ℕ) where
+  -- the best that is earlier than r, and the best
+  under : Best
+  under = bestUnder cells f times (r .arrival)
 
-  bound-early : absent (rest .source) ≡ false → rest .arrival < never → boundOf rest ≡ suc (rest .arrival)
-  unfolding boundOf timeOf
-  bound-early e h = rw (e, lt-ltb (rest .arrival) never h)
+  best : Best
+  best = bestUnder cells f times never
 
-  bound-late : absent (rest .source) ≡ false → never ≤ rest .arrival → boundOf rest ≡ never
-  unfolding boundOf timeOf
-  bound-late e h = rw (e, le-ltb (rest .arrival) never h)
+  timed : r .arrival < never → Near cells times (r .arrival) under best
+  unfolding under best
+  timed h = near-best cells times (r .arrival) f never (omega arith)
 
-  pub bound-low : boundOf rest ≤ never
-  bound-low = by-bool (absent (rest .source))
-      (λ e. omega (arith, bound-absent e))
-      (λ e. by-less (rest .arrival) never (λ h. omega (arith, bound-early e h)) (λ h. omega (arith, bound-late e h)))
+  untimed : never ≤ r .arrival → Near cells times never best under
+  unfolding under best
+  untimed h = near-best cells times never f (r .arrival) h
 
-  module _ (k : ℕ) (u : Best) where
-    first-stays : u .arrival < boundOf rest → phaseAs k u ≡ earlier (phaseAs k u) rest
-    first-stays l =
-        let q : phaseAs k u ≡ matched k u = timely k u (omega (arith, bound-low)) in
-        let a = matched-present k u in
-        q ∙ sym (ap (λ (z : Phase). earlier z rest) q ∙ by-bool (absent (rest .source))
-        (λ e. earlier-first (matched k u) rest a e)
-        (λ e. earlier-tie (matched k u) rest a e (by-less (rest .arrival) never
-        (λ h. omega (arith, bound-early e h, matched-arrival k u))
-        (λ h. omega (arith, bound-late e h, matched-arrival k u)))))
+  -- a match that is earlier than one of a former cut is chosen before it
+  pub under-first : bestUnder cells f times (r .arrival) .arrival < r .arrival
+      → phaseAs k (bestUnder cells f times (r .arrival)) ≡ earlier (phaseAs j r) (phaseAs k (bestOf cells f times))
+  unfolding Near under best bestOf
+  under-first l = by-less (r .arrival) never
+      (λ h. ⊎-elim
+      (λ n. let q : phaseAs k under ≡ matched k under = timely k under (omega arith) in
+      q ∙ sym ((λ i. earlier (timely j r h i) ((ap (phaseAs k) (sym (n .0)) ∙ q) i))
+      ∙ earlier-strict (matched j r) (matched k under) (matched-present j r) (matched-present k under)
+      (omega (arith, matched-arrival j r, matched-arrival k under))))
+      (λ n. absurd (omega (arith, n .0)))
+      (timed h))
+      (λ h. ⊎-elim
+      (λ n. ap (phaseAs k) (sym (n .0)))
+      (λ n. phase-late k under (n .1) ∙ sym (phase-late k best (omega (arith, n .0))))
+      (untimed h)
+      ∙ sym (ap (λ (z : Phase). earlier z (phaseAs k best)) (phase-late j r h) ∙ earlier-none (phaseAs k best)))
 
-    rest-stays : boundOf rest ≤ u .arrival → rest ≡ earlier (phaseAs k u) rest
-    rest-stays l = by-less (u .arrival) never
-        (λ h. let q : phaseAs k u ≡ matched k u = timely k u h in
-        sym (ap (λ (z : Phase). earlier z rest) q ∙ by-bool (absent (rest .source))
-        (λ e. absurd (omega (arith, bound-absent e)))
-        (λ e. by-less (rest .arrival) never
-        (λ g. earlier-strict (matched k u) rest (matched-present k u) e (omega (arith, bound-early e g, matched-arrival k u)))
-        (λ g. absurd (omega (arith, bound-late e g))))))
-        (λ h. sym (ap (λ (z : Phase). earlier z rest) (phase-late k u h) ∙ earlier-none rest))
-
-  module _ (cells : List Cell) (times : List ℕ) (k f : ℕ) where
-    -- a match that is earlier than the bound is chosen before the phase of a later cut
-    pub under-first : bestUnder cells f times (boundOf rest) .arrival < boundOf rest → phaseAs k (bestUnder cells f times (boundOf rest)) ≡ earlier (phaseAs k (bestOf cells f times)) rest
-    unfolding Near
-    under-first l = go (near-best cells times (boundOf rest) f bound-low)
-      where
-        go : Near cells times (boundOf rest) (bestUnder cells f times (boundOf rest)) (bestOf cells f times) → phaseAs k (bestUnder cells f times (boundOf rest)) ≡ earlier (phaseAs k (bestOf cells f times)) rest
-        go (inl n) = first-stays k (bestUnder cells f times (boundOf rest)) l ∙ ap (λ (z : Best). earlier (phaseAs k z) rest) (n .0)
-        go (inr n) = absurd (omega (arith, n .0))
-
-    -- with none the phase stays
-    pub under-rest : boundOf rest ≤ bestUnder cells f times (boundOf rest) .arrival → rest ≡ earlier (phaseAs k (bestOf cells f times)) rest
-    unfolding Near
-    under-rest l = go (near-best cells times (boundOf rest) f bound-low)
-      where
-        go : Near cells times (boundOf rest) (bestUnder cells f times (boundOf rest)) (bestOf cells f times) → rest ≡ earlier (phaseAs k (bestOf cells f times)) rest
-        go (inl n) = absurd (omega (arith, n .1))
-        go (inr n) = rest-stays k (bestOf cells f times) (n .1)
+  -- with none that stays
+  pub under-rest : r .arrival ≤ bestUnder cells f times (r .arrival) .arrival → phaseAs j r ≡ earlier (phaseAs j r) (phaseAs k (bestOf cells f times))
+  unfolding Near under best bestOf
+  under-rest l = by-less (best .arrival) never
+      (λ g. by-less (r .arrival) never
+      (λ h. ⊎-elim
+      (λ n. absurd (omega (arith, n .1)))
+      (λ n. timely j r h ∙ sym ((λ i. earlier (timely j r h i) (timely k best g i))
+      ∙ earlier-tie (matched j r) (matched k best) (matched-present j r) (matched-present k best)
+      (omega (arith, n .1, matched-arrival j r, matched-arrival k best))))
+      (timed h))
+      (λ h. absurd (⊎-elim
+      (λ n. omega (arith, ap (λ (z : Best). z .arrival) (n .0)))
+      (λ n. omega (arith, n .0))
+      (untimed h))))
+      (λ g. phase-end j r ∙ sym (ap (earlier (phaseAs j r)) (phase-late k best g)))

@@ -113,11 +113,6 @@ unfoldable pub bestOf : List Cell → ℕ → List ℕ → Best
 unfolding bestUnder
 bestOf cells f times = bestUnder cells f times never
 
--- what a match must be earlier than to be chosen before a phase of a later cut: of equal arrivals the lowest cut's is
-unfoldable pub boundOf : Phase → ℕ
-unfolding timeOf
-boundOf p = cond (ltb (timeOf p) never) (suc (timeOf p)) never
-
 -- the phase that the best match on cut number k gives
 unfoldable pub phaseAs : ℕ → Best → Phase
 unfolding noPhase matchOf

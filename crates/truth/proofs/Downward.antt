@@ -25,8 +25,7 @@ pub down : (n : ℕ) (f : ℕ → Bool) (r t : ℕ) → 0 < r → r ≤ n → t 
 unfolding rowsFrom
 down n f zero t h l e = absurd (omega arith)
 down n f (suc q) t h l e =
-    let p : suc q - 1 ≡ q = omega arith in
-    let m : n - q ≡ suc (n - suc q) = omega arith in
+    let p : suc q - 1 ≡ q = omega arith in let m : n - q ≡ suc (n - suc q) = omega arith in
     rw (p, m, e) (sym (more f q (n - suc q)))
 
 pub rows-small : (n : ℕ) (f : ℕ → Bool) (r : ℕ) → n ≤ 16 → 0 < r → rowsFrom n f r < 32768

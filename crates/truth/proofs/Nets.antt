@@ -55,8 +55,7 @@ unfolding fedNets placesBelow all
 nets-taken zero places mask n leaves t = refl
 nets-taken (suc m) [] mask n leaves t = refl
 nets-taken (suc m) (p ∷ places) mask n leaves t =
-    let k : ℕ = length (take n leaves) in
-    let b = both (ltb p k) (all (λ (q : ℕ). ltb q k) (take m places)) t in
+    let k : ℕ = length (take n leaves) in let b = both (ltb p k) (all (λ (q : ℕ). ltb q k) (take m places)) t in
     let l : p < n = omega (arith, ltb→lt p k (b .0), length-take n leaves) in
     let first : getD (take n leaves) p 0 ≡ getD leaves p 0 = getD-take n leaves p 0 l in
     let rest = nets-taken m places (mask / 2) n leaves (b .1) in

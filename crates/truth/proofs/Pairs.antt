@@ -93,8 +93,7 @@ pub pair-row : (root inner : Cell) (pin r : ℕ) → pin < root .pins → 1 ≤ 
     → pairValue root pin inner (map (bit r) (below (pairPins root inner))) ≡ value (root .table) (rootRow r pin (inner .pins) (value (inner .table) (r / 2 ^ pin % 2 ^ inner .pins)))
 unfolding pairValue pairPins
 pair-row root inner pin r h some few row small =
-    let m = root .pins + inner .pins - 1 in
-    let bits = map (bit r) (below m) in
+    let m = root .pins + inner .pins - 1 in let bits = map (bit r) (below m) in
     let f : List Bool → Bool = λ cs. value (inner .table) (rowOf cs) in
     ap (λ (xs : List Bool). value (root .table) (rowOf xs)) (splice-one pin (inner .pins) f bits)
     ∙ ap (value (root .table)) (root-row pin (inner .pins) m r (omega arith) some (omega arith) row small (f (take (inner .pins) (drop pin bits))))

@@ -152,8 +152,7 @@ module _ (t k : ℕ) (leaf : k < 4) where
 
   row-out : (r : ℕ) → r < 16 → value shifted r ≡ value t (bitXor r (2 ^ k))
   row-out r h = by-bit (bit r k)
-      (λ e. rows-out r
-      ∙ ap₂ _||_ (ap (λ (b : Bool). value t (r + 2 ^ k) && b) (under-past r k h leaf e) ∙ and-none (value t (r + 2 ^ k)))
+      (λ e. rows-out r ∙ ap₂ _||_ (ap (λ (b : Bool). value t (r + 2 ^ k) && b) (under-past r k h leaf e) ∙ and-none (value t (r + 2 ^ k)))
       (row-up r (under-high r k h leaf e) ∙ ap (λ (b : Bool). value t (r - 2 ^ k) && b) (under-zero r k h leaf e) ∙ and-all (value t (r - 2 ^ k)))
       ∙ ap (value t) (sym (under r k h leaf e)))
       (λ e. rows-out r
@@ -244,17 +243,13 @@ module _ (pins table order mask : ℕ) (four : pins ≤ 4) (o : order < 24) (m :
   turned-row : (r : ℕ) → r < 16 → value (turned (placesOf order) mask first) r ≡ value table (pinRow pins (placesOf order) mask r)
   unfolding turned first around variantTable
   turned-row r h =
-      let ps : List ℕ = placesOf order in
-      let d : ℕ = across ps mask 3 r in
-      let c : ℕ = across ps mask 2 d in
-      let b : ℕ = across ps mask 1 c in
-      let hd : d < 16 = across-small order mask 3 r o (omega arith) h in
+      let ps : List ℕ = placesOf order in let d : ℕ = across ps mask 3 r in let c : ℕ = across ps mask 2 d in
+      let b : ℕ = across ps mask 1 c in let hd : d < 16 = across-small order mask 3 r o (omega arith) h in
       let hc : c < 16 = across-small order mask 2 d o (omega arith) hd in
       let hb : b < 16 = across-small order mask 1 c o (omega arith) hc in
       across-value order mask 3 (crossedAt ps mask 2 (crossedAt ps mask 1 (crossedAt ps mask 0 first))) r o (omega arith) h
       ∙ across-value order mask 2 (crossedAt ps mask 1 (crossedAt ps mask 0 first)) d o (omega arith) hd
-      ∙ across-value order mask 1 (crossedAt ps mask 0 first) c o (omega arith) hc
-      ∙ across-value order mask 0 first b o (omega arith) hb
+      ∙ across-value order mask 1 (crossedAt ps mask 0 first) c o (omega arith) hc ∙ across-value order mask 0 first b o (omega arith) hb
       ∙ value-tabulate 16 (λ r. value table (pinRow pins ps 0 r)) (across ps mask 0 b) (across-small order mask 0 b o (omega arith) hb)
       ∙ ap (value table) (row-there r h)
 

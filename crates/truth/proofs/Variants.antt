@@ -40,8 +40,7 @@ odd b x = omega (arith, one-small b)
 -- the m + 1 lowest digits of a number: the lowest, and m of its half
 low-digit : (m z d : ℕ) → d < 2 → (z * 2 + d) % 2 ^ suc m ≡ d + 2 * (z % 2 ^ m)
 low-digit m z d h =
-    let half : (z * 2 + d) / 2 ≡ z = omega arith in
-    let rest : (z * 2 + d) % 2 ≡ d = omega arith in
+    let half : (z * 2 + d) / 2 ≡ z = omega arith in let rest : (z * 2 + d) % 2 ≡ d = omega arith in
     ap (λ (k : ℕ). (z * 2 + d) % 2 ^ k) (sym (add-one m)) ∙ mod-pow-add (z * 2 + d) m 1
     ∙ ap₂ (λ (x y : ℕ). x % 2 ^ m * 2 + y) half rest ∙ omega arith
 
@@ -52,8 +51,7 @@ pin-row zero n places mask r h l = omega arith
 pin-row (suc m) zero places mask r h l = absurd (omega arith)
 pin-row (suc m) (suc n) [] mask r h l = absurd (omega arith)
 pin-row (suc m) (suc n) (p ∷ ps) mask r h l =
-    let x : ℕ = pinRow n ps 0 r in
-    let b : Bool = bit r p in
+    let x : ℕ = pinRow n ps 0 r in let b : Bool = bit r p in
     let low : differ ((one b + 2 * x) % 2) (mask % 2) ≡ one (flip (bit mask 0) b) =
     ap₂ differ (odd b x) (sym (one-low mask)) ∙ differ-flip (bit mask 0) b in
     let both : bitXor (one b + 2 * x) mask ≡ bitXor x (mask / 2) * 2 + one (flip (bit mask 0) b) =

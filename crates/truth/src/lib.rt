@@ -1,7 +1,7 @@
 // Truth tables of up to four inputs, 16 rows each: "bit r is the cell's value in row r, where bit j of r is pin j".
 use model::Cell;
 ghost use mathlib.Core.Path.{_≡_};
-ghost use Prim.Native.Nat.{_+_, _*_, _/_, _%_, _^_, _<_, _≤_};
+ghost use Prim.Native.Nat.{ℕ, _+_, _*_, _/_, _%_, _^_, _<_, _≤_};
 ghost use mathlib.Core.List.{map};
 ghost use mathlib.Core.Bool.{true};
 ghost use lib.ListN.{getD};
@@ -41,36 +41,10 @@ const ROWS: [[u8; 16]; 24] = [
     [0, 8, 4, 12, 2, 10, 6, 14, 1, 9, 5, 13, 3, 11, 7, 15],
 ];
 
-// "The 24 orders of places 0 to 3 stand in lexicographic order, numbered from 0."
-const PLACES: [[u8; 4]; 24] = [
-    [0, 1, 2, 3],
-    [0, 1, 3, 2],
-    [0, 2, 1, 3],
-    [0, 2, 3, 1],
-    [0, 3, 1, 2],
-    [0, 3, 2, 1],
-    [1, 0, 2, 3],
-    [1, 0, 3, 2],
-    [1, 2, 0, 3],
-    [1, 2, 3, 0],
-    [1, 3, 0, 2],
-    [1, 3, 2, 0],
-    [2, 0, 1, 3],
-    [2, 0, 3, 1],
-    [2, 1, 0, 3],
-    [2, 1, 3, 0],
-    [2, 3, 0, 1],
-    [2, 3, 1, 0],
-    [3, 0, 1, 2],
-    [3, 0, 2, 1],
-    [3, 1, 0, 2],
-    [3, 1, 2, 0],
-    [3, 2, 0, 1],
-    [3, 2, 1, 0],
-];
-
 // aaaa, cccc, f0f0 and ff00.
 const PATTERNS: [u16; 4] = [0xaaaa, 0xcccc, 0xf0f0, 0xff00];
+
+const LEAVES: u64 = 0xff00f0f0ccccaaaa;
 
 // An entry of a table, as an index.
 fn wide(x: u8) -> usize
@@ -87,12 +61,26 @@ pub fn rows(order: usize) -> [u8; 16]
     ROWS[order]
 }
 
+// "The 24 orders of places 0 to 3 stand in lexicographic order, numbered from 0." Place j of all of them is one number, two bits an order,
+// order 0 lowest: a table would be copied to the stack for each look.
+fn places(j: usize) -> u64
+    requires { ⌜ j < 4 ⌝ }
+    ensures { λ x. ⌜ ((order : ℕ) → order < 24 → x / 2 ^ (2 * order) % 4 ≡ getD (placesOf order) j 0) ⌝ }
+{
+    match j {
+        0 => 0xfffaaa555000,
+        1 => 0xa50f50fa0fa5,
+        2 => 0x4894cd8ce9de,
+        _ => 0x12613723b67b,
+    }
+}
+
 // An order's place j.
 pub fn place(order: usize, j: usize) -> usize
     requires { ⌜ (order < 24) × (j < 4) ⌝ }
     ensures { λ x. ⌜ x ≡ getD (placesOf order) j 0 ⌝ }
 {
-    wide(PLACES[order][j])
+    ((places(j) >> (2 * order)) % 4) as usize
 }
 
 // "bit r is the cell's value in row r".
@@ -142,12 +130,20 @@ pub fn first_table(pins: u16, table: u16, order: usize) -> u16
     t
 }
 
+// What `pattern` has, out of a number: it stays at hand from mask to mask.
+fn ones_of(k: usize) -> u16
+    requires { ⌜ k < 4 ⌝ }
+    ensures { λ x. ⌜ x ≡ leafTable k ⌝ }
+{
+    ((LEAVES >> (16 * k)) % 65536) as u16
+}
+
 // A table with leaf k complemented: the rows where it is 1 and those where it is 0 change places.
 fn crossed(t: u16, k: usize) -> u16
     requires { ⌜ k < 4 ⌝ }
     ensures { λ x. ⌜ x ≡ crossed t k ⌝ }
 {
-    let p = pattern(k);
+    let p = ones_of(k);
     let n = 1usize << k;
     ((t & p) >> n) | ((t & complement(p)) << n)
 }

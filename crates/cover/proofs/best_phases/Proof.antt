@@ -1,48 +1,47 @@
--- `cover::best_phases` meets its contract. The invariant: `positive` and `negative` are the choice among the cuts from number k on; the measure is how many are left. Assumes nothing.
-use mathlib.Core.Path.{_≡_, sym, ap, _∙_}
-use mathlib.Core.Bool.{Bool, true, false}
+-- `cover::best_phases` meets its contract. The invariant: `positive` and `negative` are the choice among the cuts below number k; the measure is how many are left. Assumes nothing.
+use mathlib.Core.Path.{_≡_, ap, _∙_}
+use mathlib.Core.Bool.{true, false}
 use mathlib.Core.List.{List}
 use Prim.Native.Nat.{ℕ, _-_, _≤_}
 use native.Mathlib.Omega.{arith}
-use Rattle.model.specs.Choice.{noPhase, choose, earlier}
+use Rattle.model.specs.Choice.{choose, earlier}
 use Rattle.model.specs.declared.Cell.{Cell}
+use Rattle.model.specs.declared.Phase.{Phase}
 use Rattle.words.specs.Layout.{countAt}
 use Rattle.matching.specs.Sheet.{SheetOf}
-use Rattle.cover.specs.Choosing.{foundAt, foundFrom}
+use Rattle.cover.specs.Choosing.{foundPhase, foundAt, foundFrom}
 use Rattle.cover.proofs.Found.{from-none, from-more, from-all}
 use borrow.Author.Needs.{needs}
 use Rattle.cover.proofs.best_phases.Statement.{statement}
 use Rattle.cover.proofs.best_phases.Tie as tie
 
 abbrev Inv-loop : tie.InvT-loop
-Inv-loop work m v sheet positive₀ negative₀ k₀ positive negative k =
-    (k ≤ countAt work m v)
+Inv-loop work m v sheet positive₀ negative₀ n k₀ positive negative k =
+    (k ≤ n)
     × ((cells : List Cell) → SheetOf cells sheet
-    → (positive ≡ choose (foundFrom cells work m v false k (countAt work m v - k))) × (negative ≡ choose (foundFrom cells work m v true k (countAt work m v - k))))
+    → (foundPhase positive ≡ choose (foundFrom cells work m v false 0 k)) × (foundPhase negative ≡ choose (foundFrom cells work m v true 0 k)))
 
 abbrev μ-loop : tie.MeasureT-loop
-μ-loop work m v sheet positive₀ negative₀ k₀ positive negative k = k
+μ-loop work m v sheet positive₀ negative₀ n k₀ positive negative k = n - k
 
 count-requires : tie.Need-count-requires Inv-loop μ-loop
 count-requires c κs = let s = c .before .before .before .before in (s .pre .1 .cuts .room, s .pre .2)
 
--- no cut yet
-none-yet : (n : tie.After-count Inv-loop μ-loop) (neg : Bool) →
-    let a = n .before .before .before .before .before .args in
-    (cells : List Cell) → noPhase ≡ choose (foundFrom cells (a .work .now) (a .m) (a .v) neg (n .count .result) (countAt (a .work .now) (a .m) (a .v) - n .count .result))
-none-yet n neg cells =
-    let a = n .before .before .before .before .before .args in
-    from-none cells (a .work .now) (a .m) (a .v) neg (countAt (a .work .now) (a .m) (a .v))
-    ∙ ap (λ (k : ℕ). choose (foundFrom cells (a .work .now) (a .m) (a .v) neg k (countAt (a .work .now) (a .m) (a .v) - k))) (sym (n .count .ensures))
-
 loop-holds : tie.Need-loop-holds Inv-loop μ-loop
 loop-holds c =
-    (omega (arith, c .count .ensures), λ cells sheet. (c .before .before .nothing .ensures ∙ none-yet c false cells, c .before .nothing2 .ensures ∙ none-yet c true cells))
+    let a = c .before .before .before .before .before .args in (
+      omega arith,
+      λ cells sheet. (
+        c .before .before .none-found .ensures ∙ from-none cells (a .work .now) (a .m) (a .v) false,
+        c .before .none-found2 .ensures ∙ from-none cells (a .work .now) (a .m) (a .v) true,
+      ),
+    )
 
 cut-phases-requires : tie.Need-cut-phases-requires Inv-loop μ-loop
 cut-phases-requires c κs =
-    let s = c .before .before .before .before .before .before .before in
-    (s .pre .0, s .pre .1, s .pre .2, omega (arith, c .before .loop .inv .0, c .loop-test .taken))
+    let l = c .before in
+    let s = l .before .before .before .before .before .before in
+    (s .pre .0, s .pre .1, s .pre .2, omega (arith, c .loop-test .taken, l .before .count .ensures))
 
 loop-less : tie.Need-loop-less Inv-loop μ-loop
 loop-less c = omega (arith, c .before .before .before .loop-test .taken)
@@ -54,30 +53,32 @@ loop-again c =
     let l = turn .before in
     let a = l .before .before .before .before .before .before .args in
     let w : List ℕ = a .work .now in
-    let n : ℕ = countAt w (a .m) (a .v) in (
-      omega (arith, l .loop .inv .0),
+    let k : ℕ = l .loop .k in (
+      omega (arith, turn .loop-test .taken),
       λ cells sheet. (
         found .cut-phases .ensures cells sheet .0
-            ∙ ap (earlier (choose (foundAt cells w (a .m) (a .v) false (l .loop .k - 1)))) (l .loop .inv .1 cells sheet .0)
-            ∙ from-more cells w (a .m) (a .v) false (l .loop .k) n (turn .loop-test .taken) (l .loop .inv .0),
+            ∙ ap (λ (z : Phase). earlier z (choose (foundAt cells w (a .m) (a .v) false k))) (l .loop .inv .1 cells sheet .0)
+            ∙ from-more cells w (a .m) (a .v) false k,
         found .cut-phases .ensures cells sheet .1
-            ∙ ap (earlier (choose (foundAt cells w (a .m) (a .v) true (l .loop .k - 1)))) (l .loop .inv .1 cells sheet .1)
-            ∙ from-more cells w (a .m) (a .v) true (l .loop .k) n (turn .loop-test .taken) (l .loop .inv .0),
+            ∙ ap (λ (z : Phase). earlier z (choose (foundAt cells w (a .m) (a .v) true k))) (l .loop .inv .1 cells sheet .1)
+            ∙ from-more cells w (a .m) (a .v) true k,
       ),
     )
 
 returns : tie.Need-returns Inv-loop μ-loop
 returns c =
-    let l = c .before in
+    let out = c .before .before in
+    let l = out .before in
     let a = l .before .before .before .before .before .before .args in
+    let e : l .loop .k ≡ countAt (a .work .now) (a .m) (a .v) = omega (arith, l .loop .inv .0, out .loop-test .left, l .before .count .ensures) in
     λ cells sheet. (
-      l .loop .inv .1 cells sheet .0 ∙ from-all cells (a .work .now) (a .m) (a .v) false (l .loop .k) (c .loop-test .left),
-      l .loop .inv .1 cells sheet .1 ∙ from-all cells (a .work .now) (a .m) (a .v) true (l .loop .k) (c .loop-test .left),
+      c .before .found-phase .ensures ∙ l .loop .inv .1 cells sheet .0 ∙ from-all cells (a .work .now) (a .m) (a .v) false (l .loop .k) e,
+      c .found-phase2 .ensures ∙ l .loop .inv .1 cells sheet .1 ∙ from-all cells (a .work .now) (a .m) (a .v) true (l .loop .k) e,
     )
 
 pub best-phases-spec : {M : Type 1} → statement M
 best-phases-spec =
     tie.close
     (tie.spec
-    Inv-loop μ-loop (λ c κs. search needs) (λ c κs. search needs) count-requires loop-holds (λ c. omega arith) cut-phases-requires loop-less
-    loop-again returns)
+    Inv-loop μ-loop (λ c κs. search needs) (λ c κs. search needs) count-requires loop-holds cut-phases-requires (λ c. omega arith) loop-less
+    loop-again (λ c κs. search needs) (λ c κs. search needs) returns)

@@ -7,10 +7,11 @@ use native.Mathlib.Omega.{arith}
 use Rattle.model.specs.Choice.{noPhase, earlier, choose}
 use Rattle.model.specs.Matching.{phaseTable}
 use Rattle.model.specs.declared.Phase.{Phase}
-use Rattle.matching.proofs.Choosing.{earlier-none}
+use Rattle.matching.proofs.Matching.{phase-end}
 use Rattle.words.specs.Record.{leavesAt}
 use Rattle.words.proofs.Tabled.{function-fits}
-use Rattle.cover.specs.Choosing.{foundOn}
+use Rattle.cover.specs.declared.CutMatch.{CutMatch}
+use Rattle.cover.specs.Choosing.{foundPhase, foundOn}
 use Rattle.cover.proofs.Found.{few-leaves, table-small, table-straight, on-none, at-alone, at-cut}
 use borrow.Author.Needs.{needs}
 use borrow.Author.Tests.{not-true}
@@ -22,9 +23,9 @@ alone-requires c κs =
     let s = c .before .before in
     (s .pre .1 .cuts .room, s .pre .2, omega (arith, s .pre .3, s .pre .1 .cuts .few (s .args .v) (s .pre .2)))
 
--- with no match the phase of the cuts behind stays
-stays : {found : Phase} (rest : Phase) → noPhase ≡ found → rest ≡ earlier found rest
-stays rest e = sym (earlier-none rest) ∙ ap (λ (z : Phase). earlier z rest) e
+-- with no match that of the cuts before stays
+stays : {found : Phase} (former : CutMatch) → noPhase ≡ found → foundPhase former ≡ earlier (foundPhase former) found
+stays former e = phase-end (former .cut) (former .best) ∙ ap (earlier (foundPhase former)) e
 
 returns : tie.Need-returns
 returns c =
@@ -76,10 +77,10 @@ returns-3 c =
     let e = sym (tested .alone .ensures) ∙ read .before .if1 .left in
     λ cells sheet. (
       c .match-cut .ensures cells sheet .0
-          ∙ ap (λ (z : Phase). earlier z (a .positive)) (ap (λ (f : ℕ). choose (foundOn cells w (a .m) (a .k) (leavesAt w (a .m) (a .v) (a .k)) f)) (read .table .ensures ∙ sym (table-straight _))
+          ∙ ap (earlier (foundPhase (a .positive))) (ap (λ (f : ℕ). choose (foundOn cells w (a .m) (a .k) (leavesAt w (a .m) (a .v) (a .k)) f)) (read .table .ensures ∙ sym (table-straight _))
           ∙ at-cut cells w (a .m) (a .v) false (a .k) e),
       c .match-cut .ensures cells sheet .1
-          ∙ ap (λ (z : Phase). earlier z (a .negative)) (ap (λ (f : ℕ). choose (foundOn cells w (a .m) (a .k) (leavesAt w (a .m) (a .v) (a .k)) (phaseTable true f))) (read .table .ensures)
+          ∙ ap (earlier (foundPhase (a .negative))) (ap (λ (f : ℕ). choose (foundOn cells w (a .m) (a .k) (leavesAt w (a .m) (a .v) (a .k)) (phaseTable true f))) (read .table .ensures)
           ∙ at-cut cells w (a .m) (a .v) true (a .k) e),
     )
 

@@ -7,12 +7,11 @@ use native.Mathlib.Omega.{arith}
 use Rattle.model.specs.Choice.{earlier}
 use Rattle.model.specs.Matching.{phaseTable}
 use Rattle.model.specs.declared.Cut.{Cut}
-use Rattle.model.specs.declared.Phase.{Phase}
 use Rattle.words.specs.Layout.{countAt}
 use Rattle.words.specs.Record.{cutOf, leavesOf, leavesAt}
 use Rattle.words.proofs.Stored.{four-leaves}
 use Rattle.cover.specs.Asked.{LeavesIn, CutsIn}
-use Rattle.cover.specs.Choosing.{timesAt}
+use Rattle.cover.specs.Choosing.{timesAt, foundPhase}
 use Rattle.matching.specs.Best.{Timely, bestOf, phaseAs}
 use Rattle.cover.proofs.Leaves.{times-timely}
 use Rattle.cover.proofs.Found.{few-leaves, table-small, on-best}
@@ -68,11 +67,11 @@ returns c =
     let few = few-leaves w (a .m) (a .v) (a .k) in
     λ cells sheet. (
       first .match-phase .ensures cells sheet
-          ∙ ap (λ (z : Phase). earlier z (a .positive)) (ap (λ (x : List ℕ). phaseAs (a .k) (bestOf cells (a .f) x)) (are t)
+          ∙ ap (earlier (foundPhase (a .positive))) (ap (λ (x : List ℕ). phaseAs (a .k) (bestOf cells (a .f) x)) (are t)
           ∙ on-best cells (a .sheet .now) sheet w (a .m) 1073741823 (s .pre .1 .early) (omega arith) (leavesAt w (a .m) (a .v) (a .k)) few
           (λ j i. s .pre .1 .cuts .within (a .v) (a .k) j (s .pre .2) (s .pre .3) i) (a .k) (a .f) (omega (arith, s .fits .f))),
       c .match-phase2 .ensures cells sheet
-          ∙ ap (λ (z : Phase). earlier z (a .negative)) ((λ i. phaseAs (a .k) (bestOf cells (turned .in-phase .ensures i) (are t i)))
+          ∙ ap (earlier (foundPhase (a .negative))) ((λ i. phaseAs (a .k) (bestOf cells (turned .in-phase .ensures i) (are t i)))
           ∙ on-best cells (a .sheet .now) sheet w (a .m) 1073741823 (s .pre .1 .early) (omega arith) (leavesAt w (a .m) (a .v) (a .k)) few
           (λ j i. s .pre .1 .cuts .within (a .v) (a .k) j (s .pre .2) (s .pre .3) i) (a .k) (phaseTable true (a .f)) (table-small (a .f))),
     )

@@ -1,16 +1,10 @@
--- `truth::complement` meets its contract.
--- Assumes nothing.
+-- `truth::complement` meets its contract. Assumes nothing.
 use mathlib.Core.Path.{refl}
 use borrow.Author.Needs.{needs}
 use Rattle.model.specs.Matching.{phaseTable}
 use Rattle.truth.proofs.complement.Statement.{statement}
 use Rattle.truth.proofs.complement.Tie as tie
 
-returns : tie.Need-returns
-unfolding phaseTable
-returns c = refl
-
 pub complement-spec : {M : Type 1} → statement M
-complement-spec = tie.close
-    (tie.spec
-    (λ c. search needs) returns)
+unfolding phaseTable
+complement-spec = tie.close (tie.spec (λ c. search needs) (λ c. refl))

@@ -1,5 +1,4 @@
--- `truth::crossed_at` meets its contract: by the mask's bit.
--- Assumes nothing.
+-- `truth::crossed_at` meets its contract: by the mask's bit. Assumes nothing.
 use mathlib.Core.Path.{_≡_, sym, ap, _∙_}
 use mathlib.Core.Bool.{Bool, cond}
 use Prim.Native.Nat.{ℕ, _/_, _%_, _^_}
@@ -23,8 +22,7 @@ bit-by mask j = value-shift j mask
 
 crossed-requires : tie.Need-crossed-requires
 crossed-requires c κs =
-    let s = c .before .before in
-    omega (arith, c .place .ensures, place-small (s .args .order) (s .args .j) (s .pre .0) (s .pre .1))
+    let s = c .before .before in omega (arith, c .place .ensures, place-small (s .args .order) (s .args .j) (s .pre .0) (s .pre .1))
 
 returns : tie.Need-returns
 unfolding crossedAt
@@ -40,6 +38,4 @@ returns-2 c =
     sym (ap (λ (b : Bool). cond b (crossed (a .t) (getD (placesOf (a .order)) (a .j) 0)) (a .t)) (bit-by (a .mask) (a .j) ∙ ne-eqb (a .mask / 2 ^ a .j % 2) 1 (c .if1 .left)))
 
 pub crossed-at-spec : {M : Type 1} → statement M
-crossed-at-spec = tie.close
-    (tie.spec
-    (λ c. search needs) (λ c κs. search needs) crossed-requires returns returns-2)
+crossed-at-spec = tie.close (tie.spec (λ c. search needs) (λ c κs. search needs) crossed-requires returns returns-2)

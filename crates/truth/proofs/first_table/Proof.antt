@@ -1,5 +1,4 @@
--- `truth::first_table` meets its contract. The invariant: t has the rows from r on. The measure is r.
--- Assumes nothing.
+-- `truth::first_table` meets its contract. The invariant: t has the rows from r on. The measure is r. Assumes nothing.
 use mathlib.Core.Path.{_≡_, refl, sym, ap, _∙_}
 use mathlib.Core.Bool.{Bool}
 use mathlib.Core.List.{List, map}
@@ -40,31 +39,15 @@ Inv-loop pins table order rs t₀ r₀ t r = (r ≤ 16) × (t ≡ rowsFrom 16 (c
 abbrev μ-loop : tie.MeasureT-loop
 μ-loop pins table order rs t₀ r₀ t r = r
 
-rows-requires : tie.Need-rows-requires Inv-loop μ-loop
-rows-requires c κs = c .pre .1
-
-loop-holds : tie.Need-loop-holds Inv-loop μ-loop
-unfolding rowsFrom tabulate
-loop-holds c = (omega arith, refl)
-
-array-read-wide : tie.Need-array-read-wide Inv-loop μ-loop
-array-read-wide c = omega (arith, c .before .loop .inv .0, c .loop-test .taken)
-
-value-at-requires : tie.Need-value-at-requires Inv-loop μ-loop
-value-at-requires c κs = c .before .before .before .before .pre .0
-
 with-row-requires : tie.Need-with-row-requires Inv-loop μ-loop
 with-row-requires c κs =
-    let a = c .before .before .before .before .before .args in
-    let l = c .before .before .before .loop in
+    let a = c .before .before .before .before .before .args in let l = c .before .before .before .loop in
     omega (arith, rows-small 16 (cell (a .pins) (a .table) (a .order)) (l .r) (omega arith) (omega arith), l .inv .1)
 
 loop-again : tie.Need-loop-again Inv-loop μ-loop
 unfolding cell
 loop-again c =
-    let s = c .before .before .before .before .before .before in
-    let a = s .args in
-    let l = c .before .before .before .before .loop in
+    let s = c .before .before .before .before .before .before in let a = s .args in let l = c .before .before .before .before .loop in
     let f : ℕ → Bool = cell (a .pins) (a .table) (a .order) in
     let here : c .before .before .wide .result % 2 ^ a .pins ≡ pinRow (a .pins) (placesOf (a .order)) 0 (l .r - 1) =
     ap (λ (q : ℕ). q % 2 ^ a .pins) (c .before .before .wide .ensures) ∙ row-of (a .pins) (a .order) (l .r - 1) (c .before .before .before .before .before .rows .result) (s .pre .0) (s .pre .1) (omega (arith, l .inv .0, c .before .before .before .loop-test .taken)) (c .before .before .before .before .before .rows .ensures) in
@@ -75,14 +58,13 @@ loop-again c =
 returns : tie.Need-returns Inv-loop μ-loop
 unfolding variantTable cell
 returns c =
-    let a = c .before .before .before .args in
-    let f : ℕ → Bool = cell (a .pins) (a .table) (a .order) in
+    let a = c .before .before .before .args in let f : ℕ → Bool = cell (a .pins) (a .table) (a .order) in
     let none : c .before .loop .r ≡ 0 = omega (arith, c .loop-test .left) in
     c .before .loop .inv .1 ∙ ap (rowsFrom 16 f) none ∙ rows-whole 16 f
 
 pub first-table-spec : {M : Type 1} → statement M
-first-table-spec =
-    tie.close
-    (tie.spec
-    Inv-loop μ-loop rows-requires loop-holds (λ c. omega arith) array-read-wide (λ c κs. tt) value-at-requires with-row-requires (λ c. omega arith)
-    loop-again returns)
+unfolding rowsFrom tabulate
+first-table-spec = tie.close (tie.spec
+    Inv-loop μ-loop (λ c κs. c .pre .1) (λ c. (omega arith, refl)) (λ c. omega arith)
+    (λ c. omega (arith, c .before .loop .inv .0, c .loop-test .taken)) (λ c κs. tt) (λ c κs. c .before .before .before .before .pre .0)
+    with-row-requires (λ c. omega arith) loop-again returns)

@@ -1,5 +1,4 @@
--- `truth::opposite` meets its contract: by the literal's phase.
--- Assumes nothing.
+-- `truth::opposite` meets its contract: by the literal's phase. Assumes nothing.
 use native.Mathlib.Omega.{arith}
 use borrow.Author.Tests.{eq-eqb, ne-eqb}
 use Rattle.model.specs.Graph.{opposite, literal, negated, varOf}
@@ -7,15 +6,8 @@ use borrow.Author.Needs.{needs}
 use Rattle.truth.proofs.opposite.Statement.{statement}
 use Rattle.truth.proofs.opposite.Tie as tie
 
-returns : tie.Need-returns
-unfolding opposite literal negated varOf
-returns c = (rw (eq-eqb _ _ (c .if1 .taken)) (omega arith), omega arith)
-
-returns-2 : tie.Need-returns-2
-unfolding opposite literal negated varOf
-returns-2 c = (rw (ne-eqb _ _ (c .if1 .left)) (omega arith), omega arith)
-
 pub opposite-spec : {M : Type 1} → statement M
-opposite-spec = tie.close
-    (tie.spec
-    (λ c. search needs) (λ c. search needs) returns returns-2)
+unfolding opposite literal negated varOf
+opposite-spec = tie.close (tie.spec
+    (λ c. search needs) (λ c. search needs) (λ c. (rw (eq-eqb _ _ (c .if1 .taken)) (omega arith), omega arith))
+    (λ c. (rw (ne-eqb _ _ (c .if1 .left)) (omega arith), omega arith)))

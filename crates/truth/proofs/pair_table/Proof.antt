@@ -1,5 +1,4 @@
--- `truth::pair_table` meets its contract. The invariant: t has the rows from r on. The measure is r.
--- Assumes nothing.
+-- `truth::pair_table` meets its contract. The invariant: t has the rows from r on. The measure is r. Assumes nothing.
 use mathlib.Core.Path.{_≡_, sym, ap, _∙_}
 use mathlib.Core.Bool.{Bool}
 use mathlib.Core.List.{map}
@@ -39,42 +38,26 @@ Inv-loop root pin inner r₀ t₀ r t = (r ≤ rows root inner) × (t ≡ rowsFr
 abbrev μ-loop : tie.MeasureT-loop
 μ-loop root pin inner r₀ t₀ r t = r
 
-add-r : tie.Need-add-r Inv-loop μ-loop
-add-r c = omega (arith, c .before .before .pre .2)
-
-sub-r : tie.Need-sub-r Inv-loop μ-loop
-sub-r c = omega (arith, c .before .before .pre .1)
-
-shl-r : tie.Need-shl-r Inv-loop μ-loop
-shl-r c = omega (arith, c .before .before .pre .2)
-
 loop-holds : tie.Need-loop-holds Inv-loop μ-loop
 loop-holds c =
-    let s = c .before .before in
-    let a = s .args in
-    let e = rows-are (a .root) (a .inner) (s .pre .2) in
+    let s = c .before .before in let a = s .args in let e = rows-are (a .root) (a .inner) (s .pre .2) in
     (omega (arith, e), sym (ap (rowsFrom (rows (a .root) (a .inner)) (at-row (a .root) (a .pin) (a .inner))) e ∙ rows-none (rows (a .root) (a .inner)) (at-row (a .root) (a .pin) (a .inner))))
 
 pair-value-requires : tie.Need-pair-value-requires Inv-loop μ-loop
 pair-value-requires c κs =
-    let s = c .before .before .before .before in
-    let few = rows-few (s .args .root) (s .args .inner) (s .pre .2) in
+    let s = c .before .before .before .before in let few = rows-few (s .args .root) (s .args .inner) (s .pre .2) in
     (omega (arith, s .pre .0, s .pre .1, s .pre .2), s .pre .1, omega (arith, s .pre .0, s .pre .2), omega (arith, few, c .before .loop .inv .0, c .loop-test .taken))
 
 with-row-requires : tie.Need-with-row-requires Inv-loop μ-loop
 with-row-requires c κs =
-    let s = c .before .before .before .before .before in
-    let l = c .before .before .loop in
+    let s = c .before .before .before .before .before in let l = c .before .before .loop in
     omega (arith, rows-small (rows (s .args .root) (s .args .inner)) (at-row (s .args .root) (s .args .pin) (s .args .inner)) (l .r) (rows-few (s .args .root) (s .args .inner) (s .pre .2)) (omega (arith, c .before .loop-test .taken)), l .inv .1)
 
 loop-again : tie.Need-loop-again Inv-loop μ-loop
 unfolding at-row rows pairPins
 loop-again c =
-    let s = c .before .before .before .before .before .before in
-    let a = s .args in
-    let l = c .before .before .before .loop in
-    let taken = c .before .before .loop-test .taken in
-    let few = rows-few (a .root) (a .inner) (s .pre .2) in
+    let s = c .before .before .before .before .before .before in let a = s .args in let l = c .before .before .before .loop in
+    let taken = c .before .before .loop-test .taken in let few = rows-few (a .root) (a .inner) (s .pre .2) in
     let f : ℕ → Bool = at-row (a .root) (a .pin) (a .inner) in
     let now : c .with-row .result ≡ one (f (l .r - 1)) + 2 * l .t =
     c .with-row .ensures ∙ ap (λ (q : Bool). one q + 2 * l .t) (c .before .pair-value .ensures
@@ -83,12 +66,11 @@ loop-again c =
 
 returns : tie.Need-returns Inv-loop μ-loop
 returns c =
-    let a = c .before .before .before .before .args in
-    let none : c .before .loop .r ≡ 0 = omega (arith, c .loop-test .left) in
+    let a = c .before .before .before .before .args in let none : c .before .loop .r ≡ 0 = omega (arith, c .loop-test .left) in
     c .before .loop .inv .1 ∙ ap (rowsFrom (rows (a .root) (a .inner)) (at-row (a .root) (a .pin) (a .inner))) none ∙ table-is (a .root) (a .inner) (a .pin)
 
 pub pair-table-spec : {M : Type 1} → statement M
-pair-table-spec =
-    tie.close
-    (tie.spec
-    Inv-loop μ-loop add-r sub-r shl-r loop-holds (λ c. omega arith) pair-value-requires with-row-requires (λ c. omega arith) loop-again returns)
+pair-table-spec = tie.close (tie.spec
+    Inv-loop μ-loop (λ c. omega (arith, c .before .before .pre .2)) (λ c. omega (arith, c .before .before .pre .1))
+    (λ c. omega (arith, c .before .before .pre .2)) loop-holds (λ c. omega arith) pair-value-requires with-row-requires (λ c. omega arith)
+    loop-again returns)

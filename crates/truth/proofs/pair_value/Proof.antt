@@ -1,5 +1,4 @@
--- `truth::pair_value` meets its contract: the inner's value, and the root's with it.
--- Assumes nothing.
+-- `truth::pair_value` meets its contract: the inner's value, and the root's with it. Assumes nothing.
 use mathlib.Core.Path.{ap, _∙_}
 use borrow.Author.Needs.{needs}
 use Rattle.model.specs.Table.{value}
@@ -14,6 +13,6 @@ returns c =
     ∙ ap (rootRow (a .r) (a .pin) (a .inner .pins)) (c .before .before .value-at .ensures))
 
 pub pair-value-spec : {M : Type 1} → statement M
-pair-value-spec = tie.close
-    (tie.spec
-    (λ c. search needs) (λ c κs. search needs) (λ c. search needs) (λ c κs. search needs) (λ c. search needs) (λ c κs. search needs) returns)
+pair-value-spec = tie.close (tie.spec
+    (λ c. search needs) (λ c κs. search needs) (λ c. search needs) (λ c κs. search needs) (λ c. search needs) (λ c κs. search needs)
+    returns)

@@ -1,5 +1,4 @@
--- `truth::pattern` meets its contract: that the four words are the leaves' tables antt computes.
--- Assumes nothing.
+-- `truth::pattern` meets its contract: that the four words are the leaves' tables antt computes. Assumes nothing.
 use mathlib.Core.Path.{_≡_}
 use mathlib.Core.Bool.{Bool}
 use mathlib.Core.List.{List, map}
@@ -30,11 +29,6 @@ entry : (i : ℕ) → i < 4 → getD entries i 0 ≡ leafTable i
 unfolding right
 entry i h = eqb→eq (getD entries i 0) (leafTable i) (at right 4 all-right i h)
 
-returns : tie.Need-returns
-unfolding entries
-returns c = entry (c .args .i) (c .pre)
-
 pub pattern-spec : {M : Type 1} → statement M
-pattern-spec = tie.close
-    (tie.spec
-    (λ c. search needs) (λ c. search needs) returns)
+unfolding entries
+pattern-spec = tie.close (tie.spec (λ c. search needs) (λ c. search needs) (λ c. entry (c .args .i) (c .pre)))

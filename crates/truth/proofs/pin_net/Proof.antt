@@ -1,5 +1,4 @@
--- `truth::pin_net` meets its contract.
--- Assumes nothing.
+-- `truth::pin_net` meets its contract. Assumes nothing.
 use mathlib.Core.Path.{ap, _∙_}
 use Prim.Native.Nat.{ℕ}
 use native.Mathlib.Omega.{arith}
@@ -17,9 +16,6 @@ mul-leaf c = omega (arith, c .place .ensures, place-small (c .before .args .orde
 array-read-leaf : tie.Need-array-read-leaf
 array-read-leaf c = omega (arith, c .place .ensures, place-small (c .before .args .order) (c .before .args .j) (c .before .pre .0) (c .before .pre .1))
 
-masked-requires : tie.Need-masked-requires
-masked-requires c κs = (c .leaf .ensures .1, search needs)
-
 returns : tie.Need-returns
 returns c =
     let a = c .before .before .before .args in (
@@ -29,7 +25,5 @@ returns c =
     )
 
 pub pin-net-spec : {M : Type 1} → statement M
-pin-net-spec =
-    tie.close
-    (tie.spec
-    (λ c κs. search needs) mul-leaf array-read-leaf (λ c κs. search needs) masked-requires returns)
+pin-net-spec = tie.close (tie.spec
+    (λ c κs. search needs) mul-leaf array-read-leaf (λ c κs. search needs) (λ c κs. (c .leaf .ensures .1, search needs)) returns)

@@ -1,5 +1,4 @@
--- `truth::rows` meets its contract. That the table of `src/lib.rt` holds the rows of the orders antt computes.
--- Assumes nothing.
+-- `truth::rows` meets its contract. That the table of `src/lib.rt` holds the rows of the orders antt computes. Assumes nothing.
 use mathlib.Core.Path.{_≡_, refl}
 use mathlib.Core.List.{List, [], _∷_, map}
 use Prim.Native.Nat.{ℕ, zero, suc, _<_}
@@ -31,6 +30,4 @@ unfolding entries
 returns c = entry (c .before .args .order) (c .before .pre)
 
 pub rows-spec : {M : Type 1} → statement M
-rows-spec = tie.close
-    (tie.spec
-    (λ c. search needs) (λ c. search needs) returns)
+rows-spec = tie.close (tie.spec (λ c. search needs) (λ c. search needs) returns)

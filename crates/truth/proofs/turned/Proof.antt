@@ -1,5 +1,4 @@
--- `truth::turned` meets its contract, by that of `crossed_at` at each pin.
--- Assumes nothing.
+-- `truth::turned` meets its contract, by that of `crossed_at` at each pin. Assumes nothing.
 use mathlib.Core.Path.{ap, _∙_}
 use Rattle.truth.specs.Variant.{placesOf, crossedAt, turned}
 use borrow.Author.Needs.{needs}
@@ -10,12 +9,8 @@ returns : tie.Need-returns
 unfolding turned
 returns c =
     let a = c .before .before .before .before .args in
-    c .crossed-at4 .ensures
-    ∙ ap (crossedAt (placesOf (a .order)) (a .mask) 3)
+    c .crossed-at4 .ensures ∙ ap (crossedAt (placesOf (a .order)) (a .mask) 3)
     (c .before .crossed-at3 .ensures ∙ ap (crossedAt (placesOf (a .order)) (a .mask) 2) (c .before .before .crossed-at2 .ensures ∙ ap (crossedAt (placesOf (a .order)) (a .mask) 1) (c .before .before .before .crossed-at .ensures)))
 
 pub turned-spec : {M : Type 1} → statement M
-turned-spec =
-    tie.close
-    (tie.spec
-    (λ c κs. search needs) (λ c κs. search needs) (λ c κs. search needs) (λ c κs. search needs) returns)
+turned-spec = tie.close (tie.spec (λ c κs. search needs) (λ c κs. search needs) (λ c κs. search needs) (λ c κs. search needs) returns)
