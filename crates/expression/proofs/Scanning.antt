@@ -1,19 +1,22 @@
 -- Laws of the scan of an expression, token by token. Assumes nothing.
-use Prim.Native.Nat.{ℕ, _+_, _-_, _≤_, _<_}
+use Prim.Native.Nat.{ℕ, suc, _+_, _-_, _≤_, _<_}
 use native.Mathlib.Omega.{arith}
 use mathlib.Core.Path.{_≡_, refl, sym, ap, _∙_}
 use mathlib.Core.Bool.{Bool, true, false, cond, _&&_, _||_}
 use mathlib.Core.List.{List, [], _∷_}
 use lib.Dec.{eqb, ltb}
-use lib.ListN.{length, getD}
-use borrow.Author.Tests.{lt-ltb, le-ltb, ltb-true, ltb-false, le-leb, lt-leb}
-use Rattle.model.specs.GenlibWords.{isSign, isWord, lead}
+use lib.ListN.{length, drop, getD}
+use lib.Seq.{drop-cons}
+use native.Mathlib.Numerals.{add-one}
+use borrow.Author.Tests.{lt-ltb, le-ltb, ltb-true, ltb-false, le-leb, lt-leb, eqb-true}
+use Rattle.model.specs.Text.{isNameByte, isLetter, between}
+use Rattle.model.specs.GenlibWords.{isSign, isWord, lead, isBlank, isWordByte, startsWord, span, tokens}
 use Rattle.model.specs.GenlibFormula.{scanDue, scanAfter, scanToken, scan, opened, shallow}
 use Rattle.model.specs.declared.Scan.{Scan}
 use Rattle.model.specs.declared.Scan.the-variants.{Due, After, Done, Broken}
 use Rattle.expression.specs.declared.Token.{Token}
 use Rattle.expression.specs.Places.{restAt, part, pickL, partsAt, dueStep, closeStep, endStep, afterStep, scanStep, depthOf, openedBy}
-use Rattle.expression.proofs.Tokens.{lead-part}
+use Rattle.expression.proofs.Tokens.{lead-part, tokens-blank, tokens-sign, tokens-word}
 use Rattle.expression.proofs.Walk.{Step}
 
 -- by a token's first byte and whether it is a name
@@ -40,22 +43,50 @@ pub lead-none : (w : List ℕ) (from to : ℕ) → to ≤ from → lead (part w 
 unfolding lead
 lead-none w from to h = let z : to - from ≡ 0 = omega arith in rw z
 
--- the brackets open behind it
-pub opened-by : (depth : ℕ) (t : List ℕ) → openedBy depth (lead t) ≡ opened depth t
-unfolding openedBy opened isSign
-opened-by depth t = refl
+-- ---- brackets, byte by byte
 
--- what is left of the line is as deep as it is behind the next token
-pub shallow-turn : (w : List ℕ) (at depth : ℕ) (t : Token) → Step w at t → depth ≤ 16 → shallow depth (restAt w at) ≡ shallow (opened depth (part w (t .from) (t .to))) (restAt w (t .to))
-unfolding shallow
-shallow-turn w at depth t k h = go (ltb (t .from) (t .to)) refl
+-- a byte that no bracket is
+quiet : (p : ℕ → Bool) (depth b : ℕ) → p 40 ≡ false → p 41 ≡ false → p b ≡ true → openedBy depth b ≡ depth
+unfolding openedBy
+quiet p depth b e f h = go (eqb b 40) refl (eqb b 41) refl
   where
-    none-open : opened depth [] ≡ depth
-    none-open = refl
+    go : (s : Bool) → eqb b 40 ≡ s → (t : Bool) → eqb b 41 ≡ t → cond s (depth + 1) (cond t (depth - 1) depth) ≡ depth
+    go true q t r = let k : b ≡ 40 = eqb-true b 40 q in let z : _≡_ {A = ℕ} 0 1 = cc in absurd (omega arith)
+    go false q true r = let k : b ≡ 41 = eqb-true b 41 r in let z : _≡_ {A = ℕ} 0 1 = cc in absurd (omega arith)
+    go false q false r = refl
 
-    go : (q : Bool) → ltb (t .from) (t .to) ≡ q → shallow depth (restAt w at) ≡ shallow (opened depth (part w (t .from) (t .to))) (restAt w (t .to))
-    go true p = rw (k .one (ltb-true (t .from) (t .to) p), le-leb depth 16 h)
-    go false p = let n = k .none (ltb-false (t .from) (t .to) p) in rw (n .0, n .1, n .2)
+quiet-word : (depth b : ℕ) → isWordByte b ≡ true → openedBy depth b ≡ depth
+unfolding isWordByte isNameByte isLetter between
+quiet-word depth b e = quiet isWordByte depth b refl refl e
+
+quiet-blank : (depth b : ℕ) → isBlank b ≡ true → openedBy depth b ≡ depth
+unfolding isBlank
+quiet-blank depth b e = quiet isBlank depth b refl refl e
+
+-- a word in front of a line opens none
+word-deep : (l : List ℕ) (depth : ℕ) → depth ≤ 16 → shallow depth (tokens l) ≡ shallow depth (tokens (drop (length (span isWordByte l)) l))
+unfolding span startsWord shallow opened openedBy isSign lead
+word-deep [] depth h = refl
+word-deep (b ∷ l) depth h = go (isWordByte b) refl
+  where
+    go : (s : Bool) → isWordByte b ≡ s → shallow depth (tokens (b ∷ l)) ≡ shallow depth (tokens (drop (length (cond s (b ∷ span isWordByte l) [])) (b ∷ l)))
+    go true e = rw (tokens-word (b ∷ l) e, e, le-leb depth 16 h) (ap (λ (d : ℕ). shallow d (tokens (drop (length (span isWordByte l)) l))) (quiet-word depth b e))
+    go false e = refl
+
+shallow-front : (b : ℕ) (l : List ℕ) (depth : ℕ) → depth ≤ 16 → shallow depth (tokens (b ∷ l)) ≡ shallow (openedBy depth b) (tokens l)
+unfolding shallow opened openedBy isSign lead span
+shallow-front b l depth h = go (isBlank b) refl (isWordByte b) refl
+  where
+    go : (s : Bool) → isBlank b ≡ s → (t : Bool) → isWordByte b ≡ t → shallow depth (tokens (b ∷ l)) ≡ shallow (openedBy depth b) (tokens l)
+    go true e t f = ap (shallow depth) (tokens-blank b l e) ∙ ap (λ (d : ℕ). shallow d (tokens l)) (sym (quiet-blank depth b e))
+    go false e false f = rw (tokens-sign b l e f, le-leb depth 16 h)
+    go false e true f =
+        let n : length (span isWordByte (b ∷ l)) ≡ suc (length (span isWordByte l)) = rw f in
+        word-deep (b ∷ l) depth h ∙ ap (λ (k : ℕ). shallow depth (tokens (drop k (b ∷ l)))) n ∙ sym (word-deep l depth h)
+        ∙ ap (λ (d : ℕ). shallow d (tokens l)) (sym (quiet-word depth b f))
+
+pub shallow-byte : (w : List ℕ) (at depth : ℕ) → at < length w → depth ≤ 16 → shallow depth (restAt w at) ≡ shallow (openedBy depth (getD w at 0)) (restAt w (at + 1))
+shallow-byte w at depth h k = rw (drop-cons w at 0 h, add-one at) (shallow-front (getD w at 0) (drop (suc at) w) depth k)
 
 pub shallow-over : (depth : ℕ) (ts : List (List ℕ)) → 16 < depth → shallow depth ts ≡ false
 unfolding shallow

@@ -4,13 +4,13 @@ use native.Mathlib.Nat.{add-zero, le-of-lt}
 use native.Mathlib.Numerals.{add-one}
 use native.Mathlib.Omega.{arith}
 use mathlib.Core.Path.{_≡_, refl, sym, ap, _∙_}
-use mathlib.Core.Bool.{Bool, true, false, cond, _&&_}
+use mathlib.Core.Bool.{Bool, true, false, not, cond, _&&_}
 use mathlib.Core.List.{List, [], _∷_}
 use lib.Dec.{eqb, ltb, eqb·suc-suc}
-use borrow.Author.Tests.{ne-eqb, ltb-true, ltb-false}
+use borrow.Author.Tests.{eq-eqb, ne-eqb, ltb-true, ltb-false}
 use lib.ListN.{length, take, drop, getD, length-drop, drop-of-length-le}
 use lib.Seq.{drop-cons, getD-drop, drop-drop}
-use Rattle.model.specs.Base.{all}
+use Rattle.model.specs.Base.{all, same}
 use Rattle.model.specs.GenlibWords.{span}
 use Rattle.expression.specs.Places.{spanEnd}
 
@@ -62,6 +62,44 @@ module _ (p : ℕ → Bool) where
       go : (t : Bool) → all p l ≡ eqb (length (span p l)) (length l) → (t && all p l) ≡ eqb (length (cond t (b ∷ span p l) [])) (suc (length l))
       go true e = e ∙ sym (eqb·suc-suc (length (span p l)) (length l))
       go false e = sym (ne-eqb 0 (suc (length l)) (λ z. omega arith))
+
+  -- bytes from i on beside the beginning from `at` on
+  module _ (w : List ℕ) (at : ℕ) (t : List ℕ) (i : ℕ) where
+    abbrev Beside : Bool → Type 0
+    Beside b = same (drop i t) (span p (drop at w)) ≡ b
+
+    pub word-past : length t ≤ i → length w ≤ at → Beside true
+    unfolding same span
+    word-past h k = rw (drop-of-length-le t h, drop-of-length-le w k)
+
+    pub word-out : length t ≤ i → at < length w → Beside (not (p (getD w at 0)))
+    unfolding same span
+    word-out h k = rw (drop-of-length-le t h, drop-cons w at 0 k) (go (p (getD w at 0)))
+      where
+        go : (s : Bool) → same [] (cond s (getD w at 0 ∷ span p (drop (suc at) w)) []) ≡ not s
+        go true = refl
+        go false = refl
+
+    module _ (h : i < length t) where
+      pub word-short : length w ≤ at → Beside false
+      unfolding same span
+      word-short k = rw (drop-cons t i 0 h, drop-of-length-le w k)
+
+      pub word-stop : at < length w → p (getD w at 0) ≡ false → Beside false
+      unfolding same span
+      word-stop k e = rw (drop-cons t i 0 h, drop-cons w at 0 k, e)
+
+      pub word-other : at < length w → (getD w at 0 ≡ getD t i 0 → ⊥) → Beside false
+      unfolding same span
+      word-other k ne = rw (drop-cons t i 0 h, drop-cons w at 0 k) (go (p (getD w at 0)))
+        where
+          go : (s : Bool) → same (getD t i 0 ∷ drop (suc i) t) (cond s (getD w at 0 ∷ span p (drop (suc at) w)) []) ≡ false
+          go true = rw (ne-eqb (getD t i 0) (getD w at 0) (λ e. ne (sym e)))
+          go false = refl
+
+      pub word-step : at < length w → getD w at 0 ≡ getD t i 0 → p (getD w at 0) ≡ true → Beside (same (drop (i + 1) t) (span p (drop (at + 1) w)))
+      unfolding same span
+      word-step k e f = rw (drop-cons t i 0 h, drop-cons w at 0 k, f, eq-eqb (getD t i 0) (getD w at 0) (sym e), add-one i, add-one at)
 
   module _ (w : List ℕ) (at : ℕ) where
     pub span-stop : at < length w → p (getD w at 0) ≡ false → spanEnd p w at ≡ at

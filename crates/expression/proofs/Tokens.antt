@@ -42,11 +42,11 @@ word-no-blank b e = go (isBlank b) refl
     go true f = let z : true ≡ false = sym e ∙ blank-no-word b f in z
     go false f = refl
 
-tokens-blank : (b : ℕ) (bs : List ℕ) → isBlank b ≡ true → tokens (b ∷ bs) ≡ tokens bs
+pub tokens-blank : (b : ℕ) (bs : List ℕ) → isBlank b ≡ true → tokens (b ∷ bs) ≡ tokens bs
 unfolding tokens
 tokens-blank b bs e = rw e
 
-tokens-sign : (b : ℕ) (bs : List ℕ) → isBlank b ≡ false → isWordByte b ≡ false → tokens (b ∷ bs) ≡ (b ∷ []) ∷ tokens bs
+pub tokens-sign : (b : ℕ) (bs : List ℕ) → isBlank b ≡ false → isWordByte b ≡ false → tokens (b ∷ bs) ≡ (b ∷ []) ∷ tokens bs
 unfolding tokens
 tokens-sign b bs e f = rw (e, f)
 
@@ -56,7 +56,7 @@ span-none [] e = refl
 span-none (b ∷ l) e = rw e
 
 -- a word in front of a line
-tokens-word : (l : List ℕ) → startsWord l ≡ true → tokens l ≡ span isWordByte l ∷ tokens (drop (length (span isWordByte l)) l)
+pub tokens-word : (l : List ℕ) → startsWord l ≡ true → tokens l ≡ span isWordByte l ∷ tokens (drop (length (span isWordByte l)) l)
 unfolding tokens span startsWord
 tokens-word [] e = let z : _≡_ {A = ℕ} 0 1 = cc in absurd (omega arith)
 tokens-word (b ∷ l) e = rw (word-no-blank b e, e) (go (startsWord l) refl (tokens-word l))

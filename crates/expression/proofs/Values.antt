@@ -9,9 +9,11 @@ use mathlib.Core.List.{List, [], _∷_, map}
 use lib.Dec.{ltb}
 use lib.ListN.{length, drop}
 use borrow.Author.Tests.{ltb-true, ltb-false}
-use Rattle.model.specs.Base.{from, same, flip, andThen}
-use Rattle.model.specs.GenlibWords.{isBlank, isWord, isEmpty}
+use Rattle.model.specs.Base.{bit, from, same, flip, andThen}
+use Rattle.model.specs.GenlibWords.{isBlank, isSign, isWord, isEmpty}
 use Rattle.model.specs.GenlibFormula.{Taken, begins, turns, chain, quoted, closeBracket, named, atom, factorOf, sumOf, within, indexOf}
+use Rattle.model.specs.Table.{value}
+use Rattle.truth.proofs.Tables.{value-complement}
 use Rattle.expression.specs.declared.Parsed.{Parsed}
 use Rattle.expression.specs.declared.Parsed.the-variants.{At, Broken}
 use Rattle.expression.specs.Places.{endAt, fromAt, restAt, takenAt, Within, part}
@@ -29,6 +31,23 @@ pub turns-step : (b : ℕ) (v : Bool) (ts : List (List ℕ)) → begins b ts ≡
 unfolding turns begins
 turns-step b v [] e = let z : _≡_ {A = ℕ} 0 1 = cc in absurd (omega arith)
 turns-step b v (t ∷ ts) e = rw e
+
+-- signs turn a value that is turned already
+not-flip : (o v : Bool) → not (flip o v) ≡ flip (not o) v
+unfolding flip
+not-flip true true = refl
+not-flip true false = refl
+not-flip false v = refl
+
+turns-flip : (b : ℕ) (o v : Bool) (ts : List (List ℕ)) → turns b (flip o v) ts ≡ (flip (turns b o ts .0) v, turns b o ts .1)
+unfolding turns
+turns-flip b o v [] = refl
+turns-flip b o v (t ∷ ts) = rw (not-flip o v) (go (isSign b t) (turns-flip b (not o) v ts))
+  where
+    go : (s : Bool) → turns b (flip (not o) v) ts ≡ (flip (turns b (not o) ts .0) v, turns b (not o) ts .1)
+        → cond s (turns b (flip (not o) v) ts) (flip o v, t ∷ ts) ≡ (flip (cond s (turns b (not o) ts) (o, t ∷ ts) .0) v, cond s (turns b (not o) ts) (o, t ∷ ts) .1)
+    go true e = e
+    go false e = refl
 
 -- ---- the place of a name
 
@@ -100,17 +119,19 @@ module _ (w : List ℕ) (at : ℕ) (h : at ≤ length w) where
 
 -- ---- brackets
 
-pub close-yes : (v : Bool) (ts : List (List ℕ)) → begins 41 ts ≡ true → closeBracket v ts ≡ quoted v (drop 1 ts)
+pub close-yes : (v : Bool) (ts us : List (List ℕ)) → begins 41 ts ≡ true → drop 1 ts ≡ us → closeBracket v ts ≡ quoted v us
 unfolding closeBracket
-close-yes v ts e = rw e
+close-yes v ts us e f = rw (e, f)
 
 pub close-no : (v : Bool) (ts : List (List ℕ)) → begins 41 ts ≡ false → closeBracket v ts ≡ none
 unfolding closeBracket
 close-no v ts e = rw e
 
-pub quoted-is : (w : List ℕ) (v u : Bool) (n : ℕ) (ts : List (List ℕ)) → _≡_ {A = Bool × List (List ℕ)} (u, restAt w n) (turns 39 v ts) → takenAt w (At u n) ≡ quoted v ts
+-- a value that was turned, and the `'` behind it
+pub quoted-is : (w : List ℕ) (row u n : ℕ) (o q v : Bool) (ts : List (List ℕ)) → bit u row ≡ flip q v
+    → _≡_ {A = Bool × List (List ℕ)} (q, restAt w n) (turns 39 o ts) → takenAt w row (At u n) ≡ quoted (flip o v) ts
 unfolding quoted
-quoted-is w v u n ts e = ap {B = Taken} some e
+quoted-is w row u n o q v ts f e = rw (turns-flip 39 o v ts, sym e, f)
 
 -- ---- parts with a sign between them
 
@@ -175,12 +196,22 @@ module _ (value : List ℕ → Bool) (k depth : ℕ) (ts : List (List ℕ)) wher
   unfolding within
   within-sum ne = let e : depth ≡ suc (depth - 1) = omega arith in ap (λ (d : ℕ). within value k d ts) e
 
+-- rows of which none has 1, and rows that all have it
+pub no-row : (row : ℕ) → bit 0 row ≡ false
+unfolding bit
+no-row zero = refl
+no-row (suc row) = no-row row
+
+pub every-row : (row : ℕ) → row < 16 → bit 65535 row ≡ true
+unfolding value
+every-row row h = value-complement 0 row (omega arith) h ∙ ap not (no-row row)
+
 -- a callee that answered `At v n` or nothing
-pub known : (w : List ℕ) (r s : Parsed) (t : Taken) → r ≡ s → takenAt w r ≡ t → t ≡ takenAt w s
-known w r s t e f = sym f ∙ ap (takenAt w) e
+pub known : (w : List ℕ) (row : ℕ) (r s : Parsed) (t : Taken) → r ≡ s → takenAt w row r ≡ t → t ≡ takenAt w row s
+known w row r s t e f = sym f ∙ ap (takenAt w row) e
 
 -- how far it went
-pub ends : (a m n : ℕ) (v : Bool) (r : Parsed) → r ≡ At v n → Within a m r → (a < n) × (n ≤ m)
+pub ends : (a m n v : ℕ) (r : Parsed) → r ≡ At v n → Within a m r → (a < n) × (n ≤ m)
 ends a m n v r e w = subst (Within a m) e w
 
 -- what starts later starts here

@@ -9,7 +9,7 @@ use lib.ListN.{length, take, drop, getD, set}
 use Rattle.text.specs.Fields.{pickN}
 use Rattle.model.specs.declared.Scan.{Scan}
 use Rattle.model.specs.declared.Scan.the-variants.{Due, After, Done, Broken as NoForm}
-use Rattle.model.specs.Base.{below}
+use Rattle.model.specs.Base.{bit, below}
 use Rattle.model.specs.GenlibWords.{isBlank, isWordByte, isWord, tokens, span}
 use Rattle.model.specs.GenlibFormula.{Taken, isPin, indexOf}
 use Rattle.expression.specs.declared.Token.{Token}
@@ -55,10 +55,10 @@ unfoldable pub namesAt : List ℕ → Pins → List (List ℕ)
 unfolding span below
 namesAt w p = map (nameAt w p) (below (p .n))
 
--- what an answer by places says of the tokens
-abbrev pub takenAt : List ℕ → Parsed → Taken
-takenAt w (At v n) = some (v, restAt w n)
-takenAt w Broken = none
+-- what an answer by places says of the tokens in a row
+abbrev pub takenAt : List ℕ → ℕ → Parsed → Taken
+takenAt w row (At v n) = some (bit v row, restAt w n)
+takenAt w row Broken = none
 
 abbrev pub turnedAt : List ℕ → Turned → Bool × List (List ℕ)
 turnedAt w t = (t .value, restAt w (t .at))

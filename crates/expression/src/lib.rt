@@ -3,15 +3,15 @@
 // factors, and a bracketed factor of a sum again." Its form and its value are those of the crate `model`, which reads the list of a line's tokens; here a
 // place in the line stands for the tokens from there on.
 ghost use mathlib.Core.Path.{_≡_};
-ghost use mathlib.Core.Bool.{_&&_, _||_};
+ghost use mathlib.Core.Bool.{true, _&&_, _||_};
 ghost use Prim.Native.Nat.{ℕ, _^_, _≤_, _<_};
 ghost use lib.ListN.{length, drop};
-ghost use Rattle.model.specs.Base.{same, flip, one};
+ghost use Rattle.model.specs.Base.{bit, same, flip};
 ghost use Rattle.model.specs.Text.{isNameByte};
-ghost use Rattle.model.specs.GenlibWords.{isBlank, isWordByte, isWord, lead, span};
+ghost use Rattle.model.specs.GenlibWords.{isBlank, isWordByte, isWord, span};
 ghost use Rattle.model.specs.GenlibFormula.{shallow, scan, isDone, formed, isPin, withName, addPins, pinsOf, indexOf, nameValue, valueOf, rowBits, turns};
 ghost use Rattle.model.specs.GenlibFormula.{closeBracket, named, factorOf, productOf, sumOf, within};
-ghost use Rattle.expression.specs.Places.{Nth, partsAt, dueStep, closeStep, endStep, afterStep, scanStep, depthOf, openedBy, part, spanEnd, endAt};
+ghost use Rattle.expression.specs.Places.{Nth, partsAt, dueStep, closeStep, endStep, afterStep, scanStep, depthOf, openedBy, spanEnd, endAt};
 ghost use Rattle.expression.specs.Places.{tokenAt, behindAt, restAt, namesAt, takenAt, turnedAt, Within, pushed, Listed, WordPart, withPin, addPin};
 ghost use Rattle.expression.specs.Places.{pinsFrom, noPins};
 use model::Scan;
@@ -28,9 +28,9 @@ pub struct Pins {
     pub at: [usize; 4],
 }
 
-// A value and the place behind what has it.
+// The values in rows 0 to 15 as a table, and the place behind what has them.
 enum Parsed {
-    At(bool, usize),
+    At(u16, usize),
     Broken,
 }
 
@@ -117,7 +117,7 @@ fn token_end(w: &[u8], from: usize) -> usize
         return from;
     }
     if is_word_byte(w[from]) {
-        word_end(w, from)
+        word_end(w, from + 1)
     } else {
         from + 1
     }
@@ -136,11 +136,10 @@ pub fn next_token(w: &[u8], at: usize) -> Token
 fn behind(w: &[u8], at: usize, b: u8) -> usize
     ensures { λ r. ⌜ r ≡ behindAt (now (w .entry)) at b ⌝ }
 {
-    let t = next_token(w, at);
-    let from = t.from;
+    let from = skip(w, at);
     if from < w.len() {
         if w[from] == b {
-            return t.to;
+            return token_end(w, from);
         }
     }
     at
@@ -304,16 +303,7 @@ fn step_depth(depth: usize, b: u8) -> usize
     depth
 }
 
-// A token's first byte, 0 of an empty one.
-fn lead_of(w: &[u8], t: Token) -> u8
-    requires { ⌜ (t .from ≤ t .to) × (t .to ≤ length (now w)) ⌝ }
-    ensures { λ r. ⌜ r ≡ lead (part (now (w .entry)) (t .from) (t .to)) ⌝ }
-{
-    let from = t.from;
-    if from < t.to { w[from] } else { 0 }
-}
-
-// No "brackets over 16 deep".
+// No "brackets over 16 deep". A bracket is a token of its own, so the bytes are counted and no token is measured.
 pub fn is_shallow(w: &[u8], from: usize) -> bool
     requires { ⌜ from ≤ length (now w) ⌝ }
     ensures { λ r. ⌜ r ≡ shallow 0 (restAt (now (w .entry)) from) ⌝ }
@@ -321,28 +311,40 @@ pub fn is_shallow(w: &[u8], from: usize) -> bool
     let mut depth = 0;
     let mut at = from;
     while at < w.len() {
-        let t = next_token(w, at);
-        depth = step_depth(depth, lead_of(w, t));
+        depth = step_depth(depth, w[at]);
         if depth > 16 {
             return false;
         }
-        at = t.to;
+        at += 1;
     }
     true
 }
 
 // ---- pins
 
-// The word that begins at a place has the same bytes.
+// The word that begins at a place has the same bytes. No more of it is looked at than these, however long it is.
 fn word_is(w: &[u8], from: usize, t: &[u8]) -> bool
     ensures { λ r. ⌜ r ≡ same (now (t .entry)) (span isWordByte (drop from (now (w .entry)))) ⌝ }
 {
-    let end = word_end(w, from);
-    if end <= w.len() {
-        text::same_bytes(t, &w[from..end])
-    } else {
-        text::same_bytes(t, &w[..0])
+    let mut at = from;
+    let mut i = 0;
+    while i < t.len() {
+        if at >= w.len() {
+            return false;
+        }
+        if w[at] != t[i] {
+            return false;
+        }
+        if !is_word_byte(w[at]) {
+            return false;
+        }
+        at += 1;
+        i += 1;
     }
+    if at >= w.len() {
+        return true;
+    }
+    !is_word_byte(w[at])
 }
 
 // The place of a name among the pins, or their number.
@@ -441,27 +443,27 @@ pub fn find_pins(w: &[u8], from: usize) -> Pins
     p
 }
 
-// ---- the value of an expression
+// ---- the value of an expression, in 16 rows at once
 
-// The two joined by `*`.
-fn both(a: bool, b: bool) -> bool
-    ensures { λ r. ⌜ r ≡ (a && b) ⌝ }
+// Two tables joined by `*`, row by row.
+fn both(a: u16, b: u16) -> u16
+    ensures { λ r. ⌜ ((row : ℕ) → row < 16 → bit r row ≡ (bit a row && bit b row)) ⌝ }
 {
-    if a { b } else { false }
+    a & b
 }
 
-// The two joined by `+`.
-fn either(a: bool, b: bool) -> bool
-    ensures { λ r. ⌜ r ≡ (a || b) ⌝ }
+// Two tables joined by `+`.
+fn either(a: u16, b: u16) -> u16
+    ensures { λ r. ⌜ ((row : ℕ) → row < 16 → bit r row ≡ (bit a row || bit b row)) ⌝ }
 {
-    if a { true } else { b }
+    a | b
 }
 
-// The second, turned where the first says so.
-fn differ(a: bool, b: bool) -> bool
-    ensures { λ r. ⌜ r ≡ flip a b ⌝ }
+// A table, turned in every row where signs say so.
+fn differ(odd: bool, t: u16) -> u16
+    ensures { λ r. ⌜ ((row : ℕ) → row < 16 → bit r row ≡ flip odd (bit t row)) ⌝ }
 {
-    if a { !b } else { b }
+    truth::in_phase(odd, t)
 }
 
 // A value, turned once for each sign b that stands there: "any number of `!` before a factor and of `'` after it".
@@ -481,46 +483,48 @@ fn turn(w: &[u8], from: usize, b: u8, start: bool) -> Turned
     }
 }
 
-// A name's value in a row.
-fn name_value(w: &[u8], p: Pins, row: u16, t: &[u8]) -> bool
+// A name's values: "bit j of r is pin j".
+fn name_value(w: &[u8], p: Pins, t: &[u8]) -> u16
     requires { ⌜ p .n ≤ 4 ⌝ }
-    ensures { λ r. ⌜ r ≡ nameValue (namesAt (now (w .entry)) p) row (now (t .entry)) ⌝ }
+    ensures { λ r. ⌜ ((row : ℕ) → row < 16 → bit r row ≡ nameValue (namesAt (now (w .entry)) p) row (now (t .entry))) ⌝ }
 {
     if text::same_bytes(t, b"CONST0") {
-        return false;
+        return 0;
     }
     if text::same_bytes(t, b"CONST1") {
-        return true;
+        return 65535;
     }
-    truth::bit(row, index(w, p, t))
+    let i = index(w, p, t);
+    if i < 4 { truth::pattern(i) } else { 0 }
 }
 
-// The bracket that must close behind a value, and the `'` behind it.
-fn close(w: &[u8], at: usize, v: bool) -> Parsed
+// The bracket that must close behind a value, which `!` before it may turn, and the `'` behind it.
+fn close(w: &[u8], at: usize, odd: bool, v: u16) -> Parsed
     requires { ⌜ at ≤ length (now w) ⌝ }
-    ensures { λ r. ⌜ Within at (length (now (w .entry))) r × (takenAt (now (w .entry)) r ≡ closeBracket v (restAt (now (w .entry)) at)) ⌝ }
+    ensures { λ r. ⌜ Within at (length (now (w .entry))) r × ((row : ℕ) → row < 16 → takenAt (now (w .entry)) row r ≡ closeBracket (flip odd (bit v row))
+        (restAt (now (w .entry)) at)) ⌝ }
 {
     let next = behind(w, at, b')');
     if next == at {
         return Parsed::Broken;
     }
-    let q = turn(w, next, b'\'', v);
-    Parsed::At(q.value, q.at)
+    let q = turn(w, next, b'\'', odd);
+    Parsed::At(differ(q.value, v), q.at)
 }
 
 // A name, and the `'` behind it.
-fn name(w: &[u8], at: usize, p: Pins, row: u16, odd: bool) -> Parsed
+fn name(w: &[u8], at: usize, p: Pins, odd: bool) -> Parsed
     requires { ⌜ (at ≤ length (now w)) × (p .n ≤ 4) ⌝ }
-    ensures { λ r. ⌜ Within at (length (now (w .entry))) r × (takenAt (now (w .entry)) r ≡ named (nameValue (namesAt (now (w .entry)) p) row) odd
-        (restAt (now (w .entry)) at)) ⌝ }
+    ensures { λ r. ⌜ Within at (length (now (w .entry))) r × ((row : ℕ) → row < 16 → takenAt (now (w .entry)) row r ≡ named (nameValue
+        (namesAt (now (w .entry)) p) row) odd (restAt (now (w .entry)) at)) ⌝ }
 {
     let t = next_token(w, at);
     let from = t.from;
     let to = t.to;
     if is_word(&w[from..to]) {
-        let v = name_value(w, p, row, &w[from..to]);
-        let q = turn(w, to, b'\'', differ(odd, v));
-        Parsed::At(q.value, q.at)
+        let v = name_value(w, p, &w[from..to]);
+        let q = turn(w, to, b'\'', odd);
+        Parsed::At(differ(q.value, v), q.at)
     } else {
         Parsed::Broken
     }
@@ -529,16 +533,16 @@ fn name(w: &[u8], at: usize, p: Pins, row: u16, odd: bool) -> Parsed
 // "a sum is made of products, a product of factors, and a bracketed factor of a sum again": three functions in a cycle. `depth`, the brackets
 // that may still open, falls from `factor` to `sum`, so the stack is at most three calls for each of them, whatever the text; the bytes that remain fall from
 // turn to turn of each loop.
-fn sum(w: &[u8], from: usize, p: Pins, row: u16, depth: usize) -> Parsed
+fn sum(w: &[u8], from: usize, p: Pins, depth: usize) -> Parsed
     requires { ⌜ (from ≤ length (now w)) × (p .n ≤ 4) ⌝ }
     ensures within { λ r. ⌜ Within from (length (now (w .entry))) r ⌝ }
-    ensures same { λ r. ⌜ ((k : ℕ) → length (now (w .entry)) < k → takenAt (now (w .entry)) r ≡ sumOf (nameValue (namesAt (now (w .entry)) p) row) k
-        (within (nameValue (namesAt (now (w .entry)) p) row) k depth) (restAt (now (w .entry)) from)) ⌝ }
+    ensures same { λ r. ⌜ ((row : ℕ) → row < 16 → (k : ℕ) → length (now (w .entry)) < k → takenAt (now (w .entry)) row r ≡ sumOf
+        (nameValue (namesAt (now (w .entry)) p) row) k (within (nameValue (namesAt (now (w .entry)) p) row) k depth) (restAt (now (w .entry)) from)) ⌝ }
 {
-    let mut v = false;
+    let mut v = 0u16;
     let mut at = from;
     loop {
-        match product(w, at, p, row, depth) {
+        match product(w, at, p, depth) {
             Parsed::At(u, n) => {
                 v = either(v, u);
                 let next = behind(w, n, b'+');
@@ -555,16 +559,16 @@ fn sum(w: &[u8], from: usize, p: Pins, row: u16, depth: usize) -> Parsed
 }
 
 // The factors that `*` joins.
-fn product(w: &[u8], from: usize, p: Pins, row: u16, depth: usize) -> Parsed
+fn product(w: &[u8], from: usize, p: Pins, depth: usize) -> Parsed
     requires { ⌜ (from ≤ length (now w)) × (p .n ≤ 4) ⌝ }
     ensures within { λ r. ⌜ Within from (length (now (w .entry))) r ⌝ }
-    ensures same { λ r. ⌜ ((k : ℕ) → length (now (w .entry)) < k → takenAt (now (w .entry)) r ≡ productOf (nameValue (namesAt (now (w .entry)) p) row) k
-        (within (nameValue (namesAt (now (w .entry)) p) row) k depth) (restAt (now (w .entry)) from)) ⌝ }
+    ensures same { λ r. ⌜ ((row : ℕ) → row < 16 → (k : ℕ) → length (now (w .entry)) < k → takenAt (now (w .entry)) row r ≡ productOf
+        (nameValue (namesAt (now (w .entry)) p) row) k (within (nameValue (namesAt (now (w .entry)) p) row) k depth) (restAt (now (w .entry)) from)) ⌝ }
 {
-    let mut v = true;
+    let mut v = 65535u16;
     let mut at = from;
     loop {
-        match factor(w, at, p, row, depth) {
+        match factor(w, at, p, depth) {
             Parsed::At(u, n) => {
                 v = both(v, u);
                 let next = behind(w, n, b'*');
@@ -581,72 +585,60 @@ fn product(w: &[u8], from: usize, p: Pins, row: u16, depth: usize) -> Parsed
 }
 
 // `!` before it and `'` after it turn a name or a bracketed sum.
-fn factor(w: &[u8], from: usize, p: Pins, row: u16, depth: usize) -> Parsed
+fn factor(w: &[u8], from: usize, p: Pins, depth: usize) -> Parsed
     requires { ⌜ (from ≤ length (now w)) × (p .n ≤ 4) ⌝ }
     ensures within { λ r. ⌜ Within from (length (now (w .entry))) r ⌝ }
-    ensures same { λ r. ⌜ ((k : ℕ) → length (now (w .entry)) < k → takenAt (now (w .entry)) r ≡ factorOf (nameValue (namesAt (now (w .entry)) p) row)
-        (within (nameValue (namesAt (now (w .entry)) p) row) k depth) (restAt (now (w .entry)) from)) ⌝ }
+    ensures same { λ r. ⌜ ((row : ℕ) → row < 16 → (k : ℕ) → length (now (w .entry)) < k → takenAt (now (w .entry)) row r ≡ factorOf
+        (nameValue (namesAt (now (w .entry)) p) row) (within (nameValue (namesAt (now (w .entry)) p) row) k depth) (restAt (now (w .entry)) from)) ⌝ }
 {
     let t = turn(w, from, b'!', false);
     let at = t.at;
     let odd = t.value;
     let inside = behind(w, at, b'(');
     if inside == at {
-        return name(w, at, p, row, odd);
+        return name(w, at, p, odd);
     }
     if depth == 0 {
         return Parsed::Broken;
     }
-    match sum(w, inside, p, row, depth - 1) {
-        Parsed::At(v, n) => close(w, n, differ(odd, v)),
+    match sum(w, inside, p, depth - 1) {
+        Parsed::At(v, n) => close(w, n, odd, v),
         Parsed::Broken => Parsed::Broken,
     }
 }
 
 // ---- the table
 
-// The value in a row. No bracket is over 16 deep, else the gate is refused by 23.
-fn value_in(w: &[u8], from: usize, p: Pins, row: u16) -> bool
+// The values in the 16 rows. No bracket is over 16 deep, else the gate is refused by 23.
+fn row_values(w: &[u8], from: usize, p: Pins) -> u16
     requires { ⌜ (from ≤ length (now w)) × (p .n ≤ 4) × (length (now w) ≤ 65536) ⌝ }
-    ensures { λ r. ⌜ r ≡ valueOf (nameValue (namesAt (now (w .entry)) p) row) (restAt (now (w .entry)) from) ⌝ }
+    ensures { λ r. ⌜ ((row : ℕ) → row < 16 → bit r row ≡ valueOf (nameValue (namesAt (now (w .entry)) p) row) (restAt (now (w .entry)) from)) ⌝ }
 {
-    match sum(w, from, p, row, 16) {
+    match sum(w, from, p, 16) {
         Parsed::At(v, _) => v,
-        Parsed::Broken => false,
+        Parsed::Broken => 0,
     }
 }
 
-// A value as a bit.
-fn bit_of(v: bool) -> u32
-    ensures { λ r. ⌜ r ≡ one v ⌝ }
-{
-    if v { 1 } else { 0 }
-}
-
-// "its 2^pins rows"
+// "its 2^pins rows", each with 1.
 fn rows(pins: usize) -> u16
     requires { ⌜ pins ≤ 4 ⌝ }
-    ensures { λ r. ⌜ r ≡ 2 ^ pins ⌝ }
+    ensures { λ r. ⌜ r ≡ rowBits (λ row. true) 0 (2 ^ pins) ⌝ }
 {
     match pins {
         0 => 1,
-        1 => 2,
-        2 => 4,
-        3 => 8,
-        _ => 16,
+        1 => 3,
+        2 => 15,
+        3 => 255,
+        _ => 65535,
     }
 }
 
-// "The written table must equal the expression in its 2^pins rows and be 0 above": bit r is the value in row r, the last row first.
+// "The written table must equal the expression in its 2^pins rows and be 0 above"
 pub fn table(w: &[u8], from: usize, p: Pins) -> u16
     requires { ⌜ (from ≤ length (now w)) × (p .n ≤ 4) × (length (now w) ≤ 65536) ⌝ }
     ensures { λ r. ⌜ r ≡ rowBits (λ row. valueOf (nameValue (namesAt (now (w .entry)) p) row) (restAt (now (w .entry)) from)) 0 (2 ^ p .n) ⌝ }
 {
-    let mut t = 0u32;
-    let mut r = rows(p.n);
-    while r > 0 {
-        r -= 1;
-        t = t * 2 + bit_of(value_in(w, from, p, r));
-    }
-    t as u16
+    let n = p.n;
+    row_values(w, from, p) & rows(n)
 }

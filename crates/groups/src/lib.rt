@@ -371,8 +371,8 @@ fn has_line(s: &[u8], from: usize, t: &[u8]) -> bool
     }
 }
 
-// The same for all tokens of an expression, those behind the fourth pin too: 22 is tried before 23.
-fn all_have_lines(s: &[u8], from: usize, w: &[u8], start: usize) -> bool
+// The same for all tokens of an expression, one after the other.
+fn tokens_have_lines(s: &[u8], from: usize, w: &[u8], start: usize) -> bool
     requires { ⌜ (from ≤ length (now s)) × (start ≤ length (now w)) ⌝ }
     ensures { λ r. ⌜ r ≡ all (pinHas (linesBehind (now (s .entry)) from)) (restAt (now (w .entry)) start) ⌝ }
 {
@@ -385,6 +385,40 @@ fn all_have_lines(s: &[u8], from: usize, w: &[u8], start: usize) -> bool
             return false;
         }
         at = b;
+    }
+    true
+}
+
+// The same for the pin that stands first at a place of the GATE line.
+fn has_line_named(s: &[u8], from: usize, w: &[u8], at: usize) -> bool
+    requires { ⌜ from ≤ length (now s) ⌝ }
+    ensures { λ r. ⌜ r ≡ pinHas (linesBehind (now (s .entry)) from) (span isWordByte (drop at (now (w .entry)))) ⌝ }
+{
+    let end = expression::word_end(w, at);
+    if end <= w.len() {
+        has_line(s, from, &w[at..end])
+    } else {
+        has_line(s, from, &w[..0])
+    }
+}
+
+// The same for all tokens of an expression, those behind the fourth pin too: 22 is tried before 23. Up to four pins are looked up once each.
+fn all_have_lines(s: &[u8], from: usize, w: &[u8], start: usize) -> bool
+    requires { ⌜ (from ≤ length (now s)) × (start ≤ length (now w)) ⌝ }
+    ensures { λ r. ⌜ r ≡ all (pinHas (linesBehind (now (s .entry)) from)) (restAt (now (w .entry)) start) ⌝ }
+{
+    let p = expression::find_pins(w, start);
+    let n = p.n;
+    if n > 4 {
+        return tokens_have_lines(s, from, w, start);
+    }
+    let mut i = 0;
+    while i < n {
+        let at = p.at[i];
+        if !has_line_named(s, from, w, at) {
+            return false;
+        }
+        i += 1;
     }
     true
 }

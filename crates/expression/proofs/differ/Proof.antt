@@ -1,15 +1,25 @@
 -- `expression::differ` meets its contract, by its two cases. Assumes nothing.
-use Rattle.model.specs.Base.{flip}
+use mathlib.Core.Path.{_≡_, refl, ap, _∙_}
+use mathlib.Core.Bool.{Bool, true, false}
+use Prim.Native.Nat.{ℕ, _<_}
+use native.Mathlib.Omega.{arith}
+use Rattle.model.specs.Base.{bit, flip}
+use Rattle.model.specs.Table.{value}
+use Rattle.model.specs.Matching.{phaseTable}
+use Rattle.truth.proofs.Tables.{value-complement}
+use borrow.Author.Needs.{needs}
 use Rattle.expression.proofs.differ.Statement.{statement}
 use Rattle.expression.proofs.differ.Tie as tie
 
-returns : tie.Need-returns
-unfolding flip
-returns c = rw (c .if1 .taken)
+turned : (odd : Bool) (t row : ℕ) → t < 65536 → row < 16 → bit (phaseTable odd t) row ≡ flip odd (bit t row)
+unfolding phaseTable flip value
+turned true t row h k = value-complement t row h k
+turned false t row h k = refl
 
-returns-2 : tie.Need-returns-2
-unfolding flip
-returns-2 c = rw (c .if1 .left)
+returns : tie.Need-returns
+returns c = λ row h. ap (λ (x : ℕ). bit x row) (c .in-phase .ensures) ∙ turned _ _ row (omega arith) h
 
 pub differ-spec : {M : Type 1} → statement M
-differ-spec = tie.close (tie.spec returns returns-2)
+differ-spec = tie.close
+    (tie.spec
+    (λ c κs. search needs) returns)

@@ -5,9 +5,6 @@ use borrow.Author.Needs.{needs}
 use Rattle.expression.proofs.is_done.Statement.{statement}
 use Rattle.expression.proofs.is_done.Tie as tie
 
-enum-told : tie.Need-enum-told
-enum-told c = search needs
-
 returns : tie.Need-returns
 unfolding isDone
 returns c = sym (ap isDone (c .enum-told .given .1))
@@ -28,4 +25,4 @@ pub is-done-spec : {M : Type 1} → statement M
 is-done-spec =
     tie.close
     (tie.spec
-    enum-told (λ c. search needs) (λ c. search needs) (λ c. search needs) returns returns-2 returns-3 returns-4)
+    (λ c. search needs) (λ c. search needs) (λ c. search needs) (λ c. search needs) returns returns-2 returns-3 returns-4)

@@ -35,47 +35,37 @@ module _ (w : List ℕ) (at : ℕ) (h : at ≤ length w) (t : Token) (e : t ≡ 
     no-name : isWord (part w (t .from) (t .to)) ≡ false → named value odd (restAt w at) ≡ none
     no-name k = name-no w at h value odd (ap isWord (sym bytes) ∙ k)
 
-sub-is-word : tie.Need-sub-is-word
-sub-is-word c = omega (arith, bounds _ _ (c .before .before .pre .0) _ (c .next-token .ensures) .1)
-
-part-is-word-start : tie.Need-part-is-word-start
-part-is-word-start c = omega (arith, bounds _ _ (c .before .before .pre .0) _ (c .next-token .ensures) .1)
-
-part-is-word-end : tie.Need-part-is-word-end
-part-is-word-end c = omega (arith, bounds _ _ (c .before .before .pre .0) _ (c .next-token .ensures) .2)
-
-sub-name-value : tie.Need-sub-name-value
-sub-name-value c = omega (arith, bounds _ _ (c .before .before .before .before .before .pre .0) _ (c .before .before .before .next-token .ensures) .1)
-
-part-name-value-start : tie.Need-part-name-value-start
-part-name-value-start c = omega (arith, bounds _ _ (c .before .before .before .before .before .pre .0) _ (c .before .before .before .next-token .ensures) .1)
-
-part-name-value-end : tie.Need-part-name-value-end
-part-name-value-end c = omega (arith, bounds _ _ (c .before .before .before .before .before .pre .0) _ (c .before .before .before .next-token .ensures) .2)
-
 turn-requires : tie.Need-turn-requires
-turn-requires c κs = bounds _ _ (c .before .before .before .before .before .before .before .before .pre .0) _ (c .before .before .before .before .before .before .next-token .ensures) .2
+turn-requires c κs = let t = c .before .before .before .before .before in bounds _ _ (t .before .before .pre .0) _ (t .next-token .ensures) .2
 
 returns : tie.Need-returns
 returns c =
-    let s = c .before .before .before .before .before .before .before .before .before in
+    let q = c .before .turn in
+    let b = c .before .before .before .before in
+    let s = b .before .before .before .before .before in
     let w = s .args .w .now in
-    let value = nameValue (namesAt w (s .args .p)) (s .args .row) in
-    let t = c .before .before .before .before .before .before .before .next-token in
-    let y = is-name w (s .args .at) (s .pre .0) (t .result) (t .ensures) value (s .args .odd) (sym (c .before .before .before .before .before .is-word .ensures) ∙ c .before .before .before .before .if1 .taken) in
-    let v : c .before .differ .result ≡ flip (s .args .odd) (value (part w (t .result .from) (t .result .to))) = c .before .differ .ensures ∙ ap (flip (s .args .odd)) (c .before .before .name-value .ensures) in (
-      (omega (arith, c .turn .ensures .0, y .1), c .turn .ensures .1),
-      quoted-is w (c .before .differ .result) (c .turn .result .value) (c .turn .result .at) _ (c .turn .ensures .2) ∙ ap (λ (x : Bool). quoted x (restAt w (t .result .to))) v ∙ sym (y .0),
+    let t = b .before .before .before .next-token in
+    let y : (value : List ℕ → Bool) → _ = λ value. is-name w (s .args .at) (s .pre .0) (t .result) (t .ensures) value (s .args .odd) (sym (b .before .is-word .ensures) ∙ b .if1 .taken) in (
+      (omega (arith, q .ensures .0, y (λ x. true) .1), q .ensures .1),
+      λ row h. quoted-is w row (c .differ .result) (q .result .at) _ _ _ _ (c .differ .ensures row h ∙ ap (flip (q .result .value)) (c .before .before .name-value .ensures row h)) (q .ensures .2)
+          ∙ sym (y (nameValue (namesAt w (s .args .p)) row) .0),
     )
 
 returns-2 : tie.Need-returns-2
 returns-2 c =
     let s = c .before .before .before .before .before in
-    (tt, sym (no-name (s .args .w .now) (s .args .at) (s .pre .0) _ (c .before .before .before .next-token .ensures) _ _ (sym (c .before .is-word .ensures) ∙ c .if1 .left)))
+    (tt, λ row h. sym (no-name (s .args .w .now) (s .args .at) (s .pre .0) _ (c .before .before .before .next-token .ensures) _ _ (sym (c .before .is-word .ensures) ∙ c .if1 .left)))
 
 pub name-spec : {M : Type 1} → statement M
 name-spec =
     tie.close
     (tie.spec
-    (λ c κs. search needs) sub-is-word part-is-word-start part-is-word-end (λ c κs. search needs) sub-name-value part-name-value-start
-    part-name-value-end (λ c κs. search needs) (λ c κs. search needs) turn-requires returns returns-2)
+    (λ c κs. search needs)
+    (λ c. bounds _ _ (c .before .before .pre .0) _ (c .next-token .ensures) .1)
+    (λ c. bounds _ _ (c .before .before .pre .0) _ (c .next-token .ensures) .1)
+    (λ c. bounds _ _ (c .before .before .pre .0) _ (c .next-token .ensures) .2)
+    (λ c κs. search needs)
+    (λ c. let t = c .before .before .before in bounds _ _ (t .before .before .pre .0) _ (t .next-token .ensures) .1)
+    (λ c. let t = c .before .before .before in bounds _ _ (t .before .before .pre .0) _ (t .next-token .ensures) .1)
+    (λ c. let t = c .before .before .before in bounds _ _ (t .before .before .pre .0) _ (t .next-token .ensures) .2)
+    (λ c κs. search needs) turn-requires (λ c κs. search needs) returns returns-2)

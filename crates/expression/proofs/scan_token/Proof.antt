@@ -10,9 +10,6 @@ use Rattle.expression.proofs.scan_token.Tie as tie
 scan-due-requires : tie.Need-scan-due-requires
 scan-due-requires c κs = omega (arith, ap depthOf (c .before .s .given .1))
 
-enum-told : tie.Need-enum-told
-enum-told c = search needs
-
 returns : tie.Need-returns
 unfolding scanStep
 returns c = c .scan-due .ensures ∙ sym (ap (λ (s : Scan). scanStep s (c .before .before .before .before .args .b) (c .before .before .before .before .args .name)) (c .before .before .s .given .1))
@@ -33,5 +30,5 @@ pub scan-token-spec : {M : Type 1} → statement M
 scan-token-spec =
     tie.close
     (tie.spec
-    (λ c. search needs) scan-due-requires (λ c. search needs) (λ c κs. search needs) enum-told (λ c. search needs) returns returns-2 returns-3
+    (λ c. search needs) scan-due-requires (λ c. search needs) (λ c κs. search needs) (λ c. search needs) (λ c. search needs) returns returns-2 returns-3
     returns-4)

@@ -2,7 +2,9 @@
 use borrow.Author.Needs.{needs}
 use borrow.Author.Tests.{lt-ltb, le-ltb}
 use mathlib.Core.Path.{sym, _∙_}
+use Rattle.model.specs.GenlibWords.{isWordByte}
 use Rattle.expression.specs.Places.{endAt}
+use Rattle.expression.proofs.Spans.{span-step}
 use Rattle.expression.proofs.token_end.Statement.{statement}
 use Rattle.expression.proofs.token_end.Tie as tie
 
@@ -12,7 +14,8 @@ returns c = rw (le-ltb _ _ (c .if1 .taken))
 
 returns-2 : tie.Need-returns-2
 unfolding endAt
-returns-2 c = rw (lt-ltb _ _ (c .before .before .before .before .if1 .left), sym (c .before .before .is-word-byte .ensures) ∙ c .before .if2 .taken) (c .word-end .ensures)
+returns-2 c = rw (lt-ltb _ _ (c .before .before .before .before .if1 .left), sym (c .before .before .is-word-byte .ensures) ∙ c .before .if2 .taken)
+    (c .word-end .ensures ∙ sym (span-step isWordByte _ _ (c .before .before .before .before .if1 .left) (sym (c .before .before .is-word-byte .ensures) ∙ c .before .if2 .taken)))
 
 returns-3 : tie.Need-returns-3
 unfolding endAt
@@ -22,4 +25,4 @@ pub token-end-spec : {M : Type 1} → statement M
 token-end-spec =
     tie.close
     (tie.spec
-    returns (λ c. search needs) (λ c κs. search needs) (λ c κs. search needs) (λ c. search needs) returns-2 returns-3)
+    returns (λ c. search needs) (λ c κs. search needs) (λ c. search needs) (λ c κs. search needs) (λ c. search needs) returns-2 returns-3)

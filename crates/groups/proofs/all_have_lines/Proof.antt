@@ -1,55 +1,53 @@
--- `groups::all_have_lines` meets its contract. The invariant: all pins have their lines where all that are left do; the measure is what is left of the line. Assumes nothing.
-use mathlib.Core.Path.{_≡_, refl, sym, ap, _∙_}
+-- `groups::all_have_lines` meets its contract. The invariant: all tokens have their lines where the pins that are left do; the measure is how many are left.
+-- Assumes nothing.
+use mathlib.Core.Path.{_≡_, sym, ap, _∙_}
+use mathlib.Core.List.{map}
 use native.Mathlib.Omega.{arith}
 use Prim.Native.Nat.{_-_, _≤_}
 use borrow.Author.Tests.{not-true, not-false}
 use lib.ListN.{length}
-use Rattle.model.specs.Base.{all}
-use Rattle.expression.specs.Places.{restAt}
+use Rattle.model.specs.Base.{all, from, below}
+use Rattle.expression.specs.Places.{restAt, nameAt, namesAt}
 use Rattle.groups.specs.Lines.{pinHas, linesBehind}
-use Rattle.expression.proofs.Walk.{step, nothing-left, all-turn}
-use Rattle.groups.proofs.Grouping.{has-none}
+use Rattle.groups.proofs.Grouping.{pins-all, pins-step, pins-end, has-free}
 use borrow.Author.Needs.{needs}
 use Rattle.groups.proofs.all_have_lines.Statement.{statement}
 use Rattle.groups.proofs.all_have_lines.Tie as tie
 
 abbrev Inv-loop : tie.InvT-loop
-Inv-loop s from w start at₀ at = (from ≤ length s) × (at ≤ length w) × (all (pinHas (linesBehind s from)) (restAt w start) ≡ all (pinHas (linesBehind s from)) (restAt w at))
+Inv-loop s start w begin p n i₀ i = (n ≤ 4) × (length (p .at) ≡ 4) × (start ≤ length s)
+    × (all (pinHas (linesBehind s start)) (restAt w begin) ≡ all (pinHas (linesBehind s start)) (map (nameAt w p) (from i (n - i))))
 
 abbrev μ-loop : tie.MeasureT-loop
-μ-loop s from w start at₀ at = length w - at
+μ-loop s start w begin p n i₀ i = n - i
 
 loop-holds : tie.Need-loop-holds Inv-loop μ-loop
-loop-holds c = (c .before .before .pre .0, c .before .before .pre .1, refl)
-
-sub-has-line : tie.Need-sub-has-line Inv-loop μ-loop
-sub-has-line c = step _ _ (c .before .before .loop .inv .1) _ (c .next-token .ensures) .ordered
-
-part-has-line-start : tie.Need-part-has-line-start Inv-loop μ-loop
-part-has-line-start c = step _ _ (c .before .before .loop .inv .1) _ (c .next-token .ensures) .ordered
-
-part-has-line-end : tie.Need-part-has-line-end Inv-loop μ-loop
-part-has-line-end c = step _ _ (c .before .before .loop .inv .1) _ (c .next-token .ensures) .within
-
-has-line-requires : tie.Need-has-line-requires Inv-loop μ-loop
-has-line-requires c κs = c .before .before .before .loop .inv .0
-
-returns : tie.Need-returns Inv-loop μ-loop
-returns c = let l = c .before .before .before .before .before .loop in let k = step _ _ (l .inv .1) _ (c .before .before .before .next-token .ensures) in let f = pinHas (linesBehind (c .before .before .before .before .before .before .before .before .args .s .now) (c .before .before .before .before .before .before .before .before .args .from)) in sym (l .inv .2 ∙ all-turn f (has-none _) _ _ _ k ∙ rw (sym (c .before .has-line .ensures) ∙ not-true _ (c .if1 .taken)))
-
-loop-less : tie.Need-loop-less Inv-loop μ-loop
-loop-less c = let l = c .before .before .before .before .before .loop in let k = step _ _ (l .inv .1) _ (c .before .before .before .next-token .ensures) in omega (arith, k .later (c .before .before .before .before .loop-test .taken))
-
-loop-again : tie.Need-loop-again Inv-loop μ-loop
-loop-again c = let l = c .before .before .before .before .before .loop in let k = step _ _ (l .inv .1) _ (c .before .before .before .next-token .ensures) in let f = pinHas (linesBehind (c .before .before .before .before .before .before .before .before .args .s .now) (c .before .before .before .before .before .before .before .before .args .from)) in (l .inv .0, k .within, l .inv .2 ∙ all-turn f (has-none _) _ _ _ k ∙ rw (sym (c .before .has-line .ensures) ∙ not-false _ (c .if1 .left)))
+unfolding namesAt below
+loop-holds c =
+    let f = c .before .find-pins in
+    let s = c .before .before .before .before in
+    let has = pinHas (linesBehind (s .args .s .now) (s .args .from)) in
+    let n = f .result .n in
+    let z : n - 0 ≡ n = omega arith in
+    (c .if1 .left, f .ensures .0, s .pre .0, rw z (pins-all has (has-free _) _ ∙ ap (all has) (sym (f .ensures .1 .few (c .if1 .left)))))
 
 returns-2 : tie.Need-returns-2 Inv-loop μ-loop
-unfolding all
-returns-2 c = let l = c .before .loop in sym (l .inv .2 ∙ ap (all _) (nothing-left _ _ (c .loop-test .left)))
+returns-2 c =
+    let i = c .before .before .before in
+    sym (i .before .loop .inv .3 ∙ pins-step _ _ _ _ (i .loop-test .taken) ∙ rw (sym (c .before .has-line-named .ensures) ∙ not-true _ (c .if2 .taken)))
+
+loop-again : tie.Need-loop-again Inv-loop μ-loop
+loop-again c =
+    let i = c .before .before .before in
+    let l = i .before .loop .inv in
+    (l .0, l .1, l .2, l .3 ∙ pins-step _ _ _ _ (i .loop-test .taken) ∙ rw (sym (c .before .has-line-named .ensures) ∙ not-false _ (c .if2 .left)))
+
+returns-3 : tie.Need-returns-3 Inv-loop μ-loop
+returns-3 c = sym (c .before .loop .inv .3 ∙ pins-end _ _ _ _ (c .loop-test .left))
 
 pub all-have-lines-spec : {M : Type 1} → statement M
 all-have-lines-spec =
     tie.close
     (tie.spec
-    Inv-loop μ-loop loop-holds (λ c κs. search needs) sub-has-line part-has-line-start part-has-line-end has-line-requires returns loop-less
-    loop-again returns-2)
+    Inv-loop μ-loop (λ c κs. search needs) (λ c κs. search needs) (λ c. c .tokens-have-lines .ensures) loop-holds (λ c. search needs) (λ c. search needs)
+    (λ c κs. search needs) returns-2 (λ c. search needs) (λ c. search needs) loop-again returns-3)

@@ -12,11 +12,8 @@ use borrow.Author.Needs.{needs}
 use Rattle.groups.proofs.delay_named.Statement.{statement}
 use Rattle.groups.proofs.delay_named.Tie as tie
 
-sub-delay-for : tie.Need-sub-delay-for
-sub-delay-for c = omega (arith, c .before .word-end .ensures, span-from isWordByte (c .before .before .before .before .args .w .now) (c .before .before .before .before .args .at))
-
-part-delay-for-start : tie.Need-part-delay-for-start
-part-delay-for-start c = omega (arith, c .before .word-end .ensures, span-from isWordByte (c .before .before .before .before .args .w .now) (c .before .before .before .before .args .at))
+start : tie.Need-part-delay-for-start
+start c = let e = c .before in let s = e .before .before .before .args in omega (arith, e .word-end .ensures, span-from isWordByte (s .w .now) (s .at))
 
 returns : tie.Need-returns
 returns c = let s = c .before .before .before .before .before .before .args in c .delay-for .ensures ∙ ap (λ (x : List ℕ). valueIn (delayFor (linesBehind (s .s .now) (s .from)) x)) (ap (λ (n : ℕ). take (n - s .at) (drop (s .at) (s .w .now))) (c .before .before .before .word-end .ensures) ∙ span-part isWordByte (s .w .now) (s .at))
@@ -28,5 +25,5 @@ pub delay-named-spec : {M : Type 1} → statement M
 delay-named-spec =
     tie.close
     (tie.spec
-    (λ c κs. search needs) sub-delay-for part-delay-for-start (λ c. search needs) (λ c κs. search needs) (λ c. search needs) (λ c κs. search needs)
+    (λ c κs. search needs) start start (λ c. search needs) (λ c κs. search needs) (λ c. search needs) (λ c κs. search needs)
     returns returns-2)

@@ -12,9 +12,6 @@ use borrow.Author.Needs.{needs}
 use Rattle.groups.proofs.delay_of.Statement.{statement}
 use Rattle.groups.proofs.delay_of.Tie as tie
 
-enum-told : tie.Need-enum-told
-enum-told c = search needs
-
 returns : tie.Need-returns
 unfolding delayOf andThen
 returns c =
@@ -39,5 +36,5 @@ pub delay-of-spec : {M : Type 1} → statement M
 delay-of-spec =
     tie.close
     (tie.spec
-    (λ c κs. search needs) (λ c. search needs) (λ c κs. search needs) (λ c. search needs) (λ c κs. search needs) enum-told (λ c. search needs)
+    (λ c κs. search needs) (λ c. search needs) (λ c κs. search needs) (λ c. search needs) (λ c κs. search needs) (λ c. search needs) (λ c. search needs)
     returns returns-2 returns-3)

@@ -1,0 +1,12 @@
+-- `expression::either` meets its contract. Assumes nothing.
+use Rattle.model.specs.Table.{value}
+use Rattle.truth.proofs.Tables.{value-or}
+use Rattle.expression.proofs.either.Statement.{statement}
+use Rattle.expression.proofs.either.Tie as tie
+
+returns : tie.Need-returns
+unfolding value
+returns c = λ row h. value-or _ _ row
+
+pub either-spec : {M : Type 1} → statement M
+either-spec = tie.close (tie.spec returns)
