@@ -26,7 +26,7 @@ use Rattle.drivers.specs.declared.Driver.{Driver}
 use Rattle.netlist.specs.declared.Tally.{Tally}
 use Rattle.netlist.specs.declared.Measured.{Measured}
 use Rattle.drivers.specs.Gates.{netOf, gateOf, gatesOf}
-use Rattle.netlist.specs.Lines.{netWords, lineOf, gateBy, gateAt, gatesFrom, tallied, noTally, inputNet, inputNamesFrom, outputNamesFrom, spaced, wireLinesFrom, latestFrom, frameText, figuresText, allGates, figuresIn, textIn, measuredIn}
+use Rattle.netlist.specs.Lines.{netWords, pinWord, lineOf, lineLength, gateBy, gateAt, gatesFrom, tallied, noTally, inputNet, inputNamesFrom, outputNamesFrom, spaced, wireLength, wireLinesFrom, latestFrom, frameText, frameLength, figuresText, figuresLength, allGates, figuresIn, textIn, textLength, measuredIn}
 
 -- ---- names
 
@@ -34,16 +34,16 @@ pub net-length : (l : ℕ) → length (netName l) ≡ length (decimal (l / 2)) +
 unfolding netName varOf
 net-length l = sym (add-one (length (decimal (l / 2))))
 
-pub out-is : (k : ℕ) → outName k ≡ 111 ∷ decimal k
-unfolding outName
-out-is k = refl
-
 pub out-length : (k : ℕ) → length (outName k) ≡ length (decimal k) + 1
-out-length k = ap length (out-is k) ∙ sym (add-one (length (decimal k)))
+unfolding outName
+out-length k = sym (add-one (length (decimal k)))
 
--- the digits of a number below 2 ^ 32
+-- the digits of a number below 2 ^ 32, and of three
 pub ten-digits : (n : ℕ) → n < 4294967296 → length (decimal n) ≤ 10
 ten-digits n h = dec-below 9 n (omega arith)
+
+pub figures-short : (f : Figures) → f .gates < 4294967296 → f .area < 4294967296 → f .arrival < 4294967296 → figuresLength f ≤ 59
+figures-short f g a t = omega (arith, ten-digits (f .gates) g, ten-digits (f .area) a, ten-digits (f .arrival) t)
 
 -- ---- nets of given numbers
 
@@ -58,27 +58,18 @@ label-phase n h = ap (λ (b : Bool). label (cond b (ofPair (n / 2)) (ofPhase (n 
 -- ---- pins
 
 -- one pin's word, and those of more pins behind it
-pub pin-cons : (b l : ℕ) (ls : List ℕ) → netWords b (l ∷ ls) ≡ netWords b (l ∷ []) ++ netWords (b + 1) ls
+pub pin-cons : (b l : ℕ) (ls : List ℕ) → netWords b (l ∷ ls) ≡ pinWord b l ++ netWords (b + 1) ls
 unfolding pinWords
-pin-cons b l ls =
-    ap (λ (k : ℕ). 32 ∷ b ∷ 61 ∷ label (netOf l) ++ netWords k ls) (sym (add-one b))
-    ∙ ap (λ (x : List ℕ). 32 ∷ b ∷ 61 ∷ x ++ netWords (b + 1) ls) (sym (append-nil (label (netOf l))))
-
-pub pin-one : (b l : ℕ) → netWords b (l ∷ []) ≡ 32 ∷ b ∷ 61 ∷ label (netOf l)
-unfolding pinWords
-pin-one b l = ap (λ (x : List ℕ). 32 ∷ b ∷ 61 ∷ x) (append-nil (label (netOf l)))
-
-pub pin-length : (b l : ℕ) → length (netWords b (l ∷ [])) ≡ 3 + length (label (netOf l))
-pin-length b l = let e : length (netWords b (l ∷ [])) ≡ suc (suc (suc (length (label (netOf l))))) = ap length (pin-one b l) in omega arith
+pin-cons b l ls = rw (add-one b)
 
 -- the pins from number j on
 pub pins-at : (b : ℕ) (ls : List ℕ) (j : ℕ) → j < length ls
-    → netWords (b + j) (drop j ls) ≡ netWords (b + j) (getD ls j 0 ∷ []) ++ netWords (b + (j + 1)) (drop (j + 1) ls)
+    → netWords (b + j) (drop j ls) ≡ pinWord (b + j) (getD ls j 0) ++ netWords (b + (j + 1)) (drop (j + 1) ls)
 pins-at b ls j h =
     let e : b + j + 1 ≡ b + (j + 1) = omega arith in
     ap (netWords (b + j)) (drop-cons ls j 0 h ∙ ap (λ (k : ℕ). getD ls j 0 ∷ drop k ls) (sym (add-one j)))
     ∙ pin-cons (b + j) (getD ls j 0) (drop (j + 1) ls)
-    ∙ ap (λ (k : ℕ). netWords (b + j) (getD ls j 0 ∷ []) ++ netWords k (drop (j + 1) ls)) e
+    ∙ ap (λ (k : ℕ). pinWord (b + j) (getD ls j 0) ++ netWords k (drop (j + 1) ls)) e
 
 -- those of an array's first pins
 module _ (nets : List ℕ) (count : ℕ) (four : length nets ≡ 4) (few : count ≤ 4) where
@@ -86,10 +77,11 @@ module _ (nets : List ℕ) (count : ℕ) (four : length nets ≡ 4) (few : count
   long = length-take-le count nets (omega arith)
 
   pub pins-next : (j : ℕ) → j < count
-      → netWords (65 + j) (drop j (take count nets)) ≡ netWords (65 + j) (getD nets j 0 ∷ []) ++ netWords (65 + (j + 1)) (drop (j + 1) (take count nets))
+      → netWords (65 + j) (drop j (take count nets))
+      ≡ pinWord (65 + j) (getD nets j 0) ++ netWords (65 + (j + 1)) (drop (j + 1) (take count nets))
   pins-next j h =
       pins-at 65 (take count nets) j (omega (arith, long))
-      ∙ ap (λ (x : ℕ). netWords (65 + j) (x ∷ []) ++ netWords (65 + (j + 1)) (drop (j + 1) (take count nets))) (getD-take count nets j 0 h)
+      ∙ ap (λ (x : ℕ). pinWord (65 + j) x ++ netWords (65 + (j + 1)) (drop (j + 1) (take count nets))) (getD-take count nets j 0 h)
 
   pub pins-none : (j : ℕ) → count ≤ j → netWords (65 + j) (drop j (take count nets)) ≡ []
   unfolding pinWords
@@ -98,15 +90,15 @@ module _ (nets : List ℕ) (count : ℕ) (four : length nets ≡ 4) (few : count
 -- ---- gate lines
 
 pub line-is : (c : Cell) (nets : List ℕ) (net : ℕ)
-    → lineOf c nets net ≡ (46 ∷ 103 ∷ 97 ∷ 116 ∷ 101 ∷ 32 ∷ []) ++ (take (c .len) (c .name) ++ (netWords 65 nets ++ (netWords 79 (net ∷ []) ++ (10 ∷ []))))
-unfolding gateLine text nameOf
-line-is c nets net = refl
+    → lineOf c nets net ≡ text ".gate " ++ (take (c .len) (c .name) ++ (netWords 65 nets ++ (pinWord 79 net ++ (10 ∷ []))))
+unfolding gateLine text nameOf pinWords
+line-is c nets net =
+    ap (λ (x : List ℕ). text ".gate " ++ (take (c .len) (c .name) ++ (netWords 65 nets ++ ((32 ∷ 79 ∷ 61 ∷ x) ++ (10 ∷ [])))))
+    (append-nil (label (netOf net)))
 
-pub line-length : (c : Cell) (nets : List ℕ) (net : ℕ)
-    → length (lineOf c nets net) ≡ length (take (c .len) (c .name)) + length (netWords 65 nets) + length (label (netOf net)) + 10
-line-length c nets net =
-    ap length (line-is c nets net)
-    ∙ simp length-append (omega (arith, pin-length 79 net))
+pub line-length : (c : Cell) (nets : List ℕ) (net : ℕ) → length (lineOf c nets net) ≡ lineLength c nets net
+unfolding text
+line-length c nets net = ap length (line-is c nets net) ∙ simp length-append (omega arith)
 
 -- ---- numbers from i on
 
@@ -228,10 +220,6 @@ tally-one t u =
 
 -- ---- names lines
 
--- a name with the space before it, and what follows
-pub name-length : (name more : List ℕ) → length ((32 ∷ []) ++ (name ++ more)) ≡ 1 + (length name + length more)
-name-length name more = let e : length ((32 ∷ []) ++ (name ++ more)) ≡ suc (length name + length more) = ap suc (length-append name more) in omega arith
-
 -- the names of the numbers from i on
 module _ (name : ℕ → List ℕ) (n : ℕ) where
   spaced-next : (i : ℕ) → i < n → spaced (map name (from i (n - i))) ≡ (32 ∷ []) ++ (name i ++ spaced (map name (from (i + 1) (n - (i + 1)))))
@@ -262,18 +250,9 @@ module _ (n : ℕ) where
 
 -- ---- the outputs' wires
 
-abbrev pub namesBytes : List ℕ
-namesBytes = 46 ∷ 110 ∷ 97 ∷ 109 ∷ 101 ∷ 115 ∷ 32 ∷ []
-
-abbrev pub rowBytes : List ℕ
-rowBytes = 10 ∷ 49 ∷ 32 ∷ 49 ∷ 10 ∷ []
-
-pub wire-is : (k l : ℕ) → wireLine k l ≡ namesBytes ++ (netName l ++ ((32 ∷ []) ++ (outName k ++ rowBytes)))
+pub wire-length : (k l : ℕ) → length (wireLine k l) ≡ wireLength k l
 unfolding wireLine text
-wire-is k l = refl
-
-pub wire-length : (k l : ℕ) → length (wireLine k l) ≡ length (netName l) + length (outName k) + 13
-wire-length k l = ap length (wire-is k l) ∙ simp length-append (omega arith)
+wire-length k l = simp length-append (omega arith)
 
 module _ (w : List ℕ) (m n : ℕ) where
   pub wires-next : (i : ℕ) → i < n → wireLinesFrom w m i (n - i) ≡ wireLine i (outputAt w m i) ++ wireLinesFrom w m (i + 1) (n - (i + 1))
@@ -286,9 +265,6 @@ module _ (w : List ℕ) (m n : ℕ) where
 
 -- ---- the latest
 
-pub max-assoc : (a b c : ℕ) → max (max a b) c ≡ max a (max b c)
-max-assoc a b c = omega arith
-
 module _ (w : List ℕ) (m n : ℕ) where
   pub latest-next : (i : ℕ) → i < n → latestFrom w m i (n - i) ≡ max (phaseAt w m (outputAt w m i) .arrival) (latestFrom w m (i + 1) (n - (i + 1)))
   unfolding latestFrom largest
@@ -300,38 +276,11 @@ module _ (w : List ℕ) (m n : ℕ) where
 
 -- ---- the first lines and the last
 
--- the bytes of the fixed parts
-abbrev pub modelBytes : List ℕ
-modelBytes = 46 ∷ 109 ∷ 111 ∷ 100 ∷ 101 ∷ 108 ∷ 32 ∷ 116 ∷ 111 ∷ 112 ∷ 10 ∷ 46 ∷ 105 ∷ 110 ∷ 112 ∷ 117 ∷ 116 ∷ 115 ∷ []
-
-abbrev pub outputsBytes : List ℕ
-outputsBytes = 10 ∷ 46 ∷ 111 ∷ 117 ∷ 116 ∷ 112 ∷ 117 ∷ 116 ∷ 115 ∷ []
-
-abbrev pub endBytes : List ℕ
-endBytes = 46 ∷ 101 ∷ 110 ∷ 100 ∷ 10 ∷ 35 ∷ 32 ∷ 103 ∷ 97 ∷ 116 ∷ 101 ∷ 115 ∷ 32 ∷ []
-
-abbrev pub areaBytes : List ℕ
-areaBytes = 32 ∷ 97 ∷ 114 ∷ 101 ∷ 97 ∷ 32 ∷ []
-
-abbrev pub arrivalBytes : List ℕ
-arrivalBytes = 32 ∷ 97 ∷ 114 ∷ 114 ∷ 105 ∷ 118 ∷ 97 ∷ 108 ∷ 32 ∷ []
-
-pub frame-is : (w : List ℕ) (m inputs outputs : ℕ)
-    → frameText w m inputs outputs ≡ modelBytes ++ (spaced (inputNamesFrom w m 0 inputs) ++ (outputsBytes ++ (spaced (outputNamesFrom 0 outputs) ++ (10 ∷ []))))
-unfolding frameText text
-frame-is w m inputs outputs = refl
-
-pub figures-are : (f : Figures)
-    → figuresText f ≡ endBytes ++ (decimal (f .gates) ++ (areaBytes ++ (decimal (f .area) ++ (arrivalBytes ++ (decimal (f .arrival) ++ (10 ∷ []))))))
-unfolding figuresText text
-figures-are f = refl
-
-pub frame-length : (w : List ℕ) (m inputs outputs : ℕ)
-    → length (frameText w m inputs outputs) ≡ length (spaced (inputNamesFrom w m 0 inputs)) + length (spaced (outputNamesFrom 0 outputs)) + 28
+pub frame-length : (w : List ℕ) (m inputs outputs : ℕ) → length (frameText w m inputs outputs) ≡ frameLength w m inputs outputs
 unfolding frameText text
 frame-length w m inputs outputs = simp length-append (omega arith)
 
-pub figures-length : (f : Figures) → length (figuresText f) ≡ length (decimal (f .gates)) + length (decimal (f .area)) + length (decimal (f .arrival)) + 29
+pub figures-length : (f : Figures) → length (figuresText f) ≡ figuresLength f
 unfolding figuresText text
 figures-length f = simp length-append (omega arith)
 
@@ -339,6 +288,10 @@ pub longer : (xs ys : List ℕ) → length xs ≤ length (xs ++ ys)
 longer xs ys = omega (arith, length-append xs ys)
 
 -- ---- what is measured
+
+pub text-length : (w book : List ℕ) (h : Header) (f : Figures) → length (textIn w book h f) ≡ textLength w book h f
+unfolding textIn allGates
+text-length w book h f = simp length-append
 
 module _ (w book : List ℕ) (h : Header) (t : Tally) (counted : t ≡ tallied noTally (gatesFrom w book (h .size) 0 (2 * (h .size + 1)))) where
   pub figures-in : (a : ℕ) → a ≡ latestFrom w (h .size) 0 (h .outputs) → _≡_ {A = Figures} (record { gates = t .gates; area = t .area; arrival = a }) (figuresIn w book h)
@@ -348,21 +301,15 @@ module _ (w book : List ℕ) (h : Header) (t : Tally) (counted : t ≡ tallied n
       let area : t .area ≡ sum (map (λ (u : Gate). u .cell .area) (allGates w book h)) = ap (λ (x : Tally). x .area) counted ∙ omega arith in
       λ i. record { gates = gates i; area = area i; arrival = e i }
 
-  pub measured-in : (f : Figures) (frame wires figures : ℕ) → f ≡ figuresIn w book h → frame ≡ length (frameText w (h .size) (h .inputs) (h .outputs))
-      → wires ≡ length (wireLinesFrom w (h .size) 0 (h .outputs)) → figures ≡ length (figuresText f)
+  pub measured-in : (f : Figures) (frame wires figures : ℕ) → f ≡ figuresIn w book h
+      → frame ≡ frameLength w (h .size) (h .inputs) (h .outputs)
+      → wires ≡ length (wireLinesFrom w (h .size) 0 (h .outputs)) → figures ≡ figuresLength f
       → _≡_ {A = Measured} (record { length = frame + t .length + wires + figures; figures = f }) (measuredIn w book h)
-  unfolding measuredIn textIn allGates tallied
+  unfolding measuredIn tallied
   measured-in f frame wires figures e p q r =
-      let top = frameText w (h .size) (h .inputs) (h .outputs) in
-      let lines = each gateLine (allGates w book h) in
-      let ends = wireLinesFrom w (h .size) 0 (h .outputs) in
+      let lines = each gateLine (gatesFrom w book (h .size) 0 (2 * (h .size + 1))) in
       let counts : t .length ≡ length lines = ap (λ (x : Tally). x .length) counted ∙ omega arith in
-      let parts : length (top ++ (lines ++ (ends ++ figuresText f))) ≡ length top + (length lines + (length ends + length (figuresText f))) = simp length-append in
-      let whole : frame + t .length + wires + figures ≡ length (top ++ (lines ++ (ends ++ figuresText f))) = omega arith in
+      let whole : frame + t .length + wires + figures ≡ length (textIn w book h f) =
+      omega (arith, text-length w book h f, frame-length w (h .size) (h .inputs) (h .outputs), figures-length f) in
       (λ i. record { length = whole i; figures = f })
-      ∙ ap (λ (x : Figures). record { length = length (top ++ (lines ++ (ends ++ figuresText x))); figures = x }) e
-
-pub text-is : (w book : List ℕ) (h : Header) (f : Figures)
-    → textIn w book h f ≡ frameText w (h .size) (h .inputs) (h .outputs) ++ (each gateLine (gatesFrom w book (h .size) 0 (2 * (h .size + 1))) ++ (wireLinesFrom w (h .size) 0 (h .outputs) ++ figuresText f))
-unfolding textIn allGates
-text-is w book h f = refl
+      ∙ ap (λ (x : Figures). record { length = length (textIn w book h x); figures = x }) e

@@ -1,21 +1,23 @@
 -- The walk over the gates: where it comes to, and that the phases it passes over add no gate.
 --     gate-here, gate-later, gate-end     the first gate from phase l on, by whether l is one
---     gate-from-low, gate-from-high       it lies at l or later, and not past the end
---     gates-skip                          the gates from l on are those from the first one on
+--     comes                               it lies at l or later, not past the end, and the gates from l on are those from it on
+--     gates-on, lines-on                  the gates from l on are those of what drives l, and those after l
 -- Assumes nothing.
 use mathlib.Core.Path.{_≡_, refl, sym, ap, _∙_}
 use mathlib.Core.Bool.{Bool, true, false, cond, true≢false}
 use mathlib.Core.List.{List, [], _++_}
-use Prim.Native.Nat.{ℕ, zero, suc, _+_, _-_, _≤_, _<_}
+use Prim.Native.Nat.{ℕ, zero, suc, _+_, _-_, _*_, _≤_, _<_}
 use native.Mathlib.Numerals.{add-one}
 use native.Mathlib.Omega.{arith}
 use Rattle.model.specs.Base.{from, each}
-use Rattle.model.specs.Netlist.{Gate}
+use Rattle.model.specs.Netlist.{Gate, gateLine}
 use Rattle.model.specs.declared.Source.{Source}
 use Rattle.model.specs.declared.Source.the-variants.{Input, Cell as Matched, Inverter as Inverted, Nothing}
+use Rattle.drivers.specs.Gates.{gatesOf, Drives}
+use Rattle.drivers.specs.declared.Driver.{Driver}
 use Rattle.words.specs.Phases.{phaseAt, isNeeded, makesGate}
 use Rattle.netlist.specs.Lines.{gateBy, gateAt, isGateAt, gateFrom, gatesFrom}
-use Rattle.netlist.proofs.Counting.{gate-needed, gate-idle}
+use Rattle.netlist.proofs.Counting.{gate-needed, gate-idle, gates-next, each-append}
 
 -- ---- one phase
 
@@ -105,17 +107,31 @@ module _ (w book : List ℕ) (m : ℕ) where
           ∙ ap (λ (end : ℕ). gatesFrom w book m (gateFrom w m (suc l) n) (end - gateFrom w m (suc l) n)) k
           ∙ ap (λ (g : ℕ). gatesFrom w book m g (l + suc n - g)) (sym (first-later w m l n e))
 
--- g is the first gate of the phases from l up to the end
-module _ (w : List ℕ) (m l end g : ℕ) (within : l ≤ end) (first : g ≡ gateFrom w m l (end - l)) where
-  pub gate-from-low : l ≤ g
-  gate-from-low = omega (arith, low w m (end - l) l)
+-- ---- a loop along the gates
 
-  pub gate-from-high : g ≤ end
-  gate-from-high = omega (arith, high w m (end - l) l)
+-- the gates of phase l and those after it
+abbrev pub gatesLeft : List ℕ → List ℕ → ℕ → ℕ → List Gate
+gatesLeft w book m l = gatesFrom w book m l (2 * (m + 1) - l)
 
-  pub gates-skip : (book : List ℕ) → gatesFrom w book m l (end - l) ≡ gatesFrom w book m g (end - g)
-  gates-skip book =
-      let k : l + (end - l) ≡ end = omega arith in
-      skip w book m (end - l) l
-      ∙ ap (λ (x : ℕ). gatesFrom w book m (gateFrom w m l (end - l)) (x - gateFrom w m l (end - l))) k
-      ∙ ap (λ (x : ℕ). gatesFrom w book m x (end - x)) (sym first)
+-- the first gate of phase l and those after it is g: the phases between add none
+pub record Comes (w : List ℕ) (m l g : ℕ) : Type 0 where
+  pub low : l ≤ g
+  pub high : g ≤ 2 * (m + 1)
+  pub same : (book : List ℕ) → gatesLeft w book m l ≡ gatesLeft w book m g
+
+pub comes : {w : List ℕ} {m l g : ℕ} → l ≤ 2 * (m + 1) → g ≡ gateFrom w m l (2 * (m + 1) - l) → Comes w m l g
+comes {w} {m} {l} {g} h e =
+    let k : l + (2 * (m + 1) - l) ≡ 2 * (m + 1) = omega arith in
+    record {
+      low = omega (arith, low w m (2 * (m + 1) - l) l);
+      high = omega (arith, high w m (2 * (m + 1) - l) l);
+      same = λ book. skip w book m (2 * (m + 1) - l) l ∙ rw (k, ← e);
+    }
+
+-- what drives phase l, and what is left
+module _ (w book : List ℕ) (m l : ℕ) {d : Driver} (h : l < 2 * (m + 1)) (drives : Drives d (gateAt w book m l)) where
+  pub gates-on : gatesLeft w book m l ≡ gatesOf d ++ gatesLeft w book m (l + 1)
+  gates-on = rw (drives .isGate) (gates-next w book m (2 * (m + 1)) l h)
+
+  pub lines-on : each gateLine (gatesLeft w book m l) ≡ each gateLine (gatesOf d) ++ each gateLine (gatesLeft w book m (l + 1))
+  lines-on = ap (each gateLine) gates-on ∙ each-append gateLine (gatesOf d) (gatesLeft w book m (l + 1))

@@ -2,14 +2,14 @@
 use mathlib.Core.Bool.{Bool, false, cond}
 use mathlib.Core.List.{List, [], _∷_, _++_, map}
 use Prim.Native.Nat.{ℕ, zero, suc, _+_, _*_, _/_, _≤_, _<_}
-use lib.ListN.{length, getD}
+use lib.ListN.{length, take, getD}
 use Rattle.model.specs.Base.{from, each}
 use Rattle.model.specs.Limits.{cutLimit}
 use Rattle.model.specs.Table.{orders}
 use Rattle.model.specs.Text.{text, decimal}
 use Rattle.model.specs.Graph.{varOf, literal, opposite}
 use Rattle.model.specs.Matching.{fedNets}
-use Rattle.model.specs.Netlist.{Gate, oneGate, netName, outName, pinWords, gateLine, wireLine, sum, largest}
+use Rattle.model.specs.Netlist.{Gate, oneGate, netName, label, outName, pinWords, gateLine, wireLine, sum, largest}
 use Rattle.model.specs.declared.Cell.{Cell}
 use Rattle.model.specs.declared.Header.{Header}
 use Rattle.model.specs.declared.Match.{Match}
@@ -47,9 +47,17 @@ pub record Gated (w book : List ℕ) (m : ℕ) : Type 0 where
 abbrev pub netWords : ℕ → List ℕ → List ℕ
 netWords b nets = pinWords b (map netOf nets)
 
+-- the word of one pin, of letter b
+abbrev pub pinWord : ℕ → ℕ → List ℕ
+pinWord b net = 32 ∷ b ∷ 61 ∷ label (netOf net)
+
 -- the line of a gate with nets of given numbers
 abbrev pub lineOf : Cell → List ℕ → ℕ → List ℕ
 lineOf c nets net = gateLine (record { cell = c; pins = map netOf nets; net = netOf net })
+
+-- its bytes, counted by its parts
+abbrev pub lineLength : Cell → List ℕ → ℕ → ℕ
+lineLength c nets net = length (take (c .len) (c .name)) + length (netWords 65 nets) + length (label (netOf net)) + 10
 
 -- the gates of phase l by a match, and by an inverter
 unfoldable pub matchedGates : List ℕ → List ℕ → ℕ → ℕ → Match → List Gate
@@ -152,6 +160,10 @@ unfoldable pub wireLinesFrom : List ℕ → ℕ → ℕ → ℕ → List ℕ
 unfolding each from wireLine
 wireLinesFrom w m i n = each (λ (k : ℕ). wireLine k (outputAt w m k)) (from i n)
 
+-- the bytes of one output's lines, counted by their parts
+abbrev pub wireLength : ℕ → ℕ → ℕ
+wireLength k l = length (netName l) + length (outName k) + 13
+
 -- the latest of n outputs from i on
 unfoldable pub latestFrom : List ℕ → ℕ → ℕ → ℕ → ℕ
 unfolding from largest
@@ -168,6 +180,13 @@ frameText w m inputs outputs =
 unfoldable pub figuresText : Figures → List ℕ
 unfolding text decimal
 figuresText f = text ".end\n# gates " ++ (decimal (f .gates) ++ (text " area " ++ (decimal (f .area) ++ (text " arrival " ++ (decimal (f .arrival) ++ text "\n")))))
+
+-- their bytes, counted by their parts
+abbrev pub frameLength : List ℕ → ℕ → ℕ → ℕ → ℕ
+frameLength w m inputs outputs = length (spaced (inputNamesFrom w m 0 inputs)) + length (spaced (outputNamesFrom 0 outputs)) + 28
+
+abbrev pub figuresLength : Figures → ℕ
+figuresLength f = length (decimal (f .gates)) + length (decimal (f .area)) + length (decimal (f .arrival)) + 29
 
 unfoldable pub allGates : List ℕ → List ℕ → Header → List Gate
 unfolding gatesFrom
@@ -186,6 +205,12 @@ unfolding each allGates
 textIn w book h f =
     frameText w (h .size) (h .inputs) (h .outputs)
     ++ (each gateLine (allGates w book h) ++ (wireLinesFrom w (h .size) 0 (h .outputs) ++ figuresText f))
+
+abbrev pub textLength : List ℕ → List ℕ → Header → Figures → ℕ
+textLength w book h f =
+    length (frameText w (h .size) (h .inputs) (h .outputs))
+    + (length (each gateLine (gatesFrom w book (h .size) 0 (2 * (h .size + 1)))) + (length (wireLinesFrom w (h .size) 0
+    (h .outputs)) + length (figuresText f)))
 
 unfoldable pub measuredIn : List ℕ → List ℕ → Header → Measured
 unfolding textIn figuresIn

@@ -21,9 +21,9 @@ ghost use Rattle.words.specs.Layout.{Room, RoomFor, outputAt};
 ghost use Rattle.words.specs.Phases.{phaseAt};
 ghost use Rattle.text.specs.Writing.{Wrote};
 ghost use Rattle.drivers.specs.Gates.{netOf, gateOf, gatesOf, FewPins, LineReady, Drives};
-ghost use Rattle.netlist.specs.Lines.{netWords, lineOf, MatchReady, SourceReady, Gated, matchedGates, invertedGates, gateBy, gateAt, isGateAt};
+ghost use Rattle.netlist.specs.Lines.{netWords, pinWord, lineOf, lineLength, MatchReady, SourceReady, Gated, matchedGates, invertedGates, gateBy, gateAt, isGateAt};
 ghost use Rattle.netlist.specs.Lines.{gateFrom, gatesFrom, tallied, noTally, Bounded, Roomy, Grown, Named, inputNet, inputNamesFrom, outputNamesFrom};
-ghost use Rattle.netlist.specs.Lines.{spaced, wireLinesFrom, latestFrom, frameText, figuresText, textIn, measuredIn, Small};
+ghost use Rattle.netlist.specs.Lines.{spaced, wireLength, wireLinesFrom, latestFrom, frameText, frameLength, figuresText, figuresLength, textIn, textLength, measuredIn, Small};
 ghost use Rattle.netlist.specs.Mapped.{Mapped, textFor, measuredFor};
 
 // "A walk over the mapped gates holds the lent words and the next gate": `next` is the gate's phase, as a literal, past the last phase at the
@@ -96,8 +96,8 @@ fn label_len(n: u32) -> usize
 
 // A pin's word: " A=net".
 fn put_pin(out: &mut [u8], at: usize, b: u8, n: u32) -> usize
-    requires { ⌜ at + length (netWords b (n ∷ [])) ≤ length (now out) ⌝ }
-    ensures { λ r. ⌜ Wrote (now (out .entry)) (now (out .exit)) at r (netWords b (n ∷ [])) ⌝ }
+    requires { ⌜ at + length (pinWord b n) ≤ length (now out) ⌝ }
+    ensures { λ r. ⌜ Wrote (now (out .entry)) (now (out .exit)) at r (pinWord b n) ⌝ }
 {
     let head = [b' ', b, b'='];
     let next = text::put_bytes(out, at, &head);
@@ -144,7 +144,7 @@ fn put_name(out: &mut [u8], at: usize, name: [u8; 8], len: usize) -> usize
 
 // "a gate line is `.gate`, the cell's name, each pin in order with `=` and its net, then the output likewise": "pins A to D, output O".
 fn put_gate(out: &mut [u8], at: usize, c: Cell, nets: [u32; 4], count: usize, net: u32) -> usize
-    requires { ⌜ (count ≤ 4) × (at + length (lineOf c (take count nets) net) ≤ length (now out)) ⌝ }
+    requires { ⌜ (count ≤ 4) × (at + lineLength c (take count nets) net ≤ length (now out)) ⌝ }
     ensures { λ r. ⌜ Wrote (now (out .entry)) (now (out .exit)) at r (lineOf c (take count nets) net) ⌝ }
 {
     let name = c.name;
@@ -158,7 +158,7 @@ fn put_gate(out: &mut [u8], at: usize, c: Cell, nets: [u32; 4], count: usize, ne
 // How long a gate line is.
 fn gate_len(c: Cell, nets: [u32; 4], count: usize, net: u32) -> usize
     requires { ⌜ count ≤ 4 ⌝ }
-    ensures { λ r. ⌜ (r ≡ length (lineOf c (take count nets) net)) × (r ≤ 90) ⌝ }
+    ensures { λ r. ⌜ (r ≡ lineLength c (take count nets) net) × (r ≤ 90) ⌝ }
 {
     book::name_len(c.len) + pins_len(nets, count) + label_len(net) + 10
 }
@@ -242,19 +242,8 @@ fn gate_from(work: &[u16], m: usize, l: usize) -> usize
     g
 }
 
-// A walk at the first gate. The borrow checker covers no function that takes, makes or has a local of such a struct, so this one, the next
-// and the two that go along a walk are proved by hand.
-fn walk_over<'a>(work: &'a [u16], m: usize) -> Walk<'a>
-    requires { ⌜ Room (now work) m ⌝ }
-    ensures { λ r. ⌜ (r .words ≡ work .entry) × (r .next ≡ gateFrom (now (work .entry)) m 0 (2 * (m + 1))) ⌝ }
-{
-    Walk {
-        words: work,
-        next: gate_from(work, m, 0),
-    }
-}
-
-// The walk at the gate after: thin above `gate_from`, which takes the slice and the number.
+// The walk at the gate after: thin above `gate_from`, which takes the slice and the number. The borrow checker covers no function that takes,
+// makes or has a local of such a struct, so this one and the next are proved by hand.
 fn step<'a>(w: Walk<'a>, m: usize) -> Walk<'a>
     requires { ⌜ Room (now (w .words)) m × (w .next < 2 * (m + 1)) ⌝ }
     ensures { λ r. ⌜ (r .words ≡ w .entry .words) × (r .next ≡ gateFrom (now (w .entry .words)) m (w .entry .next + 1) (2 * (m + 1) - (w .entry .next + 1))) ⌝ }
@@ -263,6 +252,22 @@ fn step<'a>(w: Walk<'a>, m: usize) -> Walk<'a>
         words: w.words,
         next: gate_from(w.words, m, w.next + 1),
     }
+}
+
+// The gate after gate l: a step of the walk that stands there. Its parameters are plain, so that a loop along the gates needs no proof by
+// hand.
+fn gate_after(work: &[u16], m: usize, l: usize) -> usize
+    requires { ⌜ Room (now work) m × (l < 2 * (m + 1)) ⌝ }
+    ensures { λ r. ⌜ r ≡ gateFrom (now (work .entry)) m (l + 1) (2 * (m + 1) - (l + 1)) ⌝ }
+{
+    let w = step(
+        Walk {
+            words: work,
+            next: l,
+        },
+        m,
+    );
+    w.next
 }
 
 // ---- all gates
@@ -300,11 +305,11 @@ fn put_gates(work: &[u16], book: &[u8], m: usize, out: &mut [u8], at: usize) -> 
 {
     let end = 2 * (m + 1);
     let mut next = at;
-    let mut w = walk_over(work, m);
-    while w.next < end {
-        let d = driver_at(w.words, book, m, w.next);
+    let mut l = gate_from(work, m, 0);
+    while l < end {
+        let d = driver_at(work, book, m, l);
         next = put_driver(out, next, d);
-        w = step(w, m);
+        l = gate_after(work, m, l);
     }
     next
 }
@@ -355,11 +360,11 @@ fn count_gates(work: &[u16], book: &[u8], m: usize) -> Tally
 {
     let end = 2 * (m + 1);
     let mut t = no_tally();
-    let mut w = walk_over(work, m);
-    while w.next < end {
-        let d = driver_at(w.words, book, m, w.next);
-        t = count_driver(t, d, w.next);
-        w = step(w, m);
+    let mut l = gate_from(work, m, 0);
+    while l < end {
+        let d = driver_at(work, book, m, l);
+        t = count_driver(t, d, l);
+        l = gate_after(work, m, l);
     }
     t
 }
@@ -448,7 +453,7 @@ fn outputs_len(n: usize) -> usize
 
 // "The first line is always `.model top`"; "With no names the second or third line is the keyword alone."
 fn put_frame(work: &[u16], m: usize, inputs: usize, outputs: usize, out: &mut [u8]) -> usize
-    requires { ⌜ Named (now work) m inputs outputs × (length (frameText (now work) m inputs outputs) ≤ length (now out)) ⌝ }
+    requires { ⌜ Named (now work) m inputs outputs × (frameLength (now work) m inputs outputs ≤ length (now out)) ⌝ }
     ensures { λ r. ⌜ Wrote (now (out .entry)) (now (out .exit)) 0 r (frameText (now (work .entry)) m inputs outputs) ⌝ }
 {
     let a = text::put_bytes(out, 0, b".model top\n.inputs");
@@ -460,7 +465,7 @@ fn put_frame(work: &[u16], m: usize, inputs: usize, outputs: usize, out: &mut [u
 
 fn frame_len(work: &[u16], m: usize, inputs: usize, outputs: usize) -> usize
     requires { ⌜ Named (now work) m inputs outputs ⌝ }
-    ensures { λ r. ⌜ (r ≡ length (frameText (now (work .entry)) m inputs outputs)) × (r ≤ 100000) ⌝ }
+    ensures { λ r. ⌜ (r ≡ frameLength (now (work .entry)) m inputs outputs) × (r ≤ 100000) ⌝ }
 {
     let a = inputs_len(work, m, inputs);
     let b = outputs_len(outputs);
@@ -479,7 +484,7 @@ fn output_net(work: &[u16], m: usize, outputs: usize, i: usize) -> u32
 
 // "`.names` with its net and its own name, then `1 1`": the lines of output k, which is phase l.
 fn put_wire(out: &mut [u8], at: usize, k: u32, l: u32) -> usize
-    requires { ⌜ at + length (wireLine k l) ≤ length (now out) ⌝ }
+    requires { ⌜ at + wireLength k l ≤ length (now out) ⌝ }
     ensures { λ r. ⌜ Wrote (now (out .entry)) (now (out .exit)) at r (wireLine k l) ⌝ }
 {
     let a = text::put_bytes(out, at, b".names ");
@@ -490,7 +495,7 @@ fn put_wire(out: &mut [u8], at: usize, k: u32, l: u32) -> usize
 }
 
 fn wire_len(k: u32, l: u32) -> usize
-    ensures { λ r. ⌜ (r ≡ length (wireLine k l)) × (r ≤ 35) ⌝ }
+    ensures { λ r. ⌜ (r ≡ wireLength k l) × (r ≤ 35) ⌝ }
 {
     net_len(l) + out_len(k) + 13
 }
@@ -527,7 +532,7 @@ fn wires_len(work: &[u16], m: usize, outputs: usize) -> usize
 
 // "The `# gates` line has the gates written, sum of their areas, arrival of the latest output"
 fn put_figures(out: &mut [u8], at: usize, f: Figures) -> usize
-    requires { ⌜ at + length (figuresText f) ≤ length (now out) ⌝ }
+    requires { ⌜ at + figuresLength f ≤ length (now out) ⌝ }
     ensures { λ r. ⌜ Wrote (now (out .entry)) (now (out .exit)) at r (figuresText f) ⌝ }
 {
     let a = text::put_bytes(out, at, b".end\n# gates ");
@@ -540,7 +545,7 @@ fn put_figures(out: &mut [u8], at: usize, f: Figures) -> usize
 }
 
 fn figures_len(f: Figures) -> usize
-    ensures { λ r. ⌜ (r ≡ length (figuresText f)) × (r ≤ 59) ⌝ }
+    ensures { λ r. ⌜ (r ≡ figuresLength f) × (r ≤ 59) ⌝ }
 {
     text::number_len(f.gates) + text::number_len(f.area) + text::number_len(f.arrival) + 29
 }
@@ -596,7 +601,7 @@ fn measure_words(work: &[u16], book: &[u8], h: Header) -> Measured
 
 fn write_words(work: &[u16], book: &[u8], h: Header, f: Figures, out: &mut [u8]) -> usize
     requires { ⌜ Gated (now work) (now book) (h .size) × Named (now work) (h .size) (h .inputs) (h .outputs) ×
-        (length (textIn (now work) (now book) h f) ≤ length (now out)) ⌝ }
+        (textLength (now work) (now book) h f ≤ length (now out)) ⌝ }
     ensures { λ r. ⌜ Wrote (now (out .entry)) (now (out .exit)) 0 r (textIn (now (work .entry)) (now (book .entry)) h f) ⌝ }
 {
     let a = put_frame(work, h.size, h.inputs, h.outputs, out);

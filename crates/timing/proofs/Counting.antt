@@ -5,46 +5,31 @@ use mathlib.Core.Path.{_≡_, refl, sym, ap, ap₂, _∙_}
 use mathlib.Core.List.{List, [], _∷_, _++_, append-assoc, List·Memᴰ, List·Memᴰ·head, List·Memᴰ·tail}
 use lib.ListN.{length, length-append, getD}
 use Rattle.model.specs.Base.{from, each}
-use Rattle.model.specs.Text.{text, decimal}
-use Rattle.model.specs.Netlist.{outName}
+use Rattle.model.specs.Text.{text}
 use Rattle.model.specs.Timing.{timingLines}
 use Rattle.words.specs.Layout.{outputAt, lowAt}
 use Rattle.words.specs.Phases.{phaseAt}
-use Rattle.timing.specs.Lines.{timesText, lineText, lineOf, linesFrom}
+use Rattle.timing.specs.Lines.{timesText, timesLength, lineText, lineLength, lineOf, linesFrom}
+use Rattle.netlist.proofs.Counting.{each-next, each-none}
 
--- the line's keyword as bytes
-abbrev pub keywordBytes : List ℕ
-keywordBytes = 35 ∷ 32 ∷ 116 ∷ 105 ∷ 109 ∷ 105 ∷ 110 ∷ 103 ∷ 32 ∷ []
-
-pub line-is : (k low high : ℕ) → lineText k low high ≡ keywordBytes ++ (outName k ++ timesText low high)
-unfolding lineText text
-line-is k low high = refl
-
-pub times-are : (low high : ℕ) → timesText low high ≡ (32 ∷ []) ++ (decimal low ++ ((32 ∷ []) ++ (decimal high ++ (10 ∷ []))))
+pub times-length : (low high : ℕ) → length (timesText low high) ≡ timesLength low high
 unfolding timesText
-times-are low high = refl
+times-length low high = simp length-append (omega arith)
 
-pub line-length : (k low high : ℕ) → length (lineText k low high) ≡ length (outName k) + length (decimal low) + length (decimal high) + 12
-line-length k low high =
-    ap length (line-is k low high ∙ ap (λ (ts : List ℕ). keywordBytes ++ (outName k ++ ts)) (times-are low high)) ∙ simp length-append (omega arith)
+pub line-length : (k low high : ℕ) → length (lineText k low high) ≡ lineLength k low high
+unfolding lineText text
+line-length k low high = simp length-append (omega (arith, times-length low high))
 
 -- ---- line by line
 
-from-next : (i n : ℕ) → i < n → from i (n - i) ≡ i ∷ from (i + 1) (n - (i + 1))
-unfolding from
-from-next i n h =
-    let e : n - i ≡ suc (n - (i + 1)) = omega arith in
-    let f : suc i ≡ i + 1 = omega arith in
-    ap (from i) e ∙ ap (λ (k : ℕ). i ∷ from k (n - (i + 1))) f
-
 module _ (w : List ℕ) (m n : ℕ) where
   pub lines-next : (i : ℕ) → i < n → linesFrom w m i (n - i) ≡ lineOf w m i ++ linesFrom w m (i + 1) (n - (i + 1))
-  unfolding linesFrom each
-  lines-next i h = ap (each (lineOf w m)) (from-next i n h)
+  unfolding linesFrom
+  lines-next i h = each-next (lineOf w m) n i h
 
   pub lines-none : (i : ℕ) → n ≤ i → linesFrom w m i (n - i) ≡ []
-  unfolding linesFrom each from
-  lines-none i h = let e : n - i ≡ 0 = omega arith in ap (λ (k : ℕ). each (lineOf w m) (from i k)) e
+  unfolding linesFrom
+  lines-none i h = each-none (lineOf w m) n i h
 
 -- ---- the lines of a graph's outputs
 

@@ -5,7 +5,6 @@
 --     put-kept, turn-kept         only words of the low arrivals are written
 --     lows-phase .. lows-retimable        so what is read in the pass stays
 --     turn-positive, turn-negative, turn-other    what a turn stores is there, and every other low arrival stays
---     four-here, four-other       the table of the lowest delays, with the four of one cell more
 -- Assumes nothing.
 use Prim.Native.Nat.{ℕ, zero, suc, _+_, _-_, _*_, _/_, _≤_, _<_, max}
 use native.Mathlib.Omega.{arith}
@@ -13,8 +12,8 @@ use mathlib.Core.Path.{_≡_, refl, sym, ap, ap₂, subst, _∙_}
 use mathlib.Core.Bool.{Bool, cond}
 use mathlib.Core.List.{List, [], _∷_, map, List·Memᴰ, List·Memᴰ·head, List·Memᴰ·tail}
 use lib.Dec.{leb, le→leb}
-use lib.ListN.{length, getD, set, drop, length-set}
-use lib.Seq.{drop-cons, drop-length, getD-drop, getD-set-other}
+use lib.ListN.{length, getD, drop}
+use lib.Seq.{drop-cons, drop-length, getD-drop}
 use Rattle.model.specs.Base.{bit}
 use Rattle.model.specs.Limits.{cutLimit}
 use Rattle.model.specs.Graph.{varOf, negated}
@@ -34,7 +33,7 @@ use Rattle.words.proofs.Lows.{low-length, low-before, low-behind, low-put, low-
 use Rattle.words.proofs.Stored.{cut-same}
 use Rattle.cover.specs.Asked.{SlotsIn, CutsIn}
 use Rattle.cover.proofs.Keeping.{Kept, kept-on}
-use Rattle.timing.specs.Retiming.{after, latestLow, turnedLow, ownAt, putLow, retimedTurn, InverterIn, Retimable, fourAt}
+use Rattle.timing.specs.Retiming.{after, latestLow, turnedLow, ownAt, putLow, retimedTurn, InverterIn, Retimable}
 
 -- ---- sums
 
@@ -216,37 +215,3 @@ module _ (cells : List Cell) (w : List ℕ) (m v : ℕ) (room : Room w m) (insid
   turn-other l n =
       low-apart first m (2 * v + 1) (stored (2 * v + 1) (2 * v)) first-room (omega arith) l (λ e. n (omega arith))
       ∙ low-apart w m (2 * v) (stored (2 * v) (2 * v + 1)) room (omega arith) l (λ e. n (omega arith))
-
--- ---- the table of the lowest delays
-
-module _ (xs : List ℕ) (k : ℕ) (ds : List ℕ) where
-  abbrev one : List ℕ
-  one = set xs (4 * k) (getD ds 0 0)
-
-  abbrev two : List ℕ
-  two = set one (4 * k + 1) (getD ds 1 0)
-
-  abbrev three : List ℕ
-  three = set two (4 * k + 2) (getD ds 2 0)
-
-  pub four-length : length (fourAt xs k ds) ≡ length xs
-  unfolding fourAt
-  four-length = simp length-set
-
-  pub four-other : (i : ℕ) → i < 4 * k → getD (fourAt xs k ds) i 0 ≡ getD xs i 0
-  unfolding fourAt
-  four-other i h =
-      getD-set-other three (4 * k + 3) i (getD ds 3 0) 0 (λ e. omega arith)
-      ∙ getD-set-other two (4 * k + 2) i (getD ds 2 0) 0 (λ e. omega arith)
-      ∙ getD-set-other one (4 * k + 1) i (getD ds 1 0) 0 (λ e. omega arith)
-      ∙ getD-set-other xs (4 * k) i (getD ds 0 0) 0 (λ e. omega arith)
-
-  module _ (room : 4 * k + 3 < length xs) where
-    one-long : length one ≡ length xs
-    one-long = length-set xs (4 * k) (getD ds 0 0)
-
-    two-long : length two ≡ length xs
-    two-long = length-set one (4 * k + 1) (getD ds 1 0) ∙ one-long
-
-    three-long : length three ≡ length xs
-    three-long = length-set two (4 * k + 2) (getD ds 2 0) ∙ two-long

@@ -1,6 +1,7 @@
 -- The timing lines, as the lent words have them. Assumes nothing.
 use mathlib.Core.List.{List, [], _∷_, _++_}
-use Prim.Native.Nat.{ℕ}
+use Prim.Native.Nat.{ℕ, _+_}
+use lib.ListN.{length}
 use Rattle.model.specs.Base.{from, each}
 use Rattle.model.specs.Text.{text, decimal}
 use Rattle.model.specs.Netlist.{outName}
@@ -16,6 +17,13 @@ timesText low high = 32 ∷ decimal low ++ (32 ∷ decimal high ++ (10 ∷ []))
 unfoldable pub lineText : ℕ → ℕ → ℕ → List ℕ
 unfolding text outName timesText
 lineText k low high = text "# timing " ++ (outName k ++ timesText low high)
+
+-- the bytes of both, counted by their parts
+abbrev pub timesLength : ℕ → ℕ → ℕ
+timesLength low high = length (decimal low) + length (decimal high) + 3
+
+abbrev pub lineLength : ℕ → ℕ → ℕ → ℕ
+lineLength k low high = length (outName k) + length (decimal low) + length (decimal high) + 12
 
 -- the line of output k
 abbrev pub lineOf : List ℕ → ℕ → ℕ → List ℕ

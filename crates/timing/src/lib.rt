@@ -20,7 +20,7 @@ ghost use Rattle.pairs.specs.Codes.{cellsBy, Coded};
 ghost use Rattle.matching.specs.Variants.{Matchable};
 ghost use Rattle.cover.specs.Asked.{PinsOf, PinsIn, OutputsIn, SlotsIn, CutsIn, MatchIn, MatchesIn};
 ghost use Rattle.timing.specs.Retiming.{after, latestLow, matchLow, ownLow, turnedLow, retimedTurn, retimedUp, InverterIn, Retimable, fourAt, LowsOf};
-ghost use Rattle.timing.specs.Lines.{timesText, lineText, linesFrom};
+ghost use Rattle.timing.specs.Lines.{timesText, timesLength, lineText, lineLength, linesFrom};
 
 // ---- the low arrivals
 
@@ -196,7 +196,7 @@ pub fn retime(work: &mut [u16], lib: Library, codes: &[u16], h: Header)
 
 // A low and a high arrival, and the end of the line.
 fn put_times(out: &mut [u8], at: usize, low: u32, high: u32) -> usize
-    requires { ⌜ at + length (timesText low high) ≤ length (now out) ⌝ }
+    requires { ⌜ at + timesLength low high ≤ length (now out) ⌝ }
     ensures { λ r. ⌜ Wrote (now (out .entry)) (now (out .exit)) at r (timesText low high) ⌝ }
 {
     let a = text::put_byte(out, at, b' ');
@@ -208,7 +208,7 @@ fn put_times(out: &mut [u8], at: usize, low: u32, high: u32) -> usize
 
 // "as `# timing o0 30 35`": the line of output k.
 fn put_line(out: &mut [u8], at: usize, k: u32, low: u32, high: u32) -> usize
-    requires { ⌜ at + length (lineText k low high) ≤ length (now out) ⌝ }
+    requires { ⌜ at + lineLength k low high ≤ length (now out) ⌝ }
     ensures { λ r. ⌜ Wrote (now (out .entry)) (now (out .exit)) at r (lineText k low high) ⌝ }
 {
     let a = text::put_bytes(out, at, b"# timing ");
@@ -218,7 +218,7 @@ fn put_line(out: &mut [u8], at: usize, k: u32, low: u32, high: u32) -> usize
 
 // How long it is.
 fn line_len(k: u32, low: u32, high: u32) -> usize
-    ensures { λ r. ⌜ (r ≡ length (lineText k low high)) × (r ≤ 43) ⌝ }
+    ensures { λ r. ⌜ (r ≡ lineLength k low high) × (r ≤ 43) ⌝ }
 {
     netlist::out_len(k) + text::number_len(low) + text::number_len(high) + 12
 }

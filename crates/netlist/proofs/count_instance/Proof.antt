@@ -3,8 +3,9 @@
 use mathlib.Core.Path.{sym, _∙_}
 use Prim.Native.Nat.{_+_}
 use native.Mathlib.Omega.{arith}
+use lib.ListN.{take}
 use Rattle.drivers.specs.Gates.{gateOf}
-use Rattle.netlist.proofs.Counting.{tally-one}
+use Rattle.netlist.proofs.Counting.{line-length, tally-one}
 use borrow.Author.Needs.{needs}
 use Rattle.netlist.proofs.count_instance.Statement.{statement}
 use Rattle.netlist.proofs.count_instance.Tie as tie
@@ -14,9 +15,11 @@ unfolding gateOf
 returns c =
     let s = c .before .before .before .before .before .before .before in
     let t = s .args .t in
-    let n = c .before .before .before .before .gate-len in (
-      (λ i. record { length = t .length + n .ensures .0 i; gates = t .gates + 1; area = t .area + s .args .g .cell .area }) ∙ sym (tally-one t (gateOf (s .args .g))),
-      record { length = omega (arith, n .ensures .1); gates = omega arith; area = omega arith },
+    let g = s .args .g in
+    let long = c .before .before .before .before .gate-len .ensures .0 ∙ sym (line-length (g .cell) (take (g .count) (g .nets))
+    (g .net)) in (
+      (λ i. record { length = t .length + long i; gates = t .gates + 1; area = t .area + g .cell .area }) ∙ sym (tally-one t (gateOf g)),
+      omega arith,
     )
 
 pub count-instance-spec : {M : Type 1} → statement M

@@ -9,9 +9,6 @@ use borrow.Author.Needs.{needs}
 use Rattle.netlist.proofs.driver_of.Statement.{statement}
 use Rattle.netlist.proofs.driver_of.Tie as tie
 
-enum-told : tie.Need-enum-told
-enum-told c = search needs
-
 matched-requires : tie.Need-matched-requires
 matched-requires c κs = (c .before .before .before .before .before .pre .0, c .before .before .before .before .before .pre .1, subst (SourceReady (c .before .before .before .before .before .args .book .now)) (c .before .s .given .1) (c .before .before .before .before .before .pre .2))
 
@@ -38,5 +35,6 @@ pub driver-of-spec : {M : Type 1} → statement M
 driver-of-spec =
     tie.close
     (tie.spec
-    enum-told (λ c κs. search needs) (λ c. search needs) matched-requires (λ c. search needs) inverted-requires (λ c. search needs)
+    (λ c. search needs) (λ c κs. search needs) (λ c. search needs) matched-requires (λ c. search needs) inverted-requires
+    (λ c. search needs)
     (λ c κs. search needs) returns returns-2 returns-3 returns-4)

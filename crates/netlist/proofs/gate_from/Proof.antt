@@ -3,6 +3,7 @@
 use mathlib.Core.Path.{_≡_, refl, sym, _∙_}
 use Prim.Native.Nat.{_+_, _-_, _*_}
 use native.Mathlib.Omega.{arith}
+use borrow.Author.Needs.{needs}
 use Rattle.netlist.specs.Lines.{gateFrom}
 use Rattle.netlist.proofs.Walking.{gate-here, gate-later, gate-end}
 use Rattle.netlist.proofs.gate_from.Statement.{statement}
@@ -14,23 +15,11 @@ Inv-loop work m l g₀ g = gateFrom work m l (2 * (m + 1) - l) ≡ gateFrom work
 abbrev μ-loop : tie.MeasureT-loop
 μ-loop work m l g₀ g = 2 * (m + 1) - g
 
-add-loop : tie.Need-add-loop Inv-loop μ-loop
-add-loop c = omega (arith, c .before .before .pre .small)
-
-mul-loop : tie.Need-mul-loop Inv-loop μ-loop
-mul-loop c = omega (arith, c .before .before .pre .small)
-
-is-gate-requires : tie.Need-is-gate-requires Inv-loop μ-loop
-is-gate-requires c κs = (c .before .before .before .pre, omega (arith, c .loop-test .taken))
-
 returns : tie.Need-returns Inv-loop μ-loop
 returns c =
     let a = c .before .before .before .before .before .args in
     let g = c .before .before .before .loop in
     sym (g .inv ∙ gate-here (a .work .now) (a .m) (g .g) (2 * (a .m + 1)) (c .before .before .loop-test .taken) (sym (c .before .is-gate .ensures) ∙ c .if1 .taken))
-
-add-g : tie.Need-add-g Inv-loop μ-loop
-add-g c = omega (arith, c .before .before .before .before .before .pre .small, c .before .before .loop-test .taken)
 
 loop-again : tie.Need-loop-again Inv-loop μ-loop
 loop-again c =
@@ -47,4 +36,5 @@ pub gate-from-spec : {M : Type 1} → statement M
 gate-from-spec =
     tie.close
     (tie.spec
-    Inv-loop μ-loop (λ c. refl) add-loop mul-loop is-gate-requires returns add-g (λ c. omega arith) loop-again returns-2)
+    Inv-loop μ-loop (λ c. refl) (λ c. omega arith) (λ c. omega arith) (λ c κs. search needs) returns (λ c. omega arith) (λ c. omega arith)
+    loop-again returns-2)

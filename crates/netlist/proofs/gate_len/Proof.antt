@@ -2,22 +2,20 @@
 -- Assumes nothing.
 use mathlib.Core.Path.{_≡_, sym, ap, _∙_}
 use native.Mathlib.Omega.{arith}
+use borrow.Author.Needs.{needs}
 use lib.ListN.{length, take}
 use lib.Seq.{length-take-le}
-use Rattle.netlist.proofs.Counting.{line-length}
-use borrow.Author.Needs.{needs}
 use Rattle.netlist.proofs.gate_len.Statement.{statement}
 use Rattle.netlist.proofs.gate_len.Tie as tie
 
 returns : tie.Need-returns
 returns c =
-    let s = c .before .before .before in
-    let x = s .args .c in
+    let x = c .before .before .before .args .c in
     let n = c .before .before .name-len in
-    let p = c .before .pins-len in
     let eight : length (x .name) ≡ 8 = search needs in
-    let named : length (take (x .len) (x .name)) ≡ n .result = ap length (sym (n .ensures .1 (x .name) eight)) ∙ length-take-le (n .result) (x .name) (omega (arith, n .ensures .0)) in
-    (omega (arith, line-length x (take (s .args .count) (s .args .nets)) (s .args .net), named, p .ensures .0, c .label-len .ensures .0), omega (arith, n .ensures .0, p .ensures .1, c .label-len .ensures .1))
+    let named : length (take (x .len) (x .name)) ≡ n .result = ap length (sym (n .ensures .1 (x .name) eight)) ∙ length-take-le
+    (n .result) (x .name) (omega arith) in
+    omega arith
 
 pub gate-len-spec : {M : Type 1} → statement M
 gate-len-spec =

@@ -3,17 +3,12 @@
 use mathlib.Core.Path.{ap}
 use Prim.Native.Nat.{ℕ, _+_, _*_}
 use native.Mathlib.Omega.{arith}
+use borrow.Author.Needs.{needs}
 use Rattle.model.specs.Graph.{literal}
 use Rattle.words.specs.Layout.{slotAddr}
 use Rattle.netlist.specs.Lines.{inputNet}
 use Rattle.netlist.proofs.input_net.Statement.{statement}
 use Rattle.netlist.proofs.input_net.Tie as tie
-
-add-slot : tie.Need-add-slot
-add-slot c = omega (arith, c .before .pre .0 .small)
-
-slot-requires : tie.Need-slot-requires
-slot-requires c κs = (c .before .pre .0, omega (arith, c .before .pre .1))
 
 cast-result : tie.Need-cast-result
 cast-result c = omega (arith, c .before .shared-slice-known .given (slotAddr (c .before .before .args .m) (c .before .before .args .i + 1)), c .slot .ensures)
@@ -26,4 +21,4 @@ unfolding inputNet literal
 returns c = ap (λ (x : ℕ). 2 * x) (c .slot .ensures)
 
 pub input-net-spec : {M : Type 1} → statement M
-input-net-spec = tie.close (tie.spec add-slot slot-requires cast-result mul-result returns)
+input-net-spec = tie.close (tie.spec (λ c. search needs) (λ c κs. search needs) cast-result mul-result returns)

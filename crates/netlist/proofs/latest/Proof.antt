@@ -1,10 +1,10 @@
 -- `netlist::latest` meets its contract. The invariant: the latest so far and the latest of those left make the latest. The measure is the number of outputs left.
 -- Assumes nothing.
-use mathlib.Core.Path.{_≡_, ap, sym, _∙_}
-use Prim.Native.Nat.{ℕ, _+_, _-_, _≤_, max}
+use mathlib.Core.Path.{_≡_, ap}
+use Prim.Native.Nat.{_-_, _≤_, max}
 use native.Mathlib.Omega.{arith}
 use Rattle.netlist.specs.Lines.{latestFrom}
-use Rattle.netlist.proofs.Counting.{max-assoc, latest-next, latest-none}
+use Rattle.netlist.proofs.Counting.{latest-next, latest-none}
 use Rattle.netlist.proofs.latest.Statement.{statement}
 use Rattle.netlist.proofs.latest.Tie as tie
 
@@ -18,21 +18,16 @@ loop-holds : tie.Need-loop-holds Inv-loop μ-loop
 loop-holds c =
     let a = c .before .args in
     let e : a .outputs - 0 ≡ a .outputs = omega arith in
-    (omega arith, omega (arith, ap (latestFrom (a .work .now) (a .m) 0) e))
+    omega (arith, ap (latestFrom (a .work .now) (a .m) 0) e)
 
 output-arrival-requires : tie.Need-output-arrival-requires Inv-loop μ-loop
 output-arrival-requires c κs = (c .before .before .before .pre .room, c .loop-test .taken, c .before .before .before .pre .within (c .before .loop .i) (c .loop-test .taken))
 
 loop-again : tie.Need-loop-again Inv-loop μ-loop
 loop-again c =
-    let a = c .before .before .before .before .before .args in
-    let l = c .before .before .before .loop in (
-      omega arith,
-      ap (λ (x : ℕ). max x (latestFrom (a .work .now) (a .m) (l .i + 1) (a .outputs - (l .i + 1)))) (c .larger .ensures ∙ ap (max (l .t)) (c .before .output-arrival .ensures))
-          ∙ max-assoc (l .t) _ _
-          ∙ ap (max (l .t)) (sym (latest-next (a .work .now) (a .m) (a .outputs) (l .i) (c .before .before .loop-test .taken)))
-          ∙ l .inv .1,
-    )
+    let l = c .before .before .before in
+    let a = l .before .before .args in
+    omega (arith, latest-next (a .work .now) (a .m) (a .outputs) (l .loop .i) (omega arith))
 
 returns : tie.Need-returns Inv-loop μ-loop
 returns c =

@@ -1,32 +1,29 @@
 -- `netlist::put_net` meets its contract: the phase's letter, and the variable behind it.
 -- Assumes nothing.
-use mathlib.Core.Path.{refl, sym}
-use mathlib.Core.List.{_∷_, [], append-nil}
-use Prim.Native.Nat.{_/_}
+use mathlib.Core.Path.{sym}
+use Prim.Native.Nat.{_≤_}
 use native.Mathlib.Omega.{arith}
-use Rattle.model.specs.Text.{decimal}
-use Rattle.model.specs.Netlist.{netName}
-use Rattle.netlist.proofs.Counting.{net-length}
-use Rattle.text.proofs.Progress.{Partly, begin, step, room, finish, as-wrote}
 use borrow.Author.Needs.{needs}
+use lib.ListN.{length}
+use Rattle.text.proofs.Progress.{as-wrote}
+use Rattle.netlist.proofs.Counting.{net-length}
+use Rattle.netlist.proofs.Behind.{then, reads}
 use Rattle.netlist.proofs.put_net.Statement.{statement}
 use Rattle.netlist.proofs.put_net.Tie as tie
-
--- the letter is written
-one : (c : tie.After-put-byte)
-    → Partly (c .before .before .before .before .args .out .now) (c .put-byte .last .0) (c .before .before .before .before .args .at) (c .put-byte .result) (netName (c .before .before .before .before .args .l)) (decimal (c .before .before .before .before .args .l / 2))
-one c =
-    step (c .before .before .before .before .pre) (begin (c .before .before .before .before .args .out .now) (c .before .before .before .before .args .at) (sym (c .before .letter .ensures))) (c .put-byte .last .0) (c .put-byte .result) (c .before .letter .result ∷ [])
-    (decimal (c .before .before .before .before .args .l / 2)) refl (c .put-byte .ensures)
 
 put-byte-requires : tie.Need-put-byte-requires
 put-byte-requires c κs = omega (arith, net-length (c .before .before .before .args .l))
 
 put-number-requires : tie.Need-put-number-requires
-put-number-requires c κs = room (c .before .before .before .before .before .before .before .pre) (one (c .before .before .before)) (decimal (c .before .before .before .before .before .before .before .args .l / 2)) [] (sym (append-nil (decimal (c .before .before .before .before .before .before .before .args .l / 2))))
+put-number-requires c κs = omega (arith, net-length (c .before .before .before .before .before .before .before .args .l))
 
 returns : tie.Need-returns
-returns c = finish (c .before .before .before .before .before .before .before .before .before .before .pre) (one (c .before .before .before .before .before .before)) (as-wrote (c .before .before .put-number .ensures))
+returns c =
+    let p = c .before .before in
+    let first = p .before .before .before .before in
+    let long = net-length (first .before .before .before .before .args .l) in
+    let h : p .put-number .result ≤ length (p .put-number .last .0) = omega arith in
+    reads (sym (first .before .letter .ensures)) (then h (first .put-byte .ensures) (as-wrote (p .put-number .ensures)))
 
 pub put-net-spec : {M : Type 1} → statement M
 put-net-spec =

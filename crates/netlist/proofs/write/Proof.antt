@@ -9,6 +9,7 @@ use Rattle.model.specs.Cells.{cellsOf}
 use Rattle.text.proofs.Progress.{put-front}
 use Rattle.book.specs.Bytes.{bookOf}
 use Rattle.netlist.specs.Lines.{Gated, textIn}
+use Rattle.netlist.proofs.Counting.{text-length}
 use Rattle.netlist.proofs.Held.{book-is, gated, named, text-held}
 use borrow.Author.Needs.{needs}
 use Rattle.netlist.proofs.write.Statement.{statement}
@@ -21,16 +22,19 @@ write-words-requires c κs =
     let p = s .pre in
     let made = c .before .before .before .put-book in
     let rest : List ℕ = drop (length (bookOf (cellsOf (a .lib)) (a .codes .now))) (replicate 833 0) in
-    let is = book-is (a .lib) (a .codes .now) (replicate 833 0) (made .last .0) (made .result) (made .ensures) in (
+    let is = book-is (a .lib) (a .codes .now) (replicate 833 0) (made .last .0) (made .result) (made .ensures) in
+    let held = text-held (a .work .now) (a .lib) (a .codes .now) (a .h) (p .0) (p .1) rest (a .f) in
+    let long = ap length (ap (λ (b : List ℕ). textIn (a .work .now) b (a .h) (a .f)) is ∙ held) in (
       subst (λ (b : List ℕ). Gated (a .work .now) b (a .h .size)) (sym is) (gated (a .work .now) (a .lib) (a .codes .now) (a .h) (p .0) (p .1) rest),
       named (a .work .now) (a .lib) (a .codes .now) (a .h) (p .0) (p .1) rest,
-      omega (arith, p .2, ap length (ap (λ (b : List ℕ). textIn (a .work .now) b (a .h) (a .f)) is ∙ text-held (a .work .now) (a .lib) (a .codes .now) (a .h) (p .0) (p .1) rest (a .f))),
+      omega (arith, text-length (a .work .now) (made .last .0) (a .h) (a .f)),
     )
 
 returns : tie.Need-returns
 returns c =
-    let a = c .before .before .before .before .before .before .before .before .before .before .before .args in
-    let made = c .before .before .before .before .before .before .put-book in
+    let book = c .before .before .before .before .before .before in
+    let made = book .put-book in
+    let a = book .before .before .before .before .before .args in
     let rest : List ℕ = drop (length (bookOf (cellsOf (a .lib)) (a .codes .now))) (replicate 833 0) in
     let is = book-is (a .lib) (a .codes .now) (replicate 833 0) (made .last .0) (made .result) (made .ensures) in
     let r = c .before .before .write-words in

@@ -5,6 +5,7 @@ use mathlib.Core.Bool.{Bool, true, false}
 use mathlib.Core.List.{List}
 use Prim.Native.Nat.{ℕ, zero, suc, _+_, _-_, _*_, _<_}
 use native.Mathlib.Omega.{arith}
+use borrow.Author.Needs.{needs}
 use lib.Dec.{eqb}
 use lib.ListN.{length, getD, set, length-set}
 use lib.Seq.{getD-set-same, getD-set-other}
@@ -29,7 +30,7 @@ module _ (xs : List ℕ) (k : ℕ) (ds : List ℕ) where
 
   four-long : length (fourAt xs k ds) ≡ length xs
   unfolding fourAt
-  four-long = length-set three (4 * k + 3) (getD ds 3 0) ∙ length-set two (4 * k + 2) (getD ds 2 0) ∙ length-set one (4 * k + 1) (getD ds 1 0) ∙ length-set xs (4 * k) (getD ds 0 0)
+  four-long = simp length-set
 
   -- the others stay
   four-other : (i : ℕ) → i < 4 * k → getD (fourAt xs k ds) i 0 ≡ getD xs i 0
@@ -45,19 +46,13 @@ module _ (xs : List ℕ) (k : ℕ) (ds : List ℕ) where
       ∙ getD-set-other one (4 * k + 1) i (getD ds 1 0) 0 (λ q. omega arith)
       ∙ (let s : i ≡ 4 * k = omega arith in ap (λ (n : ℕ). getD one n 0) s) ∙ getD-set-same xs (4 * k) (getD ds 0 0) 0 (omega arith)
   four-at h i (suc zero) b e =
-      let long = length-set xs (4 * k) (getD ds 0 0) in
       getD-set-other three (4 * k + 3) i (getD ds 3 0) 0 (λ q. omega arith) ∙ getD-set-other two (4 * k + 2) i (getD ds 2 0) 0 (λ q. omega arith)
-      ∙ ap (λ (n : ℕ). getD two n 0) e ∙ getD-set-same one (4 * k + 1) (getD ds 1 0) 0 (omega (arith, long))
+      ∙ ap (λ (n : ℕ). getD two n 0) e ∙ getD-set-same one (4 * k + 1) (getD ds 1 0) 0 (simp length-set (omega arith))
   four-at h i (suc (suc zero)) b e =
-      let long = length-set one (4 * k + 1) (getD ds 1 0) in
-      let short = length-set xs (4 * k) (getD ds 0 0) in
       getD-set-other three (4 * k + 3) i (getD ds 3 0) 0 (λ q. omega arith)
-      ∙ ap (λ (n : ℕ). getD three n 0) e ∙ getD-set-same two (4 * k + 2) (getD ds 2 0) 0 (omega (arith, long, short))
+      ∙ ap (λ (n : ℕ). getD three n 0) e ∙ getD-set-same two (4 * k + 2) (getD ds 2 0) 0 (simp length-set (omega arith))
   four-at h i (suc (suc (suc zero))) b e =
-      let a = length-set two (4 * k + 2) (getD ds 2 0) in
-      let c = length-set one (4 * k + 1) (getD ds 1 0) in
-      let d = length-set xs (4 * k) (getD ds 0 0) in
-      ap (λ (n : ℕ). getD (set three (4 * k + 3) (getD ds 3 0)) n 0) e ∙ getD-set-same three (4 * k + 3) (getD ds 3 0) 0 (omega (arith, a, c, d))
+      ap (λ (n : ℕ). getD (set three (4 * k + 3) (getD ds 3 0)) n 0) e ∙ getD-set-same three (4 * k + 3) (getD ds 3 0) 0 (simp length-set (omega arith))
   four-at h i (suc (suc (suc (suc j)))) b e = absurd (omega arith)
 
 -- one more
@@ -79,24 +74,6 @@ Inv-loop lib codes n lows₀ k₀ lows k = (length lows ≡ 1024) × ((c j : ℕ
 
 abbrev μ-loop : tie.MeasureT-loop
 μ-loop lib codes n lows₀ k₀ lows k = n - k
-
-add-n : tie.Need-add-n Inv-loop μ-loop
-add-n c = omega (arith, c .before .before .pre .few)
-
-loop-holds : tie.Need-loop-holds Inv-loop μ-loop
-loop-holds c = (refl, λ i j h. absurd (omega arith))
-
-lows-of-requires : tie.Need-lows-of-requires Inv-loop μ-loop
-lows-of-requires c κs = (c .before .before .before .before .before .pre, c .before .loop-test .taken)
-
-put-lows-requires : tie.Need-put-lows-requires Inv-loop μ-loop
-put-lows-requires c κs = omega (arith, c .before .before .before .before .before .before .pre .few, c .before .before .loop-test .taken)
-
-add-k : tie.Need-add-k Inv-loop μ-loop
-add-k c = omega (arith, c .before .before .before .before .before .before .before .pre .few, c .before .before .before .loop-test .taken)
-
-loop-less : tie.Need-loop-less Inv-loop μ-loop
-loop-less c = omega (arith, c .before .before .before .loop-test .taken)
 
 loop-again : tie.Need-loop-again Inv-loop μ-loop
 loop-again c =
@@ -122,13 +99,5 @@ pub low-table-spec : {M : Type 1} → statement M
 low-table-spec =
     tie.close
     (tie.spec
-    Inv-loop
-    μ-loop
-    add-n
-    loop-holds
-    lows-of-requires
-    put-lows-requires
-    add-k
-    loop-less
-    loop-again
-    returns)
+    Inv-loop μ-loop (λ c. omega arith) (λ c. (refl, λ i j h. absurd (omega arith))) (λ c κs. search needs) (λ c κs. omega arith) (λ c. omega arith)
+    (λ c. omega arith) loop-again returns)

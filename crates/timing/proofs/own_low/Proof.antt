@@ -7,9 +7,6 @@ use borrow.Author.Needs.{needs}
 use Rattle.timing.proofs.own_low.Statement.{statement}
 use Rattle.timing.proofs.own_low.Tie as tie
 
-enum-told : tie.Need-enum-told
-enum-told c = search needs
-
 match-low-requires : tie.Need-match-low-requires
 match-low-requires c κs =
     let p = c .before .before .before in
@@ -53,5 +50,5 @@ pub own-low-spec : {M : Type 1} → statement M
 own-low-spec =
     tie.close
     (tie.spec
-    (λ c κs. search needs) enum-told (λ c κs. search needs) (λ c. search needs) match-low-requires (λ c. search needs) (λ c. search needs) returns
+    (λ c κs. search needs) (λ c. search needs) (λ c κs. search needs) (λ c. search needs) match-low-requires (λ c. search needs) (λ c. search needs) returns
     returns-2 returns-3 returns-4)

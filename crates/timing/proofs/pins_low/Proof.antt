@@ -27,9 +27,6 @@ loop-holds c =
     let a = s .args in
     (omega arith, sym (pins-none (a .work .now) (a .m) (a .leaves) (a .order) (a .mask) (a .pins) (drop (a .at) (a .lows .now)) (s .pre .1 .known) (s .pre .1 .four)))
 
-pin-net-requires : tie.Need-pin-net-requires Inv-loop μ-loop
-pin-net-requires c κs = (c .before .before .before .pre .1 .known, omega (arith, c .before .loop .inv .0, c .before .before .before .pre .1 .four))
-
 low-requires : tie.Need-low-requires Inv-loop μ-loop
 low-requires c κs =
     let l = c .before .before in
@@ -39,19 +36,6 @@ low-requires c κs =
       subst (λ (x : ℕ). x / 2 ≤ a .m) (sym (c .pin-net .ensures .0))
           (net-var (a .leaves) (a .order) (a .mask) (l .loop .j - 1) (a .m) (s .pre .1 .within (l .loop .j - 1) (omega (arith, l .loop .inv .0, c .before .loop-test .taken)))),
     )
-
-add-later : tie.Need-add-later Inv-loop μ-loop
-add-later c = omega (arith, c .before .before .before .loop .inv .0, c .before .before .before .before .before .pre .1 .four, c .before .before .before .before .before .pre .2)
-
-mul-later : tie.Need-mul-later Inv-loop μ-loop
-mul-later c = omega (arith, c .before .before .before .loop .inv .0, c .before .before .before .before .before .pre .1 .four, c .before .before .before .before .before .pre .2)
-
-element-copy-out-later : tie.Need-element-copy-out-later Inv-loop μ-loop
-element-copy-out-later c =
-    omega (arith, c .before .before .before .loop .inv .0, c .before .before .loop-test .taken, c .before .before .before .before .before .pre .1 .four, c .before .before .before .before .before .pre .2)
-
-loop-less : tie.Need-loop-less Inv-loop μ-loop
-loop-less c = omega (arith, c .before .before .before .before .before .loop-test .taken)
 
 loop-again : tie.Need-loop-again Inv-loop μ-loop
 loop-again c =
@@ -82,5 +66,6 @@ pub pins-low-spec : {M : Type 1} → statement M
 pins-low-spec =
     tie.close
     (tie.spec
-    Inv-loop μ-loop loop-holds (λ c. omega arith) pin-net-requires low-requires add-later mul-later element-copy-out-later (λ c κs. search needs)
-    (λ c κs. search needs) loop-less loop-again returns)
+    Inv-loop μ-loop loop-holds (λ c. omega arith) (λ c κs. search needs) low-requires (λ c. omega arith) (λ c. omega arith) (λ c. omega arith)
+    (λ c κs. search needs)
+    (λ c κs. search needs) (λ c. omega arith) loop-again returns)

@@ -14,7 +14,7 @@ use Rattle.timing.proofs.retime_variable.Statement.{statement}
 use Rattle.timing.proofs.retime_variable.Tie as tie
 
 own-low-requires : tie.Need-own-low-requires
-own-low-requires c κs = let s = c .before .before in ((s .pre .0 .0, s .pre .0 .1 .matches, s .pre .0 .2), omega (arith, s .pre .1))
+own-low-requires c κs = let s = c .before .before in ((s .pre .0 .0, s .pre .0 .1 .matches, s .pre .0 .2), omega arith)
 
 own-low-requires-2 : tie.Need-own-low-requires-2
 own-low-requires-2 c κs = let s = c .before .before .before .before in ((s .pre .0 .0, s .pre .0 .1 .matches, s .pre .0 .2), omega (arith, s .pre .1))
@@ -26,31 +26,39 @@ turned-requires c κs =
 
 turned-requires-2 : tie.Need-turned-requires-2
 turned-requires-2 c κs =
-    let s = c .before .before .before .before .before .before .before .before .before .before in
+    let first = c .before .before .before in
+    let s = first .before .before .before .before .before .before .before in
     (s .pre .0 .0, subst (λ (p : Phase). InverterIn (s .pre .0 .0) (p .source)) (sym (c .phase2 .ensures)) (s .pre .0 .1 .inverters (2 * s .args .v + 1) (omega (arith, s .pre .1))))
 
 mul-set-low : tie.Need-mul-set-low
-mul-set-low c = let s = c .before .before .before .before .before .before .before .before .before .before .before .before in omega (arith, s .pre .1, s .pre .0 .1 .matches .cuts .room .small)
+mul-set-low c =
+    let turned = c .before .before .before .before .before in
+    let s = turned .before .before .before .before .before .before .before in
+    omega (arith, s .pre .1, s .pre .0 .1 .matches .cuts .room .small)
 
 set-low-requires : tie.Need-set-low-requires
-set-low-requires c κs = let s = c .before .before .before .before .before .before .before .before .before .before .before .before in (s .pre .0 .1 .matches .cuts .room, omega (arith, s .pre .1))
+set-low-requires c κs =
+    let turned = c .before .before .before .before .before in
+    let s = turned .before .before .before .before .before .before .before in
+    (s .pre .0 .1 .matches .cuts .room, omega (arith, s .pre .1))
 
 mul-set-low-2 : tie.Need-mul-set-low-2
 mul-set-low-2 c =
-    let z = c .before .before .before in
-    let s = z .before .before .before .before .before .before .before .before .before .before .before .before .before in
+    let turned = c .before .before .before .before .before .before .before .before .before in
+    let s = turned .before .before .before .before .before .before .before in
     omega (arith, s .pre .1, s .pre .0 .1 .matches .cuts .room .small)
 
 add-set-low : tie.Need-add-set-low
 add-set-low c =
-    let z = c .before .before .before in
-    let s = z .before .before .before .before .before .before .before .before .before .before .before .before .before in
+    let turned = c .before .before .before .before .before .before .before .before .before in
+    let s = turned .before .before .before .before .before .before .before in
     omega (arith, s .pre .1, s .pre .0 .1 .matches .cuts .room .small)
 
 set-low-requires-2 : tie.Need-set-low-requires-2
 set-low-requires-2 c κs =
     let z = c .before .before .before in
-    let s = z .before .before .before .before .before .before .before .before .before .before .before .before .before in
+    let turned = z .before .before .before .before .before .before in
+    let s = turned .before .before .before .before .before .before .before in
     let a = s .args in
     let r = s .pre .0 .1 .matches .cuts .room in (
       subst (λ (x : List ℕ). Room x (a .m)) (sym (z .set-low .ensures))

@@ -4,6 +4,7 @@ use mathlib.Core.Path.{_≡_, refl, sym, ap, subst, _∙_}
 use mathlib.Core.List.{List}
 use Prim.Native.Nat.{ℕ, suc, _+_, _-_, _≤_}
 use native.Mathlib.Omega.{arith}
+use borrow.Author.Needs.{needs}
 use lib.ListN.{length}
 use Rattle.model.specs.declared.Cell.{Cell}
 use Rattle.words.specs.Layout.{slotAt}
@@ -31,11 +32,6 @@ abbrev μ-loop : tie.MeasureT-loop
 
 loop-holds : tie.Need-loop-holds Inv-loop μ-loop
 loop-holds c = (omega arith, c .before .pre .1, refl, λ cells r p q. (r, begin cells (c .before .args .work .now) (c .before .args .m)))
-
-slot-requires : tie.Need-slot-requires Inv-loop μ-loop
-slot-requires c κs =
-    let l = c .before .before in
-    (l .loop .inv .1 .room, omega (arith, l .loop .inv .1 .few, c .before .loop-test .taken))
 
 retime-variable-requires : tie.Need-retime-variable-requires Inv-loop μ-loop
 retime-variable-requires c κs =
@@ -88,4 +84,4 @@ pub retime-variables-spec : {M : Type 1} → statement M
 retime-variables-spec =
     tie.close
     (tie.spec
-    Inv-loop μ-loop loop-holds slot-requires retime-variable-requires (λ c. omega arith) (λ c. omega arith) loop-again same-length returns)
+    Inv-loop μ-loop loop-holds (λ c κs. search needs) retime-variable-requires (λ c. omega arith) (λ c. omega arith) loop-again same-length returns)

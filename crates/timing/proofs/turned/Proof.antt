@@ -14,9 +14,6 @@ inverter-low-requires c κs =
     let s = c .before .before .before in
     subst (InverterIn (s .pre .0)) (c .before .s .given .1) (s .pre .1) .1
 
-enum-told : tie.Need-enum-told
-enum-told c = search needs
-
 returns : tie.Need-returns
 unfolding turnedLow
 returns c cells i lows =
@@ -45,5 +42,5 @@ pub turned-spec : {M : Type 1} → statement M
 turned-spec =
     tie.close
     (tie.spec
-    (λ c. search needs) inverter-low-requires (λ c κs. search needs) enum-told (λ c. search needs) (λ c. search needs) returns returns-2 returns-3
+    (λ c. search needs) inverter-low-requires (λ c κs. search needs) (λ c. search needs) (λ c. search needs) (λ c. search needs) returns returns-2 returns-3
     returns-4)

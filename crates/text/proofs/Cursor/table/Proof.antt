@@ -22,9 +22,6 @@ part-hex-of-start c = omega (arith, c .field-end .ensures, end-from (c .before .
 part-hex-of-end : tie.Need-part-hex-of-end
 part-hex-of-end c = omega (arith, c .field-end .ensures, end-le (c .before .before .before .args .s .now) (c .before .before .before .args .self .at) (omega arith))
 
-enum-told : tie.Need-enum-told
-enum-told c = search needs
-
 returns-2 : tie.Need-returns-2
 unfolding tableAt
 returns-2 c = found-at hexTable _ _ _ (c .before .before .before .before .before .field-end .ensures) _ (value-is _ _ _ (c .before .before .before .hex-of .ensures) (c .before .n .given .1))
@@ -37,5 +34,5 @@ pub table-spec : {M : Type 1} → statement M
 table-spec =
     tie.close
     (tie.spec
-    returns (λ c κs. search needs) sub-hex-of part-hex-of-start part-hex-of-end (λ c κs. search needs) (λ c. search needs) enum-told returns-2
-    returns-3)
+    returns (λ c κs. search needs) sub-hex-of part-hex-of-start part-hex-of-end (λ c κs. search needs) (λ c. search needs) (λ c. search needs)
+    returns-2 returns-3)
