@@ -3,7 +3,7 @@
 use Prim.Native.Nat.{ℕ}
 use Prim.Native.String.{String}
 use mathlib.Core.Bool.{Bool, true, false, _&&_}
-use mathlib.Core.List.{List, [], _∷_, _++_}
+use mathlib.Core.List.{List, [], _∷_, _++_, map}
 use lib.Dec.{T, eqb}
 use lib.ListN.{replicate}
 use Rattle.model.specs.Base.{all, same, each}
@@ -131,54 +131,24 @@ refusals =
     refuses (replicate 65537 32) 1 0
     ∷ refuses (replicate 65536 32) 22 0
     -- 22: the form of a GATE line
-    ∷ refuses (text "\n") 22 0
-    ∷ refuses (text "GATE") 22 0
-    ∷ refuses (text "GATE g 1 O=CONST1;") 22 0
-    ∷ refuses (text "GATE g O=CONST1;\n") 22 0
-    ∷ refuses (text "GATE g 1 =CONST1;\n") 22 0
-    ∷ refuses (text "GATE g 1 O CONST1;\n") 22 0
-    ∷ refuses (text "GATE g 1 O=CONST1\n") 22 0
-    ∷ refuses (text "GATE g 1 O=CONST1;;\n") 22 0
-    ∷ refuses (text "GATE g 1 O=CONST1; # note\n") 22 0
-    ∷ refuses (text "GATE g 1 O=a; PIN * x 1 1 1 1 1 1\n") 22 0
-    ∷ refuses (text "GATE g-1 1 O=CONST1;\n") 22 0
-    ∷ refuses (text "gate g 1 O=CONST1;\n") 22 0
-    ∷ refuses (text "GATE g 1 O=CONST1;\r\r\n") 22 0
-    ∷ refuses (text "GATE g 1\r O=CONST1;\n") 22 0
+    ∷ map (λ (s : String). refuses (text s) 22 0) ("\n" ∷ "GATE" ∷ "GATE g 1 O=CONST1;" ∷ "GATE g O=CONST1;\n" ∷ "GATE g 1 =CONST1;\n" ∷
+    "GATE g 1 O CONST1;\n" ∷ "GATE g 1 O=CONST1\n" ∷ "GATE g 1 O=CONST1;;\n" ∷ "GATE g 1 O=CONST1; # note\n" ∷
+    "GATE g 1 O=a; PIN * x 1 1 1 1 1 1\n" ∷ "GATE g-1 1 O=CONST1;\n" ∷ "gate g 1 O=CONST1;\n" ∷ "GATE g 1 O=CONST1;\r\r\n" ∷
+    "GATE g 1\r O=CONST1;\n" ∷ [])
     -- its expression
-    ∷ refuses (gate "") 22 0
-    ∷ refuses (gate "a * * b") 22 0
-    ∷ refuses (gate "a b") 22 0
-    ∷ refuses (gate "a !b") 22 0
-    ∷ refuses (gate "'a") 22 0
-    ∷ refuses (gate "a!") 22 0
-    ∷ refuses (gate "a+") 22 0
-    ∷ refuses (gate "+a") 22 0
-    ∷ refuses (gate "()") 22 0
-    ∷ refuses (gate "(a") 22 0
-    ∷ refuses (gate "a)") 22 0
-    ∷ refuses (gate ")a(") 22 0
-    ∷ refuses (gate "(a)(b)") 22 0
-    ∷ refuses (gate "a;b") 22 0
-    ∷ refuses (gate "a.b") 22 0
-    ∷ refuses (gate "a=b") 22 0
+    ++ (refuses (gate "") 22 0
+    ∷ map (λ (s : String). refuses (gate s) 22 0) ("a * * b" ∷ "a b" ∷ "a !b" ∷ "'a" ∷ "a!" ∷ "a+" ∷ "+a" ∷ "()" ∷ "(a" ∷ "a)" ∷ ")a(" ∷
+    "(a)(b)" ∷ "a;b" ∷ "a.b" ∷ "a=b" ∷ [])
     -- figures
-    ∷ refuses (tie "1.") 22 0
-    ∷ refuses (tie ".5") 22 0
-    ∷ refuses (tie "1.2.3") 22 0
-    ∷ refuses (tie "-1") 22 0
-    ∷ refuses (tie "1e3") 22 0
+    ++ (refuses (tie "1.") 22 0
+    ∷ map (λ (s : String). refuses (tie s) 22 0) (".5" ∷ "1.2.3" ∷ "-1" ∷ "1e3" ∷ [])
     -- PIN lines
-    ∷ refuses (text "PIN a x 1 1 1 1 1 1\nGATE g 1 O=a;\n") 22 0
-    ∷ refuses (text "GATE g 1 O=a;\n") 22 0
-    ∷ refuses (text "GATE g 1 O=a;\nPIN b x 1 1 1 1 1 1\n") 22 0
-    ∷ refuses (text "GATE g 1 O=a;\nPIN a x 1 1 1 1 1\n") 22 0
-    ∷ refuses (text "GATE g 1 O=a;\nPIN a x 1 1 1 1 1 1 1\n") 22 0
-    ∷ refuses (text "GATE g 1 O=a;\nPIN a 1.0 1 1 1 1 1 1\n") 22 0
-    ∷ refuses (text "GATE g 1 O=a;\nPIN a x 1 1 1 1 1 1") 22 0
-    ∷ refuses (text "GATE g 1 O=a;\nPIN a x 1 1 1 1 1 1\n\n") 22 0
+    ++ (refuses (text "PIN a x 1 1 1 1 1 1\nGATE g 1 O=a;\n") 22 0
+    ∷ map (λ (s : String). refuses (text s) 22 0) ("GATE g 1 O=a;\n" ∷ "GATE g 1 O=a;\nPIN b x 1 1 1 1 1 1\n" ∷
+    "GATE g 1 O=a;\nPIN a x 1 1 1 1 1\n" ∷ "GATE g 1 O=a;\nPIN a x 1 1 1 1 1 1 1\n" ∷ "GATE g 1 O=a;\nPIN a 1.0 1 1 1 1 1 1\n" ∷
+    "GATE g 1 O=a;\nPIN a x 1 1 1 1 1 1" ∷ "GATE g 1 O=a;\nPIN a x 1 1 1 1 1 1\n\n" ∷ [])
     -- a pin of a gate before does not count; a line of another kind belongs to the gate above it, a broken GATE line to none
-    ∷ refuses (text "GATE g 1 O=a;\nPIN * x 1 1 1 1 1 1\nGATE h 1 O=a;\n") 22 34
+    ++ (refuses (text "GATE g 1 O=a;\nPIN * x 1 1 1 1 1 1\nGATE h 1 O=a;\n") 22 34
     ∷ refuses (text "GATE g 1 O=CONST1;\nLATCH\nGATE h\n") 22 0
     ∷ refuses (text "GATE g 1 O=CONST1;\nGATE\n") 22 19
     -- a line's first word is its first letters, digits and underscores: `GATE.5` begins a group and `GATES` does not; a place counts the line's blanks
@@ -200,12 +170,8 @@ refusals =
     ∷ writes (text "GATE g 1 O=" ++ (each (λ (b : ℕ). text "(a)+") (replicate 17 0) ++ text "a;\nPIN a x 1 1 1 1 1 1\n")) "g 1 0002 1000 1000 0 0 0\n"
     ∷ refuses (text "GATE g 1 O=" ++ (replicate 17 40 ++ (text "a" ++ (replicate 16 41 ++ text ";\nPIN a x 1 1 1 1 1 1\n")))) 22 0
     -- 24, gate by gate
-    ∷ refuses (tie "65.536") 24 0
-    ∷ refuses (tie "1.0000") 24 0
-    ∷ refuses (tie "65.5350") 24 0
-    ∷ refuses (tie "0.0000") 24 0
-    ∷ refuses (tie "99999999999999999999999") 24 0
-    ∷ refuses (text "GATE g 1 O=a;\nPIN a x 1 1 1 1 65.536 1\n") 24 0
+    ∷ map (λ (s : String). refuses (tie s) 24 0) ("65.536" ∷ "1.0000" ∷ "65.5350" ∷ "0.0000" ∷ "99999999999999999999999" ∷ [])
+    ++ (refuses (text "GATE g 1 O=a;\nPIN a x 1 1 1 1 65.536 1\n") 24 0
     ∷ refuses (text "GATE g 1 O=a;\nPIN a x 1 1 0.0001 1 1 1\n") 24 0
     ∷ refuses (tie "1" ++ (tie "66" ++ text "\n")) 22 19
     ∷ refuses (tie "66" ++ text "GATE\n") 24 0
@@ -214,7 +180,7 @@ refusals =
     ∷ suffices (tie "1") 55 "t 0 0001 1000 0 0 0 0\n"
     ∷ lacks (tie "66") 0 24 0
     ∷ lacks [] 32 18 33
-    ∷ []
+    ∷ [])))))
 
 pub refusals-hold : T (all shows refusals)
 unfolding all shows refusals
@@ -234,12 +200,9 @@ edges =
     ∷ refuses (text "GATE g 1 O=a+b+c+d;\nPIN a x 1 1 1 1 1 1\nPIN b x 1 1 1 1 1 1\nPIN c x 1 1 1 1 1 1\n") 22 0
     ∷ refuses (text "GATE g 1 O=a+b+c+d+e;\nPIN a x 1 1 1 1 1 1\nPIN b x 1 1 1 1 1 1\nPIN c x 1 1 1 1 1 1\nPIN d x 1 1 1 1 1 1\nPIN e x 1 1 1 1 1 1\n") 23 0
     -- a PIN line fits the pin of its whole name alone: no beginning, no end, no other case of letters
-    ∷ refuses (text "GATE g 1 O=a;\nPIN ab x 1 1 1 1 1 1\n") 22 0
-    ∷ refuses (text "GATE g 1 O=ab;\nPIN a x 1 1 1 1 1 1\n") 22 0
-    ∷ refuses (text "GATE g 1 O=b;\nPIN ab x 1 1 1 1 1 1\n") 22 0
-    ∷ refuses (text "GATE g 1 O=ab;\nPIN b x 1 1 1 1 1 1\n") 22 0
-    ∷ refuses (text "GATE g 1 O=a;\nPIN A x 1 1 1 1 1 1\n") 22 0
-    ∷ writes (text "GATE g 1 O=a*ab;\nPIN ab x 1 1 2 1 2 1\nPIN a x 1 1 1 1 1 1\n") "g 2 0008 1000 1000 2000 0 0\n"
+    ∷ map (λ (s : String). refuses (text s) 22 0) ("GATE g 1 O=a;\nPIN ab x 1 1 1 1 1 1\n" ∷ "GATE g 1 O=ab;\nPIN a x 1 1 1 1 1 1\n" ∷
+    "GATE g 1 O=b;\nPIN ab x 1 1 1 1 1 1\n" ∷ "GATE g 1 O=ab;\nPIN b x 1 1 1 1 1 1\n" ∷ "GATE g 1 O=a;\nPIN A x 1 1 1 1 1 1\n" ∷ [])
+    ++ (writes (text "GATE g 1 O=a*ab;\nPIN ab x 1 1 2 1 2 1\nPIN a x 1 1 1 1 1 1\n") "g 2 0008 1000 1000 2000 0 0\n"
     ∷ writes (text "GATE g 1 O=ab*a;\nPIN a x 1 1 1 1 1 1\nPIN ab x 1 1 2 1 2 1\n") "g 2 0008 1000 2000 1000 0 0\n"
     -- bytes 32 and 9 alone are blanks: 0, 11, 12, 13, 31, 33, 127, 160 and 255 are none, between words, at a line's ends or beside signs
     ∷ writes (text "GATE" ++ (9 ∷ text "g 1 O=CONST1;\n")) "g 0 0001 1000 0 0 0 0\n"
@@ -259,13 +222,9 @@ edges =
     ∷ refuses (text "GATE g 1 O=a;\nPIN * x 1 1" ++ (12 ∷ text "1 1 1 1\n")) 22 0
     ∷ refuses (text "GATE g 1 O=CONST1;\n" ++ (12 ∷ text "GATE h 1 O=CONST1;\n")) 22 0
     -- names are of letters, digits and underscores: no figure with a point is one, as gate, output, pin or phase
-    ∷ refuses (text "GATE 1.5 1 O=CONST1;\n") 22 0
-    ∷ refuses (text "GATE g.h 1 O=CONST1;\n") 22 0
-    ∷ refuses (text "GATE g 1 1.5=CONST1;\n") 22 0
-    ∷ refuses (text "GATE g 1 O.p=CONST1;\n") 22 0
-    ∷ refuses (text "GATE * 1 O=CONST1;\n") 22 0
-    ∷ refuses (text "GATE g 1 *=CONST1;\n") 22 0
-    ∷ refuses (gate "1.5") 22 0
+    ∷ map (λ (s : String). refuses (text s) 22 0) ("GATE 1.5 1 O=CONST1;\n" ∷ "GATE g.h 1 O=CONST1;\n" ∷ "GATE g 1 1.5=CONST1;\n" ∷
+    "GATE g 1 O.p=CONST1;\n" ∷ "GATE * 1 O=CONST1;\n" ∷ "GATE g 1 *=CONST1;\n" ∷ [])
+    ++ (refuses (gate "1.5") 22 0
     ∷ refuses (text "GATE g 1 O=a;\nPIN * x 1 1 1 1 1 1\nPIN 1.5 x 1 1 1 1 1 1\n") 22 0
     ∷ writes (text "GATE 15 1 15=15;\nPIN 15 15 1 1 1 1 1 1\n") "15 1 0002 1000 1000 0 0 0\n"
     -- "the phase (any name)": no sign, and not `*`
@@ -273,23 +232,14 @@ edges =
     ∷ refuses (text "GATE g 1 O=a;\nPIN * * 1 1 1 1 1 1\n") 22 0
     ∷ refuses (text "GATE g 1 O=a;\nPIN a + 1 1 1 1 1 1\n") 22 0
     -- loads, block and fanout delays are figures, used or not
-    ∷ refuses (text "GATE g 1 O=a;\nPIN a x y 1 1 1 1 1\n") 22 0
-    ∷ refuses (text "GATE g 1 O=a;\nPIN a x * 1 1 1 1 1\n") 22 0
-    ∷ refuses (text "GATE g 1 O=a;\nPIN a x 1 y 1 1 1 1\n") 22 0
-    ∷ refuses (text "GATE g 1 O=a;\nPIN a x 1 * 1 1 1 1\n") 22 0
-    ∷ refuses (text "GATE g 1 O=a;\nPIN a x 1 1 y 1 1 1\n") 22 0
-    ∷ refuses (text "GATE g 1 O=a;\nPIN a x 1 1 1 y 1 1\n") 22 0
-    ∷ refuses (text "GATE g 1 O=a;\nPIN a x 1 1 1 1 y 1\n") 22 0
-    ∷ refuses (text "GATE g 1 O=a;\nPIN a x 1 1 1 1 1 y\n") 22 0
-    ∷ refuses (text "GATE g 1 O=a;\nPIN * x 1 1 1 1 1 1\nPIN b x 1 1. 1 1 1 1\n") 22 0
+    ∷ map (λ (s : String). refuses (text s) 22 0) ("GATE g 1 O=a;\nPIN a x y 1 1 1 1 1\n" ∷ "GATE g 1 O=a;\nPIN a x * 1 1 1 1 1\n" ∷
+    "GATE g 1 O=a;\nPIN a x 1 y 1 1 1 1\n" ∷ "GATE g 1 O=a;\nPIN a x 1 * 1 1 1 1\n" ∷ "GATE g 1 O=a;\nPIN a x 1 1 y 1 1 1\n" ∷
+    "GATE g 1 O=a;\nPIN a x 1 1 1 y 1 1\n" ∷ "GATE g 1 O=a;\nPIN a x 1 1 1 1 y 1\n" ∷ "GATE g 1 O=a;\nPIN a x 1 1 1 1 1 y\n" ∷
+    "GATE g 1 O=a;\nPIN * x 1 1 1 1 1 1\nPIN b x 1 1. 1 1 1 1\n" ∷ [])
     -- at most three decimals in a used figure: none of four, five, six, seven or ten
-    ∷ writes (tie "1.000") "t 0 0001 1000 0 0 0 0\n"
-    ∷ refuses (tie "1.0000") 24 0
-    ∷ refuses (tie "1.00000") 24 0
-    ∷ refuses (tie "1.000000") 24 0
-    ∷ refuses (tie "1.0000000") 24 0
-    ∷ refuses (tie "1.0000000000") 24 0
-    ∷ refuses (text "GATE g 1 O=a;\nPIN a x 1 1 1.000000 1 1 1\n") 24 0
+    ++ (writes (tie "1.000") "t 0 0001 1000 0 0 0 0\n"
+    ∷ map (λ (s : String). refuses (tie s) 24 0) ("1.0000" ∷ "1.00000" ∷ "1.000000" ∷ "1.0000000" ∷ "1.0000000000" ∷ [])
+    ++ (refuses (text "GATE g 1 O=a;\nPIN a x 1 1 1.000000 1 1 1\n") 24 0
     ∷ refuses (text "GATE g 1 O=a;\nPIN a x 1 1 1 1 1.000000 1\n") 24 0
     ∷ writes (text "GATE g 1 O=a;\nPIN a x 1.000000 1.000000 1 1.000000 1 1.000000\n") "g 1 0002 1000 1000 0 0 0\n"
     -- each digit of a figure counts where it stands
@@ -305,7 +255,7 @@ edges =
     ∷ refuses (text "GATE g 66 O=a+b+c+d+e;\nPIN a x 1 1 70 1 1 1\n") 22 0
     ∷ refuses (text "GATE g 66 O=a+b+c+d+e;\nPIN * x 1 1 70 1 1 1\n") 23 0
     ∷ refuses (text "GATE g 66 O=a;\nPIN a x 1 1 1 1 1 1\nPIN a x 1 1 1 1 1\n") 22 0
-    ∷ []
+    ∷ []))))
 
 pub edges-hold : T (all shows edges)
 unfolding all shows edges

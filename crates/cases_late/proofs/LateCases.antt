@@ -2,7 +2,7 @@
 -- Assumes nothing.
 use Prim.Native.Nat.{ℕ}
 use Prim.Native.String.{String}
-use mathlib.Core.List.{List, [], _∷_, _++_}
+use mathlib.Core.List.{List, [], _∷_, _++_, map}
 use lib.Dec.{T}
 use lib.ListN.{replicate}
 use Rattle.model.specs.Base.{all}
@@ -56,19 +56,15 @@ wiresRead =
     ∷ wires (wired ".gate inv A=p1 O=m1\n.names m1 o0\n1 1\n.names p1 o1\n1 1\n") (text "o0" ∷ []) (text "m1" ∷ text "o0" ∷ text "p1" ∷ text "o1" ∷ [])
     ∷ wires (wired "") (text "o0" ∷ []) []
     -- an inverter, a constant, two rows and no row are no wires
-    ∷ unread (wired ".names p1 o0\n1 0\n")
-    ∷ unread (wired ".names p1 o0\n0 1\n")
-    ∷ unread (wired ".names p1 o0\n- 1\n")
-    ∷ unread (wired ".names p1 o0\n1 1\n0 1\n")
-    ∷ unread (wired ".names p1 o0\n")
-    ∷ unread (wired ".names p1 o0\n1 1 \n")
+    ∷ map (λ (s : String). unread (wired s)) (".names p1 o0\n1 0\n" ∷ ".names p1 o0\n0 1\n" ∷ ".names p1 o0\n- 1\n" ∷
+    ".names p1 o0\n1 1\n0 1\n" ∷ ".names p1 o0\n" ∷ ".names p1 o0\n1 1 \n" ∷ [])
     -- one net or three; another keyword; a gate behind a wire; no end
-    ∷ unread (wired ".names o0\n1 1\n")
+    ++ (unread (wired ".names o0\n1 1\n")
     ∷ unread (wired ".names p1 p1 o0\n1 1\n")
     ∷ unread (wired ".name p1 o0\n1 1\n")
     ∷ unread (wired ".names p1 o0\n1 1\n.gate inv A=p1 O=m1\n")
     ∷ unread (text ".model top\n.inputs p1\n.outputs o0\n.names p1 o0\n1 1\n")
-    ∷ []
+    ∷ [])
 
 pub wires-read-hold : T (all holds wiresRead)
 unfolding all holds wiresRead
@@ -125,30 +121,13 @@ unfoldable pub lateRefusals : List Case
 unfolding library graphB arrives text
 lateRefusals =
     -- the first line: it is `input arrival` where there is one
-    refusesTimed library (text graphB) (text "\n") 32768 25 0
-    ∷ refusesTimed library (text graphB) (text "input arrival") 32768 25 0
-    ∷ refusesTimed library (text graphB) (text "input arrival \n") 32768 25 0
-    ∷ refusesTimed library (text graphB) (text "input  arrival\n") 32768 25 0
-    ∷ refusesTimed library (text graphB) (text "Input arrival\n") 32768 25 0
-    ∷ refusesTimed library (text graphB) (text "0 100\n") 32768 25 0
-    ∷ refusesTimed library (text graphB) (text "input arrival" ++ (13 ∷ 13 ∷ 10 ∷ [])) 32768 25 0
+    map (λ (s : String). refusesTimed library (text graphB) (text s) 32768 25 0) ("\n" ∷ "input arrival" ∷ "input arrival \n" ∷
+    "input  arrival\n" ∷ "Input arrival\n" ∷ "0 100\n" ∷ [])
+    ++ (refusesTimed library (text graphB) (text "input arrival" ++ (13 ∷ 13 ∷ 10 ∷ [])) 32768 25 0
     -- two numbers, one space, no leading zeros, an end
-    ∷ refusesTimed library (text graphB) (arrives "\n") 32768 25 14
-    ∷ refusesTimed library (text graphB) (arrives "0\n") 32768 25 14
-    ∷ refusesTimed library (text graphB) (arrives "0 \n") 32768 25 14
-    ∷ refusesTimed library (text graphB) (arrives "0 5 6\n") 32768 25 14
-    ∷ refusesTimed library (text graphB) (arrives "0  5\n") 32768 25 14
-    ∷ refusesTimed library (text graphB) (arrives " 0 5\n") 32768 25 14
-    ∷ refusesTimed library (text graphB) (arrives "0 5 \n") 32768 25 14
-    ∷ refusesTimed library (text graphB) (arrives "0 5") 32768 25 14
-    ∷ refusesTimed library (text graphB) (arrives "0 05\n") 32768 25 14
-    ∷ refusesTimed library (text graphB) (arrives "00 5\n") 32768 25 14
-    ∷ refusesTimed library (text graphB) (arrives "0 5a\n") 32768 25 14
-    ∷ refusesTimed library (text graphB) (arrives "0 -5\n") 32768 25 14
-    ∷ refusesTimed library (text graphB) (arrives "p1 5\n") 32768 25 14
-    ∷ refusesTimed library (text graphB) (arrives "0 65536\n") 32768 25 14
-    ∷ refusesTimed library (text graphB) (arrives "65536 0\n") 32768 25 14
-    ∷ refusesTimed library (text graphB) (arrives "0 5" ++ (13 ∷ [])) 32768 25 14
+    ∷ map (λ (s : String). refusesTimed library (text graphB) (arrives s) 32768 25 14) ("\n" ∷ "0\n" ∷ "0 \n" ∷ "0 5 6\n" ∷ "0  5\n" ∷
+    " 0 5\n" ∷ "0 5 \n" ∷ "0 5" ∷ "0 05\n" ∷ "00 5\n" ∷ "0 5a\n" ∷ "0 -5\n" ∷ "p1 5\n" ∷ "0 65536\n" ∷ "65536 0\n" ∷ [])
+    ++ (refusesTimed library (text graphB) (arrives "0 5" ++ (13 ∷ [])) 32768 25 14
     ∷ refusesTimed library (text graphB) (text "input arrival" ++ (13 ∷ 10 ∷ text "0 5" ++ (13 ∷ 10 ∷ text "1\n"))) 32768 25 20
     -- an index of I, and the largest; every index where there are no inputs
     ∷ refusesTimed library (text graphB) (arrives "2 5\n") 32768 26 14
@@ -176,7 +155,7 @@ lateRefusals =
     -- "1 covers this text too", before 2
     ∷ refusesTimed [] (text graphB) (replicate 65537 10) 32768 1 0
     ∷ refusesTimed [] (text graphB) (replicate 65536 10) 32768 2 0
-    ∷ []
+    ∷ []))
 
 pub late-refusals-hold : T (all holds lateRefusals)
 unfolding all holds lateRefusals
@@ -189,15 +168,9 @@ said =
     says listing 2 3 30
     ∷ says (listing ++ text "# timing o0 30\n") 2 3 30
     ∷ says (text ".end\n# gates 0 area 65536 arrival 1000\n") 0 65536 1000
-    ∷ saysNothing (text ".end\n")
-    ∷ saysNothing (text "# gates 2 area 3 arrival 30\n.end\n")
-    ∷ saysNothing (text ".end\n\n# gates 2 area 3 arrival 30\n")
-    ∷ saysNothing (text ".end\n# gates 2 area 3 arrival 030\n")
-    ∷ saysNothing (text ".end\n# gates 2 area 3 arrival \n")
-    ∷ saysNothing (text ".end\n# gates 2 area 3 arrival 30 \n")
-    ∷ saysNothing (text ".end\n# gates 2 area 3 arrival 3a\n")
-    ∷ saysNothing (text ".end\n# area 3 gates 2 arrival 30\n")
-    ∷ []
+    ∷ map (λ (s : String). saysNothing (text s)) (".end\n" ∷ "# gates 2 area 3 arrival 30\n.end\n" ∷
+    ".end\n\n# gates 2 area 3 arrival 30\n" ∷ ".end\n# gates 2 area 3 arrival 030\n" ∷ ".end\n# gates 2 area 3 arrival \n" ∷
+    ".end\n# gates 2 area 3 arrival 30 \n" ∷ ".end\n# gates 2 area 3 arrival 3a\n" ∷ ".end\n# area 3 gates 2 arrival 30\n" ∷ [])
 
 pub said-hold : T (all holds said)
 unfolding all holds said

@@ -3,7 +3,7 @@
 use Prim.Native.Nat.{ℕ}
 use Prim.Native.String.{String}
 use mathlib.Core.Bool.{not, _&&_}
-use mathlib.Core.List.{List, [], _∷_, _++_}
+use mathlib.Core.List.{List, [], _∷_, _++_, map}
 use lib.Dec.{T, eqb}
 use lib.ListN.{length}
 use Rattle.model.specs.Base.{all, each, below}
@@ -45,23 +45,11 @@ refusals =
     ∷ refuses (cellLines 33) "aag 0 0 0 0 0\n" 3 (length (cellLines 32))
     ∷ refuses (cellLines 32 ++ text "\n") "aag 0 0 0 0 0\n" 3 (length (cellLines 32))
     -- 4
-    ∷ refuses (with "x 0 0000 1 0 0 0\n") graphB 4 (length library)
-    ∷ refuses (with "x 0 0000 1 0 0 0 0 0\n") graphB 4 (length library)
-    ∷ refuses (with "x  0 0000 1 0 0 0 0\n") graphB 4 (length library)
-    ∷ refuses (with "x 0 0000 1 0 0 0 00\n") graphB 4 (length library)
-    ∷ refuses (with "x 01 0000 1 0 0 0 0\n") graphB 4 (length library)
-    ∷ refuses (with "x 5 0000 1 0 0 0 0\n") graphB 4 (length library)
-    ∷ refuses (with "x 0 0000 65536 0 0 0 0\n") graphB 4 (length library)
-    ∷ refuses (with "x 0 000F 1 0 0 0 0\n") graphB 4 (length library)
-    ∷ refuses (with "x 0 000g 1 0 0 0 0\n") graphB 4 (length library)
-    ∷ refuses (with "x 0 000` 1 0 0 0 0\n") graphB 4 (length library)
-    ∷ refuses (with "x 0 000: 1 0 0 0 0\n") graphB 4 (length library)
-    ∷ refuses (with "x 0 000/ 1 0 0 0 0\n") graphB 4 (length library)
-    ∷ refuses (with "x 0 00000 1 0 0 0 0\n") graphB 4 (length library)
-    ∷ refuses (with "abcdefghi 0 0000 1 0 0 0 0\n") graphB 4 (length library)
-    ∷ refuses (with "1x 0 0000 1 0 0 0 0\n") graphB 4 (length library)
-    ∷ refuses (with "_x 0 0000 1 0 0 0 0\n") graphB 4 (length library)
-    ∷ gives (with "Zz_Aa9 0 0000 1 0 0 0 0\n") graphB 2 30
+    ∷ map (λ (s : String). refuses (with s) graphB 4 (length library)) ("x 0 0000 1 0 0 0\n" ∷ "x 0 0000 1 0 0 0 0 0\n" ∷
+    "x  0 0000 1 0 0 0 0\n" ∷ "x 0 0000 1 0 0 0 00\n" ∷ "x 01 0000 1 0 0 0 0\n" ∷ "x 5 0000 1 0 0 0 0\n" ∷ "x 0 0000 65536 0 0 0 0\n" ∷
+    "x 0 000F 1 0 0 0 0\n" ∷ "x 0 000g 1 0 0 0 0\n" ∷ "x 0 000` 1 0 0 0 0\n" ∷ "x 0 000: 1 0 0 0 0\n" ∷ "x 0 000/ 1 0 0 0 0\n" ∷
+    "x 0 00000 1 0 0 0 0\n" ∷ "abcdefghi 0 0000 1 0 0 0 0\n" ∷ "1x 0 0000 1 0 0 0 0\n" ∷ "_x 0 0000 1 0 0 0 0\n" ∷ [])
+    ++ (gives (with "Zz_Aa9 0 0000 1 0 0 0 0\n") graphB 2 30
     ∷ refuses (with "x 0 0000 1 0 0 0 0") graphB 4 (length library)
     ∷ refuses (with "\n") graphB 4 (length library)
     ∷ gives (with "a_345678 4 ffff 65535 65535 0 0 0\n") graphB 2 30
@@ -73,16 +61,9 @@ refusals =
     ∷ refuses (with "x 1 0004 1 0 0 0 0\n") graphB 6 (length library)
     ∷ refuses (with "x 1 0002 1 0 5 0 0\n") graphB 6 (length library)
     -- 7, 8, 9
-    ∷ refuses library "" 7 0
-    ∷ refuses library "aag 0 0 0 0 0" 7 0
-    ∷ refuses library "aag 0 0 0 0\n" 7 0
-    ∷ refuses library "aag 0 0 0 0 0 0\n" 7 0
-    ∷ refuses library "aigx 0 0 0 0 0\n" 7 0
-    ∷ refuses library "AIG 0 0 0 0 0\n" 7 0
-    ∷ refuses library "aig\n" 7 0
-    ∷ refuses library "aig 0 0 0 0 0" 7 0
-    ∷ refuses library "aag 65536 0 0 0 0\n" 7 0
-    ∷ refuses library "aag 1 0 1 0 0\n2 2\n" 8 0
+    ∷ map (λ (s : String). refuses library s 7 0) ("" ∷ "aag 0 0 0 0 0" ∷ "aag 0 0 0 0\n" ∷ "aag 0 0 0 0 0 0\n" ∷ "aigx 0 0 0 0 0\n" ∷
+    "AIG 0 0 0 0 0\n" ∷ "aig\n" ∷ "aig 0 0 0 0 0" ∷ "aag 65536 0 0 0 0\n" ∷ [])
+    ++ (refuses library "aag 1 0 1 0 0\n2 2\n" 8 0
     ∷ refuses library "aag 4096 0 1 0 0\n" 8 0
     ∷ refuses library "aag 4096 0 0 0 0\n" 9 0
     ∷ refuses library "aag 0 0 0 4097 0\n" 9 0
@@ -125,7 +106,7 @@ refusals =
     -- 18, and the words that are enough
     ∷ suffices library graphB 497 134 2 30
     ∷ lacks library graphB 497 133 18 134
-    ∷ []
+    ∷ []))
 
 -- each refusal is given where it is due
 pub refusals-hold : T (all holds refusals)
@@ -271,13 +252,9 @@ ends =
     ∷ refuses (text "cell\r pins table area d0 d1 d2 d3\n") graphB 2 0
     ∷ refuses (text "cell pins table area d0 d1 d2 d3\r\r\n") graphB 2 0
     ∷ refuses (text "\r\n") graphB 2 0
-    ∷ refuses (longWith "x\r 0 0000 1 0 0 0 0\n") graphB 4 83
-    ∷ refuses (longWith "x 0 0000\r 1 0 0 0 0\n") graphB 4 83
-    ∷ refuses (longWith "x 0 0000 1 0 0 0 0\r") graphB 4 83
-    ∷ refuses (longWith "x 0 0000 1 0 0 0 0\r\r\n") graphB 4 83
-    ∷ refuses (longWith "x 0 0000 1 0 0 0 0\rx 0 0000 1 0 0 0 0\n") graphB 4 83
-    ∷ refuses (longWith "\r\n") graphB 4 83
-    ∷ refuses library "aag 3 2 0 1 1\r2\n" 7 0
+    ∷ map (λ (s : String). refuses (longWith s) graphB 4 83) ("x\r 0 0000 1 0 0 0 0\n" ∷ "x 0 0000\r 1 0 0 0 0\n" ∷ "x 0 0000 1 0 0 0 0\r" ∷
+    "x 0 0000 1 0 0 0 0\r\r\n" ∷ "x 0 0000 1 0 0 0 0\rx 0 0000 1 0 0 0 0\n" ∷ "\r\n" ∷ [])
+    ++ (refuses library "aag 3 2 0 1 1\r2\n" 7 0
     ∷ refuses library "aag 0 0 0 0 0\r" 7 0
     ∷ refuses library "aag 0 0 0 0 0\r\r\n" 7 0
     ∷ refuses library "aag\r 0 0 0 0 0\n" 7 0
@@ -300,7 +277,7 @@ ends =
     ∷ refusesBytes (text "aig 3 2 0 1 1\r\n6\n" ++ (2 ∷ 2 ∷ [])) 32768 7 0
     ∷ refusesBytes (text "aig 3 2 0 2 1\n6\n6\r\n" ++ (2 ∷ 2 ∷ [])) 32768 11 16
     ∷ hasAnd (text "aig 13 12 0 0 1\n" ++ (13 ∷ 10 ∷ [])) 13 13 3
-    ∷ []
+    ∷ [])
 
 -- both ends are read, and nothing else is one
 pub ends-hold : T (all holds ends)

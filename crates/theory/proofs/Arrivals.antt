@@ -3,7 +3,7 @@
 use Prim.Native.Nat.{ℕ, zero, suc, _+_, _-_, _≤_, _<_, max}
 use native.Mathlib.Omega.{arith}
 use mathlib.Core.Path.{_≡_, refl, sym, _∙_, ap, ap₂, subst}
-use mathlib.Core.Bool.{Bool, true, false, cond, true≢false}
+use mathlib.Core.Bool.{Bool, false, cond, true≢false}
 use mathlib.Core.List.{List, [], _∷_, map, List·Memᴰ, List·Memᴰ·head, List·Memᴰ·tail, head-eq-of-cons-eq, tail-eq-of-cons-eq}
 use lib.Dec.{ltb}
 use lib.ListN.{length, take, drop, getD, length-take, length-drop}
@@ -60,15 +60,11 @@ latest-getD : (ts ds es : List ℕ) → ((j : ℕ) → j < length ts → getD ds
 unfolding latest
 latest-getD [] ds es h = refl
 latest-getD (t ∷ ts) [] [] h = refl
-latest-getD (t ∷ ts) [] (e ∷ es) h =
-    let q : 0 ≡ e = h 0 (omega arith) in
-    ap₂ max (let p : t ≡ t + e = omega arith in p) (latest-getD ts [] es (λ j k. h (suc j) (omega arith)))
-latest-getD (t ∷ ts) (d ∷ ds) [] h =
-    let q : d ≡ 0 = h 0 (omega arith) in
-    ap₂ max (let p : t + d ≡ t = omega arith in p) (latest-getD ts ds [] (λ j k. h (suc j) (omega arith)))
-latest-getD (t ∷ ts) (d ∷ ds) (e ∷ es) h =
-    let q : d ≡ e = h 0 (omega arith) in
-    ap₂ max (ap (λ (x : ℕ). t + x) q) (latest-getD ts ds es (λ j k. h (suc j) (omega arith)))
+latest-getD (t ∷ ts) [] (e ∷ es) h = ap₂ max (let p : t ≡ t + e = omega (arith, h 0 (omega arith)) in p)
+    (latest-getD ts [] es (λ j k. h (suc j) (omega (arith, h 0 (omega arith)))))
+latest-getD (t ∷ ts) (d ∷ ds) [] h = ap₂ max (let p : t + d ≡ t = omega (arith, h 0 (omega arith)) in p)
+    (latest-getD ts ds [] (λ j k. h (suc j) (omega (arith, h 0 (omega arith)))))
+latest-getD (t ∷ ts) (d ∷ ds) (e ∷ es) h = let q : d ≡ e = h 0 (omega arith) in cc (latest-getD ts ds es (λ j k. h (suc j) (omega arith)))
 
 latest-padded : (ts ds : List ℕ) → length ts ≤ 4 → latest ts ds ≡ latest ts (padded ds)
 unfolding padded
@@ -190,13 +186,18 @@ module _ (listed cells : List Cell) (fit : Fitting listed cells) (g : Graph) (ok
 
       go : Numbered listed cells k → phaseDelays listed cells g (λ t. pick (named listed (t .cell))) l ≡ pick (cellAt cells k)
       go (single h e) = delays-single (λ t. pick (named listed (t .cell))) l h ∙ ap pick (single-bound listed cells fit k ins l (c .pins) h e .bound .isCell ∙ sym e)
-      go (double h o e) =
-          delays-double (λ t. pick (named listed (t .cell))) l h
-          ∙ ap₂ (λ (x y : Cell). pairDelays (fedPin listed k ins l) (innerCell listed k ins l .pins) (padded (pick x)) (padded (pick y)))
-          (root-bound listed cells fit k ins l (c .pins) o e .bound .isCell) (inner-bound listed cells fit k ins l (c .pins) o e .bound .isCell)
-          ∙ ap₂ (λ (x y : List ℕ). pairDelays (fedPin listed k ins l) (innerCell listed k ins l .pins) x y)
-          (padded-same (pick (rootCell listed k ins l)) (four (rootCell listed k ins l) (o .hasRoot))) (padded-same (pick (innerCell listed k ins l)) (four (innerCell listed k ins l) (o .hasInner)))
-          ∙ sym (ap pick e ∙ join (rootCell listed k ins l) (innerCell listed k ins l) (fedPin listed k ins l))
+      go (double h o e) = cc (
+        delays-double (λ t. pick (named listed (t .cell))) l h,
+        root-bound listed cells fit k ins l
+            (c .pins) o e .bound .isCell,
+        inner-bound listed cells fit k ins l (c .pins) o e .bound .isCell,
+        padded-same
+            (pick (rootCell listed k ins l)) (four (rootCell listed k ins l) (o .hasRoot)),
+        padded-same (pick (innerCell listed k ins l))
+            (four (innerCell listed k ins l) (o .hasInner)),
+        join (rootCell listed k ins l) (innerCell listed k ins l)
+            (fedPin listed k ins l),
+      )
 
   -- ---- nets and phases
 
@@ -223,14 +224,10 @@ module _ (listed cells : List Cell) (fit : Fitting listed cells) (g : Graph) (ok
     -- any arrivals of the nets that are by the rule are the phases'
     pub net-on : (at : List ℕ → ℕ) → NetTimes listed delays (blifOf g (chosenGates listed cells g)) (map (g .late) (g .inputs)) at → (l : ℕ) → NeedsOf cells g l → at (netName l) ≡ arr l
     unfolding blifOf
-    net-on at h = nets-are listed cells fit g ok present-outputs 0 lineTime arr rule at (h .atGates) own
-      where
-        own : (l : ℕ) → NeedsOf cells g l → isOwn (sourceOf cells g l) ≡ true → at (netName l) ≡ arr l
-        own l n e =
-            let o : IsOwn g l = own-source listed cells fit g ok present-outputs l n e in
-            let q : literal false (varOf l) ≡ l = own-value listed cells fit g ok present-outputs (λ u. false) l o .0 in
-            ap (λ (k : ℕ). at (netName k)) (sym q) ∙ input-at g at (g .inputs) (h .atInputs) (varOf l) (o .isInput)
-            ∙ sym (ap arr (sym q) ∙ follows .atInput (varOf l) (o .isInput))
+    net-on at h = nets-are listed cells fit g ok present-outputs 0 lineTime arr rule at (h .atGates) (λ l n e.
+        let o : IsOwn g l = own-source listed cells fit g ok present-outputs l n e in let q : literal false
+        (varOf l) ≡ l = own-value listed cells fit g ok present-outputs (λ u. false) l o .0 in ap (λ (k : ℕ). at (netName k)) (sym q)
+        ∙ input-at g at (g .inputs) (h .atInputs) (varOf l) (o .isInput) ∙ sym (ap arr (sym q) ∙ follows .atInput (varOf l) (o .isInput)))
 
   -- ---- the chosen arrivals
 
@@ -281,12 +278,11 @@ module _ (listed cells : List Cell) (fit : Fitting listed cells) (g : Graph) (ok
     pub retimed-follows : Follows listed cells g delays (retimed cells g (sourceOf cells g) by)
     unfolding timeBy isOwn feeds latest absent
     retimed-follows = record {
-      atInput = λ v m.
-          let e : sourceOf cells g (literal false v) ≡ Input = own-chosen cells g (order-once g ok) (literal false v) (own-net listed cells fit g ok present-outputs v m) in
-          retimed-rule cells g (order-once g ok) by (literal false v) (ap absent e) ∙ ap (timeBy cells g (by (literal false v)) times (literal false v)) e ∙ ap (g .late) (lit-var false v);
-      atGate = λ l n e.
-          retimed-rule cells g (order-once g ok) by l (present listed cells fit g ok present-outputs l n) ∙ rule-of l (sourceOf cells g l) e
-          ∙ ap (latest (map times (fedAt cells g l))) (same l (record { needs = n; notOwn = e }));
+      atInput = λ v m. let e : sourceOf cells g (literal false v) ≡ Input = own-chosen cells g (order-once g ok) (literal false v)
+          (own-net listed cells fit g ok present-outputs v m) in retimed-rule cells g (order-once g ok) by (literal false v)
+          (ap absent e) ∙ ap (timeBy cells g (by (literal false v)) times (literal false v)) e ∙ ap (g .late) (lit-var false v);
+      atGate = λ l n e. retimed-rule cells g (order-once g ok) by l (present listed cells fit g ok present-outputs l n)
+          ∙ rule-of l (sourceOf cells g l) e ∙ ap (latest (map times (fedAt cells g l))) (same l (record { needs = n; notOwn = e }));
     }
       where
         rule-of : (l : ℕ) (s : Source) → isOwn s ≡ false → timeBy cells g (by l) times l s ≡ latest (map times (feeds cells (cutsOf g) l s)) (by l)

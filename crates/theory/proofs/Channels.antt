@@ -20,7 +20,7 @@ use Rattle.model.specs.Netlist.{Outcome, refused, mapped, mapGraph}
 use Rattle.model.specs.Timing.{followed}
 use Rattle.model.specs.Mapper.{Call, Design, designOf, short, readListed, readTexts, within, mapDesign, mapTexts, answerOf, returnedBy, triedEarly, workAfter}
 use Rattle.model.specs.Channels.{Channel, TwoCall, alone, needOf, Needs, needsOf, Outcomes, mapNeeds, mapTwo, answersOf, twoWorkAfter}
-use Rattle.model.specs.Demands.{Decided, Means, AlikeTexts}
+use Rattle.model.specs.Demands.{Means, AlikeTexts}
 use Rattle.promises.specs.Promised.{Fits, Promised}
 use Rattle.promises.specs.TwoDemands.{Alone, TogetherRefused, Neither, Independent, Each, onText, TwinChannels, AlikeChannels, EitherEndTwo, TwoPromised}
 use Rattle.model.specs.declared.Cell.{Cell}
@@ -38,6 +38,7 @@ use Rattle.theory.proofs.Refusals.{Refusal, within-refusal, followed-re
 use Rattle.theory.proofs.Sequence.{demand-sequenced}
 use Rattle.theory.proofs.Demanded.{demand-values, demand-earliest, demand-untimed, demand-twins, decided}
 use Rattle.theory.proofs.Shuffles.{demand-shuffles}
+use Rattle.theory_graph.proofs.Split.{by-bool, by-read}
 
 -- a refusal, whatever was to be read
 other : {A B : Type 0} → Read A → Read B
@@ -49,9 +50,8 @@ other (fault n k) = fault n k
 module _ (paired : Bool) (library : List ℕ) (ch : Channel) where
   -- what is read behind 10
   abbrev behind : List Cell → Header → Read Design
-  behind cells h =
-      next (readGraph (ch .graph) h) (λ g.
-      next (readArrivals (h .inputs) (ch .arrivals)) (λ es. holds (designOf (alone paired library ch 0) cells (timedBy g es))))
+  behind cells h = next (readGraph (ch .graph) h)
+      (λ g. next (readArrivals (h .inputs) (ch .arrivals)) (λ es. holds (designOf (alone paired library ch 0) cells (timedBy g es))))
 
   -- what is read where no refusal tried before 10 applies
   record Read10 (a : ℕ) : Type 0 where
@@ -74,21 +74,15 @@ module _ (paired : Bool) (library : List ℕ) (ch : Channel) where
   reads-are : (a : ℕ) (r : Read10 a) (words : ℕ) → readTexts (alone paired library ch words) ≡ unless (leb a words) 10 0 (behind (r .cells) (r .header))
   unfolding readTexts next unless
   reads-are a r words =
+      let lent : List Cell → Header → Read Design = λ cells h. unless (leb (need (h .size) (h .outputs)) words) 10 0 (behind cells h) in
+      let read : List Cell → Read Design = λ cells. next (readHeader (ch .graph)) (lent cells) in
       ap (λ (b : Bool). unless b 1 0 (next (readListed paired library) read)) (r .isShort)
-      ∙ ap (λ (x : Read (List Cell)). next x read) (r .isLibrary)
-      ∙ ap (λ (x : Read Header). next x (lent (r .cells))) (r .isHeader)
+      ∙ ap (λ (x : Read (List Cell)). next x read) (r .isLibrary) ∙ ap (λ (x : Read Header). next x (lent (r .cells))) (r .isHeader)
       ∙ ap (λ (n : ℕ). unless (leb n words) 10 0 (behind (r .cells) (r .header))) (r .isNeed)
-    where
-      lent : List Cell → Header → Read Design
-      lent cells h = unless (leb (need (h .size) (h .outputs)) words) 10 0 (behind cells h)
-
-      read : List Cell → Read Design
-      read cells = next (readHeader (ch .graph)) (lent cells)
 
   reads-enough : (a : ℕ) (r : Read10 a) (words : ℕ) → a ≤ words → readTexts (alone paired library ch words) ≡ behind (r .cells) (r .header)
   unfolding unless
-  reads-enough a r words h =
-      reads-are a r words ∙ ap (λ (b : Bool). unless b 10 0 (behind (r .cells) (r .header))) (is-true (leb a words) (le→leb a words h))
+  reads-enough a r words h = cc (reads-are a r words, is-true (leb a words) (le→leb a words h))
 
   reads-short : (a : ℕ) (r : Read10 a) (words : ℕ) → words < a → readTexts (alone paired library ch words) ≡ fault 10 0
   unfolding unless
@@ -118,27 +112,17 @@ module _ (paired : Bool) (library : List ℕ) (ch : Channel) where
 
   alone-tried : (n k : ℕ) → needOf paired library ch ≡ fault n k → Early n k
   unfolding needOf
-  alone-tried = faults .has
-    where
-      faults : Faults Early (needOf paired library ch)
-      faults =
-          in-unless Early (short (alone paired library ch 0)) 1 0 _ (λ _. (refl, λ q. omega arith))
-          (in-next Early (readListed paired library) _
-          (listed-faults Early (refl, λ q. omega arith) (λ _. (refl, λ q. omega arith)) (λ _. (refl, λ q. omega arith)) (λ _. (refl, λ q. omega arith)) (λ _. (refl, λ q. omega arith)) (λ _. (refl, λ q. omega arith)) (refl, λ q. omega arith) paired library)
-          (λ cells _. in-next Early (readHeader (ch .graph)) (λ h. holds (need (h .size) (h .outputs)))
-          (header-faults Early (refl, λ q. omega arith) (refl, λ q. omega arith) (refl, λ q. omega arith) (refl, λ q. omega arith) (ch .graph))
-          (λ h _. in-holds Early (need (h .size) (h .outputs)))))
+  alone-tried =
+      let faults = in-unless Early (short (alone paired library ch 0)) 1 0 _ (λ _. (refl, λ q. omega arith))
+      (in-next Early (readListed paired library) _ (listed-faults Early (refl, λ q. omega arith) (λ _. (refl, λ q. omega arith))
+      (λ _. (refl, λ q. omega arith)) (λ _. (refl, λ q. omega arith)) (λ _. (refl, λ q. omega arith)) (λ _. (refl, λ q. omega arith))
+      (refl, λ q. omega arith) paired library) (λ cells _. in-next Early (readHeader (ch .graph)) (λ h. holds (need (h .size) (h .outputs)))
+      (header-faults Early (refl, λ q. omega arith) (refl, λ q. omega arith) (refl, λ q. omega arith) (refl, λ q. omega arith) (ch .graph))
+      (λ h _. in-holds Early (need (h .size) (h .outputs))))) in
+      faults .has
 
   abbrev Late10 : ℕ → ℕ → Type 0
   Late10 n k = triedEarly n ≡ false
-
-  behind-late : (cells : List Cell) (h : Header) → Faults Late10 (behind cells h)
-  unfolding next
-  behind-late cells h =
-      in-next Late10 (readGraph (ch .graph) h) _ (graph-faults Late10 (λ _. refl) (λ _. refl) (λ _. refl) (λ _. refl) (λ _. refl) (λ _. refl) (ch .graph) h)
-      (λ g _. in-next Late10 (readArrivals (h .inputs) (ch .arrivals)) (λ es. holds (designOf (alone paired library ch 0) cells (timedBy g es)))
-      (arrivals-faults Late10 (λ _. refl) (λ _. refl) (h .inputs) (ch .arrivals))
-      (λ es _. in-holds Late10 (designOf (alone paired library ch 0) cells (timedBy g es))))
 
   design-late : (r : Read Design) → Faults Late10 r → Refusal Late10 (mapDesign (ch .bytes) r)
   unfolding mapDesign
@@ -150,16 +134,18 @@ module _ (paired : Bool) (library : List ℕ) (ch : Channel) where
   -- with words enough no refusal tried up to 10 comes
   alone-late : (a : ℕ) → needOf paired library ch ≡ holds a → (words : ℕ) → a ≤ words → (n k : ℕ) → mapTexts (alone paired library ch words) ≡ refused n k → triedEarly n ≡ false
   unfolding mapTexts
-  alone-late a e words h n k q =
-      let r = read-10 a e in
-      subst (Refusal Late10) (ap (mapDesign (ch .bytes)) (sym (reads-enough a r words h)) ∙ q) (design-late (behind (r .cells) (r .header)) (behind-late (r .cells) (r .header)))
+  alone-late a e words h n k q = subst (Refusal Late10) (ap (mapDesign (ch .bytes)) (sym (reads-enough a (read-10 a e) words h)) ∙ q)
+      (design-late (behind (read-10 a e .cells) (read-10 a e .header)) (in-next Late10 (readGraph (ch .graph) (read-10 a e .header)) _
+      (graph-faults Late10 (λ _. refl) (λ _. refl) (λ _. refl) (λ _. refl) (λ _. refl) (λ _. refl) (ch .graph) (read-10 a e .header))
+      (λ g _. in-next Late10 (readArrivals ((read-10 a e .header) .inputs) (ch .arrivals))
+      (λ es. holds (designOf (alone paired library ch 0) (read-10 a e .cells) (timedBy g es)))
+      (arrivals-faults Late10 (λ _. refl) (λ _. refl) ((read-10 a e .header) .inputs) (ch .arrivals))
+      (λ es _. in-holds Late10 (designOf (alone paired library ch 0) (read-10 a e .cells) (timedBy g es))))))
 
   alone-ten : (a : ℕ) → needOf paired library ch ≡ holds a → (words : ℕ) → (mapTexts (alone paired library ch words) ≡ refused 10 0) ↔ (words < a)
   unfolding mapTexts mapDesign
-  alone-ten a e words = (
-    (λ q. lacks (leb a words) leb-yes leb-no q),
-    (λ h. ap (mapDesign (ch .bytes)) (reads-short a (read-10 a e) words h)),
-  )
+  alone-ten a e words =
+      ((λ q. lacks (leb a words) leb-yes leb-no q), (λ h. ap (mapDesign (ch .bytes)) (reads-short a (read-10 a e) words h)))
     where
       lacks : (b : Bool) → (T b → a ≤ words) → (T (not b) → words < a) → mapTexts (alone paired library ch words) ≡ refused 10 0 → words < a
       lacks true y z q = absurd (false≢true (sym (alone-late a e words (y tt) 10 0 q)))
@@ -184,13 +170,8 @@ channel-alone paired library ch = record {
 -- where neither has a refusal tried up to 10, the needs are each channel's own
 neither-needs : (c : TwoCall) (e : Neither c) → needsOf c ≡ holds (record { first = e .first; second = e .second })
 unfolding needsOf next unless
-neither-needs c e =
-    ap (λ (r : Read ℕ). next r (λ a. next (needOf (c .paired) (c .library) (c .second)) (λ b. lent a b))) (e .needsFirst)
-    ∙ ap (λ (r : Read ℕ). next r (lent (e .first))) (e .needsSecond)
-    ∙ ap (λ (b : Bool). unless b 10 0 (holds (record { first = e .first; second = e .second }))) (is-true (leb (e .first + e .second) (c .words)) (le→leb (e .first + e .second) (c .words) (e .enough)))
-  where
-    lent : ℕ → ℕ → Read Needs
-    lent a b = unless (leb (a + b) (c .words)) 10 0 (holds (record { first = a; second = b }))
+neither-needs c e = cc
+    (e .needsFirst, e .needsSecond, is-true (leb (e .first + e .second) (c .words)) (le→leb (e .first + e .second) (c .words) (e .enough)))
 
 -- and it is so wherever there are needs
 needs-neither : (c : TwoCall) (n : Needs) → needsOf c ≡ holds n → Neither c
@@ -209,20 +190,17 @@ neither-outcomes c e = ap (mapNeeds c) (neither-needs c e)
 
 pub together-refused : (c : TwoCall) → TogetherRefused c
 unfolding mapTwo mapNeeds needsOf next unless
-together-refused c = record {
-  first = λ n k e. ap (λ (r : Read ℕ). mapNeeds c (next r behindFirst)) e;
-  second = λ a n k d e. ap (λ (r : Read ℕ). mapNeeds c (next r behindFirst)) d ∙ ap (λ (r : Read ℕ). mapNeeds c (next r (lent a))) e;
-  ten = λ a b d e h.
-      ap (λ (r : Read ℕ). mapNeeds c (next r behindFirst)) d ∙ ap (λ (r : Read ℕ). mapNeeds c (next r (lent a))) e
-      ∙ ap (λ (x : Bool). mapNeeds c (unless x 10 0 (holds (record { first = a; second = b })))) (lacks (a + b) h (leb (a + b) (c .words)) leb-yes);
-}
+together-refused c =
+    let lent : ℕ → ℕ → Read Needs = λ a b. unless (leb (a + b) (c .words)) 10 0 (holds (record { first = a; second = b })) in
+    let behindFirst : ℕ → Read Needs = λ a. next (needOf (c .paired) (c .library) (c .second)) (lent a) in
+    record {
+      first = λ n k e. ap (λ (r : Read ℕ). mapNeeds c (next r behindFirst)) e;
+      second = λ a n k d e. ap (λ (r : Read ℕ). mapNeeds c (next r behindFirst)) d ∙ ap (λ (r : Read ℕ). mapNeeds c (next r (lent a))) e;
+      ten = λ a b d e h.
+          ap (λ (r : Read ℕ). mapNeeds c (next r behindFirst)) d ∙ ap (λ (r : Read ℕ). mapNeeds c (next r (lent a))) e
+          ∙ ap (λ (x : Bool). mapNeeds c (unless x 10 0 (holds (record { first = a; second = b })))) (lacks (a + b) h (leb (a + b) (c .words)) leb-yes);
+    }
   where
-    lent : ℕ → ℕ → Read Needs
-    lent a b = unless (leb (a + b) (c .words)) 10 0 (holds (record { first = a; second = b }))
-
-    behindFirst : ℕ → Read Needs
-    behindFirst a = next (needOf (c .paired) (c .library) (c .second)) (lent a)
-
     lacks : (s : ℕ) → c .words < s → (b : Bool) → (T b → s ≤ c .words) → b ≡ false
     lacks s h true y = absurd (let z : s ≤ c .words = y tt in omega arith)
     lacks s h false y = refl
@@ -251,35 +229,30 @@ module _ (work : List ℕ) where
 -- the refusals of the needs are tried up to 10
 needs-tried : (c : TwoCall) (n k : ℕ) → needsOf c ≡ fault n k → triedEarly n ≡ true
 unfolding needsOf
-needs-tried c = faults .has
-  where
-    Tried : ℕ → ℕ → Type 0
-    Tried n k = triedEarly n ≡ true
-
-    faults : Faults Tried (needsOf c)
-    faults =
-        in-next Tried (needOf (c .paired) (c .library) (c .first)) _ (record { has = λ n k e. alone-tried (c .paired) (c .library) (c .first) n k e .0 })
-        (λ a _. in-next Tried (needOf (c .paired) (c .library) (c .second)) _ (record { has = λ n k e. alone-tried (c .paired) (c .library) (c .second) n k e .0 })
-        (λ b _. in-unless Tried (leb (a + b) (c .words)) 10 0 (holds (record { first = a; second = b })) (λ _. refl) (in-holds Tried (record { first = a; second = b }))))
+needs-tried c =
+    let Tried : ℕ → ℕ → Type 0 = λ n k. triedEarly n ≡ true in
+    let faults : Faults Tried (needsOf c) = in-next Tried (needOf (c .paired) (c .library) (c .first)) _
+    (record { has = λ n k e. alone-tried (c .paired) (c .library) (c .first) n k e .0 }) (λ a _.
+    in-next Tried (needOf (c .paired) (c .library) (c .second)) _
+    (record { has = λ n k e. alone-tried (c .paired) (c .library) (c .second) n k e .0 }) (λ b _.
+    in-unless Tried (leb (a + b) (c .words)) 10 0 (holds (record { first = a; second = b })) (λ _. refl)
+    (in-holds Tried (record { first = a; second = b })))) in
+    faults .has
 
 works : (c : TwoCall) (work : List ℕ) → (twoWorkAfter (needsOf c) work ≡ workAfter (mapTwo c .first) work) × (twoWorkAfter (needsOf c) work ≡ workAfter (mapTwo c .second) work)
-works c work = go (needsOf c) refl
-  where
-    go : (r : Read Needs) → needsOf c ≡ r → (twoWorkAfter (needsOf c) work ≡ workAfter (mapTwo c .first) work) × (twoWorkAfter (needsOf c) work ≡ workAfter (mapTwo c .second) work)
-    go (fault n k) q =
-        let l : twoWorkAfter (needsOf c) work ≡ work = ap (λ (r : Read Needs). twoWorkAfter r work) q ∙ (unfold twoWorkAfter in refl) in
-        let o : mapTwo c ≡ record { first = refused n k; second = refused n k } = unfold mapTwo mapNeeds in ap (mapNeeds c) q in
-        let t = kept-early work n k (needs-tried c n k q) in (
-          l ∙ t ∙ ap (λ (x : Outcomes). workAfter (x .first) work) (sym o),
-          l ∙ t ∙ ap (λ (x : Outcomes). workAfter (x .second) work) (sym o),
-        )
-    go (holds n) q =
-        let e = needs-neither c n q in
-        let l : twoWorkAfter (needsOf c) work ≡ replicate (length work) 0 = ap (λ (r : Read Needs). twoWorkAfter r work) q ∙ (unfold twoWorkAfter in refl) in
-        let o = neither-outcomes c e in (
-          l ∙ cleared-late work (c .paired) (c .library) (c .first) (e .first) (e .needsFirst) ∙ ap (λ (x : Outcomes). workAfter (x .first) work) (sym o),
-          l ∙ cleared-late work (c .paired) (c .library) (c .second) (e .second) (e .needsSecond) ∙ ap (λ (x : Outcomes). workAfter (x .second) work) (sym o),
-        )
+works c work = by-read (needsOf c) (λ e p. let e = needs-neither c e p in let l : twoWorkAfter (needsOf c) work ≡ replicate
+    (length work) 0 = ap (λ (r : Read Needs). twoWorkAfter r work) p ∙ (unfold twoWorkAfter in refl) in let o = neither-outcomes c e in (
+      l
+          ∙ cleared-late work (c .paired) (c .library) (c .first) (e .first) (e .needsFirst)
+          ∙ ap (λ (x : Outcomes). workAfter (x .first) work) (sym o),
+      l
+          ∙ cleared-late work (c .paired) (c .library) (c .second) (e .second) (e .needsSecond)
+          ∙ ap (λ (x : Outcomes). workAfter (x .second) work) (sym o),
+    )) (λ n k q.
+    let l : twoWorkAfter (needsOf c) work ≡ work = ap (λ (r : Read Needs). twoWorkAfter r work) q ∙ (unfold twoWorkAfter in refl) in
+    let o : mapTwo c ≡ record { first = refused n k; second = refused n k } = unfold mapTwo mapNeeds in ap (mapNeeds c) q in
+    let t = kept-early work n k (needs-tried c n k q) in
+    (l ∙ t ∙ ap (λ (x : Outcomes). workAfter (x .first) work) (sym o), l ∙ t ∙ ap (λ (x : Outcomes). workAfter (x .second) work) (sym o)))
 
 -- "A channel's netlist or refusal depends on the library, its own graph, arrivals and text length, and nothing of the other's"
 pub independent : (c : TwoCall) → Independent c
@@ -304,19 +277,13 @@ independent c = record {
 within-fits : (bytes : ℕ) (o : Outcome) → Fits (answerOf (within bytes o)) bytes
 unfolding within answerOf
 within-fits bytes (refused n k) = tt
-within-fits bytes (mapped t f) = go (leb (length t) bytes) (leb→le (length t) bytes)
-  where
-    go : (b : Bool) → (T b → length t ≤ bytes) → Fits (answerOf (cond b (mapped t f) (refused 18 (length t)))) bytes
-    go true y = y tt
-    go false y = tt
+within-fits bytes (mapped t f) = by-bool (leb (length t) bytes) (λ e. rw e ((rw e at (leb→le (length t) bytes)) tt)) (λ q. rw q tt)
 
 pub texts-fit : (c : Call) → Fits (answerOf (mapTexts c)) (c .bytes)
 unfolding mapTexts mapDesign
-texts-fit c = go (readTexts c)
-  where
-    go : (r : Read Design) → Fits (answerOf (mapDesign (c .bytes) r)) (c .bytes)
-    go (holds d) = within-fits (c .bytes) (followed (d .ranged) (d .cells) (d .graph) (mapGraph (d .listed) (d .cells) (d .graph)))
-    go (fault n k) = unfold answerOf in tt
+texts-fit c = by-read (readTexts c)
+    (λ d e. rw e (within-fits (c .bytes) (followed (d .ranged) (d .cells) (d .graph) (mapGraph (d .listed) (d .cells) (d .graph)))))
+    (λ n k q. rw q (unfold answerOf in tt))
 
 pub promised : (c : Call) → Promised c
 promised c = record {
@@ -336,19 +303,11 @@ promised c = record {
 -- a channel is mapped only where neither has a refusal tried up to 10
 first-mapped : (c : TwoCall) (t : List ℕ) (f : Figures) → mapTwo c .first ≡ mapped t f → Neither c
 unfolding mapTwo mapNeeds
-first-mapped c t f = go (needsOf c) refl
-  where
-    go : (r : Read Needs) → needsOf c ≡ r → mapNeeds c r .first ≡ mapped t f → Neither c
-    go (fault n k) q e = absurd (refused-never e)
-    go (holds n) q e = needs-neither c n q
+first-mapped c t f = λ x. by-read (needsOf c) (λ e p. needs-neither c e p) (λ n k q. absurd (refused-never (rw q at x)))
 
 second-mapped : (c : TwoCall) (t : List ℕ) (f : Figures) → mapTwo c .second ≡ mapped t f → Neither c
 unfolding mapTwo mapNeeds
-second-mapped c t f = go (needsOf c) refl
-  where
-    go : (r : Read Needs) → needsOf c ≡ r → mapNeeds c r .second ≡ mapped t f → Neither c
-    go (fault n k) q e = absurd (refused-never e)
-    go (holds n) q e = needs-neither c n q
+second-mapped c t f = λ x. by-read (needsOf c) (λ e p. needs-neither c e p) (λ n k q. absurd (refused-never (rw q at x)))
 
 -- with all the lent words
 first-whole : (c : TwoCall) → Neither c → mapTwo c .first ≡ mapTexts (alone (c .paired) (c .library) (c .first) (c .words))
@@ -364,10 +323,8 @@ demand-each c = record {
   second = promised (alone (c .paired) (c .library) (c .second) (c .words));
   printedFirst = λ t f q. sym (first-whole c (first-mapped c t f q)) ∙ q;
   printedSecond = λ t f q. sym (second-whole c (second-mapped c t f q)) ∙ q;
-  decidedFirst = λ e d p.
-      subst (λ (o : Outcome). Decided (d .ranged) (c .first .bytes) o (d .listed) (d .cells) (d .graph)) (sym (first-whole c e)) (decided (alone (c .paired) (c .library) (c .first) (c .words)) d p);
-  decidedSecond = λ e d p.
-      subst (λ (o : Outcome). Decided (d .ranged) (c .second .bytes) o (d .listed) (d .cells) (d .graph)) (sym (second-whole c e)) (decided (alone (c .paired) (c .library) (c .second) (c .words)) d p);
+  decidedFirst = λ e d p. rw (first-whole c e) (decided (alone (c .paired) (c .library) (c .first) (c .words)) d p);
+  decidedSecond = λ e d p. rw (second-whole c e) (decided (alone (c .paired) (c .library) (c .second) (c .words)) d p);
 }
 
 -- ---- texts that mean the same graph, and texts alike but for line ends
@@ -385,14 +342,14 @@ module _ (pa pb : Bool) (l m : List ℕ) (a b : Channel) (alike : SameAlone pa p
   not-early x e words h n k q = go (mapTexts (alone pa l a words)) refl
     where
       go : (o : Outcome) → mapTexts (alone pa l a words) ≡ o → triedEarly n ≡ false
-      go (refused i j) p =
-          let r = alike .refusal words i j p in
-          let s : i ≡ n = ap (λ (o : Outcome). returnedBy o .number) (sym (r .1) ∙ q) in
-          subst (λ (y : ℕ). triedEarly y ≡ false) s (alone-late pa l a x e words h i j p)
+      go (refused i j) p = subst (λ (y : ℕ). triedEarly y ≡ false)
+          (ap (λ (o : Outcome). returnedBy o .number) (sym ((alike .refusal words i j p) .1) ∙ q)) (alone-late pa l a x e words h i j p)
       go (mapped t f) p = absurd (refused-never (sym q ∙ alike .netlist words t f p))
 
   same-need : (x : ℕ) → needOf pa l a ≡ holds x → needOf pb m b ≡ holds x
-  same-need x e = go (needOf pb m b) refl
+  same-need x e = by-read (needOf pb m b) (λ y p. let h : y ≤ x = up y p (leb y x) leb-yes leb-no in let g : x ≤ y = down y p
+      (leb x y) leb-yes leb-no in let s : y ≡ x = omega arith in p ∙ ap holds s)
+      (λ n k q. absurd (false≢true (sym (not-early x e x (le-refl x) n k (alone-early pb m b n k q x)) ∙ alone-tried pb m b n k q .0)))
     where
       up : (y : ℕ) → needOf pb m b ≡ holds y → (t : Bool) → (T t → y ≤ x) → (T (not t) → x < y) → y ≤ x
       up y q true h g = h tt
@@ -404,14 +361,6 @@ module _ (pa pb : Bool) (l m : List ℕ) (a b : Channel) (alike : SameAlone pa p
           let r = alike .refusal y 10 0 (alone-ten pa l a x e y .1 (g tt)) in
           absurd (false≢true (sym (alone-late pb m b y q y (le-refl y) 10 (r .0) (r .1))))
 
-      go : (r : Read ℕ) → needOf pb m b ≡ r → needOf pb m b ≡ holds x
-      go (fault n k) q = absurd (false≢true (sym (not-early x e x (le-refl x) n k (alone-early pb m b n k q x)) ∙ alone-tried pb m b n k q .0))
-      go (holds y) q =
-          let h : y ≤ x = up y q (leb y x) leb-yes leb-no in
-          let g : x ≤ y = down y q (leb x y) leb-yes leb-no in
-          let s : y ≡ x = omega arith in
-          q ∙ ap holds s
-
 -- calls that come to the same, refusals' places too
 same-alike : (pa : Bool) (l : List ℕ) (a b : Channel) → ((words : ℕ) → mapTexts (alone pa l a words) ≡ mapTexts (alone pa l b words)) → SameAlone pa pa l l a b
 same-alike pa l a b h = record { refusal = λ words n k q. (k, sym (h words) ∙ q); netlist = λ words t f q. sym (h words) ∙ q }
@@ -422,12 +371,9 @@ faultOf (mapped t f) = fault 0 0
 
 same-needs : (pa : Bool) (l : List ℕ) (a b : Channel) → ((words : ℕ) → mapTexts (alone pa l a words) ≡ mapTexts (alone pa l b words)) → needOf pa l a ≡ needOf pa l b
 unfolding faultOf
-same-needs pa l a b h = go (needOf pa l a) (needOf pa l b) refl refl
-  where
-    go : (r s : Read ℕ) → needOf pa l a ≡ r → needOf pa l b ≡ s → needOf pa l a ≡ needOf pa l b
-    go (holds x) s q p = q ∙ sym (same-need pa pa l l a b (same-alike pa l a b h) x q)
-    go (fault n k) (holds y) q p = same-need pa pa l l b a (same-alike pa l b a (λ words. sym (h words))) y p ∙ sym p
-    go (fault n k) (fault i j) q p = q ∙ ap faultOf (sym (alone-early pa l a n k q 0) ∙ h 0 ∙ alone-early pa l b i j p 0) ∙ sym p
+same-needs pa l a b h = by-read (needOf pa l a) (λ x q. q ∙ sym (same-need pa pa l l a b (same-alike pa l a b h) x q)) (λ n k e. by-read
+    (needOf pa l b) (λ y p. same-need pa pa l l b a (same-alike pa l b a (λ words. sym (h words))) y p ∙ sym p)
+    (λ i j r. e ∙ ap faultOf (sym (alone-early pa l a n k e 0) ∙ h 0 ∙ alone-early pa l b i j r 0) ∙ sym r))
 
 twin-alone : (pa : Bool) (l : List ℕ) (ch : Channel) (t : List ℕ) (g : Graph) → Means (ch .graph) g → Means t g → (words : ℕ) → mapTexts (alone pa l (onText ch t) words) ≡ mapTexts (alone pa l ch words)
 twin-alone pa l ch t g m n words = demand-twins (alone pa l ch words) .same t g m n
@@ -438,11 +384,15 @@ demand-twin-channels c = record {
   first = λ t g m n.
       let h = twin-alone (c .paired) (c .library) (c .first) t g m n in
       ap (λ (r : Read ℕ). mapNeeds (firstOn t) (next r (λ a. next (needOf (c .paired) (c .library) (c .second)) (lent a)))) (same-needs (c .paired) (c .library) (onText (c .first) t) (c .first) h)
-      ∙ firstSame t h (needsOf c);
+      ∙ (by-read (needsOf c) (λ q p. rw p
+      (ap (λ (o : Outcome). record { first = o; second = mapTexts (alone (c .paired) (c .library) (c .second) (q .second)) }) (h (q .first))))
+      (λ n k e. rw e));
   second = λ t g m n.
       let h = twin-alone (c .paired) (c .library) (c .second) t g m n in
       ap (λ (r : Read ℕ). mapNeeds (secondOn t) (next (needOf (c .paired) (c .library) (c .first)) (λ a. next r (lent a)))) (same-needs (c .paired) (c .library) (onText (c .second) t) (c .second) h)
-      ∙ secondSame t h (needsOf c);
+      ∙ (by-read (needsOf c) (λ q p. rw p
+      (ap (λ (o : Outcome). record { first = mapTexts (alone (c .paired) (c .library) (c .first) (q .first)); second = o }) (h (q .second))))
+      (λ n k e. rw e));
 }
   where
     lent : ℕ → ℕ → Read Needs
@@ -453,16 +403,6 @@ demand-twin-channels c = record {
 
     secondOn : List ℕ → TwoCall
     secondOn t = record { paired = c .paired; library = c .library; words = c .words; first = c .first; second = onText (c .second) t }
-
-    firstSame : (t : List ℕ) → ((words : ℕ) → mapTexts (alone (c .paired) (c .library) (onText (c .first) t) words) ≡ mapTexts (alone (c .paired) (c .library) (c .first) words))
-        → (r : Read Needs) → mapNeeds (firstOn t) r ≡ mapNeeds c r
-    firstSame t h (fault n k) = refl
-    firstSame t h (holds n) = ap (λ (o : Outcome). record { first = o; second = mapTexts (alone (c .paired) (c .library) (c .second) (n .second)) }) (h (n .first))
-
-    secondSame : (t : List ℕ) → ((words : ℕ) → mapTexts (alone (c .paired) (c .library) (onText (c .second) t) words) ≡ mapTexts (alone (c .paired) (c .library) (c .second) words))
-        → (r : Read Needs) → mapNeeds (secondOn t) r ≡ mapNeeds c r
-    secondSame t h (fault n k) = refl
-    secondSame t h (holds n) = ap (λ (o : Outcome). record { first = mapTexts (alone (c .paired) (c .library) (c .first) (n .first)); second = o }) (h (n .second))
 
 -- texts alike but for line ends are so with any number of words
 with-words : (pa pb : Bool) (l m : List ℕ) (a b : Channel) (v w words : ℕ) → AlikeTexts (alone pa l a v) (alone pb m b w) → AlikeTexts (alone pa l a words) (alone pb m b words)
@@ -503,9 +443,7 @@ fault-alike pa pb l m a b alike n k e = go (needOf pb m b) refl
         let r = alike .refusal x n k (alone-early pa l a n k e x) in
         absurd (false≢true (sym (alone-late pb m b x p x (le-refl x) n (r .0) (r .1)) ∙ alone-tried pa l a n k e .0))
     go (fault i j) p =
-        let r = alike .refusal 0 n k (alone-early pa l a n k e 0) in
-        let s : i ≡ n = ap (λ (o : Outcome). returnedBy o .number) (sym (alone-early pb m b i j p 0) ∙ r .1) in
-        (j, p ∙ ap (λ (x : ℕ). fault x j) s)
+        (j, p ∙ ap (λ (x : ℕ). fault x j) (cc (alone-early pb m b i j p 0, (alike .refusal 0 n k (alone-early pa l a n k e 0)) .1)))
 
 -- both calls have a refusal tried up to 10, by the same number
 record BothRefused (c d : TwoCall) : Type 0 where
@@ -568,22 +506,20 @@ refused-alike c d channel same n k q b =
 -- "Texts alike but for line ends, each within the length in 1, give the same netlist."
 pub demand-ends-two : (c : TwoCall) → EitherEndTwo c
 demand-ends-two c = record {
-  first = λ d s t f q.
-      let e = first-mapped c t f q in
-      first-whole d (neither-alike c d s e) ∙ demand-ends (alone (c .paired) (c .library) (c .first) (c .words)) (alone (d .paired) (d .library) (d .first) (d .words)) (s .first) .printed t f (sym (first-whole c e) ∙ q);
-  second = λ d s t f q.
-      let e = second-mapped c t f q in
-      second-whole d (neither-alike c d s e) ∙ demand-ends (alone (c .paired) (c .library) (c .second) (c .words)) (alone (d .paired) (d .library) (d .second) (d .words)) (s .second) .printed t f (sym (second-whole c e) ∙ q);
-  refusedFirst = λ d s n k q.
-      let whole : Neither c → (j : ℕ) × (mapTwo d .first ≡ refused n j) = λ e.
-      let r = demand-ends (alone (c .paired) (c .library) (c .first) (c .words)) (alone (d .paired) (d .library) (d .first) (d .words)) (s .first) .refusal n k (sym (first-whole c e) ∙ q) in
-      (r .0, first-whole d (neither-alike c d s e) ∙ r .1) in
-      ⊎-elim whole (λ b. refused-alike c d (λ o. o .first) (λ m j. refl) n k q b) (alike-either c d s);
-  refusedSecond = λ d s n k q.
-      let whole : Neither c → (j : ℕ) × (mapTwo d .second ≡ refused n j) = λ e.
-      let r = demand-ends (alone (c .paired) (c .library) (c .second) (c .words)) (alone (d .paired) (d .library) (d .second) (d .words)) (s .second) .refusal n k (sym (second-whole c e) ∙ q) in
-      (r .0, second-whole d (neither-alike c d s e) ∙ r .1) in
-      ⊎-elim whole (λ b. refused-alike c d (λ o. o .second) (λ m j. refl) n k q b) (alike-either c d s);
+  first = λ d s t f q. let e = first-mapped c t f q in first-whole d (neither-alike c d s e)
+      ∙ demand-ends (alone (c .paired) (c .library) (c .first) (c .words)) (alone (d .paired) (d .library) (d .first) (d .words))
+      (s .first) .printed t f (sym (first-whole c e) ∙ q);
+  second = λ d s t f q. let e = second-mapped c t f q in second-whole d (neither-alike c d s e)
+      ∙ demand-ends (alone (c .paired) (c .library) (c .second) (c .words)) (alone (d .paired) (d .library) (d .second) (d .words))
+      (s .second) .printed t f (sym (second-whole c e) ∙ q);
+  refusedFirst = λ d s n k q. let whole : Neither c → (j : ℕ) × (mapTwo d .first ≡ refused n j) = λ e. let r = demand-ends
+      (alone (c .paired) (c .library) (c .first) (c .words)) (alone (d .paired) (d .library) (d .first) (d .words))
+      (s .first) .refusal n k (sym (first-whole c e) ∙ q) in (r .0, first-whole d (neither-alike c d s e) ∙ r .1) in ⊎-elim whole
+      (λ b. refused-alike c d (λ o. o .first) (λ m j. refl) n k q b) (alike-either c d s);
+  refusedSecond = λ d s n k q. let whole : Neither c → (j : ℕ) × (mapTwo d .second ≡ refused n j) = λ e. let r = demand-ends
+      (alone (c .paired) (c .library) (c .second) (c .words)) (alone (d .paired) (d .library) (d .second) (d .words))
+      (s .second) .refusal n k (sym (second-whole c e) ∙ q) in (r .0, second-whole d (neither-alike c d s e) ∙ r .1) in ⊎-elim whole
+      (λ b. refused-alike c d (λ o. o .second) (λ m j. refl) n k q b) (alike-either c d s);
 }
 
 -- ---- the whole
@@ -591,11 +527,9 @@ demand-ends-two c = record {
 -- each netlist is no longer than its text memory
 two-fit : (c : TwoCall) → Fits (answersOf (mapTwo c) .first) (c .first .bytes) × Fits (answersOf (mapTwo c) .second) (c .second .bytes)
 unfolding mapTwo mapNeeds answersOf
-two-fit c = go (needsOf c)
-  where
-    go : (r : Read Needs) → Fits (answersOf (mapNeeds c r) .first) (c .first .bytes) × Fits (answersOf (mapNeeds c r) .second) (c .second .bytes)
-    go (fault n k) = unfold answerOf in (tt, tt)
-    go (holds n) = (texts-fit (alone (c .paired) (c .library) (c .first) (n .first)), texts-fit (alone (c .paired) (c .library) (c .second) (n .second)))
+two-fit c = by-read (needsOf c) (λ q p. rw p
+    (texts-fit (alone (c .paired) (c .library) (c .first) (q .first)), texts-fit (alone (c .paired) (c .library) (c .second) (q .second))))
+    (λ n k e. rw e (unfold answerOf in (tt, tt)))
 
 pub two-promised : (c : TwoCall) → TwoPromised c
 two-promised c = record {

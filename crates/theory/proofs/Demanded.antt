@@ -10,18 +10,18 @@ use mathlib.Core.Option.{Option, some}
 use mathlib.Core.List.{List, [], _∷_, _++_, map, append-nil, List·Memᴰ, List·Memᴰ·append-cases, Memᴰ·append-left}
 use lib.Dec.{T, leb, leb→le, le→leb}
 use lib.ListN.{length, getD}
-use Rattle.model.specs.Reading.{Read, holds, fault}
+use Rattle.model.specs.Reading.{holds}
 use Rattle.model.specs.Cells.{nameOf}
 use Rattle.model.specs.Base.{each, flip, below}
 use Rattle.model.specs.Graph.{And, Graph, literal, varOf, negated, literalValue, valueOf}
 use Rattle.model.specs.Choice.{absent, chosen}
 use Rattle.model.specs.Cover.{Cover, output}
 use Rattle.model.specs.Netlist.{Gate, Outcome, refused, mapped, mapGraph, gates, figuresOf, netName, outName, sum, largest}
-use Rattle.model.specs.LibraryText.{noLower, isRanged}
+use Rattle.model.specs.LibraryText.{noLower}
 use Rattle.model.specs.Timing.{lowOf, timingLines, followed}
 use Rattle.model.specs.Blif.{GateLine, Wire, Blif, readBlif, readFigures, readTimings, named, drives, NetArrivals}
 use Rattle.model.specs.Mapper.{Call, Design, readTexts, mapTexts, mapDesign, within}
-use Rattle.model.specs.Demands.{drivenNets, Printed, OfPrinted, Readable, Formed, Gated, SameValues, SameFigures, NoEarlier, OutputsNoEarlier, OfMappable, CoversTimed, Decided, Chosen, choiceText, choiceFigures, printedText, WithinRanges, Ranges, Values, Earliest, Twins, Untimed}
+use Rattle.model.specs.Demands.{drivenNets, OfPrinted, Readable, Formed, Gated, SameValues, SameFigures, NoEarlier, OutputsNoEarlier, OfMappable, CoversTimed, Decided, Chosen, choiceText, choiceFigures, printedText, WithinRanges, Ranges, Values, Earliest, Twins, Untimed}
 use Rattle.model.specs.declared.Cell.{Cell}
 use Rattle.model.specs.declared.Figures.{Figures}
 use Rattle.theory_graph.proofs.Lists.{map-out, map-map, map-same, is-true, getD-in}
@@ -48,6 +48,7 @@ use Rattle.theory_text.proofs.Outcomes.{FromChoice, outcome-is, printed-choice,
 use Rattle.theory.proofs.Formed.{gate-count, gate-count-listed, driven-phase, well-formed}
 use Rattle.theory.proofs.Gated.{gates-gated}
 use Rattle.theory.proofs.Ranges.{within-ranges}
+use Rattle.theory_graph.proofs.Split.{by-bool, by-read}
 
 -- ---- what is printed
 
@@ -78,22 +79,21 @@ with-timings read x false listed cells g h = ap read (sym (append-nil (choiceTex
 known : (c : Call) (t : List ℕ) (f : Figures) (d : Design) → readTexts c ≡ holds d → mapTexts c ≡ mapped t f → Known t f d
 known c t f d e o =
     let p = printed-choice c d e t f o in
-    let k = p .choice in
     let fit = design-fitting c d e in
-    let ok = design-accepted c d e (k .placed) in
+    let ok = design-accepted c d e ((p .choice) .placed) in
     record {
       library = fit;
       graph = ok;
-      choice = k;
+      choice = (p .choice);
       isText = p .isText;
       lows = design-ranged c d e;
       fourLows = λ x m. design-written c d e x m .0 .fourLows;
-      reads = ap readBlif (p .isText)
-          ∙ with-timings readBlif (some (chosenBlif d)) (d .ranged) (d .listed) (d .cells) (d .graph) (back (d .listed) (d .cells) fit (d .graph) ok (k .covered) (choiceFigures (d .listed) (d .cells) (d .graph)));
-      says = ap readFigures (p .isText)
-          ∙ with-timings readFigures (some (choiceFigures (d .listed) (d .cells) (d .graph))) (d .ranged) (d .listed) (d .cells) (d .graph)
-          (figures-said (d .listed) (d .cells) fit (d .graph) ok (k .covered) (choiceFigures (d .listed) (d .cells) (d .graph)))
-          ∙ ap some (sym (k .areFigures));
+      reads = ap readBlif (p .isText) ∙ with-timings readBlif (some (chosenBlif d)) (d .ranged) (d .listed) (d .cells) (d .graph)
+          (back (d .listed) (d .cells) fit (d .graph) ok ((p .choice) .covered) (choiceFigures (d .listed) (d .cells) (d .graph)));
+      says = ap readFigures (p .isText) ∙ with-timings readFigures (some (choiceFigures (d .listed) (d .cells) (d .graph))) (d .ranged)
+          (d .listed) (d .cells) (d .graph)
+          (figures-said (d .listed) (d .cells) fit (d .graph) ok ((p .choice) .covered) (choiceFigures (d .listed) (d .cells) (d .graph)))
+          ∙ ap some (sym ((p .choice) .areFigures));
     }
 
 -- a statement of every printed netlist, from one of the chosen gates
@@ -101,17 +101,13 @@ of-printed : (P : List Cell → List Cell → Graph → Figures → Blif → Typ
     → (c : Call) → OfPrinted P c
 of-printed P h c t f d n p =
     let k = known c t f d (p .design) (p .outcome) in
-    let q : _≡_ {A = Option Blif} (some n) (some (chosenBlif d)) = sym (p .reads) ∙ k .reads in
-    let e : n ≡ chosenBlif d = cc in
-    subst (P (d .listed) (d .cells) (d .graph) f) (sym e) (h t f d k)
+    subst (P (d .listed) (d .cells) (d .graph) f) (sym cc) (h t f d k)
 
 pub readable : (c : Call) → Readable c
 unfolding mapTexts mapDesign
-readable c t f o = go (readTexts c) refl o
-  where
-    go : (r : Read Design) → readTexts c ≡ r → mapDesign (c .bytes) r ≡ mapped t f → (d : Design) × (n : Blif) × Printed c t f d n
-    go (fault n k) e q = absurd (refused-never q)
-    go (holds d) e q = let k = known c t f d e o in (d, chosenBlif d, record { design = e; outcome = o; reads = k .reads; says = k .says })
+readable c t f o = by-read (readTexts c)
+    (λ d q. let k = known c t f d q o in (d, chosenBlif d, record { design = q; outcome = o; reads = k .reads; says = k .says }))
+    (λ n k e. absurd (refused-never (rw e at o)))
 
 pub formed : (c : Call) → OfPrinted Formed c
 formed = of-printed Formed (λ t f d k. well-formed (d .listed) (d .cells) (k .library) (d .graph) (k .graph) (k .choice .covered) f)
@@ -144,7 +140,8 @@ figures = of-printed SameFigures (λ t f d k.
       count = ap (λ (x : Figures). x .gates) (c .areFigures) ∙ sym (length-map lineOf ts);
       area =
           ap (λ (x : Figures). x .area) (c .areFigures)
-          ∙ ap sum (map-same (λ (u : Gate). u .cell .area) (λ (u : Gate). named (d .listed) (nameOf (u .cell)) .area) ts (areas t f d k)
+          ∙ ap sum (map-same (λ (u : Gate). u .cell .area) (λ (u : Gate). named (d .listed) (nameOf (u .cell)) .area) ts (λ y z. ap
+          (λ (c : Cell). c .area) (sym (line-bound (d .listed) (d .cells) (k .library) (d .graph) (k .graph) (k .choice .covered) y z .isCell)))
           ∙ sym (map-map (λ (l : GateLine). named (d .listed) (l .cell) .area) lineOf ts));
       arrival = λ at h.
           ap (λ (x : Figures). x .arrival) (c .areFigures)
@@ -154,11 +151,6 @@ figures = of-printed SameFigures (λ t f d k.
       bound = le-trans (le-of-eq (ap (λ (x : Figures). x .gates) (c .areFigures))) (gate-count (d .listed) (d .cells) (k .library) (d .graph) (k .graph) (c .covered));
       boundListed = λ e. le-trans (le-of-eq (ap (λ (x : Figures). x .gates) (c .areFigures))) (gate-count-listed (d .listed) (d .cells) (k .library) (d .graph) (k .graph) (c .covered) e);
     })
-  where
-    areas : (t : List ℕ) (f : Figures) (d : Design) (k : Known t f d) (u : Gate) → List·Memᴰ u (gates (d .listed) (d .cells) (d .graph) (chosen (d .cells) (d .graph)))
-        → u .cell .area ≡ named (d .listed) (nameOf (u .cell)) .area
-    areas t f d k u m =
-        ap (λ (c : Cell). c .area) (sym (line-bound (d .listed) (d .cells) (k .library) (d .graph) (k .graph) (k .choice .covered) u m .isCell))
 
 -- what is read behind the `# gates` line
 pub ranges : (c : Call) → Ranges c
@@ -175,15 +167,11 @@ ranges c = record {
         subst (λ (x : Blif). WithinRanges (d .listed) (d .graph) x (timingsFrom (lowOf (d .cells) (d .graph)) high 0 (d .graph .outputs))) (sym m)
             (within-ranges (d .listed) (d .cells) (k .library) (k .lows) (k .fourLows) (d .graph) (k .graph) (k .choice .covered)),
       );
-  untimed = λ t f o e. go t f (readTexts c) refl o e;
+  untimed = λ t f o e. (by-read (readTexts c) (λ d p. let k = known c t f d p (ap (mapDesign (c .bytes)) p ∙ (rw p at o)) in ap readTimings
+      (k .isText ∙ ap (λ (r : Bool). printedText r (d .listed) (d .cells) (d .graph)) (sym (texts-read c d p .isRange) ∙ e)
+      ∙ sym (append-nil (choiceText (d .listed) (d .cells) (d .graph)))) ∙ none-said (d .listed) (d .cells) (k .library) (d .graph) (k .graph)
+      (k .choice .covered) (choiceFigures (d .listed) (d .cells) (d .graph))) (λ n k q. absurd (refused-never (rw q at o))));
 }
-  where
-    go : (t : List ℕ) (f : Figures) (r : Read Design) → readTexts c ≡ r → mapDesign (c .bytes) r ≡ mapped t f → isRanged (c .library) ≡ false → readTimings t ≡ some []
-    go t f (fault n k) q o e = absurd (refused-never o)
-    go t f (holds d) q o e =
-        let k = known c t f d q (ap (mapDesign (c .bytes)) q ∙ o) in
-        ap readTimings (k .isText ∙ ap (λ (r : Bool). printedText r (d .listed) (d .cells) (d .graph)) (sym (texts-read c d q .isRange) ∙ e) ∙ sym (append-nil (choiceText (d .listed) (d .cells) (d .graph))))
-        ∙ none-said (d .listed) (d .cells) (k .library) (d .graph) (k .graph) (k .choice .covered) (choiceFigures (d .listed) (d .cells) (d .graph))
 
 -- ---- demand 3
 
@@ -234,10 +222,9 @@ nets-chosen = of-printed NetsChosen at-net
         go (inr i) = gate (List·Memᴰ·append-cases (map drives (map lineOf ts)) i)
 
 pub no-earlier : (c : Call) → OfPrinted NoEarlier c
-no-earlier c t f d n p at h l m cover arrival times k =
-    let a = printed-choice c d (p .design) t f (p .outcome) .choice in
-    le-trans (le-of-eq (nets-chosen c t f d n p at h l m .time))
-    (choice-earliest (d .cells) (d .graph) (design-accepted c d (p .design) (a .placed)) (d .graph .outputs) cover arrival times l k .1)
+no-earlier c t f d n p at h l m cover arrival times k = le-trans (le-of-eq (nets-chosen c t f d n p at h l m .time)) (choice-earliest
+    (d .cells) (d .graph) (design-accepted c d (p .design) ((printed-choice c d (p .design) t f (p .outcome) .choice) .placed))
+    (d .graph .outputs) cover arrival times l k .1)
 
 pub outputs-no-earlier : (c : Call) → OfPrinted OutputsNoEarlier c
 unfolding blifOf
@@ -262,10 +249,7 @@ numberOf (mapped t f) = 0
 within-seventeen : (bytes : ℕ) (o : Outcome) (k : ℕ) → (within bytes o ≡ refused 17 k) ↔ (o ≡ refused 17 k)
 unfolding within numberOf
 within-seventeen bytes (refused n j) k = ((λ e. e), (λ e. e))
-within-seventeen bytes (mapped t f) k = (
-  (λ e. absurd (go (leb (length t) bytes) e)),
-  (λ e. absurd (refused-never (sym e))),
-)
+within-seventeen bytes (mapped t f) k = ((λ e. absurd (go (leb (length t) bytes) e)), (λ e. absurd (refused-never (sym e))))
   where
     go : (b : Bool) → ¬ (cond b (mapped t f) (refused 18 (length t)) ≡ refused 17 k)
     go true e = refused-never (sym e)
@@ -285,41 +269,29 @@ followed-text false listed cells g = refl
 followed-text true listed cells g = refl
 
 pub decided : (c : Call) → OfMappable Decided c
-decided c d p = record {
-  seventeen = λ k.
-      let s = seventeen-iff (d .cells) (d .graph) ok (d .listed) (p .few) k in
-      let w = within-seventeen (c .bytes) (followed (d .ranged) (d .cells) (d .graph) (mapGraph (d .listed) (d .cells) (d .graph))) k in
-      let v = followed-seventeen (d .ranged) (d .cells) (d .graph) (mapGraph (d .listed) (d .cells) (d .graph)) k in
-      ((λ e. s .0 (v .0 (w .0 (sym is ∙ e)))), (λ u. is ∙ w .1 (v .1 (s .1 u))));
-  prints = λ covers h. printed covers ∙ fits h;
-  eighteen = λ covers h. printed covers ∙ lacks h;
-}
-  where
-    ok : Accepted (d .graph)
-    ok = design-accepted c d (p .design) (p .placed)
-
-    is : mapTexts c ≡ within (c .bytes) (followed (d .ranged) (d .cells) (d .graph) (mapGraph (d .listed) (d .cells) (d .graph)))
-    is = outcome-is c d (p .design)
-
-    t : List ℕ
-    t = printedText (d .ranged) (d .listed) (d .cells) (d .graph)
-
-    f : Figures
-    f = choiceFigures (d .listed) (d .cells) (d .graph)
-
-    printed : ((l : ℕ) → List·Memᴰ l (d .graph .outputs) → Cover (d .cells) (d .graph) (l ∷ [])) → mapTexts c ≡ within (c .bytes) (mapped t f)
-    printed covers =
-        is ∙ ap (within (c .bytes)) (ap (followed (d .ranged) (d .cells) (d .graph)) (choice-printed (d .cells) (d .graph) ok (d .listed) (p .few) covers) ∙ followed-text (d .ranged) (d .listed) (d .cells) (d .graph))
-
-    fits : length t ≤ c .bytes → within (c .bytes) (mapped t f) ≡ mapped t f
-    fits h = unfold within in ap (λ (b : Bool). cond b (mapped t f) (refused 18 (length t))) (is-true (leb (length t) (c .bytes)) (le→leb (length t) (c .bytes) h))
-
-    lacks : c .bytes < length t → within (c .bytes) (mapped t f) ≡ refused 18 (length t)
-    lacks h = unfold within in go (leb (length t) (c .bytes)) (leb→le (length t) (c .bytes))
-      where
-        go : (b : Bool) → (T b → length t ≤ c .bytes) → cond b (mapped t f) (refused 18 (length t)) ≡ refused 18 (length t)
-        go true y = absurd (let z : length t ≤ c .bytes = y tt in omega arith)
-        go false y = refl
+decided c d p =
+    let ok = design-accepted c d (p .design) (p .placed) in
+    let is = outcome-is c d (p .design) in
+    let t = printedText (d .ranged) (d .listed) (d .cells) (d .graph) in
+    let f = choiceFigures (d .listed) (d .cells) (d .graph) in
+    let printed : ((l : ℕ) → List·Memᴰ l (d .graph .outputs) → Cover (d .cells) (d .graph) (l ∷ [])) → mapTexts c ≡ within (c .bytes)
+    (mapped t f) = λ covers. is ∙ ap (within (c .bytes))
+    (ap (followed (d .ranged) (d .cells) (d .graph)) (choice-printed (d .cells) (d .graph) ok (d .listed) (p .few) covers)
+    ∙ followed-text (d .ranged) (d .listed) (d .cells) (d .graph)) in
+    let fits : length t ≤ c .bytes → within (c .bytes) (mapped t f) ≡ mapped t f = λ h. unfold within in ap
+    (λ (b : Bool). cond b (mapped t f) (refused 18 (length t))) (is-true (leb (length t) (c .bytes)) (le→leb (length t) (c .bytes) h)) in
+    let lacks : c .bytes < length t → within (c .bytes) (mapped t f) ≡ refused 18 (length t) = λ h. unfold within in by-bool
+    (leb (length t) (c .bytes)) (λ e. rw e (absurd
+    (let z : length t ≤ c .bytes = (rw e at (leb→le (length t) (c .bytes))) tt in omega (arith, rw e at (leb→le (length t) (c .bytes))))))
+    (λ q. rw q) in
+    record {
+      seventeen = λ k. let s = seventeen-iff (d .cells) (d .graph) ok (d .listed) (p .few) k in let w = within-seventeen (c .bytes)
+          (followed (d .ranged) (d .cells) (d .graph) (mapGraph (d .listed) (d .cells) (d .graph))) k in let v = followed-seventeen
+          (d .ranged) (d .cells) (d .graph) (mapGraph (d .listed) (d .cells) (d .graph)) k in
+          ((λ e. s .0 (v .0 (w .0 (sym is ∙ e)))), (λ u. is ∙ w .1 (v .1 (s .1 u))));
+      prints = λ covers h. printed covers ∙ fits h;
+      eighteen = λ covers h. printed covers ∙ lacks h;
+    }
 
 pub choice : (c : Call) → OfMappable Chosen c
 choice c d p =
@@ -330,26 +302,19 @@ choice c d p =
 
 -- "the printed netlist, read by BLIF's rules with the listed cells' tables, gives every output the value that the AIGER graph gives it"
 pub demand-values : (c : Call) → Values c
-demand-values c = record {
-  readable = readable c;
-  formed = formed c;
-  gated = gated c;
-  values = values c;
-  figures = figures c;
-  ranges = ranges c;
-}
+demand-values c =
+    record { readable = readable c; formed = formed c; gated = gated c; values = values c; figures = figures c; ranges = ranges c }
 
 -- "for each net of the printed netlist, every cover of the outputs that has this net gives it an arrival no earlier"
 pub demand-earliest : (c : Call) → Earliest c
-demand-earliest c =
-    record {
-      pairs = λ d e. (sym (texts-read c d e .areCells), pairs-kept (d .listed));
-      earliest = no-earlier c;
-      outputs = outputs-no-earlier c;
-      timed = covers-timed c;
-      decided = decided c;
-      choice = choice c;
-    }
+demand-earliest c = record {
+  pairs = λ d e. (sym (texts-read c d e .areCells), pairs-kept (d .listed));
+  earliest = no-earlier c;
+  outputs = outputs-no-earlier c;
+  timed = covers-timed c;
+  decided = decided c;
+  choice = choice c;
+}
 
 -- the third text is "empty for none"
 pub demand-untimed : (c : Call) → Untimed c

@@ -18,7 +18,6 @@ use Rattle.model.specs.Netlist.{Net, ofPhase, ofPair, Gate, isOwn, gatesBy, net
 use Rattle.model.specs.Blif.{GateLine, Binding, Wire, drives, fedBy, pinNames, outputName}
 use Rattle.model.specs.Demands.{Distinct, drivenNets, Formed}
 use Rattle.model.specs.declared.Cell.{Cell}
-use Rattle.model.specs.declared.Source.{Source}
 use Rattle.model.specs.declared.Source.the-variants.{Input}
 use Rattle.model.specs.declared.Figures.{Figures}
 use Rattle.theory_graph.proofs.Lists.{map-in, map-out, each-out, map-map, map-same}
@@ -33,6 +32,7 @@ use Rattle.theory.proofs.Numbered.{Fitting}
 use Rattle.theory.proofs.Settled.{cellGate, innerGate, rootGate, gates-single, gates-double}
 use Rattle.theory.proofs.Gates.{sourceOf, numberAt, fedAt, NeedsOf, gatesAt, chosenGates, gateNets, gates-are, Gates, net-out, gate-in, gate-out, of-cell, of-gates, line-bound, own-value, own-source, own-net}
 use Rattle.theory.proofs.Wires.{out-once, out-label, wire-targets, wire-sources}
+use Rattle.theory_graph.proofs.Split.{by-bool}
 
 -- ---- the nets of a phase's gates
 
@@ -52,8 +52,10 @@ pub data Few (l : ℕ) : List Gate → Type 0 where
 
 pub few-gates : (listed : List Cell) (k : ℕ) (ins : List ℕ) (l : ℕ) → Few l (gatesBy listed k ins l)
 few-gates listed k ins l = elim (decLe (length listed) k) [
-  | no lt ↦ subst (Few l) (sym (gates-single listed k ins l (lt-of-not-le lt))) (one (cellGate listed k ins l) refl)
-  | yes le ↦ subst (Few l) (sym (gates-double listed k ins l le)) (two (innerGate listed k ins l) (rootGate listed k ins l) refl refl)
+  | no lt ↦ rw (gates-single listed k ins l (lt-of-not-le lt))
+      (one (cellGate listed k ins l) refl)
+  | yes le ↦ rw (gates-double listed k ins l le)
+      (two (innerGate listed k ins l) (rootGate listed k ins l) refl refl)
 ]
 
 abbrev netsOf : List Gate → List Net
@@ -85,8 +87,7 @@ few-has l ts (two s t d e) = (t, List·Memᴰ·tail (List·Memᴰ·head refl), e
 each-distinct : (f : ℕ → List Net) → ((l : ℕ) → Distinct (f l)) → ((l : ℕ) (n : Net) → List·Memᴰ n (f l) → keyOf n ≡ l) → (ls : List ℕ) → Distinct ls → Distinct (each f ls)
 unfolding each
 each-distinct f d key [] h = tt
-each-distinct f d key (l ∷ ls) h =
-    append-distinct (f l) (each f ls) (d l) (each-distinct f d key ls (h .1))
+each-distinct f d key (l ∷ ls) h = append-distinct (f l) (each f ls) (d l) (each-distinct f d key ls (h .1))
     (λ n m i. let o = each-out f ls i in h .0 (Memᴰ·cast (sym (key l n m) ∙ key (o .0) n (o .2)) (o .1)))
 
 map-each : {A B : Type 0} (h : A → B) (f : ℕ → List A) (ls : List ℕ) → map h (each f ls) ≡ each (λ (l : ℕ). map h (f l)) ls
@@ -103,10 +104,7 @@ length-each-one : {A : Type 0} (f : ℕ → List A) (ls : List ℕ) → ((l : �
 unfolding each
 length-each-one f [] h = omega arith
 length-each-one f (l ∷ ls) h =
-    let a = length-append (f l) (each f ls) in
-    let b = h l (List·Memᴰ·head refl) in
-    let c = length-each-one f ls (λ k m. h k (List·Memᴰ·tail m)) in
-    omega (arith, a, b, c)
+    omega (arith, (length-append (f l) (each f ls)), (h l (List·Memᴰ·head refl)), (length-each-one f ls (λ k m. h k (List·Memᴰ·tail m))))
 
 module _ (listed cells : List Cell) (fit : Fitting listed cells) (g : Graph) (ok : Accepted g)
     (present-outputs : (l : ℕ) → List·Memᴰ l (g .outputs) → absent (chosen cells g l .source) ≡ false) where
@@ -126,16 +124,15 @@ module _ (listed cells : List Cell) (fit : Fitting listed cells) (g : Graph) (ok
   pub gate-count-listed : cells ≡ listed → length (chosenGates listed cells g) ≤ 2 * suc (g .size)
   unfolding below
   gate-count-listed e =
-      let a : length (chosenGates listed cells g) ≤ length (gateNets cells g) =
-      le-trans (le-of-eq (ap length (gates-are listed cells g))) (length-each-one (gatesAt listed cells g) (gateNets cells g) one-gate) in
-      let b : length (gateNets cells g) ≤ 2 * suc (g .size) = le-trans (length-keep _ (below (2 * suc (g .size)))) (le-of-eq (length-from (2 * suc (g .size)) 0)) in
-      omega arith
-    where
-      one-gate : (l : ℕ) → List·Memᴰ l (gateNets cells g) → length (gatesAt listed cells g l) ≤ 1
-      one-gate l m =
-          let h : numberAt cells g l < length cells = of-cell listed cells fit g ok present-outputs l (net-out listed cells fit g ok present-outputs l m) .hasNumber in
-          let q : length cells ≡ length listed = ap length e in
-          le-of-eq (ap length (gates-single listed (numberAt cells g l) (fedAt cells g l) l (omega arith)))
+      let b : length (gateNets cells g) ≤ 2 * suc (g .size) = le-trans (length-keep _ (below (2 * suc (g .size))))
+      (le-of-eq (length-from (2 * suc (g .size)) 0)) in
+      omega (
+        arith,
+        le-trans (le-of-eq (ap length (gates-are listed cells g))) (length-each-one (gatesAt listed cells g) (gateNets cells g)
+            (λ l m. let h : numberAt cells g l < length cells = of-cell listed cells fit g ok present-outputs l
+            (net-out listed cells fit g ok present-outputs l m) .hasNumber in let q : length cells ≡ length listed = ap length e in le-of-eq
+            (ap length (gates-single listed (numberAt cells g l) (fedAt cells g l) l (omega arith))))),
+      )
 
   -- what the lines drive
   unfoldable pub gateLabels : List (List ℕ)
@@ -143,12 +140,16 @@ module _ (listed cells : List Cell) (fit : Fitting listed cells) (g : Graph) (ok
 
   pub driven-nets : map drives (map lineOf (chosenGates listed cells g)) ≡ gateLabels
   unfolding gateLabels
-  driven-nets =
-      map-map drives lineOf (chosenGates listed cells g)
-      ∙ map-same (λ (u : Gate). drives (lineOf u)) (λ (u : Gate). label (u .net)) (chosenGates listed cells g)
-      (λ u m. line-bound listed cells fit g ok present-outputs u m .isDriven)
-      ∙ sym (map-map label (λ (u : Gate). u .net) (chosenGates listed cells g))
-      ∙ ap (map label) (ap netsOf (gates-are listed cells g) ∙ map-each (λ (u : Gate). u .net) (gatesAt listed cells g) (gateNets cells g))
+  driven-nets = cc (
+    map-map drives lineOf (chosenGates listed cells g),
+    map-same (λ (u : Gate). drives (lineOf u))
+        (λ (u : Gate). label (u .net)) (chosenGates listed cells g)
+        (λ u m. line-bound listed cells fit g ok present-outputs u m .isDriven),
+    map-map label (λ (u : Gate). u .net)
+        (chosenGates listed cells g),
+    gates-are listed cells g,
+    map-each (λ (u : Gate). u .net) (gatesAt listed cells g) (gateNets cells g),
+  )
 
   driven-are : drivenNets (blifOf g (chosenGates listed cells g)) ≡ inputNames g ++ (gateLabels ++ outputNames g)
   unfolding drivenNets blifOf
@@ -171,14 +172,11 @@ module _ (listed cells : List Cell) (fit : Fitting listed cells) (g : Graph) (ok
   -- a needed phase's net is driven
   pub needed-driven : (l : ℕ) → NeedsOf cells g l → List·Memᴰ (netName l) (drivenNets (blifOf g (chosenGates listed cells g)))
   unfolding drivenNets blifOf
-  needed-driven l n = go (isOwn (sourceOf cells g l)) refl
-    where
-      go : (b : Bool) → isOwn (sourceOf cells g l) ≡ b → List·Memᴰ (netName l) (drivenNets (blifOf g (chosenGates listed cells g)))
-      go true e =
-          let o = own-source listed cells fit g ok present-outputs l n e in
-          Memᴰ·append-left (map drives (map lineOf (chosenGates listed cells g)) ++ map (λ (x : Wire). x .target) (wiresFrom 0 (g .outputs)))
-          (Memᴰ·cast (ap netName (sym (own-value listed cells fit g ok present-outputs (λ u. false) l o .0))) (map-in (λ (v : ℕ). netName (literal false v)) (o .isInput)))
-      go false e = among-driven (netName l) (phase-driven l (record { needs = n; notOwn = e }))
+  needed-driven l n = by-bool (isOwn (sourceOf cells g l)) (λ e. let o = own-source listed cells fit g ok present-outputs l n e in
+      Memᴰ·append-left (map drives (map lineOf (chosenGates listed cells g)) ++ map (λ (x : Wire). x .target) (wiresFrom 0 (g .outputs)))
+      (Memᴰ·cast (ap netName (sym (own-value listed cells fit g ok present-outputs (λ u. false) l o .0)))
+      (map-in (λ (v : ℕ). netName (literal false v)) (o .isInput))))
+      (λ q. among-driven (netName l) (phase-driven l (record { needs = n; notOwn = q })))
 
   -- the phase of a net that a gate drives
   net-at : (n : Net) → List·Memᴰ n (each (λ (l : ℕ). netsOf (gatesAt listed cells g l)) (gateNets cells g)) → Gates listed cells fit g ok present-outputs (keyOf n)
@@ -208,13 +206,10 @@ module _ (listed cells : List Cell) (fit : Fitting listed cells) (g : Graph) (ok
   driven-once : Distinct (drivenNets (blifOf g (chosenGates listed cells g)))
   unfolding gateLabels label keyOf isOwn
   driven-once =
-      subst Distinct (sym driven-are)
-      (append-distinct (inputNames g) (gateLabels ++ outputNames g)
-      (map-distinct (λ (v : ℕ). netName (literal false v)) (g .inputs)
-      (λ x y e. sym (lit-var false x) ∙ ap varOf (net-once (literal false x) (literal false y) e) ∙ lit-var false y)
-      (distinct-once (0 ∷ g .inputs) (map (λ (a : And). a .var) (g .ands)) (ok .defined) .1))
-      (append-distinct gateLabels (outputNames g) labels-once
-      (map-distinct outName (below (length (g .outputs))) out-once (below-distinct (length (g .outputs))))
+      rw driven-are (append-distinct (inputNames g) (gateLabels ++ outputNames g) (map-distinct (λ (v : ℕ). netName (literal false v))
+      (g .inputs) (λ x y e. sym (lit-var false x) ∙ ap varOf (net-once (literal false x) (literal false y) e) ∙ lit-var false y)
+      (distinct-once (0 ∷ g .inputs) (map (λ (a : And). a .var) (g .ands)) (ok .defined) .1)) (append-distinct gateLabels
+      (outputNames g) labels-once (map-distinct outName (below (length (g .outputs))) out-once (below-distinct (length (g .outputs))))
       (λ x m. no-output x (net-of (map-out label (each (λ (l : ℕ). netsOf (gatesAt listed cells g l)) (gateNets cells g)) m))))
       (λ x m n. both x m (List·Memᴰ·append-cases gateLabels n)))
     where
@@ -224,19 +219,14 @@ module _ (listed cells : List Cell) (fit : Fitting listed cells) (g : Graph) (ok
       no-output : (x : List ℕ) → (n : Net) × (x ≡ label n) → ¬ List·Memᴰ x (outputNames g)
       no-output x o n = let k = map-out outName (below (length (g .outputs))) n in out-label (k .0) (o .0) (sym (k .2) ∙ o .1)
 
-      own-is : (s : Source) → s ≡ Input → true ≡ isOwn s
-      own-is s e = sym (ap isOwn e)
-
       apart : (x : List ℕ) → List·Memᴰ x (inputNames g) → ¬ List·Memᴰ x gateLabels
       apart x m n =
           let i = map-out (λ (v : ℕ). netName (literal false v)) (g .inputs) m in
           let o = map-out label (each (λ (l : ℕ). netsOf (gatesAt listed cells g l)) (gateNets cells g)) n in
           let same-net : ofPhase (literal false (i .0)) ≡ o .0 = label-once (ofPhase (literal false (i .0))) (o .0) (sym (i .2) ∙ o .2) in
-          let h = net-at (o .0) (o .1) in
-          let is-own : literal false (i .0) ≡ keyOf (o .0) = ap keyOf same-net in
-          let is : sourceOf cells g (keyOf (o .0)) ≡ Input = subst (λ (k : ℕ). sourceOf cells g k ≡ Input) is-own
+          let is : sourceOf cells g (keyOf (o .0)) ≡ Input = subst (λ (k : ℕ). sourceOf cells g k ≡ Input) (ap keyOf same-net)
           (own-chosen cells g (order-once g ok) (literal false (i .0)) (own-net listed cells fit g ok present-outputs (i .0) (i .1))) in
-          true≢false (own-is (sourceOf cells g (keyOf (o .0))) is ∙ h .notOwn)
+          true≢false ((sym (ap isOwn is)) ∙ (net-at (o .0) (o .1)) .notOwn)
 
       both : (x : List ℕ) → List·Memᴰ x (inputNames g) → ¬ (List·Memᴰ x gateLabels ⊎ List·Memᴰ x (outputNames g))
       both x m (inl n) = apart x m n
@@ -299,6 +289,5 @@ module _ (listed cells : List Cell) (fit : Fitting listed cells) (g : Graph) (ok
 
       used : (net : List ℕ) → List·Memᴰ net (outputNames g) ⊎ List·Memᴰ net (each (fedBy listed) (map lineOf (chosenGates listed cells g)) ++ map (λ (x : Wire). x .source) (wiresFrom 0 (g .outputs)))
           → List·Memᴰ net (drivenNets (blifOf g (chosenGates listed cells g)))
-      used net (inl m) =
-          subst (λ (xs : List (List ℕ)). List·Memᴰ net xs) (sym driven-are) (Memᴰ·append-right (inputNames g) (Memᴰ·append-right gateLabels m))
+      used net (inl m) = rw driven-are (Memᴰ·append-right (inputNames g) (Memᴰ·append-right gateLabels m))
       used net (inr m) = inner net (List·Memᴰ·append-cases (each (fedBy listed) (map lineOf (chosenGates listed cells g))) m)

@@ -24,10 +24,11 @@ use Rattle.theory_graph.specs.Accepted.{Accepted}
 use Rattle.theory_graph.proofs.Placing.{order-once}
 use Rattle.theory_text.proofs.ReadBack.{lineOf, blifOf}
 use Rattle.theory_cover.proofs.Own.{own-chosen}
-use Rattle.theory.proofs.Numbered.{OfPair, Numbered, single, double, Fitting}
+use Rattle.theory.proofs.Numbered.{OfPair, single, double, Fitting}
 use Rattle.theory.proofs.Settled.{map-take, map-drop, map-run, splice-parts, innerCell, fedPin, cellGate, innerGate, rootGate, gates-single, gates-double, single-bound, double-long, inner-bound, root-bound}
 use Rattle.theory.proofs.Gates.{sourceOf, numberAt, fedAt, NeedsOf, gatesAt, chosenGates, gateNets, gates-are, Gates, net-out, of-cell, number-of, own-source}
 use Rattle.theory.proofs.Formed.{phase-driven, driven-phase}
+use Rattle.theory_graph.proofs.Split.{by-bool}
 
 -- ---- the order
 
@@ -47,11 +48,8 @@ from-ordered (suc n) i = ((λ k m. lower-before i k (from-low n (suc i) k m)), f
 keep-ordered : (p : ℕ → Bool) (xs : List ℕ) → InOrder xs → InOrder (keep p xs)
 unfolding keep
 keep-ordered p [] h = tt
-keep-ordered p (x ∷ xs) h = go (p x) (keep-ordered p xs (h .1))
-  where
-    go : (b : Bool) → InOrder (keep p xs) → InOrder (cond b (x ∷ keep p xs) (keep p xs))
-    go true later = ((λ k m. h .0 k (keep-out p xs m .0)), later)
-    go false later = later
+keep-ordered p (x ∷ xs) h = by-bool (p x) (λ e. rw e ((λ k m. h .0 k (keep-out p xs m .0)), (keep-ordered p xs (h .1))))
+    (λ q. rw q (keep-ordered p xs (h .1)))
 
 -- the lines of a phase's gates
 module _ (listed cells : List Cell) (fit : Fitting listed cells) (k : ℕ) (ins : List ℕ) (l : ℕ) (pins : length ins ≡ cellAt cells k .pins) where
@@ -95,11 +93,6 @@ module _ (listed cells : List Cell) (fit : Fitting listed cells) (k : ℕ) (ins 
 
 module _ (listed cells : List Cell) (fit : Fitting listed cells) (g : Graph) (ok : Accepted g)
     (present-outputs : (l : ℕ) → List·Memᴰ l (g .outputs) → absent (chosen cells g l .source) ≡ false) where
-  nets-ordered : InOrder (gateNets cells g)
-  unfolding below
-  nets-ordered =
-      keep-ordered (λ (l : ℕ). cond (elem l (needed cells g (chosen cells g))) (not (isOwn (sourceOf cells g l))) false) (below (2 * suc (g .size))) (from-ordered (2 * suc (g .size)) 0)
-
   -- an input's own net is chosen for it
   own-is : (l : ℕ) → IsOwn g l → isOwn (sourceOf cells g l) ≡ true
   unfolding isOwn
@@ -111,7 +104,12 @@ module _ (listed cells : List Cell) (fit : Fitting listed cells) (g : Graph) (ok
   lines-of : (ls : List ℕ) → ((l : ℕ) → List·Memᴰ l ls → Gates listed cells fit g ok present-outputs l) → Lines ls (each (gatesAt listed cells g) ls)
   unfolding each
   lines-of [] h = none
-  lines-of (l ∷ ls) h = go (lines-of ls (λ x m. h x (List·Memᴰ·tail m))) (number-of listed cells fit g ok present-outputs l q)
+  lines-of (l ∷ ls) h = elim (number-of listed cells fit g ok present-outputs l q) [
+    | single b e ↦ rw (gates-single listed k (fedAt cells g l) l b)
+        (one (one-line listed cells fit k (fedAt cells g l) l pins b e) (lines-of ls (λ x m. h x (List·Memᴰ·tail m))))
+    | double p r z ↦ rw (gates-double listed k (fedAt cells g l) l p)
+        (two (two-lines listed cells fit k (fedAt cells g l) l pins p r z) (lines-of ls (λ x m. h x (List·Memᴰ·tail m))))
+  ]
     where
       q : Gates listed cells fit g ok present-outputs l
       q = h l (List·Memᴰ·head refl)
@@ -122,31 +120,21 @@ module _ (listed cells : List Cell) (fit : Fitting listed cells) (g : Graph) (ok
       pins : length (fedAt cells g l) ≡ cellAt cells k .pins
       pins = of-cell listed cells fit g ok present-outputs l q .pins
 
-      go : Lines ls (each (gatesAt listed cells g) ls) → Numbered listed cells k → Lines (l ∷ ls) (gatesAt listed cells g l ++ each (gatesAt listed cells g) ls)
-      go later (single b e) =
-          subst (λ (ts : List Gate). Lines (l ∷ ls) (ts ++ each (gatesAt listed cells g) ls)) (sym (gates-single listed k (fedAt cells g l) l b))
-          (one (one-line listed cells fit k (fedAt cells g l) l pins b e) later)
-      go later (double b p e) =
-          subst (λ (ts : List Gate). Lines (l ∷ ls) (ts ++ each (gatesAt listed cells g) ls)) (sym (gates-double listed k (fedAt cells g l) l b))
-          (two (two-lines listed cells fit k (fedAt cells g l) l pins b p e) later)
-
   pub gates-gated : (f : Figures) → Gated listed cells g f (blifOf g (chosenGates listed cells g))
   unfolding blifOf
   gates-gated f = record {
-    nets = λ l. (is-needed l, (λ h. is-driven l (h .0) (h .1)));
+    nets = λ l. (
+      (λ x. let h = driven-phase listed cells fit g ok present-outputs l x in (h .needs, (λ o. true≢false (sym (own-is l o) ∙ h .notOwn)))),
+      (λ h. is-driven l (h .0) (h .1)),
+    );
     order = (
       gateNets cells g,
-      nets-ordered,
+      unfold below in keep-ordered (λ (l : ℕ). cond (elem l (needed cells g (chosen cells g))) (not (isOwn (sourceOf cells g l))) false)
+          (below (2 * suc (g .size))) (from-ordered (2 * suc (g .size)) 0),
       subst (Lines (gateNets cells g)) (sym (gates-are listed cells g)) (lines-of (gateNets cells g) (net-out listed cells fit g ok present-outputs)),
     );
   }
     where
-      is-needed : (l : ℕ) → List·Memᴰ (netName l) (map drives (map lineOf (chosenGates listed cells g))) → NeedsOf cells g l × (¬ IsOwn g l)
-      is-needed l m = let h = driven-phase listed cells fit g ok present-outputs l m in (h .needs, (λ o. true≢false (sym (own-is l o) ∙ h .notOwn)))
-
       is-driven : (l : ℕ) → NeedsOf cells g l → ¬ IsOwn g l → List·Memᴰ (netName l) (map drives (map lineOf (chosenGates listed cells g)))
-      is-driven l n o = go (isOwn (sourceOf cells g l)) refl
-        where
-          go : (b : Bool) → isOwn (sourceOf cells g l) ≡ b → List·Memᴰ (netName l) (map drives (map lineOf (chosenGates listed cells g)))
-          go true e = absurd (o (own-source listed cells fit g ok present-outputs l n e))
-          go false e = phase-driven listed cells fit g ok present-outputs l (record { needs = n; notOwn = e })
+      is-driven l n o = by-bool (isOwn (sourceOf cells g l)) (λ e. absurd (o (own-source listed cells fit g ok present-outputs l n e)))
+          (λ q. phase-driven listed cells fit g ok present-outputs l (record { needs = n; notOwn = q }))

@@ -1,19 +1,19 @@
 -- The gates of the chosen cover: each is of a listed cell with as many nets as the cell has pins, and the netlist's text reads back as they. Of all
 -- cells that fit, pairs among them or not.
 -- Assumes nothing.
-use Prim.Native.Nat.{ℕ, zero, suc, _+_, _-_, _*_, _/_, _≤_, _<_}
+use Prim.Native.Nat.{ℕ, zero, suc, _*_, _/_, _≤_, _<_}
 use native.Mathlib.Nat.{not-suc-le-zero}
 use native.Mathlib.Omega.{arith}
 use mathlib.Core.Path.{_≡_, refl, sym, _∙_, ap, subst}
 use mathlib.Core.Bool.{Bool, true, false, not, cond, true≢false, false≢true}
 use mathlib.Core.Option.{some}
-use mathlib.Core.List.{List, [], _∷_, _++_, List·Memᴰ, List·Memᴰ·head, List·Memᴰ·tail, Memᴰ·append-left, Memᴰ·cast}
+use mathlib.Core.List.{List, [], _∷_, _++_, List·Memᴰ, List·Memᴰ·tail, Memᴰ·append-left, Memᴰ·cast}
 use lib.Dec.{T, eqb, eqb→eq}
 use lib.ListN.{length, getD}
 use Rattle.model.specs.Base.{all, same, elem, keep, below, each, flip}
 use Rattle.model.specs.Table.{orders}
 use Rattle.model.specs.Cells.{noCell, cellAt}
-use Rattle.model.specs.Pairs.{pairPins, pairOf, cellOfPair, pairAt}
+use Rattle.model.specs.Pairs.{pairPins, pairOf, cellOfPair}
 use Rattle.model.specs.Graph.{Graph, placeF, placingOrder, varOf, negated, literal, literalValue, valueOf, nodeValue}
 use Rattle.model.specs.Cuts.{cutsOf, cutAt}
 use Rattle.model.specs.Matching.{fedNets, matchNets}
@@ -44,20 +44,17 @@ use Rattle.theory_cover.proofs.Gates.{inverter-pins}
 use Rattle.theory.proofs.Needs.{listed-needed, needed-listed}
 use Rattle.theory.proofs.Numbered.{Numbered, single, double, Fitting}
 use Rattle.theory.proofs.Settled.{OfPhase, of-phase}
+use Rattle.theory_graph.proofs.Split.{by-bool, by-member}
 
 -- ---- the nets that feed a source are as many as its cell has pins
-
-orders-long : T (all (λ (o : List ℕ). eqb (length o) 4) orders)
-unfolding all orders
-orders-long = tt
 
 orders-count : length orders ≡ 24
 unfolding orders
 orders-count = refl
 
 order-long : (k : ℕ) → k < 24 → length (getD orders k []) ≡ 4
-order-long k h =
-    eqb→eq (length (getD orders k [])) 4 (all-of (λ (o : List ℕ). eqb (length o) 4) orders orders-long (getD orders k []) (getD-in orders k [] (subst (λ (n : ℕ). k < n) (sym orders-count) h)))
+order-long k h = eqb→eq (length (getD orders k [])) 4 (all-of (λ (o : List ℕ). eqb (length o) 4) orders (unfold all orders in tt)
+    (getD orders k []) (getD-in orders k [] (subst (λ (n : ℕ). k < n) (sym orders-count) h)))
 
 fed-count : (n : ℕ) (places : List ℕ) (mask : ℕ) (leaves : List ℕ) → n ≤ length places → length (fedNets n places mask leaves) ≡ n
 unfolding fedNets
@@ -74,13 +71,10 @@ module _ {X : Type 0} (d : X) (val : Net → X) where
 
   pub by-name : (ns : List Net) (n : Net) → List·Memᴰ n ns → byName ns (label n) ≡ val n
   unfolding byName
-  by-name (k ∷ ns) n m = go (same (label k) (label n)) refl m (by-name ns n)
-    where
-      go : (b : Bool) → same (label k) (label n) ≡ b → List·Memᴰ n (k ∷ ns) → (List·Memᴰ n ns → byName ns (label n) ≡ val n) → cond b (val k) (byName ns (label n)) ≡ val n
-      go true e i later = ap val (label-once k n (same-eq (label k) (label n) (subst T (sym e) tt)))
-      go false e (List·Memᴰ·head q) later =
-          absurd (true≢false (sym (is-true (same (label k) (label n)) (subst (λ (x : Net). T (same (label x) (label n))) q (same-refl (label n)))) ∙ e))
-      go false e (List·Memᴰ·tail i) later = later i
+  by-name (k ∷ ns) n m = by-bool (same (label k) (label n)) (λ e. cc (label-once k n (same-eq (label k) (label n) (subst T (sym e) tt))))
+      (λ q. cc (by-member m (λ p. absurd (true≢false
+      (sym (is-true (same (label k) (label n)) (subst (λ (x : Net). T (same (label x) (label n))) p (same-refl (label n)))) ∙ q)))
+      (by-name ns n)))
 
 -- the chosen source of a phase
 abbrev pub sourceOf : List Cell → Graph → ℕ → Source
@@ -117,11 +111,8 @@ module _ (listed cells : List Cell) (fit : Fitting listed cells) (g : Graph) (ok
   present = needed-present cells g (order-once g ok) (g .outputs) present-outputs
 
   pub placed : (l : ℕ) → NeedsOf cells g l → List·Memᴰ (varOf l) (placingOrder g)
-  placed l n = go (elem (varOf l) (placingOrder g)) refl
-    where
-      go : (b : Bool) → elem (varOf l) (placingOrder g) ≡ b → List·Memᴰ (varOf l) (placingOrder g)
-      go true e = elem-out (varOf l) (placingOrder g) e
-      go false e = absurd (true≢false (sym (chosen-none cells g l (λ m. true≢false (sym (elem-in (varOf l) (placingOrder g) m) ∙ e))) ∙ present l n))
+  placed l n = by-bool (elem (varOf l) (placingOrder g)) (λ e. elem-out (varOf l) (placingOrder g) e) (λ q. absurd
+      (true≢false (sym (chosen-none cells g l (λ m. true≢false (sym (elem-in (varOf l) (placingOrder g) m) ∙ q))) ∙ present l n)))
 
   -- Induction along what feeds: each needed (chosen cells g) after those that it is fed by.
   pub by-feeding : (P : ℕ → Type 0) → ((l : ℕ) → NeedsOf cells g l → ((x : ℕ) → List·Memᴰ x (feeds cells (cutsOf g) l (sourceOf cells g l)) → P x) → P l) → (l : ℕ) → NeedsOf cells g l → P l
@@ -145,10 +136,9 @@ module _ (listed cells : List Cell) (fit : Fitting listed cells) (g : Graph) (ok
     pub notOwn : isOwn (sourceOf cells g l) ≡ false
 
   pub net-in : (l : ℕ) → Gates l → List·Memᴰ l (gateNets cells g)
-  net-in l h =
-      keep-in (λ (k : ℕ). cond (elem k (needed cells g (chosen cells g))) (not (isOwn (sourceOf cells g k))) false) (below-in (2 * suc (g .size)) l (bound l (h .needs)))
-      (subst (λ (b : Bool). T (cond b (not (isOwn (sourceOf cells g l))) false)) (sym (elem-in l (needed cells g (chosen cells g)) (needed-listed cells g (order-once g ok) l (h .needs))))
-      (subst (λ (b : Bool). T (not b)) (sym (h .notOwn)) tt))
+  net-in l h = keep-in (λ (k : ℕ). cond (elem k (needed cells g (chosen cells g))) (not (isOwn (sourceOf cells g k))) false)
+      (below-in (2 * suc (g .size)) l (bound l (h .needs)))
+      (rw (elem-in l (needed cells g (chosen cells g)) (needed-listed cells g (order-once g ok) l (h .needs))) (rw (h .notOwn) tt))
 
   pub net-out : (l : ℕ) → List·Memᴰ l (gateNets cells g) → Gates l
   net-out l m =
@@ -183,21 +173,18 @@ module _ (listed cells : List Cell) (fit : Fitting listed cells) (g : Graph) (ok
   -- at most four, of a listed cell or of a pair
   few-pins : (k : ℕ) → Numbered listed cells k → cellAt cells k .pins ≤ 4
   unfolding cellAt cellOfPair pairOf pairPins
-  few-pins k (single h e) =
-      let few : getD listed k noCell .pins ≤ 4 = cell-form (getD listed k noCell) (library-cell listed (fit .fits) (getD listed k noCell) (getD-in listed k noCell h)) .fewPins in
-      let q : getD cells k noCell .pins ≡ getD listed k noCell .pins = ap (λ (c : Cell). c .pins) e in
-      omega arith
-  few-pins k (double h p e) =
-      let few = p .few in
-      let some = p .somePin in
-      let q : getD cells k noCell .pins ≡ getD listed (pairAt listed k .root) noCell .pins + getD listed (pairAt listed k .inner) noCell .pins - 1 = ap (λ (c : Cell). c .pins) e in
-      omega (arith, few, some)
+  few-pins k (single h e) = omega (
+    arith,
+    ap (λ (c : Cell). c .pins) e,
+    cell-form (getD listed k noCell)
+        (library-cell listed (fit .fits) (getD listed k noCell) (getD-in listed k noCell h)) .fewPins,
+  )
+  few-pins k (double h p e) = omega (arith, ap (λ (c : Cell). c .pins) e, (p .few), (p .somePin))
 
   matched-pins : (m : Match) (cut : List ℕ) → m .order < 24 → m .cell < length cells → length (matchNets cells cut m) ≡ cellAt cells (m .cell) .pins
   unfolding matchNets
-  matched-pins m cut o h =
-      let few : cellAt cells (m .cell) .pins ≤ 4 = few-pins (m .cell) (fit .numbered (m .cell) h) in
-      fed-count (cellAt cells (m .cell) .pins) (getD orders (m .order) []) (m .mask) cut (omega (arith, order-long (m .order) o))
+  matched-pins m cut o h = fed-count (cellAt cells (m .cell) .pins) (getD orders (m .order) []) (m .mask) cut
+      (omega (arith, few-pins (m .cell) (fit .numbered (m .cell) h), order-long (m .order) o))
 
   pub of-cell : (l : ℕ) → Gates l → OfCell l (sourceOf cells g l)
   unfolding cellOf numberOf isOwn feeds
@@ -242,16 +229,12 @@ module _ (listed cells : List Cell) (fit : Fitting listed cells) (g : Graph) (ok
   pub own-value : (setting : ℕ → Bool) (l : ℕ) → IsOwn g l → (literal false (varOf l) ≡ l) × (literalValue (valueOf g setting) l ≡ setting (varOf l))
   unfolding literalValue flip nodeValue
   own-value setting l o =
-      let p : negated l ≡ false = off (negated l) (o .positive) in (
+      let p : negated l ≡ false = (by-bool (negated l) (λ e. rw e (absurd (rw e at (o .positive)))) (λ q. rw q)) in (
         ap (λ (b : Bool). literal b (varOf l)) (sym p) ∙ lit-whole l,
         ap (λ (b : Bool). flip b (valueOf g setting (varOf l))) p
             ∙ valueOf-valuation g ok setting (varOf l)
             ∙ ap (nodeValue setting (valueOf g setting) (varOf l)) (node-input g (varOf l) (order-once g ok) (o .isInput)),
       )
-    where
-      off : (b : Bool) → T (not b) → b ≡ false
-      off true t = absurd t
-      off false t = refl
 
   pub own-source : (l : ℕ) → NeedsOf cells g l → isOwn (sourceOf cells g l) ≡ true → IsOwn g l
   unfolding isOwn

@@ -1,7 +1,7 @@
 -- The listed phases are the needed ones. Assumes nothing.
 use Prim.Native.Nat.{ℕ}
 use mathlib.Core.Path.{_≡_, refl, sym, _∙_, ap, ap₂, subst}
-use mathlib.Core.Logic.{_⊎_, inl, inr}
+use mathlib.Core.Logic.{_⊎_, inl, inr, ⊎-elim}
 use mathlib.Core.Bool.{Bool, true, false, not, cond, true≢false, false≢true}
 use mathlib.Core.List.{List, [], _∷_, _++_, reverse, reverse-cons, reverse-reverse, append-assoc, append-nil, List·Memᴰ, List·Memᴰ·head, List·Memᴰ·tail, List·Memᴰ·not-nil, List·Memᴰ·cases-cons, List·Memᴰ·eq-of-singleton, List·Memᴰ·append-cases, Memᴰ·append-left, Memᴰ·append-right, Memᴰ·cast}
 use Rattle.model.specs.Base.{each, elem}
@@ -21,6 +21,7 @@ use Rattle.theory_graph.proofs.Literals.{lit-var, lit-neg, lit-whole}
 use Rattle.theory_cover.proofs.Turns.{chosen-none}
 use Rattle.theory_cover.proofs.Covers.{Straight}
 use Rattle.theory_cover.proofs.Sound.{src, closed, straight-before, chosen-fine, not-opposite}
+use Rattle.theory_graph.proofs.Split.{by-bool}
 
 module _ (cells : List Cell) (g : Graph) (phase : ℕ → Phase) where
   abbrev fedOf : ℕ → List ℕ
@@ -29,48 +30,23 @@ module _ (cells : List Cell) (g : Graph) (phase : ℕ → Phase) where
   grow : ℕ → List ℕ → List ℕ
   grow l acc = cond (elem l acc) (fedOf l ++ acc) acc
 
-  grow-keeps : (l x : ℕ) (acc : List ℕ) → List·Memᴰ x acc → List·Memᴰ x (grow l acc)
-  unfolding grow
-  grow-keeps l x acc m = go (elem l acc)
-    where
-      go : (b : Bool) → List·Memᴰ x (cond b (fedOf l ++ acc) acc)
-      go true = Memᴰ·append-right (fedOf l) m
-      go false = m
-
-  grow-adds : (l x : ℕ) (acc : List ℕ) → List·Memᴰ l acc → List·Memᴰ x (fedOf l) → List·Memᴰ x (grow l acc)
-  unfolding grow
-  grow-adds l x acc m n = subst (λ (b : Bool). List·Memᴰ x (cond b (fedOf l ++ acc) acc)) (sym (elem-in l acc m)) (Memᴰ·append-left acc n)
-
   grow-only : (l x : ℕ) (acc : List ℕ) → List·Memᴰ x (grow l acc) → List·Memᴰ x acc ⊎ (List·Memᴰ l acc × List·Memᴰ x (fedOf l))
   unfolding grow
-  grow-only l x acc = go (elem l acc) refl
-    where
-      swap : List·Memᴰ l acc → List·Memᴰ x (fedOf l) ⊎ List·Memᴰ x acc → List·Memᴰ x acc ⊎ (List·Memᴰ l acc × List·Memᴰ x (fedOf l))
-      swap h (inl m) = inr (h, m)
-      swap h (inr m) = inl m
-
-      go : (b : Bool) → elem l acc ≡ b → List·Memᴰ x (cond b (fedOf l ++ acc) acc) → List·Memᴰ x acc ⊎ (List·Memᴰ l acc × List·Memᴰ x (fedOf l))
-      go true e m = swap (elem-out l acc e) (List·Memᴰ·append-cases (fedOf l) m)
-      go false e m = inl m
+  grow-only l x acc = λ y. by-bool (elem l acc)
+      (λ e. ⊎-elim (λ m. inr ((elem-out l acc e), m)) inl (List·Memᴰ·append-cases (fedOf l) (rw e at y))) (λ q. inl (rw q at y))
 
   spread-keeps : (ls acc : List ℕ) (x : ℕ) → List·Memᴰ x acc → List·Memᴰ x (spread cells (cutsOf g) phase ls acc)
   unfolding spread grow
   spread-keeps [] acc x m = m
-  spread-keeps (l ∷ ls) acc x m = spread-keeps ls (grow l acc) x (grow-keeps l x acc m)
+  spread-keeps (l ∷ ls) acc x m = spread-keeps ls (grow l acc) x (by-bool (elem l acc) (λ e. rw e (Memᴰ·append-right (fedOf l) m))
+      (λ q. rw q m))
 
   -- what is listed was there, or feeds one of those gone through
   spread-only : (ls acc : List ℕ) (x : ℕ) → List·Memᴰ x (spread cells (cutsOf g) phase ls acc) → List·Memᴰ x acc ⊎ ((l : ℕ) × List·Memᴰ l ls × List·Memᴰ x (fedOf l))
   unfolding spread grow
   spread-only [] acc x m = inl m
-  spread-only (l ∷ ls) acc x m = go (spread-only ls (grow l acc) x m)
-    where
-      first : List·Memᴰ x acc ⊎ (List·Memᴰ l acc × List·Memᴰ x (fedOf l)) → List·Memᴰ x acc ⊎ ((k : ℕ) × List·Memᴰ k (l ∷ ls) × List·Memᴰ x (fedOf k))
-      first (inl n) = inl n
-      first (inr n) = inr (l, List·Memᴰ·head refl, n .1)
-
-      go : List·Memᴰ x (grow l acc) ⊎ ((k : ℕ) × List·Memᴰ k ls × List·Memᴰ x (fedOf k)) → List·Memᴰ x acc ⊎ ((k : ℕ) × List·Memᴰ k (l ∷ ls) × List·Memᴰ x (fedOf k))
-      go (inl n) = first (grow-only l x acc n)
-      go (inr r) = inr (r .0, List·Memᴰ·tail (r .1), r .2)
+  spread-only (l ∷ ls) acc x m = ⊎-elim (λ n. ⊎-elim inl (λ e. inr (l, List·Memᴰ·head refl, e .1)) (grow-only l x acc n))
+      (λ r. inr (r .0, List·Memᴰ·tail (r .1), r .2)) (spread-only ls (grow l acc) x m)
 
   -- nothing at or after a phase of the list is fed by it
   abbrev Top : List ℕ → Type 0
@@ -82,22 +58,17 @@ module _ (cells : List Cell) (g : Graph) (phase : ℕ → Phase) where
   unfolding spread grow
   spread-closed (y ∷ ls) acc top l (List·Memᴰ·tail i) m x n = spread-closed ls (grow y acc) (top .1) l i m x n
   spread-closed (y ∷ ls) acc top l (List·Memᴰ·head e) m x n =
-      spread-keeps ls (grow y acc) x (go (spread-only (y ∷ ls) acc l m))
-    where
-      go : List·Memᴰ l acc ⊎ ((k : ℕ) × List·Memᴰ k (y ∷ ls) × List·Memᴰ l (fedOf k)) → List·Memᴰ x (grow y acc)
-      go (inl h) = grow-adds y x acc (Memᴰ·cast (sym e) h) (subst (λ (z : ℕ). List·Memᴰ x (fedOf z)) e n)
-      go (inr r) = absurd (top .0 (r .0) (r .1) (Memᴰ·cast (sym e) (r .2)))
+      spread-keeps ls (grow y acc) x (⊎-elim (λ h. (subst (λ (b : Bool). List·Memᴰ x (cond b (fedOf y ++ acc) acc))
+      (sym (elem-in y acc (Memᴰ·cast (sym e) h))) (Memᴰ·append-left acc (subst (λ (z : ℕ). List·Memᴰ x (fedOf z)) e n))))
+      (λ r. absurd (top .0 (r .0) (r .1) (Memᴰ·cast (sym e) (r .2)))) (spread-only (y ∷ ls) acc l m))
 
   -- what is listed is needed
   spread-needed : (outs ls acc : List ℕ) → ((x : ℕ) → List·Memᴰ x acc → Needed cells g outs (λ l. phase l .source) x)
       → (x : ℕ) → List·Memᴰ x (spread cells (cutsOf g) phase ls acc) → Needed cells g outs (λ l. phase l .source) x
   unfolding spread grow
   spread-needed outs [] acc h x m = h x m
-  spread-needed outs (l ∷ ls) acc h x m = spread-needed outs ls (grow l acc) (λ y n. go y (grow-only l y acc n)) x m
-    where
-      go : (y : ℕ) → List·Memᴰ y acc ⊎ (List·Memᴰ l acc × List·Memᴰ y (fedOf l)) → Needed cells g outs (λ k. phase k .source) y
-      go y (inl n) = h y n
-      go y (inr n) = fed (h l (n .0)) (n .1)
+  spread-needed outs (l ∷ ls) acc h x m = spread-needed outs ls (grow l acc) (λ y n. ⊎-elim (h y) (λ e. fed (h l (e .0)) (e .1))
+      (grow-only l y acc n)) x m
 
 reverse-in : (xs : List ℕ) (x : ℕ) → List·Memᴰ x xs → List·Memᴰ x (reverse xs)
 reverse-in (y ∷ ys) x (List·Memᴰ·head e) = subst (λ (zs : List ℕ). List·Memᴰ x zs) (sym (reverse-cons y ys)) (Memᴰ·append-right (reverse ys) (List·Memᴰ·head e))
@@ -116,25 +87,12 @@ module _ (cells : List Cell) (g : Graph) (once : Distinct (placingOrder g)) wher
 
   backwards-var : (v k : ℕ) → List·Memᴰ k (backwards phase v) → varOf k ≡ v
   unfolding backwards
-  backwards-var v k = go (isInverted (phase (literal false v) .source))
+  backwards-var v k = λ x. by-bool (isInverted (phase (literal false v) .source)) (λ e. two false true (rw e at x))
+      (λ q. two true false (rw q at x))
     where
       two : (a b : Bool) → List·Memᴰ k (literal a v ∷ literal b v ∷ []) → varOf k ≡ v
       two a b (List·Memᴰ·head e) = ap varOf e ∙ lit-var a v
       two a b (List·Memᴰ·tail m) = ap varOf (List·Memᴰ·eq-of-singleton m) ∙ lit-var b v
-
-      go : (t : Bool) → List·Memᴰ k (cond t (literal false v ∷ literal true v ∷ []) (literal true v ∷ literal false v ∷ [])) → varOf k ≡ v
-      go true m = two false true m
-      go false m = two true false m
-
-  backwards-in : (l : ℕ) → List·Memᴰ l (backwards phase (varOf l))
-  unfolding backwards
-  backwards-in l = go (isInverted (phase (literal false (varOf l)) .source)) (negated l) (lit-whole l)
-    where
-      go : (t b : Bool) → literal b (varOf l) ≡ l → List·Memᴰ l (cond t (literal false (varOf l) ∷ literal true (varOf l) ∷ []) (literal true (varOf l) ∷ literal false (varOf l) ∷ []))
-      go true true e = List·Memᴰ·tail (List·Memᴰ·head (sym e))
-      go true false e = List·Memᴰ·head (sym e)
-      go false true e = List·Memᴰ·head (sym e)
-      go false false e = List·Memᴰ·tail (List·Memᴰ·head (sym e))
 
   -- a phase without an inverter is fed by no phase of its variable
   not-fed : (pre : List ℕ) (v : ℕ) (post : List ℕ) → placingOrder g ≡ pre ++ (v ∷ post) → (l k : ℕ) → varOf l ≡ v → varOf k ≡ v
@@ -145,8 +103,7 @@ module _ (cells : List Cell) (g : Graph) (once : Distinct (placingOrder g)) wher
       go : (s : Source) → src cells g once k ≡ s → (l ≡ k) ⊎ (isInverted s ≡ false) → ¬ List·Memᴰ l (feeds cells (cutsOf g) k s)
       go Input r a m = List·Memᴰ·not-nil m
       go Nothing r a m = List·Memᴰ·not-nil m
-      go (Matched n) r a m =
-          straight-before cells g once pre v post e k q (subst Straight (sym r) tt) l (subst (λ (s : Source). List·Memᴰ l (feeds cells (cutsOf g) k s)) (sym r) m) (List·Memᴰ·head p)
+      go (Matched n) r a m = straight-before cells g once pre v post e k q (rw r tt) l (rw r m) (List·Memᴰ·head p)
       go (Inverted c) r (inl a) m = not-opposite cells g once k (sym a ∙ List·Memᴰ·eq-of-singleton m)
       go (Inverted c) r (inr a) m = true≢false a
 
@@ -163,14 +120,15 @@ module _ (cells : List Cell) (g : Graph) (once : Distinct (placingOrder g)) wher
       go Input r t = absurd (false≢true t)
       go Nothing r t = absurd (false≢true t)
       go (Matched m) r t = absurd (false≢true t)
-      go (Inverted c) r t =
-          straight-plain (src cells g once (literal true v))
-          (subst (λ (x : ℕ). Straight (src cells g once x)) (opposite-plus v) (chosen-fine cells g once (literal false v) (ap absent r) .1 c r))
+      go (Inverted c) r t = straight-plain (src cells g once (literal true v))
+          (rw (← opposite-plus v) (chosen-fine cells g once (literal false v) (ap absent r) .1 c r))
 
   top-rows : (rs post : List ℕ) → placingOrder g ≡ reverse rs ++ post → Top cells g phase (each (backwards phase) rs)
   unfolding each backwards
   top-rows [] post e = tt
-  top-rows (v ∷ rs) post e = go (isInverted (phase (literal false v) .source)) refl (top-rows rs (v ∷ post) e′)
+  top-rows (v ∷ rs) post e = by-bool (isInverted (phase (literal false v) .source))
+      (λ h. rw h (pair false true (second-plain v h) (top-rows rs (v ∷ post) e′)))
+      (λ q. rw q (pair true false q (top-rows rs (v ∷ post) e′)))
     where
       e′ : placingOrder g ≡ reverse rs ++ (v ∷ post)
       e′ = e ∙ ap (λ (xs : List ℕ). xs ++ post) (reverse-cons v rs) ∙ append-assoc (reverse rs) (v ∷ []) post
@@ -182,25 +140,17 @@ module _ (cells : List Cell) (g : Graph) (once : Distinct (placingOrder g)) wher
           closed cells g once (reverse rs) (v ∷ post) e′ l k n (twice-apart (reverse rs) (v ∷ post) (varOf k) (subst Distinct e′ once) u) (List·Memᴰ·head p)
 
       pair : (a b : Bool) → isInverted (src cells g once (literal b v)) ≡ false → Top cells g phase (each (backwards phase) rs) → Top cells g phase (literal a v ∷ literal b v ∷ each (backwards phase) rs)
-      pair a b h top =
-          ((λ k m. one-of k (List·Memᴰ·cases-cons m)), ((λ k m. two-of k (List·Memᴰ·cases-cons m)), top))
+      pair a b h top = ((λ k m. one-of k (List·Memᴰ·cases-cons m)), ((λ k m. two-of k (List·Memᴰ·cases-cons m)), top))
         where
           two-of : (k : ℕ) → (k ≡ literal b v) ⊎ List·Memᴰ k (each (backwards phase) rs) → ¬ List·Memᴰ (literal b v) (feeds cells (cutsOf g) k (src cells g once k))
           two-of k (inl q) = not-fed (reverse rs) v post e′ (literal b v) k (lit-var b v) (ap varOf q ∙ lit-var b v) (inl (sym q))
           two-of k (inr m) = earlier (literal b v) k (lit-var b v) m
 
-          second-of : (k : ℕ) → (k ≡ literal b v) ⊎ List·Memᴰ k (each (backwards phase) rs) → ¬ List·Memᴰ (literal a v) (feeds cells (cutsOf g) k (src cells g once k))
-          second-of k (inl q) = not-fed (reverse rs) v post e′ (literal a v) k (lit-var a v) (ap varOf q ∙ lit-var b v) (inr (ap (λ (x : ℕ). isInverted (src cells g once x)) q ∙ h))
-          second-of k (inr m) = earlier (literal a v) k (lit-var a v) m
-
           one-of : (k : ℕ) → (k ≡ literal a v) ⊎ List·Memᴰ k (literal b v ∷ each (backwards phase) rs) → ¬ List·Memᴰ (literal a v) (feeds cells (cutsOf g) k (src cells g once k))
           one-of k (inl q) = not-fed (reverse rs) v post e′ (literal a v) k (lit-var a v) (ap varOf q ∙ lit-var a v) (inl (sym q))
-          one-of k (inr m) = second-of k (List·Memᴰ·cases-cons m)
-
-      go : (t : Bool) → isInverted (src cells g once (literal false v)) ≡ t → Top cells g phase (each (backwards phase) rs)
-          → Top cells g phase (cond t (literal false v ∷ literal true v ∷ []) (literal true v ∷ literal false v ∷ []) ++ each (backwards phase) rs)
-      go true h top = pair false true (second-plain v h) top
-      go false h top = pair true false h top
+          one-of k (inr m) = ⊎-elim (λ q. not-fed (reverse rs) v post e′ (literal a v) k (lit-var a v) (ap varOf q ∙ lit-var b v)
+              (inr (ap (λ (x : ℕ). isInverted (src cells g once x)) q ∙ h))) (earlier (literal a v) k (lit-var a v))
+              (List·Memᴰ·cases-cons m)
 
   -- the listed phases are needed
   pub listed-needed : (x : ℕ) → List·Memᴰ x (needed cells g phase) → Needed cells g (g .outputs) (src cells g once) x
@@ -211,23 +161,21 @@ module _ (cells : List Cell) (g : Graph) (once : Distinct (placingOrder g)) wher
   pub needed-listed : (x : ℕ) → Needed cells g (g .outputs) (src cells g once) x → List·Memᴰ x (needed cells g phase)
   unfolding needed
   needed-listed x (output m) = spread-keeps cells g phase (each (backwards phase) (reverse (placingOrder g))) (g .outputs) x m
-  needed-listed x (fed {l = l} n i) = go (elem (varOf l) (placingOrder g)) refl (needed-listed l n)
+  needed-listed x (fed {l = l} n i) =
+      let top = top-rows (reverse (placingOrder g)) []
+      (sym (append-nil (reverse (reverse (placingOrder g))) ∙ reverse-reverse (placingOrder g))) in
+      let not-elem : elem (varOf l) (placingOrder g) ≡ false → ¬ List·Memᴰ (varOf l) (placingOrder g) = λ h m. true≢false
+      (sym (elem-in (varOf l) (placingOrder g) m) ∙ h) in
+      by-bool (elem (varOf l) (placingOrder g)) (λ h. spread-closed cells g phase (each (backwards phase) (reverse (placingOrder g)))
+      (g .outputs) top l (each-in (backwards phase) (reverse-in (placingOrder g) (varOf l) (elem-out (varOf l) (placingOrder g) h))
+      (unfold backwards in by-bool (isInverted (phase (literal false (varOf l)) .source)) (λ e. rw e (by-bool (negated l)
+      (λ q. List·Memᴰ·tail (List·Memᴰ·head (sym (rw q at (lit-whole l))))) (λ p. List·Memᴰ·head (sym (rw p at (lit-whole l)))))) (λ r. rw r
+      (by-bool (negated l) (λ z. List·Memᴰ·head (sym (rw z at (lit-whole l))))
+      (λ w. List·Memᴰ·tail (List·Memᴰ·head (sym (rw w at (lit-whole l))))))))) (needed-listed l n) x i)
+      (λ e. absurd (nothing-fed (src cells g once l) (chosen-none cells g l (not-elem e)) i))
     where
-      top : Top cells g phase (each (backwards phase) (reverse (placingOrder g)))
-      top = top-rows (reverse (placingOrder g)) [] (sym (append-nil (reverse (reverse (placingOrder g))) ∙ reverse-reverse (placingOrder g)))
-
       nothing-fed : (s : Source) → absent s ≡ true → ¬ List·Memᴰ x (feeds cells (cutsOf g) l s)
       nothing-fed Input a m = false≢true (unfold absent in a)
       nothing-fed Nothing a m = List·Memᴰ·not-nil (unfold feeds in m)
       nothing-fed (Matched k) a m = false≢true (unfold absent in a)
       nothing-fed (Inverted k) a m = false≢true (unfold absent in a)
-
-      not-elem : elem (varOf l) (placingOrder g) ≡ false → ¬ List·Memᴰ (varOf l) (placingOrder g)
-      not-elem h m = true≢false (sym (elem-in (varOf l) (placingOrder g) m) ∙ h)
-
-      go : (b : Bool) → elem (varOf l) (placingOrder g) ≡ b → List·Memᴰ l (spread cells (cutsOf g) phase (each (backwards phase) (reverse (placingOrder g))) (g .outputs))
-          → List·Memᴰ x (spread cells (cutsOf g) phase (each (backwards phase) (reverse (placingOrder g))) (g .outputs))
-      go true h m =
-          spread-closed cells g phase (each (backwards phase) (reverse (placingOrder g))) (g .outputs) top l
-          (each-in (backwards phase) (reverse-in (placingOrder g) (varOf l) (elem-out (varOf l) (placingOrder g) h)) (backwards-in l)) m x i
-      go false h m = absurd (nothing-fed (src cells g once l) (chosen-none cells g l (not-elem h)) i)

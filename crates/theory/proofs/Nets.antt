@@ -1,8 +1,8 @@
 -- What the nets of the printed netlist have by a rule of its gate lines, of values and of arrivals alike: anything by the rule is made of what the inputs
 -- have, phase by phase; and what is so made of the phases gives the nets something by the rule. Assumes nothing.
 use Prim.Native.Nat.{ℕ, suc, _*_, _<_}
-use mathlib.Core.Path.{_≡_, refl, sym, _∙_, ap, subst}
-use mathlib.Core.Bool.{Bool, true, false}
+use mathlib.Core.Path.{_≡_, sym, _∙_, ap}
+use mathlib.Core.Bool.{true, false}
 use mathlib.Core.List.{List, _++_, map, List·Memᴰ, Memᴰ·append-left, Memᴰ·append-right}
 use Rattle.model.specs.Base.{below}
 use Rattle.model.specs.Graph.{Graph}
@@ -18,6 +18,7 @@ use Rattle.theory.proofs.Numbered.{Fitting}
 use Rattle.theory.proofs.Settled.{whole, inside, Ruled, to-phase, from-phase}
 use Rattle.theory.proofs.Gates.{sourceOf, numberAt, fedAt, gatesAt, NeedsOf, Gates, chosenGates, by-feeding, bound, gate-in, gate-out, line-bound}
 use Rattle.theory.proofs.Wires.{byLabel, by-net, by-wire}
+use Rattle.theory_graph.proofs.Split.{by-bool}
 
 module _ (listed cells : List Cell) (fit : Fitting listed cells) (g : Graph) (ok : Accepted g)
     (present-outputs : (l : ℕ) → List·Memᴰ l (g .outputs) → absent (chosen cells g l .source) ≡ false)
@@ -33,30 +34,20 @@ module _ (listed cells : List Cell) (fit : Fitting listed cells) (g : Graph) (ok
   at-gate : (w : List ℕ → X) → AtLines w → (t : Gate) → List·Memᴰ t (chosenGates listed cells g) → w (label (t .net)) ≡ out (lineOf t) (map (λ (n : Net). w (label n)) (t .pins))
   at-gate w h t m =
       let b = line-bound listed cells fit g ok present-outputs t m in
-      ap w (sym (b .isDriven)) ∙ h (lineOf t) (map-in lineOf m) ∙ ap (λ (ns : List (List ℕ)). out (lineOf t) (map w ns)) (b .isFed)
-      ∙ ap (out (lineOf t)) (map-map w label (t .pins))
+      cc (b .isDriven, h (lineOf t) (map-in lineOf m), b .isFed, map-map w label (t .pins))
 
   made-of : (w : List ℕ → X) → AtLines w → (l : ℕ) → Gates listed cells fit g ok present-outputs l → w (netName l) ≡ made l (map (λ (x : ℕ). w (netName x)) (fedAt cells g l))
   unfolding label
-  made-of w h l q =
-      to-phase listed (numberAt cells g l) (fedAt cells g l) l (λ (t : Gate). out (lineOf t)) (λ (n : Net). w (label n))
+  made-of w h l q = to-phase listed (numberAt cells g l) (fedAt cells g l) l (λ (t : Gate). out (lineOf t)) (λ (n : Net). w (label n))
       (λ t m. at-gate w h t (gate-in listed cells fit g ok present-outputs l q t m))
 
   module _ (val : ℕ → X) (rule : (l : ℕ) → Gates listed cells fit g ok present-outputs l → val l ≡ made l (map val (fedAt cells g l))) where
     -- whatever is by the rule and has what the inputs have, has what is made of it
     pub nets-are : (w : List ℕ → X) → AtLines w → ((l : ℕ) → NeedsOf cells g l → isOwn (sourceOf cells g l) ≡ true → w (netName l) ≡ val l)
         → (l : ℕ) → NeedsOf cells g l → w (netName l) ≡ val l
-    nets-are w h own = by-feeding listed cells fit g ok present-outputs (λ l. w (netName l) ≡ val l) step
-      where
-        step : (l : ℕ) → NeedsOf cells g l → ((x : ℕ) → List·Memᴰ x (fedAt cells g l) → w (netName x) ≡ val x) → w (netName l) ≡ val l
-        step l n ih = go (isOwn (sourceOf cells g l)) refl
-          where
-            go : (b : Bool) → isOwn (sourceOf cells g l) ≡ b → w (netName l) ≡ val l
-            go true e = own l n e
-            go false e =
-                made-of w h l (record { needs = n; notOwn = e })
-                ∙ ap (made l) (map-same (λ (x : ℕ). w (netName x)) val (fedAt cells g l) ih)
-                ∙ sym (rule l (record { needs = n; notOwn = e }))
+    nets-are w h own = by-feeding listed cells fit g ok present-outputs (λ l. w (netName l) ≡ val l) (λ l n ih. by-bool
+        (isOwn (sourceOf cells g l)) (λ e. own l n e) (λ q. made-of w h l (record { needs = n; notOwn = q })
+        ∙ ap (made l) (map-same (λ (x : ℕ). w (netName x)) val (fedAt cells g l) ih) ∙ sym (rule l (record { needs = n; notOwn = q }))))
 
     netVal : Net → X
     netVal (ofPhase l) = val l
@@ -90,8 +81,7 @@ module _ (listed cells : List Cell) (fit : Fitting listed cells) (g : Graph) (ok
     the-ruled l q =
         let h = bound listed cells fit g ok present-outputs l (q .needs) in
         from-phase listed (numberAt cells g l) (fedAt cells g l) l (λ (t : Gate). out (lineOf t)) (λ (n : Net). the (label n))
-        (the-phase l h ∙ rule l q ∙ ap (made l) (the-fed l (q .needs)))
-        (the-pair l h ∙ ap (inside listed (numberAt cells g l) (fedAt cells g l) l (λ (t : Gate). out (lineOf t))) (the-fed l (q .needs)))
+        (cc (the-phase l h, rule l q, the-fed l (q .needs))) (cc (the-pair l h, the-fed l (q .needs)))
 
     -- is by the rule of the lines
     pub the-lines : AtLines the
@@ -99,11 +89,7 @@ module _ (listed cells : List Cell) (fit : Fitting listed cells) (g : Graph) (ok
         let u = map-out lineOf (chosenGates listed cells g) m in
         let r = gate-out listed cells fit g ok present-outputs (u .0) (u .1) in
         let b = line-bound listed cells fit g ok present-outputs (u .0) (u .1) in
-        subst (λ (x : GateLine). the (drives x) ≡ out x (map the (fedBy listed x))) (sym (u .2))
-        (ap the (b .isDriven)
-        ∙ the-ruled (r .at) (r .gates) (u .0) (r .isGate)
-        ∙ ap (out (lineOf (u .0))) (sym (map-map the label (u .0 .pins)))
-        ∙ ap (λ (ns : List (List ℕ)). out (lineOf (u .0)) (map the ns)) (sym (b .isFed)))
+        rw (u .2) (cc (b .isDriven, the-ruled (r .at) (r .gates) (u .0) (r .isGate), map-map the label (u .0 .pins), b .isFed))
 
     -- and the wires hand it on
     pub the-wires : (x : Wire) → List·Memᴰ x (wiresFrom 0 (g .outputs)) → the (x .target) ≡ the (x .source)

@@ -26,23 +26,6 @@ pub record OfPair (listed : List Cell) (p : Pair) : Type 0 where
   pub somePin : 1 ≤ cellAt listed (p .inner) .pins
   pub few : cellAt listed (p .root) .pins + cellAt listed (p .inner) .pins ≤ 5
 
-pair-of : (listed : List Cell) (p : Pair) → List·Memᴰ p (pairsOf listed) → OfPair listed p
-unfolding pairsOf cellAt joins
-pair-of cells p m =
-    let n = length cells in
-    let b = each-out _ (below n) m in
-    let d = each-out _ (below (getD cells (b .0) noCell .pins)) (b .2) in
-    let e = map-out _ (keep (λ (j : ℕ). joins (getD cells (b .0) noCell) (getD cells j noCell)) (below n)) (d .2) in
-    let k = keep-out (λ (j : ℕ). joins (getD cells (b .0) noCell) (getD cells j noCell)) (below n) (e .1) in
-    let q = and-yes (leb 1 (getD cells (e .0) noCell .pins)) (leb (getD cells (b .0) noCell .pins + getD cells (e .0) noCell .pins) 5) (k .1) in
-    subst (OfPair cells) (sym (e .2)) (record {
-      hasRoot = getD-in cells (b .0) noCell (below-out n (b .0) (b .1));
-      hasInner = getD-in cells (e .0) noCell (below-out n (e .0) (k .0));
-      hasPin = below-out (getD cells (b .0) noCell .pins) (d .0) (d .1);
-      somePin = leb-yes (q .0);
-      few = leb-yes (q .1);
-    })
-
 -- under a number stands a listed cell, or the pair of the number
 pub data Numbered (listed cells : List Cell) (k : ℕ) : Type 0 where
   single : k < length listed → cellAt cells k ≡ cellAt listed k → Numbered listed cells k
@@ -74,7 +57,18 @@ numbered-for true listed k h = elim (decLe (length listed) k) [
   | yes le ↦
       let within : k - length listed < length (pairsOf listed) =
       (let a = length-append listed (map (cellOfPair listed) (pairsOf listed)) in let c = length-map (cellOfPair listed) (pairsOf listed) in omega (arith, a, c)) in
-      double le (pair-of listed (getD (pairsOf listed) (k - length listed) noPair) (getD-in (pairsOf listed) (k - length listed) noPair within))
+      double le (unfold pairsOf joins in let n = length listed in let b = each-out _ (below n)
+      (getD-in (pairsOf listed) (k - length listed) noPair within) in let d = each-out _ (below (getD listed (b .0) noCell .pins)) (b .2) in
+      let e = map-out _ (keep (λ (j : ℕ). joins (getD listed (b .0) noCell) (getD listed j noCell)) (below n)) (d .2) in let k = keep-out
+      (λ (j : ℕ). joins (getD listed (b .0) noCell) (getD listed j noCell)) (below n) (e .1) in let q = and-yes
+      (leb 1 (getD listed (e .0) noCell .pins)) (leb (getD listed (b .0) noCell .pins + getD listed (e .0) noCell .pins) 5) (k .1) in subst
+      (OfPair listed) (sym (e .2)) (record {
+        hasRoot = getD-in listed (b .0) noCell (below-out n (b .0) (b .1));
+        hasInner = getD-in listed (e .0) noCell (below-out n (e .0) (k .0));
+        hasPin = below-out (getD listed (b .0) noCell .pins) (d .0) (d .1);
+        somePin = leb-yes (q .0);
+        few = leb-yes (q .1);
+      }))
       (getD-behind listed (map (cellOfPair listed) (pairsOf listed)) noCell k le ∙ getD-of-map (cellOfPair listed) (pairsOf listed) noPair noCell (k - length listed) within)
 ]
 

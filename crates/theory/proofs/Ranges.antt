@@ -4,7 +4,7 @@ use Prim.Native.Nat.{ℕ, zero, suc, _+_, _≤_, _<_}
 use native.Mathlib.Nat.{le-refl, le-trans, le-of-eq, lt-of-not-le}
 use native.Mathlib.Decide.{decLe}
 use native.Mathlib.Omega.{arith}
-use mathlib.Core.Path.{_≡_, refl, sym, _∙_, ap, ap₂, subst}
+use mathlib.Core.Path.{_≡_, refl, sym, _∙_, ap, subst}
 use mathlib.Core.Bool.{Bool, true, false, cond}
 use mathlib.Core.List.{List, [], _∷_, _++_, map, List·Memᴰ, List·Memᴰ·head, List·Memᴰ·tail, Memᴰ·cast, head-eq-of-cons-eq, tail-eq-of-cons-eq}
 use lib.Dec.{T, leb}
@@ -33,6 +33,7 @@ use Rattle.theory.proofs.Gates.{sourceOf, numberAt, fedAt, NeedsOf, Gat
 use Rattle.theory.proofs.Wires.{at-outputs}
 use Rattle.theory.proofs.Formed.{gates-once}
 use Rattle.theory.proofs.Arrivals.{padded, phaseDelays, delays-single, delays-double, phase-delays, Follows, timeOn, times-on, net-on, chosen-follows, retimed-follows}
+use Rattle.theory_graph.proofs.Split.{by-bool}
 
 -- no lowest delay is over its delay, place by place
 pub no-lower : (ls ds : List ℕ) → T (noLower ls ds) → (j : ℕ) → getD ls j 0 ≤ getD ds j 0
@@ -55,10 +56,13 @@ entries [] [] once e = refl
 entries [] (d ∷ ds) once e = absurd (let q : suc (length ds) ≡ 0 = e in omega arith)
 entries (k ∷ ks) [] once e = absurd (let q : 0 ≡ suc (length ks) = e in omega arith)
 entries (k ∷ ks) (d ∷ ds) once e =
-    ap₂ (λ (x : List ℕ) (xs : List (List ℕ)). x ∷ xs) (ap (λ (b : Bool). cond b d (entry ks ds k)) (is-true (same k k) (same-refl k)))
-    (map-same (λ (l : List ℕ). cond (same k l) d (entry ks ds l)) (entry ks ds) ks
-    (λ l m. ap (λ (b : Bool). cond b d (entry ks ds l)) (other (same k l) (same-eq k l) (λ q. once .0 (Memᴰ·cast q m))))
-    ∙ entries ks ds (once .1) (let q : suc (length ds) ≡ suc (length ks) = e in omega arith))
+    cc (
+      is-true (same k k) (same-refl k),
+      map-same (λ (l : List ℕ). cond (same k l) d (entry ks ds l)) (entry ks ds) ks
+          (λ l m. ap (λ (b : Bool). cond b d (entry ks ds l)) (other (same k l) (same-eq k l) (λ q. once .0 (Memᴰ·cast q m)))),
+      entries ks ds
+          (once .1) (let q : suc (length ds) ≡ suc (length ks) = e in omega arith),
+    )
   where
     other : {l : List ℕ} (b : Bool) → (T b → k ≡ l) → ¬ (k ≡ l) → b ≡ false
     other true y n = absurd (n (y tt))
@@ -125,10 +129,8 @@ module _ (low high : ℕ → ℕ) where
       → ((l : ℕ) → List·Memᴰ l ls → (low l ≤ at (netName l)) × (at (netName l) ≤ high l))
       → (x : TimingLine) → List·Memᴰ x (timingsFrom low high k ls) → (x .low ≤ at (x .output)) × (at (x .output) ≤ x .high)
   unfolding timingsFrom from
-  saying-within at k (l ∷ ls) e h x (List·Memᴰ·head q) =
-      subst (λ (y : TimingLine). (y .low ≤ at (y .output)) × (at (y .output) ≤ y .high)) (sym q)
-      (let s : at (outName k) ≡ at (netName l) = head-eq-of-cons-eq e in
-      let b = h l (List·Memᴰ·head refl) in (le-trans (b .0) (le-of-eq (sym s)), le-trans (le-of-eq s) (b .1)))
+  saying-within at k (l ∷ ls) e h x (List·Memᴰ·head q) = rw q (let s : at (outName k) ≡ at (netName l) = head-eq-of-cons-eq e in let b = h l
+      (List·Memᴰ·head refl) in (le-trans (b .0) (le-of-eq (sym s)), le-trans (le-of-eq s) (b .1)))
   saying-within at k (l ∷ ls) e h x (List·Memᴰ·tail m) = saying-within at (suc k) ls (tail-eq-of-cons-eq e) (λ y i. h y (List·Memᴰ·tail i)) x m
 
 module _ (listed cells : List Cell) (fit : Fitting listed cells) (low-high : (c : Cell) → List·Memᴰ c listed → T (noLower (c .lows) (c .delays)))
@@ -169,21 +171,12 @@ module _ (listed cells : List Cell) (fit : Fitting listed cells) (low-high : (c 
   below-by : (ds es : Delays) (a b : ℕ → ℕ) → Follows listed cells g ds a → Follows listed cells g es b
       → ((t : GateLine) → List·Memᴰ t (map lineOf (chosenGates listed cells g)) → (j : ℕ) → getD (ds t) j 0 ≤ getD (es t) j 0)
       → (l : ℕ) → NeedsOf cells g l → a l ≤ b l
-  below-by ds es a b f h le = by-feeding listed cells fit g ok present-outputs (λ l. a l ≤ b l) step
-    where
-      step : (l : ℕ) → NeedsOf cells g l → ((x : ℕ) → List·Memᴰ x (fedAt cells g l) → a x ≤ b x) → a l ≤ b l
-      step l n ih = go (isOwn (sourceOf cells g l)) refl
-        where
-          go : (o : Bool) → isOwn (sourceOf cells g l) ≡ o → a l ≤ b l
-          go true e =
-              let o = own-source listed cells fit g ok present-outputs l n e in
-              let q = own-value listed cells fit g ok present-outputs (λ u. false) l o .0 in
-              le-of-eq (ap a (sym q) ∙ f .atInput (varOf l) (o .isInput) ∙ sym (h .atInput (varOf l) (o .isInput)) ∙ ap b q)
-          go false e =
-              le-trans (le-of-eq (f .atGate l n e))
-              (le-trans (latest-below a b (fedAt cells g l) (phaseDelays listed cells g ds l) (phaseDelays listed cells g es l) ih
-              (phase-below ds es le l (record { needs = n; notOwn = e })))
-              (le-of-eq (sym (h .atGate l n e))))
+  below-by ds es a b f h le = by-feeding listed cells fit g ok present-outputs (λ l. a l ≤ b l) (λ l n ih. by-bool
+      (isOwn (sourceOf cells g l)) (λ e. let o = own-source listed cells fit g ok present-outputs l n e in
+      let q = own-value listed cells fit g ok present-outputs (λ u. false) l o .0 in le-of-eq
+      (cc (f .atInput (varOf l) (o .isInput), h .atInput (varOf l) (o .isInput)))) (λ q. le-trans (le-of-eq (f .atGate l n q)) (le-trans
+      (latest-below a b (fedAt cells g l) (phaseDelays listed cells g ds l) (phaseDelays listed cells g es l) ih
+      (phase-below ds es le l (record { needs = n; notOwn = q }))) (le-of-eq (sym (h .atGate l n q))))))
 
   abbrev lowDelays : Delays
   lowDelays t = named listed (t .cell) .lows
@@ -196,8 +189,7 @@ module _ (listed cells : List Cell) (fit : Fitting listed cells) (low-high : (c 
 
   low-follows : Follows listed cells g lowDelays (lowOf cells g)
   unfolding lowOf pairOf
-  low-follows =
-      retimed-follows listed cells fit g ok present-outputs (λ x. cellOf cells (sourceOf cells g x) .lows) lowDelays
+  low-follows = retimed-follows listed cells fit g ok present-outputs (λ x. cellOf cells (sourceOf cells g x) .lows) lowDelays
       (λ l q. sym (phase-delays listed cells fit g ok present-outputs (λ (c : Cell). c .lows) four-lows (λ root inner pin. refl) l q))
 
   high-follows : Follows listed cells g highDelays high
@@ -222,22 +214,22 @@ module _ (listed cells : List Cell) (fit : Fitting listed cells) (low-high : (c 
 
   -- any delays, one list for each gate line, are a choice: each line is known by the net that it drives
   separately : (ds : List (List ℕ)) → length ds ≡ length (map lineOf (chosenGates listed cells g)) → (delays : Delays) × (map delays (map lineOf (chosenGates listed cells g)) ≡ ds)
-  separately ds e = (
-    (λ t. entry nets ds (drives t)),
-    sym (map-map (entry nets ds) drives (map lineOf (chosenGates listed cells g)))
-        ∙ entries nets ds (gates-once listed cells fit g ok present-outputs) (e ∙ sym (length-map drives (map lineOf (chosenGates listed cells g)))),
-  )
-    where
-      nets : List (List ℕ)
-      nets = map drives (map lineOf (chosenGates listed cells g))
+  separately ds e =
+      let nets = map drives (map lineOf (chosenGates listed cells g)) in (
+        (λ t. entry nets ds (drives t)),
+        sym (map-map (entry nets ds) drives (map lineOf (chosenGates listed cells g)))
+            ∙ entries nets ds (gates-once listed cells fit g ok present-outputs) (e ∙ sym (length-map drives (map lineOf (chosenGates listed cells g)))),
+      )
 
   -- the arrivals of all outputs are those of their phases
   all-outputs : (delays : Delays) (a : ℕ → ℕ) → Follows listed cells g delays a → (at : List ℕ → ℕ) → NetTimes listed delays (blifOf g (chosenGates listed cells g)) (map (g .late) (g .inputs)) at
       → map at (outputNames g) ≡ map a (g .outputs)
   unfolding blifOf
-  all-outputs delays a f at h =
-      at-outputs at (g .outputs) (h .atWires)
-      ∙ map-same (λ (l : ℕ). at (netName l)) a (g .outputs) (λ l m. net-on listed cells fit g ok present-outputs delays a f at h l (output m))
+  all-outputs delays a f at h = cc (
+    at-outputs at (g .outputs) (h .atWires),
+    map-same (λ (l : ℕ). at (netName l)) a (g .outputs)
+        (λ l m. net-on listed cells fit g ok present-outputs delays a f at h l (output m)),
+  )
 
   pub within-ranges : WithinRanges listed g (blifOf g (chosenGates listed cells g)) (timingsFrom (lowOf cells g) (λ l. chosen cells g l .arrival) 0 (g .outputs))
   unfolding blifOf below

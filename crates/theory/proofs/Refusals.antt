@@ -1,8 +1,8 @@
 -- Which numbers and places the refusal of an outcome has. Assumes nothing.
 use Prim.Native.Nat.{ℕ}
-use mathlib.Core.Path.{_≡_, refl}
-use mathlib.Core.Bool.{Bool, true, false, cond}
-use mathlib.Core.Option.{Option, none, some}
+use mathlib.Core.Path.{_≡_}
+use mathlib.Core.Bool.{Bool, true, false}
+use mathlib.Core.Option.{some}
 use mathlib.Core.List.{List, [], _∷_}
 use lib.Dec.{leb}
 use lib.ListN.{length}
@@ -14,6 +14,7 @@ use Rattle.model.specs.Netlist.{Outcome, refused, mapped, uncovered, printed, m
 use Rattle.model.specs.Timing.{followed}
 use Rattle.model.specs.Mapper.{within}
 use Rattle.model.specs.declared.Cell.{Cell}
+use Rattle.theory_graph.proofs.Split.{by-bool, by-option, by-list}
 
 -- the number and the place of a refusal, if the outcome is one
 abbrev pub Refusal : (ℕ → ℕ → Type 0) → Outcome → Type 0
@@ -25,11 +26,7 @@ module _ (P : ℕ → ℕ → Type 0) where
   pub within-refusal : ((k : ℕ) → P 18 k) → (bytes : ℕ) (o : Outcome) → Refusal P o → Refusal P (within bytes o)
   unfolding within
   within-refusal p18 bytes (refused n k) l = l
-  within-refusal p18 bytes (mapped t f) l = go (leb (length t) bytes)
-    where
-      go : (b : Bool) → Refusal P (cond b (mapped t f) (refused 18 (length t)))
-      go true = tt
-      go false = p18 (length t)
+  within-refusal p18 bytes (mapped t f) l = by-bool (leb (length t) bytes) (λ e. rw e tt) (λ q. rw q (p18 (length t)))
 
   -- the timing lines add none
   pub followed-refusal : (ranged : Bool) (cells : List Cell) (g : Graph) (o : Outcome) → Refusal P o → Refusal P (followed ranged cells g o)
@@ -41,16 +38,9 @@ module _ (P : ℕ → ℕ → Type 0) where
   -- 15 to 17
   pub map-refusal : (listed cells : List Cell) (g : Graph) → ((v : ℕ) → lowest (unplaced g) ≡ some v → P 15 v) → ((k : ℕ) → P 16 k) → ((k : ℕ) → P 17 k) → Refusal P (mapGraph listed cells g)
   unfolding mapGraph mapPlaced mapCut mapChosen printed
-  map-refusal listed cells g p15 p16 p17 = places (lowest (unplaced g)) refl
+  map-refusal listed cells g p15 p16 p17 = by-option (lowest (unplaced g)) (λ e. rw e (by-list (crowded g)
+      (λ e. rw e (unfold chosen in outs (uncovered (chosen cells g) 0 (g .outputs)))) (λ q vs p. rw p (p16 q)))) (λ q p. rw p (p15 q p))
     where
       outs : (us : List ℕ) → Refusal P (printed listed cells g (chosen cells g) us)
       outs [] = tt
       outs (u ∷ us) = p17 u
-
-      cuts : (vs : List ℕ) → Refusal P (mapCut listed cells g vs)
-      cuts [] = unfold chosen in outs (uncovered (chosen cells g) 0 (g .outputs))
-      cuts (v ∷ vs) = p16 v
-
-      places : (o : Option ℕ) → lowest (unplaced g) ≡ o → Refusal P (mapPlaced listed cells g o)
-      places none e = cuts (crowded g)
-      places (some v) e = p15 v e

@@ -7,7 +7,7 @@ use mathlib.Core.List.{List, [], _∷_, _++_, List·Memᴰ, List·Memᴰ·head, 
 use lib.Dec.{T, leb, ltb}
 use Rattle.model.specs.Base.{lowest}
 use Rattle.model.specs.Limits.{need}
-use Rattle.model.specs.Reading.{Read, holds, fault, next, unless}
+use Rattle.model.specs.Reading.{Read, holds, next, unless}
 use Rattle.model.specs.Graph.{And, Graph, varOf, unplaced, andVars}
 use Rattle.model.specs.GraphText.{readHeader, readGraph}
 use Rattle.model.specs.Netlist.{mapGraph}
@@ -21,11 +21,12 @@ use Rattle.theory_graph.proofs.Lists.{each-in, lowest-in}
 use Rattle.theory_graph.proofs.Timed.{timed-unplaced}
 use Rattle.theory_order.proofs.Sequence.{Lower, rising-placed}
 use Rattle.theory_text.proofs.Steps.{holds-once}
-use Rattle.theory_text.proofs.Faults.{Faults, in-holds, in-unless, in-next, listed-faults, header-faults, arrivals-faults}
+use Rattle.theory_text.proofs.Faults.{in-holds, in-unless, in-next, listed-faults, header-faults, arrivals-faults}
 use Rattle.theory_text.proofs.ReadGraph.{graph-known}
 use Rattle.theory_text.proofs.ReadTexts.{texts-read}
 use Rattle.theory_text.proofs.Sequence.{binary-faults, binary-falls}
 use Rattle.theory.proofs.Refusals.{Refusal, within-refusal, followed-refusal, map-refusal}
+use Rattle.theory_graph.proofs.Split.{by-read}
 
 -- none of 13, 14 and 15, at any place
 abbrev Other : ℕ → ℕ → Type 0
@@ -51,47 +52,28 @@ binary-placed bytes h g d b e = rising-placed g (record { left = lefts; right = 
 -- ---- 13 and 14
 
 module _ (c : Call) (h : Header) (d : readHeader (c .graph) ≡ holds h) (b : h .binary ≡ true) where
-  texts-other : Faults Other (readTexts c)
-  unfolding readTexts
-  texts-other =
-      in-unless Other (short c) 1 0 (next (readListed (c .paired) (c .library)) read) (λ _. tt)
-      (in-next Other (readListed (c .paired) (c .library)) read (listed-faults Other tt (λ _. tt) (λ _. tt) (λ _. tt) (λ _. tt) (λ _. tt) tt (c .paired) (c .library))
-      (λ cells _.
-      in-next Other (readHeader (c .graph)) (words cells) (header-faults Other tt tt tt tt (c .graph))
-      (λ k e.
-      in-unless Other (leb (need (k .size) (k .outputs)) (c .words)) 10 0 (next (readGraph (c .graph) k) (timed cells k)) (λ _. tt)
-      (in-next Other (readGraph (c .graph) k) (timed cells k)
-      (binary-faults (c .graph) k e (ap (λ (x : Header). x .binary) (holds-once (sym e ∙ d)) ∙ b) Other (λ _. tt) (λ _. tt) (λ _ _. tt) (λ _ _. tt))
-      (λ g _.
-      in-next Other (readArrivals (k .inputs) (c .arrivals)) (made cells g) (arrivals-faults Other (λ _. tt) (λ _. tt) (k .inputs) (c .arrivals))
-      (λ es _. in-holds Other (designOf c cells (timedBy g es))))))))
-    where
-      made : List Cell → Graph → List Late → Read Design
-      made cells g es = holds (designOf c cells (timedBy g es))
-
-      timed : List Cell → Header → Graph → Read Design
-      timed cells k g = next (readArrivals (k .inputs) (c .arrivals)) (made cells g)
-
-      words : List Cell → Header → Read Design
-      words cells k = unless (leb (need (k .size) (k .outputs)) (c .words)) 10 0 (next (readGraph (c .graph) k) (timed cells k))
-
-      read : List Cell → Read Design
-      read cells = next (readHeader (c .graph)) (words cells)
-
   outcome-other : Refusal Other (mapTexts c)
   unfolding mapTexts mapDesign
-  outcome-other = go (readTexts c) refl texts-other
-    where
-      go : (r : Read Design) → readTexts c ≡ r → Faults Other r → Refusal Other (mapDesign (c .bytes) r)
-      go (holds x) e f =
-          let t = texts-read c x e in
-          let p : unplaced (x .graph) ≡ [] =
-          ap unplaced (sym (t .isTimed)) ∙ timed-unplaced (t .meant) (t .late)
-          ∙ binary-placed (c .graph) h (t .meant) d b (subst (λ (k : Header). readGraph (c .graph) k ≡ holds (t .meant)) (holds-once (sym (t .isHeader) ∙ d)) (t .isGraph)) in
-          within-refusal Other (λ _. tt) (c .bytes) (followed (x .ranged) (x .cells) (x .graph) (mapGraph (x .listed) (x .cells) (x .graph)))
-          (followed-refusal Other (x .ranged) (x .cells) (x .graph) (mapGraph (x .listed) (x .cells) (x .graph))
-          (map-refusal Other (x .listed) (x .cells) (x .graph) (λ v q. absurd (List·Memᴰ·not-nil (lowest-in [] v (sym (ap lowest p) ∙ q)))) (λ _. tt) (λ _. tt)))
-      go (fault n k) e f = f .has n k refl
+  outcome-other = by-read (readTexts c) (λ x e. rw e
+      (let t = texts-read c x e in let p : unplaced (x .graph) ≡ [] = ap unplaced (sym (t .isTimed)) ∙ timed-unplaced (t .meant) (t .late)
+      ∙ binary-placed (c .graph) h (t .meant) d b (rw (← holds-once (sym (t .isHeader) ∙ d)) (t .isGraph)) in within-refusal Other (λ _. tt)
+      (c .bytes) (followed (x .ranged) (x .cells) (x .graph) (mapGraph (x .listed) (x .cells) (x .graph))) (followed-refusal Other
+      (x .ranged) (x .cells) (x .graph) (mapGraph (x .listed) (x .cells) (x .graph)) (map-refusal Other (x .listed) (x .cells) (x .graph)
+      (λ v q. absurd (List·Memᴰ·not-nil (lowest-in [] v (sym (ap lowest p) ∙ q)))) (λ _. tt) (λ _. tt)))))
+      (λ n k q. rw q ((rw q at (let made : List Cell → Graph → List Late → Read Design = λ cells g es. holds
+      (designOf c cells (timedBy g es)) in let timed : List Cell → Header → Graph → Read Design = λ cells k g. next
+      (readArrivals (k .inputs) (c .arrivals)) (made cells g) in let words : List Cell → Header → Read Design = λ cells k. unless
+      (leb (need (k .size) (k .outputs)) (c .words)) 10 0 (next (readGraph (c .graph) k) (timed cells k)) in let read : List Cell
+      → Read Design = λ cells. next (readHeader (c .graph)) (words cells) in in-unless Other (short c) 1 0
+      (next (readListed (c .paired) (c .library)) read) (λ _. tt) (in-next Other (readListed (c .paired) (c .library)) read
+      (listed-faults Other tt (λ _. tt) (λ _. tt) (λ _. tt) (λ _. tt) (λ _. tt) tt (c .paired) (c .library)) (λ cells _.
+      in-next Other (readHeader (c .graph)) (words cells) (header-faults Other tt tt tt tt (c .graph)) (λ k e.
+      in-unless Other (leb (need (k .size) (k .outputs)) (c .words)) 10 0 (next (readGraph (c .graph) k) (timed cells k)) (λ _. tt)
+      (in-next Other (readGraph (c .graph) k) (timed cells k)
+      (binary-faults (c .graph) k e (cc (holds-once (sym e ∙ d), b)) Other (λ _. tt) (λ _. tt) (λ _ _. tt) (λ _ _. tt)) (λ g _.
+      in-next Other (readArrivals (k .inputs) (c .arrivals)) (made cells g)
+      (arrivals-faults Other (λ _. tt) (λ _. tt) (k .inputs) (c .arrivals))
+      (λ es _. in-holds Other (designOf c cells (timedBy g es)))))))))) .has n k refl))
 
 -- "Inputs are variables 1 to I and ANDs follow in sequence": 13, 14 and 15 refuse no text in the binary form
 pub demand-sequenced : (c : Call) → Sequenced c

@@ -5,7 +5,7 @@ use native.Mathlib.Nat.{not-suc-le-zero, le-of-suc-le-suc, lt-of-not-le}
 use native.Mathlib.Decide.{decLe}
 use native.Mathlib.Omega.{arith}
 use mathlib.Core.Path.{_≡_, refl, sym, _∙_, ap, ap₂, subst}
-use mathlib.Core.Logic.{_⊎_, inl, inr}
+use mathlib.Core.Logic.{_⊎_, inl, inr, ⊎-elim}
 use mathlib.Core.Bool.{Bool, true, false, cond, true≢false}
 use mathlib.Core.List.{List, [], _∷_, _++_, map, List·Memᴰ, List·Memᴰ·head, List·Memᴰ·tail, List·Memᴰ·not-nil, List·Memᴰ·cases-cons}
 use lib.Dec.{ltb}
@@ -19,6 +19,7 @@ use Rattle.theory_graph.proofs.Lists.{map-map, getD-in, is-true, is-false}
 use Rattle.theory_graph.proofs.Distinct.{length-map}
 use Rattle.theory_text.proofs.Names.{Bound, gate-bound}
 use Rattle.theory.proofs.Numbered.{OfPair, Numbered, single, double, Fitting}
+use Rattle.theory_graph.proofs.Split.{by-member}
 
 -- ---- a run of elements as one
 
@@ -54,9 +55,7 @@ pub splice-parts : {A : Type 0} (p n : ℕ) (f : List A → A) (xs : List A) →
 unfolding splice
 splice-parts zero n f xs h = ap (λ (k : ℕ). f (take n xs) ∷ drop k xs) (let e : n ≡ 0 + n = omega arith in e)
 splice-parts (suc p) n f [] h = absurd (not-suc-le-zero h)
-splice-parts (suc p) n f (x ∷ xs) h =
-    ap (λ (ys : List _). x ∷ ys) (splice-parts p n f xs (le-of-suc-le-suc h)
-    ∙ ap (λ (k : ℕ). take p xs ++ (f (take n (drop p xs)) ∷ drop k (x ∷ xs))) (let e : suc (p + n) ≡ suc p + n = omega arith in e))
+splice-parts (suc p) n f (x ∷ xs) h = cc (splice-parts p n f xs (le-of-suc-le-suc h), let e : suc (p + n) ≡ suc p + n = omega arith in e)
 
 take-out : {A : Type 0} (n : ℕ) (xs : List A) (x : A) → List·Memᴰ x (take n xs) → List·Memᴰ x xs
 take-out zero xs x m = absurd (List·Memᴰ·not-nil m)
@@ -72,21 +71,13 @@ drop-out (suc n) (y ∷ ys) x m = List·Memᴰ·tail (drop-out n ys x m)
 -- an element of it is s, or was there
 splice-out : {A : Type 0} (p n : ℕ) (s : A) (xs : List A) (x : A) → List·Memᴰ x (splice p n (λ (_ : List A). s) xs) → List·Memᴰ x xs ⊎ (x ≡ s)
 unfolding splice
-splice-out zero n s xs x m = go (List·Memᴰ·cases-cons m)
-  where
-    go : (x ≡ s) ⊎ List·Memᴰ x (drop n xs) → List·Memᴰ x xs ⊎ (x ≡ s)
-    go (inl e) = inr e
-    go (inr i) = inl (drop-out n xs x i)
+splice-out zero n s xs x m = ⊎-elim inr (λ i. inl (drop-out n xs x i)) (List·Memᴰ·cases-cons m)
 splice-out (suc p) n s [] x m = absurd (List·Memᴰ·not-nil m)
-splice-out (suc p) n s (y ∷ xs) x m = go (List·Memᴰ·cases-cons m) (splice-out p n s xs x)
+splice-out (suc p) n s (y ∷ xs) x m = ⊎-elim (λ e. inl (List·Memᴰ·head e)) (λ i. later (splice-out p n s xs x i)) (List·Memᴰ·cases-cons m)
   where
     later : List·Memᴰ x xs ⊎ (x ≡ s) → List·Memᴰ x (y ∷ xs) ⊎ (x ≡ s)
     later (inl i) = inl (List·Memᴰ·tail i)
     later (inr e) = inr e
-
-    go : (x ≡ y) ⊎ List·Memᴰ x (splice p n (λ _. s) xs) → (List·Memᴰ x (splice p n (λ _. s) xs) → List·Memᴰ x xs ⊎ (x ≡ s)) → List·Memᴰ x (y ∷ xs) ⊎ (x ≡ s)
-    go (inl e) out = inl (List·Memᴰ·head e)
-    go (inr i) out = later (out i)
 
 -- ---- the gates
 
@@ -111,13 +102,11 @@ module _ (listed : List Cell) (k : ℕ) (fed : List ℕ) (l : ℕ) where
 
   pub gates-single : k < length listed → gatesBy listed k fed l ≡ cellGate ∷ []
   unfolding gatesBy oneGate
-  gates-single h =
-      ap (λ (b : Bool). cond b (oneGate (cellAt listed k) fed l) (twoGates rootCell fedPin innerCell fed l)) (is-true (ltb k (length listed)) (yes-ltb h))
+  gates-single h = cc (is-true (ltb k (length listed)) (yes-ltb h))
 
   pub gates-double : length listed ≤ k → gatesBy listed k fed l ≡ innerGate ∷ rootGate ∷ []
   unfolding gatesBy twoGates
-  gates-double h =
-      ap (λ (b : Bool). cond b (oneGate (cellAt listed k) fed l) (twoGates rootCell fedPin innerCell fed l)) (is-false (ltb k (length listed)) (no-ltb h))
+  gates-double h = cc (is-false (ltb k (length listed)) (no-ltb h))
 
   -- ---- as one
 
@@ -234,54 +223,45 @@ module _ (listed cells : List Cell) (fit : Fitting listed cells) (k : ℕ) (fed 
     double-long = long ∙ ap (λ (c : Cell). c .pins) e
 
     pub inner-bound : OfPhase listed fed l (innerGate listed k fed l ∷ rootGate listed k fed l ∷ []) (innerGate listed k fed l)
-    inner-bound = record {
-      isListed = p .hasInner;
-      count = count;
-      bound = gate-bound listed (fit .fits) (innerGate listed k fed l) (p .hasInner) count;
-      pins = λ n i. inl (within n i);
-      inside = λ q n i. within n i;
-    }
-      where
-        within : (n : Net) → List·Memᴰ n (innerGate listed k fed l .pins) → List·Memᴰ n (map ofPhase fed)
-        within n i = drop-out (fedPin listed k fed l) (map ofPhase fed) n (take-out (innerCell listed k fed l .pins) (drop (fedPin listed k fed l) (map ofPhase fed)) n i)
-
-        count : length (innerGate listed k fed l .pins) ≡ innerCell listed k fed l .pins
-        count =
-            (let a = length-take (innerCell listed k fed l .pins) (drop (fedPin listed k fed l) (map ofPhase fed)) in
-            let b = length-drop (fedPin listed k fed l) (map ofPhase fed) in
-            let c = double-long in
-            let h = p .hasPin in
-            let s = p .somePin in
-            omega (arith, a, b, c, h, s))
+    inner-bound =
+        let within : (n : Net) → List·Memᴰ n (innerGate listed k fed l .pins) → List·Memᴰ n (map ofPhase fed) = λ n i. drop-out
+        (fedPin listed k fed l) (map ofPhase fed) n
+        (take-out (innerCell listed k fed l .pins) (drop (fedPin listed k fed l) (map ofPhase fed)) n i) in
+        let count : length (innerGate listed k fed l .pins) ≡ innerCell listed k fed l .pins = (let a = length-take
+        (innerCell listed k fed l .pins) (drop (fedPin listed k fed l) (map ofPhase fed)) in let b = length-drop (fedPin listed k fed l)
+        (map ofPhase fed) in let c = double-long in let h = p .hasPin in let s = p .somePin in omega (arith, a, b, c, h, s)) in
+        record {
+          isListed = p .hasInner;
+          count = count;
+          bound = gate-bound listed (fit .fits) (innerGate listed k fed l) (p .hasInner) count;
+          pins = λ n i. inl (within n i);
+          inside = λ q n i. within n i;
+        }
 
     pub root-bound : OfPhase listed fed l (innerGate listed k fed l ∷ rootGate listed k fed l ∷ []) (rootGate listed k fed l)
     root-bound = record {
       isListed = p .hasRoot;
       count = count;
       bound = gate-bound listed (fit .fits) (rootGate listed k fed l) (p .hasRoot) count;
-      pins = λ n i. inside-driven n (splice-out (fedPin listed k fed l) (innerCell listed k fed l .pins) (ofPair l) (map ofPhase fed) n i);
+      pins = λ n i. (⊎-elim inl (λ e. inr (e, List·Memᴰ·head e))
+          (splice-out (fedPin listed k fed l) (innerCell listed k fed l .pins) (ofPair l) (map ofPhase fed) n i));
       inside = λ q. absurd (inside-apart l l q);
     }
       where
         count : length (rootGate listed k fed l .pins) ≡ rootCell listed k fed l .pins
-        count =
-            let c = double-long in
-            let h = p .hasPin in
-            let s = p .somePin in
-            let r = splice-length (fedPin listed k fed l) (innerCell listed k fed l .pins) (λ (_ : List Net). ofPair l) (map ofPhase fed) (omega (arith, c, h, s)) in
-            omega (arith, r, c, h, s)
-
-        inside-driven : (n : Net) → List·Memᴰ n (map ofPhase fed) ⊎ (n ≡ ofPair l)
-            → List·Memᴰ n (map ofPhase fed) ⊎ ((n ≡ ofPair l) × List·Memᴰ n (ofPair l ∷ ofPhase l ∷ []))
-        inside-driven n (inl i) = inl i
-        inside-driven n (inr q) = inr (q, List·Memᴰ·head q)
+        count = omega (
+          arith,
+          (splice-length (fedPin listed k fed l) (innerCell listed k fed l .pins) (λ (_ : List Net). ofPair l)
+              (map ofPhase fed) (omega (arith, double-long, (p .hasPin), (p .somePin)))),
+          double-long,
+          (p .hasPin),
+          (p .somePin),
+        )
 
   pub of-phase : Numbered listed cells k → (t : Gate) → List·Memᴰ t (gatesBy listed k fed l) → OfPhase listed fed l (gatesBy listed k fed l) t
-  of-phase (single h e) = subst (λ (ts : List Gate). (t : Gate) → List·Memᴰ t ts → OfPhase listed fed l ts t) (sym (gates-single listed k fed l h)) one
-    where
-      one : (t : Gate) → List·Memᴰ t (cellGate listed k fed l ∷ []) → OfPhase listed fed l (cellGate listed k fed l ∷ []) t
-      one t (List·Memᴰ·head q) = subst (OfPhase listed fed l (cellGate listed k fed l ∷ [])) (sym q) (single-bound h e)
-      one t (List·Memᴰ·tail i) = absurd (List·Memᴰ·not-nil i)
+  of-phase (single h e) = subst (λ (ts : List Gate). (t : Gate) → List·Memᴰ t ts → OfPhase listed fed l ts t) (sym (gates-single listed k fed l h))
+      (λ x y. by-member y (λ q. subst (OfPhase listed fed l (cellGate listed k fed l ∷ [])) (sym q) (single-bound h e))
+      (λ i. absurd (List·Memᴰ·not-nil i)))
   of-phase (double h p e) = subst (λ (ts : List Gate). (t : Gate) → List·Memᴰ t ts → OfPhase listed fed l ts t) (sym (gates-double listed k fed l h)) two
     where
       two : (t : Gate) → List·Memᴰ t (innerGate listed k fed l ∷ rootGate listed k fed l ∷ []) → OfPhase listed fed l (innerGate listed k fed l ∷ rootGate listed k fed l ∷ []) t

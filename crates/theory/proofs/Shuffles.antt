@@ -9,20 +9,17 @@ use mathlib.Core.List.{List, [], _∷_, _++_, map}
 use lib.Dec.{leb}
 use lib.ListN.{length}
 use Rattle.model.specs.Base.{lowest}
-use Rattle.model.specs.GraphText.{readGraph}
 use Rattle.model.specs.Graph.{Graph, unplaced}
 use Rattle.model.specs.Cuts.{crowded}
 use Rattle.model.specs.Choice.{absent, chosen}
 use Rattle.model.specs.Netlist.{Outcome, refused, mapped, mapGraph, mapPlaced, mapCut, mapChosen, printed, uncovered, figuresOf, largest}
-use Rattle.model.specs.ArrivalsText.{readArrivals, timedBy}
-use Rattle.model.specs.Pairs.{cellsFor}
+use Rattle.model.specs.ArrivalsText.{timedBy}
 use Rattle.model.specs.Timing.{lowOf, timingLines, followed}
 use Rattle.model.specs.Mapper.{Call, Design, mapTexts, within}
 use Rattle.model.specs.Demands.{choiceText, choiceFigures}
 use Rattle.model.specs.ShuffleDemands.{EarliestAt, SameCells, onLibrary, Shuffled, Agree, Shuffles}
 use Rattle.model.specs.declared.Cell.{Cell}
 use Rattle.model.specs.declared.Phase.{Phase}
-use Rattle.model.specs.declared.Header.{Header}
 use Rattle.model.specs.declared.Figures.{Figures}
 use Rattle.theory_graph.specs.Accepted.{Accepted}
 use Rattle.theory_graph.proofs.Lists.{map-same}
@@ -34,6 +31,7 @@ use Rattle.theory_text.proofs.ReadTexts.{texts-read, design-accepted}
 use Rattle.theory_text.proofs.CellLines.{lines-cells}
 use Rattle.theory_text.proofs.Outcomes.{outcome-is, printed-choice, refused-never}
 use Rattle.theory.proofs.Demanded.{nets-chosen}
+use Rattle.theory_graph.proofs.Split.{by-bool, by-list}
 
 -- ---- the outcome, by what the choice leaves uncovered
 
@@ -44,9 +42,7 @@ numberOf (mapped t f) = 0
 uncovered-same : (p q : ℕ → Phase) → ((l : ℕ) → absent (p l .source) ≡ absent (q l .source)) → (k : ℕ) (ls : List ℕ) → uncovered p k ls ≡ uncovered q k ls
 unfolding uncovered
 uncovered-same p q e k [] = refl
-uncovered-same p q e k (l ∷ ls) =
-    ap (λ (b : Bool). cond b (k ∷ uncovered p (suc k) ls) (uncovered p (suc k) ls)) (e l)
-    ∙ ap (λ (us : List ℕ). cond (absent (q l .source)) (k ∷ us) us) (uncovered-same p q e (suc k) ls)
+uncovered-same p q e k (l ∷ ls) = cc (e l, uncovered-same p q e (suc k) ls)
 
 -- 16 and 17 are no matter of what is printed otherwise
 module _ (listed listed′ cells cells′ : List Cell) (r r′ : Bool) (g : Graph) (placed : unplaced g ≡ []) (bytes n k : ℕ) (early : (n ≡ 16) ⊎ (n ≡ 17))
@@ -59,39 +55,23 @@ module _ (listed listed′ cells cells′ : List Cell) (r r′ : Bool) (g : Grap
 
   never : (q : Bool) (t : List ℕ) (f : Figures) → ¬ (within bytes (followed q cells g (mapped t f)) ≡ refused n k)
   unfolding followed within numberOf
-  never q t f = by q
+  never q t f = by-bool q (λ p. rw p (go after (leb (length after) bytes))) (λ e. rw e (go t (leb (length t) bytes)))
     where
       after : List ℕ
       after = t ++ timingLines (lowOf cells g) (λ (l : ℕ). chosen cells g l .arrival) 0 (g .outputs)
 
-      number : n ≡ 18 → ⊥
-      number e = elim early [ inl a ↦ omega arith | inr b ↦ omega arith ]
-
       go : (u : List ℕ) (b : Bool) → ¬ (cond b (mapped u f) (refused 18 (length u)) ≡ refused n k)
       go u true e = refused-never (sym e)
-      go u false e = number (sym (ap numberOf e))
-
-      by : (p : Bool) → ¬ (within bytes (followed p cells g (mapped t f)) ≡ refused n k)
-      by false = go t (leb (length t) bytes)
-      by true = go after (leb (length after) bytes)
+      go u false e = elim early [ inl a ↦ omega (arith, sym (ap numberOf e)) | inr b ↦ omega (arith, sym (ap numberOf e)) ]
 
   refused-on : ends (mapGraph listed cells g) ≡ refused n k → ends′ (mapGraph listed′ cells′ g) ≡ refused n k
   unfolding mapGraph mapPlaced mapCut mapChosen printed chosen lowest within followed
-  refused-on e =
-      ap (λ (us : List ℕ). ends′ (mapPlaced listed′ cells′ g (lowest us))) placed
-      ∙ cut (crowded g) refl (ap (λ (us : List ℕ). ends (mapPlaced listed cells g (lowest us))) (sym placed) ∙ e)
+  refused-on e = ap (λ (us : List ℕ). ends′ (mapPlaced listed′ cells′ g (lowest us))) placed
+      ∙ by-list (crowded g) (λ c. cc (outs (uncovered (chosen cells′ g) 0 (g .outputs)) (cc (same, placed)))) (λ v vs q. cc)
     where
       outs : (us : List ℕ) → ends (printed listed cells g (chosen cells g) us) ≡ refused n k → ends′ (printed listed′ cells′ g (chosen cells′ g) us) ≡ refused n k
       outs [] h = absurd (never r (choiceText listed cells g) (choiceFigures listed cells g) h)
       outs (u ∷ us) h = h
-
-      cut : (vs : List ℕ) → crowded g ≡ vs → ends (mapCut listed cells g (crowded g)) ≡ refused n k → ends′ (mapCut listed′ cells′ g (crowded g)) ≡ refused n k
-      cut [] c h =
-          ap (λ (vs : List ℕ). ends′ (mapCut listed′ cells′ g vs)) c
-          ∙ outs (uncovered (chosen cells′ g) 0 (g .outputs))
-          (ap (λ (us : List ℕ). ends (printed listed cells g (chosen cells g) us)) (sym same) ∙ ap (λ (vs : List ℕ). ends (mapCut listed cells g vs)) (sym c) ∙ h)
-      cut (v ∷ vs) c h =
-          ap (λ (us : List ℕ). ends′ (mapCut listed′ cells′ g us)) c ∙ ap (λ (us : List ℕ). ends (mapCut listed cells g us)) (sym c) ∙ h
 
 -- ---- the two libraries
 
@@ -100,21 +80,13 @@ module _ (c : Call) (library : List ℕ) (d d′ : Design) (s : Shuffled c libra
   graphs =
       let a = texts-read c d (s .design) in
       let b = texts-read (onLibrary c library) d′ (s .design′) in
-      let h : a .header ≡ b .header = holds-once (sym (a .isHeader) ∙ b .isHeader) in
-      let m : a .meant ≡ b .meant = holds-once (sym (a .isGraph) ∙ ap (readGraph (c .graph)) h ∙ b .isGraph) in
-      let e : a .late ≡ b .late = holds-once (sym (a .isLate) ∙ ap (λ (x : Header). readArrivals (x .inputs) (c .arrivals)) h ∙ b .isLate) in
-      sym (a .isTimed) ∙ ap₂ timedBy m e ∙ b .isTimed
-
-  listed-same : SameCells (d .listed) (d′ .listed)
-  listed-same =
-      lines-cells (c .library) library (d .listed) (d′ .listed) (texts-read c d (s .design) .isLibrary) (texts-read (onLibrary c library) d′ (s .design′) .isLibrary) (s .lines)
+      sym (a .isTimed) ∙ ap₂ timedBy (holds-once (cc (a .isGraph, b .isGraph))) (holds-once (cc (a .isLate, b .isLate))) ∙ b .isTimed
 
   -- "Where pairs are formed, both libraries form theirs"
   cells : SameCells (d .cells) (d′ .cells)
-  cells =
-      subst (λ (xs : List Cell). SameCells xs (d′ .cells)) (texts-read c d (s .design) .areCells)
-      (subst (λ (xs : List Cell). SameCells (cellsFor (c .paired) (d .listed)) xs) (texts-read (onLibrary c library) d′ (s .design′) .areCells)
-      (pairs-same (c .paired) (d .listed) (d′ .listed) listed-same))
+  cells = rw (← texts-read c d (s .design) .areCells) (rw (← texts-read (onLibrary c library) d′ (s .design′) .areCells)
+      (pairs-same (c .paired) (d .listed) (d′ .listed) (lines-cells (c .library) library (d .listed) (d′ .listed)
+      (texts-read c d (s .design) .isLibrary) (texts-read (onLibrary c library) d′ (s .design′) .isLibrary) (s .lines))))
 
   ok : Accepted (d .graph)
   ok = design-accepted c d (s .design) (s .placed)

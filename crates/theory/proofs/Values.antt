@@ -1,7 +1,7 @@
 -- The values of the printed nets: they exist, and any are the graph's. Assumes nothing.
 use Prim.Native.Nat.{ℕ}
 use mathlib.Core.Path.{_≡_, refl, sym, _∙_, ap, ap₂, subst}
-use mathlib.Core.Bool.{Bool, true, false, true≢false}
+use mathlib.Core.Bool.{Bool, false, true≢false}
 use mathlib.Core.List.{List, [], _∷_, map, head-eq-of-cons-eq, tail-eq-of-cons-eq, List·Memᴰ, List·Memᴰ·head, List·Memᴰ·tail}
 use lib.ListN.{length}
 use Rattle.model.specs.Table.{value, rowOf}
@@ -70,9 +70,11 @@ module _ (listed cells : List Cell) (fit : Fitting listed cells) (g : Graph) (ok
       nets = fedAt cells g l
 
       go : Numbered listed cells k → made listed cells fit g ok present-outputs false lineValue l bs ≡ value (cellAt cells k .table) (rowOf bs)
-      go (single h e) =
-          whole-single listed k nets l (λ (t : Gate). lineValue (lineOf t)) h bs
-          ∙ ap (λ (x : Cell). value (x .table) (rowOf bs)) (single-bound listed cells fit k nets l (c .pins) h e .bound .isCell ∙ sym e)
+      go (single h e) = cc (
+        whole-single listed k nets l (λ (t : Gate). lineValue (lineOf t)) h bs,
+        single-bound listed cells fit k nets l
+            (c .pins) h e .bound .isCell,
+      )
       go (double h p e) =
           whole-double listed k nets l (λ (t : Gate). lineValue (lineOf t)) h bs
           ∙ ap₂ (λ (x y : Cell). value (x .table) (rowOf (splice (fedPin listed k nets l) (innerCell listed k nets l .pins) (λ (cs : List Bool). value (y .table) (rowOf cs)) bs)))
@@ -90,13 +92,10 @@ module _ (listed cells : List Cell) (fit : Fitting listed cells) (g : Graph) (ok
     -- any values that hold are the AIGER values
     pub net-value : (w : List ℕ → Bool) → NetValues listed (blifOf g (chosenGates listed cells g)) (map setting (g .inputs)) w → (l : ℕ) → NeedsOf cells g l → w (netName l) ≡ val l
     unfolding blifOf
-    net-value w h = nets-are listed cells fit g ok present-outputs false lineValue val rule w (h .atGates) own
-      where
-        own : (l : ℕ) → NeedsOf cells g l → isOwn (sourceOf cells g l) ≡ true → w (netName l) ≡ val l
-        own l n e =
-            let s = own-source listed cells fit g ok present-outputs l n e in
-            let o = own-value listed cells fit g ok present-outputs setting l s in
-            ap (λ (k : ℕ). w (netName k)) (sym (o .0)) ∙ input-at w setting (g .inputs) (h .atInputs) (varOf l) (s .isInput) ∙ sym (o .1)
+    net-value w h = nets-are listed cells fit g ok present-outputs false lineValue val rule w (h .atGates) (λ l n e.
+        let s = own-source listed cells fit g ok present-outputs l n e in
+        let o = own-value listed cells fit g ok present-outputs setting l s in ap (λ (k : ℕ). w (netName k)) (sym (o .0))
+        ∙ input-at w setting (g .inputs) (h .atInputs) (varOf l) (s .isInput) ∙ sym (o .1))
 
     abbrev pub theValue : List ℕ → Bool
     theValue = the listed cells fit g ok present-outputs false lineValue val rule
@@ -104,15 +103,15 @@ module _ (listed cells : List Cell) (fit : Fitting listed cells) (g : Graph) (ok
     inputs-hold : (vs : List ℕ) → ((v : ℕ) → List·Memᴰ v vs → List·Memᴰ v (g .inputs)) → map theValue (map (λ (v : ℕ). netName (literal false v)) vs) ≡ map setting vs
     inputs-hold [] h = refl
     inputs-hold (v ∷ vs) h =
-        ap₂ (λ (a : Bool) (b : List Bool). a ∷ b)
-        (the-phase listed cells fit g ok present-outputs false lineValue val rule (literal false v) (input-bound listed cells fit g ok present-outputs v mem) ∙ is-setting)
-        (inputs-hold vs (λ x m. h x (List·Memᴰ·tail m)))
-      where
-        mem : List·Memᴰ v (g .inputs)
-        mem = h v (List·Memᴰ·head refl)
-
-        is-setting : val (literal false v) ≡ setting v
-        is-setting = own-value listed cells fit g ok present-outputs setting (literal false v) (own-net listed cells fit g ok present-outputs v mem) .1 ∙ ap setting (lit-var false v)
+        let mem = h v (List·Memᴰ·head refl) in
+        cc (
+          the-phase listed cells fit g ok present-outputs false lineValue val rule (literal false v)
+              (input-bound listed cells fit g ok present-outputs v mem),
+          own-value listed cells fit g ok present-outputs setting (literal false v)
+              (own-net listed cells fit g ok present-outputs v mem) .1,
+          lit-var false v,
+          inputs-hold vs (λ x m. h x (List·Memᴰ·tail m)),
+        )
 
     -- the AIGER values hold
     pub the-holds : NetValues listed (blifOf g (chosenGates listed cells g)) (map setting (g .inputs)) theValue

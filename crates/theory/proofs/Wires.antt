@@ -2,7 +2,7 @@
 use Prim.Native.Nat.{ℕ, zero, suc, _+_, _<_}
 use native.Mathlib.Nat.{le-of-suc-le-suc, not-suc-le-zero, zero-add, add-zero, add-suc, suc-add}
 use native.Mathlib.Omega.{arith}
-use mathlib.Core.Path.{_≡_, refl, sym, _∙_, ap, subst}
+use mathlib.Core.Path.{_≡_, refl, sym, _∙_, ap}
 use mathlib.Core.Bool.{Bool, true, false, cond}
 use mathlib.Core.List.{List, [], _∷_, map, head-eq-of-cons-eq, tail-eq-of-cons-eq, List·Memᴰ, List·Memᴰ·head, List·Memᴰ·tail}
 use lib.Dec.{eqb}
@@ -16,6 +16,7 @@ use Rattle.theory_graph.proofs.Lists.{map-map, map-same, getD-in}
 use Rattle.theory_text.proofs.ReadBack.{wiresFrom}
 use Rattle.theory_text.proofs.Names.{decimal-value}
 use Rattle.theory.proofs.Gates.{byName, by-name}
+use Rattle.theory_graph.proofs.Split.{by-bool}
 
 -- ---- names
 
@@ -67,8 +68,7 @@ wire-in : (i : ℕ) (outs : List ℕ) (j : ℕ) → j < length outs → List·Me
 unfolding wiresFrom
 wire-in i [] j h = absurd (not-suc-le-zero h)
 wire-in i (l ∷ ls) zero h = List·Memᴰ·head (ap (λ (n : ℕ). record { source = netName l; target = outName n }) (add-zero i))
-wire-in i (l ∷ ls) (suc j) h =
-    List·Memᴰ·tail (subst (λ (n : ℕ). List·Memᴰ (record { source = netName (getD ls j 0); target = outName n }) (wiresFrom (suc i) ls)) (suc-add i j ∙ sym (add-suc i j)) (wire-in (suc i) ls j (le-of-suc-le-suc h)))
+wire-in i (l ∷ ls) (suc j) h = List·Memᴰ·tail (rw (suc-add i j ∙ sym (add-suc i j)) at (wire-in (suc i) ls j (le-of-suc-le-suc h)))
 
 record IsWire (i : ℕ) (outs : List ℕ) (x : Wire) : Type 0 where
   at : ℕ
@@ -77,11 +77,8 @@ record IsWire (i : ℕ) (outs : List ℕ) (x : Wire) : Type 0 where
 
 wire-out : (i : ℕ) (outs : List ℕ) (x : Wire) → List·Memᴰ x (wiresFrom i outs) → IsWire i outs x
 unfolding wiresFrom
-wire-out i (l ∷ ls) x (List·Memᴰ·head e) = record {
-  at = 0;
-  here = omega arith;
-  is = e ∙ ap (λ (n : ℕ). record { source = netName l; target = outName n }) (sym (add-zero i));
-}
+wire-out i (l ∷ ls) x (List·Memᴰ·head e) =
+    record { at = 0; here = omega arith; is = e ∙ ap (λ (n : ℕ). record { source = netName l; target = outName n }) (sym (add-zero i)) }
 wire-out i (l ∷ ls) x (List·Memᴰ·tail m) =
     let r = wire-out (suc i) ls x m in record {
       at = suc (r .at);
@@ -97,23 +94,22 @@ module _ {X : Type 0} (f : List ℕ → X) (outs : List ℕ) (hands-on : (x : Wi
   at-output k h = ap (λ (n : ℕ). f (outName n)) (sym (zero-add k)) ∙ hands-on (wireAt 0 outs k) (wire-in 0 outs k h)
 
   pub at-outputs : map f (map outName (below (length outs))) ≡ map (λ (l : ℕ). f (netName l)) outs
-  at-outputs =
-      ap (map f) (sym (wire-targets outs))
-      ∙ map-map f (λ (x : Wire). x .target) (wiresFrom 0 outs)
-      ∙ map-same (λ (x : Wire). f (x .target)) (λ (x : Wire). f (x .source)) (wiresFrom 0 outs) hands-on
-      ∙ sym (map-map f (λ (x : Wire). x .source) (wiresFrom 0 outs))
-      ∙ ap (map f) (wire-sources outs)
-      ∙ map-map f netName outs
+  at-outputs = cc (
+    wire-targets outs,
+    map-map f (λ (x : Wire). x .target) (wiresFrom 0 outs),
+    map-same (λ (x : Wire). f (x .target))
+        (λ (x : Wire). f (x .source)) (wiresFrom 0 outs) hands-on,
+    map-map f (λ (x : Wire). x .source)
+        (wiresFrom 0 outs),
+    wire-sources outs,
+    map-map f netName outs,
+  )
 
 -- ---- a look-up by a net's name or an output's own
 
 first-of : (n : Net) → (b : ℕ) × (bs : List ℕ) × (label n ≡ b ∷ bs) × (eqb b 111 ≡ false)
 unfolding label netName
-first-of (ofPhase l) = (cond (negated l) 109 112, decimal (varOf l), refl, go (negated l))
-  where
-    go : (b : Bool) → eqb (cond b 109 112) 111 ≡ false
-    go true = refl
-    go false = refl
+first-of (ofPhase l) = (cond (negated l) 109 112, decimal (varOf l), refl, (by-bool (negated l) (λ e. cc) (λ q. cc)))
 first-of (ofPair l) = (115, netName l, refl, refl)
 
 module _ {X : Type 0} (d : X) (val : Net → X) (outs : List ℕ) (ns : List Net) where
@@ -123,10 +119,7 @@ module _ {X : Type 0} (d : X) (val : Net → X) (outs : List ℕ) (ns : List Net
 
   pub by-net : (n : Net) → List·Memᴰ n ns → byLabel (label n) ≡ val n
   unfolding byLabel
-  by-net n m =
-      let f = first-of n in
-      ap byLabel (f .2) ∙ ap (λ (b : Bool). cond b (val (ofPhase (getD outs (asDigits 0 (f .1)) 0))) (byName d val ns (f .0 ∷ f .1))) (f .3)
-      ∙ ap (byName d val ns) (sym (f .2)) ∙ by-name d val ns n m
+  by-net n m = let f = first-of n in cc (f .2, f .3, by-name d val ns n m)
 
   by-out : (k : ℕ) → byLabel (outName k) ≡ val (ofPhase (getD outs k 0))
   unfolding byLabel outName
@@ -138,8 +131,4 @@ module _ {X : Type 0} (d : X) (val : Net → X) (outs : List ℕ) (ns : List Net
   by-wire h x m =
       let r = wire-out 0 outs x m in
       let l = getD outs (r .at) 0 in
-      ap (λ (y : Wire). byLabel (y .target)) (r .is)
-      ∙ by-out (0 + r .at)
-      ∙ ap (λ (n : ℕ). val (ofPhase (getD outs n 0))) (zero-add (r .at))
-      ∙ sym (by-net (ofPhase l) (h l (getD-in outs (r .at) 0 (r .here))))
-      ∙ sym (ap (λ (y : Wire). byLabel (y .source)) (r .is))
+      cc (r .is, by-out (0 + r .at), zero-add (r .at), by-net (ofPhase l) (h l (getD-in outs (r .at) 0 (r .here))))

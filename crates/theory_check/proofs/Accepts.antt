@@ -1,17 +1,17 @@
 -- "every netlist that `map` prints from the same texts with I up to 12 is accepted". Assumes nothing.
 use Prim.Native.Nat.{ℕ, suc, _+_, _*_, _≤_, _<_}
 use mathlib.Core.Path.{_≡_, refl, sym, _∙_, ap, ap₂, subst}
-use mathlib.Core.Bool.{Bool, true, false, cond, _&&_}
+use mathlib.Core.Bool.{false}
 use mathlib.Core.Option.{none}
 use mathlib.Core.List.{List, [], _∷_, _++_, map, append-assoc, append-nil, List·Memᴰ, Memᴰ·append-left}
 use lib.Dec.{leb, le→leb}
 use lib.ListN.{length, getD}
-use Rattle.model.specs.Base.{each, same, flip, below, lowest}
+use Rattle.model.specs.Base.{each, same, below, lowest}
 use Rattle.model.specs.Limits.{need}
 use Rattle.model.specs.Text.{Line, text, decimal, linesFrom}
-use Rattle.model.specs.Reading.{Read, holds, next, unless, from?}
+use Rattle.model.specs.Reading.{Read, holds, next, unless}
 use Rattle.model.specs.Cells.{nameOf}
-use Rattle.model.specs.Graph.{And, Graph, literal, varOf, negated, unplaced, literalValue}
+use Rattle.model.specs.Graph.{And, Graph, literal, varOf, unplaced, literalValue}
 use Rattle.model.specs.Choice.{absent, chosen}
 use Rattle.model.specs.Cover.{output}
 use Rattle.model.specs.LibraryText.{readLibrary}
@@ -20,7 +20,7 @@ use Rattle.model.specs.ArrivalsText.{Late, timedBy}
 use Rattle.model.specs.Netlist.{Net, Gate, netName, label, outName, pinWords, gateLine, namesLine, wireLine, wireLines, netlistText}
 use Rattle.model.specs.Mapper.{Call}
 use Rattle.model.specs.Demands.{choiceText, choiceFigures}
-use Rattle.model.specs.Check.{Driver, gateDriver, isGate, isLine, unlessAt, readNames, readDrivers, pastLines, frameOf, inputNets, outputNets, readNetlist, judgeNets, lineEnds, settingOf, readEdited}
+use Rattle.model.specs.Check.{Driver, isGate, isLine, unlessAt, readNames, readDrivers, pastLines, frameOf, inputNets, outputNets, readNetlist, judgeNets, lineEnds, settingOf, readEdited}
 use Rattle.model.specs.CheckDemands.{Right, AcceptsPrinted, PrintedAccepted}
 use Rattle.model.specs.declared.Cell.{Cell}
 use Rattle.model.specs.declared.Header.{Header}
@@ -31,7 +31,7 @@ use Rattle.theory_graph.proofs.Distinct.{length-map}
 use Rattle.theory_graph.proofs.Placing.{defined-placed}
 use Rattle.theory_graph.proofs.GraphValue.{values-only}
 use Rattle.theory_graph.proofs.Timed.{timed-values, timed-unplaced}
-use Rattle.theory_text.proofs.Plain.{Free, net-free}
+use Rattle.theory_text.proofs.Plain.{Free, net-free, clears-map, Clears, out-clear}
 use Rattle.theory_text.proofs.LineLaws.{lineOfBytes, line-first}
 use Rattle.theory_text.proofs.ReadBack.{blifOf}
 use Rattle.theory_text.proofs.ReadGraph.{Counted, graph-counted}
@@ -42,7 +42,7 @@ use Rattle.theory.proofs.Wires.{at-output}
 use Rattle.theory.proofs.Values.{net-value}
 use Rattle.theory_text.proofs.Outcomes.{FromChoice, FromDesign, printed-choice}
 use Rattle.theory.proofs.Demanded.{design-fitting, with-timings}
-use Rattle.theory_check.proofs.PrintedLines.{Clear, Clears, AreNets, worded, worded-line, bindWords, Shown, shownWords, shownLine, gatesAt, behindGates, gates-read, namesText, namesAt, names-read, names-fields, out-clear}
+use Rattle.theory_check.proofs.PrintedLines.{AreNets, worded, worded-line, bindWords, Shown, shownWords, shownLine, gatesAt, behindGates, gates-read, namesText, namesAt, names-read, names-fields}
 use Rattle.theory_check.proofs.PrintedNets.{shownOf, printedDrivers, outputs-form, gates-fine, drivers-pass, drivers-values}
 use Rattle.theory_check.proofs.Whole.{edited-compared}
 
@@ -61,16 +61,17 @@ each-append (w ∷ ws) vs = ap (λ (x : List ℕ). 32 ∷ w ++ x) (each-append w
 gate-shown : (t : Gate) → gateLine t ≡ shownLine (shownOf t) ++ (10 ∷ [])
 unfolding gateLine shownWords text each
 gate-shown t =
-    ap (λ (x : List ℕ). text ".gate " ++ x)
-    (ap₂ (λ (a b : List ℕ). nameOf (t .cell) ++ (a ++ (b ++ text "\n"))) (pin-words 65 (t .pins)) (pin-words 79 (t .net ∷ []))
-    ∙ ap (λ (x : List ℕ). nameOf (t .cell) ++ x)
-    (sym (append-assoc (spaced (bindWords 65 (map label (t .pins)))) (spaced (bindWords 79 (label (t .net) ∷ []))) (10 ∷ []))
-    ∙ ap (λ (x : List ℕ). x ++ (10 ∷ [])) (sym (each-append (bindWords 65 (map label (t .pins))) (bindWords 79 (label (t .net) ∷ [])))))
-    ∙ sym (append-assoc (nameOf (t .cell)) (spaced (bindWords 65 (map label (t .pins)) ++ bindWords 79 (label (t .net) ∷ []))) (10 ∷ [])))
-    ∙ (unfold bindWords in refl)
-  where
-    spaced : List (List ℕ) → List ℕ
-    spaced ws = each (λ (n : List ℕ). 32 ∷ n) ws
+    let spaced : List (List ℕ) → List ℕ = λ ws. each (λ (n : List ℕ). 32 ∷ n) ws in
+    ap (λ (x : List ℕ). text ".gate " ++ x) (cc (
+      pin-words 65 (t .pins),
+      pin-words 79 (t .net ∷ []),
+      append-assoc
+          (spaced (bindWords 65 (map label (t .pins)))) (spaced (bindWords 79 (label (t .net) ∷ []))) (10 ∷ []),
+      each-append
+          (bindWords 65 (map label (t .pins))) (bindWords 79 (label (t .net) ∷ [])),
+      append-assoc (nameOf (t .cell))
+          (spaced (bindWords 65 (map label (t .pins)) ++ bindWords 79 (label (t .net) ∷ []))) (10 ∷ []),
+    )) ∙ (unfold bindWords in refl)
 
 gates-shown : (ts : List Gate) → each gateLine ts ≡ each (λ (x : Shown). shownLine x ++ (10 ∷ [])) (map shownOf ts)
 unfolding each
@@ -81,63 +82,56 @@ wire-shown : (k : ℕ) (ls : List ℕ) → wireLines k ls ≡ namesText k (map n
 unfolding wireLines wireLine namesText text each
 wire-shown k [] = refl
 wire-shown k (l ∷ ls) =
-    ap (λ (x : List ℕ). wireLine k l ++ x) (wire-shown (suc k) ls)
-    ∙ ap (λ (x : List ℕ). text ".names " ++ x)
-    (append-assoc (netName l) (32 ∷ outName k ++ text "\n1 1\n") rest
-    ∙ ap (λ (x : List ℕ). netName l ++ (32 ∷ x)) (append-assoc (outName k) (text "\n1 1\n") rest ∙ ap (λ (x : List ℕ). x ++ (text "\n1 1\n" ++ rest)) (sym (append-nil (outName k))))
-    ∙ sym (append-assoc (netName l) (32 ∷ outName k ++ []) (text "\n1 1\n" ++ rest)))
-  where
-    rest : List ℕ
-    rest = namesText (suc k) (map netName ls)
+    let rest = namesText (suc k) (map netName ls) in
+    cc (
+      wire-shown (suc k) ls,
+      append-assoc (netName l) (32 ∷ outName k ++ text "\n1 1\n") rest,
+      append-assoc
+          (outName k) (text "\n1 1\n") rest,
+      append-nil (outName k),
+      append-assoc (netName l) (32 ∷ outName k ++ []) (text "\n1 1\n" ++ rest),
+    )
 
 -- ---- read
 
 -- where no gate stands first, the outputs' lines are due
 names-due : (cells : List Cell) (end outs : ℕ) (l : Line) (ls : List Line) → isGate l ≡ false → readDrivers cells end outs (l ∷ ls) ≡ readNames end 0 outs (l ∷ ls)
 unfolding readDrivers
-names-due cells end outs l ls e =
-    ap (λ (b : Bool). cond b (next (from? (gateDriver cells l) 32 (l .offset)) (λ d. next (readDrivers cells end outs ls) (λ ds. holds (d ∷ ds)))) (readNames end 0 outs (l ∷ ls))) e
+names-due cells end outs l ls e = cc
 
 names-first : (cells : List Cell) (end outs : ℕ) (ns : List (List ℕ)) → AreNets ns → (at : ℕ) (rest : List ℕ)
     → readDrivers cells end outs (linesFrom at [] (namesText 0 ns ++ (text ".end" ++ (10 ∷ rest)))) ≡ readNames end 0 outs (linesFrom at [] (namesText 0 ns ++ (text ".end" ++ (10 ∷ rest))))
 unfolding namesText text isGate same
-names-first cells end outs [] a at rest =
-    ap (readDrivers cells end outs) first ∙ names-due cells end outs (lineOfBytes at (text ".end")) _ refl ∙ sym (ap (readNames end 0 outs) first)
-  where
-    first : linesFrom at [] (text ".end" ++ (10 ∷ rest)) ≡ lineOfBytes at (text ".end") ∷ linesFrom (at + 5) [] rest
-    first = line-first at (text ".end") rest (refl, (refl, (refl, (refl, tt)))) (refl, (refl, (refl, (refl, tt))))
+names-first cells end outs [] a at rest = cc (
+  (line-first at (text ".end") rest (refl, (refl, (refl, (refl, tt)))) (refl, (refl, (refl, (refl, tt))))),
+  names-due cells end outs
+      (lineOfBytes at (text ".end")) _ refl,
+)
 names-first cells end outs (n ∷ ns) a at rest =
-    ap (readDrivers cells end outs) first
-    ∙ names-due cells end outs (lineOfBytes at (worded (text ".names") (n ∷ outName 0 ∷ []))) _ (ap (λ (ws : List (List ℕ)). same (getD ws 0 []) (text ".gate")) (names-fields n 0 (a .0 .1)))
-    ∙ sym (ap (readNames end 0 outs) first)
-  where
-    behind : List ℕ
-    behind = text "1 1" ++ (10 ∷ namesText 1 ns) ++ (text ".end" ++ (10 ∷ rest))
-
-    first : linesFrom at [] ((worded (text ".names") (n ∷ outName 0 ∷ []) ++ (10 ∷ text "1 1" ++ (10 ∷ namesText 1 ns))) ++ (text ".end" ++ (10 ∷ rest)))
-        ≡ lineOfBytes at (worded (text ".names") (n ∷ outName 0 ∷ [])) ∷ linesFrom (at + suc (length (worded (text ".names") (n ∷ outName 0 ∷ [])))) [] behind
-    first =
-        ap (linesFrom at []) (append-assoc (worded (text ".names") (n ∷ outName 0 ∷ [])) (10 ∷ text "1 1" ++ (10 ∷ namesText 1 ns)) (text ".end" ++ (10 ∷ rest)))
-        ∙ worded-line at (text ".names") (n ∷ outName 0 ∷ []) behind (refl, (refl, (refl, (refl, (refl, (refl, tt)))))) (refl, (refl, (refl, (refl, (refl, (refl, tt)))))) (a .0 .1, (out-clear 0, tt))
+    let behind : List ℕ = text "1 1" ++ (10 ∷ namesText 1 ns) ++ (text ".end" ++ (10 ∷ rest)) in
+    let first : linesFrom at [] ((worded (text ".names") (n ∷ outName 0 ∷ []) ++ (10 ∷ text "1 1" ++ (10 ∷ namesText 1 ns))) ++
+    (text ".end" ++ (10 ∷ rest))) ≡ lineOfBytes at (worded (text ".names") (n ∷ outName 0 ∷ [])) ∷ linesFrom
+    (at + suc (length (worded (text ".names") (n ∷ outName 0 ∷ [])))) [] behind = ap (linesFrom at [])
+    (append-assoc (worded (text ".names") (n ∷ outName 0 ∷ [])) (10 ∷ text "1 1" ++ (10 ∷ namesText 1 ns)) (text ".end" ++ (10 ∷ rest)))
+    ∙ worded-line at (text ".names") (n ∷ outName 0 ∷ []) behind (refl, (refl, (refl, (refl, (refl, (refl, tt))))))
+    (refl, (refl, (refl, (refl, (refl, (refl, tt)))))) (a .0 .1, (out-clear 0, tt)) in
+    cc (first, names-due cells end outs (lineOfBytes at (worded (text ".names") (n ∷ outName 0 ∷ []))) _ (cc (names-fields n 0 (a .0 .1))))
 
 -- a line of the frame
 frame-line : (end at : ℕ) (key : List ℕ) (ws : List (List ℕ)) (lines : List (List ℕ)) (rest : List ℕ) → Free 10 key → Free 13 key → Clears ws
     → pastLines end (worded key ws ∷ lines) (linesFrom at [] (worded key ws ++ (10 ∷ rest))) ≡ pastLines end lines (linesFrom (at + suc (length (worded key ws))) [] rest)
 unfolding pastLines isLine unless
 frame-line end at key ws lines rest f h c =
-    ap (pastLines end (worded key ws ∷ lines)) (worded-line at key ws rest f h c)
-    ∙ ap (λ (b : Bool). unless (true && b) 32 at (pastLines end lines (linesFrom (at + suc (length (worded key ws))) [] rest))) (is-true (same (worded key ws) (worded key ws)) (same-refl (worded key ws)))
+    cc (worded-line at key ws rest f h c, is-true (same (worded key ws) (worded key ws)) (same-refl (worded key ws)))
 
 frame-text : (key : List ℕ) (names : List (List ℕ)) (rest : List ℕ) → namesLine key names ++ rest ≡ worded key names ++ (10 ∷ rest)
 unfolding namesLine text
-frame-text key names rest =
-    append-assoc key (each (λ (n : List ℕ). 32 ∷ n) names ++ text "\n") rest
-    ∙ ap (λ (x : List ℕ). key ++ x) (append-assoc (each (λ (n : List ℕ). 32 ∷ n) names) (text "\n") rest)
-    ∙ sym (append-assoc key (each (λ (n : List ℕ). 32 ∷ n) names) (10 ∷ rest))
-
-clears-map : {A : Type 0} (f : A → List ℕ) → ((x : A) → Clear (f x)) → (xs : List A) → Clears (map f xs)
-clears-map f h [] = tt
-clears-map f h (x ∷ xs) = (h x, clears-map f h xs)
+frame-text key names rest = cc (
+  append-assoc key (each (λ (n : List ℕ). 32 ∷ n) names ++ text "\n") rest,
+  append-assoc
+      (each (λ (n : List ℕ). 32 ∷ n) names) (text "\n") rest,
+  append-assoc key (each (λ (n : List ℕ). 32 ∷ n) names) (10 ∷ rest),
+)
 
 module _ (listed cells : List Cell) (fit : Fitting listed cells) (g : Graph) (ok : Accepted g) (small : g .size ≤ 4095)
     (present-outputs : (l : ℕ) → List·Memᴰ l (g .outputs) → absent (chosen cells g l .source) ≡ false) where
@@ -172,12 +166,6 @@ module _ (listed cells : List Cell) (fit : Fitting listed cells) (g : Graph) (ok
       third : ℕ
       third = second + suc (length (worded (text ".outputs") (outputNets g)))
 
-      inputs-clear : Clears (inputNets g)
-      inputs-clear = unfold inputNets in clears-map (λ (v : ℕ). netName (literal false v)) (λ v s h. net-free s (literal false v) h) (g .inputs)
-
-      outputs-clear : Clears (outputNets g)
-      outputs-clear = unfold outputNets in clears-map outName out-clear (below (length (g .outputs)))
-
       frame : (after : List ℕ) → pastLines (end after) (frameOf g) (linesFrom 0 [] (netlistText g (chosenGates listed cells g) f ++ after)) ≡ holds (linesFrom third [] (body after))
       frame after = unfold inputNets outputNets pastLines in
           ap (λ (t : List ℕ). pastLines (end after) (frameOf g) (linesFrom 0 [] t)) (whole after)
@@ -185,10 +173,12 @@ module _ (listed cells : List Cell) (fit : Fitting listed cells) (g : Graph) (ok
           (refl, (refl, (refl, (refl, (refl, (refl, (refl, (refl, (refl, (refl, tt)))))))))) (refl, (refl, (refl, (refl, (refl, (refl, (refl, (refl, (refl, (refl, tt)))))))))) tt
           ∙ ap (λ (t : List ℕ). pastLines (end after) (worded (text ".inputs") (inputNets g) ∷ worded (text ".outputs") (outputNets g) ∷ []) (linesFrom 11 [] t)) (frame-text (text ".inputs") (inputNets g) (namesLine (text ".outputs") (outputNets g) ++ body after))
           ∙ frame-line (end after) 11 (text ".inputs") (inputNets g) (worded (text ".outputs") (outputNets g) ∷ []) (namesLine (text ".outputs") (outputNets g) ++ body after)
-          (refl, (refl, (refl, (refl, (refl, (refl, (refl, tt))))))) (refl, (refl, (refl, (refl, (refl, (refl, (refl, tt))))))) inputs-clear
+          (refl, (refl, (refl, (refl, (refl, (refl, (refl, tt))))))) (refl, (refl, (refl, (refl, (refl, (refl, (refl, tt)))))))
+          (unfold inputNets in clears-map (λ (v : ℕ). netName (literal false v)) (λ v s h. net-free s (literal false v) h) (g .inputs))
           ∙ ap (λ (t : List ℕ). pastLines (end after) (worded (text ".outputs") (outputNets g) ∷ []) (linesFrom second [] t)) (frame-text (text ".outputs") (outputNets g) (body after))
           ∙ frame-line (end after) second (text ".outputs") (outputNets g) [] (body after)
-          (refl, (refl, (refl, (refl, (refl, (refl, (refl, (refl, tt)))))))) (refl, (refl, (refl, (refl, (refl, (refl, (refl, (refl, tt)))))))) outputs-clear
+          (refl, (refl, (refl, (refl, (refl, (refl, (refl, (refl, tt)))))))) (refl, (refl, (refl, (refl, (refl, (refl, (refl, (refl, tt))))))))
+          (unfold outputNets in clears-map outName out-clear (below (length (g .outputs))))
 
       gates : (after : List ℕ) → readDrivers listed (end after) outs (linesFrom third [] (body after)) ≡ holds (gatesAt third shown ++ namesAt (behindGates third shown) 0 (map netName (g .outputs)))
       gates after =
@@ -206,10 +196,13 @@ module _ (listed cells : List Cell) (fit : Fitting listed cells) (g : Graph) (ok
       let nets = drivers-values listed cells fit g ok small present-outputs at behind s w hw in
       let l = getD (g .outputs) k 0 in
       let m = getD-in (g .outputs) k 0 h in
-      at-output w (g .outputs) (nets .atWires) k h
-      ∙ net-value listed cells fit g ok present-outputs (settingOf s 0 (g .inputs)) w nets l (output m)
-      ∙ ap (flip (negated l)) (sym (values-only g ok (settingOf s 0 (g .inputs)) v hv (varOf l)
-      (defined-placed g ok (varOf l) (ok .used l (Memᴰ·append-left (each (λ (a : And). a .left ∷ a .right ∷ []) (g .ands)) m)))))
+      cc (
+        at-output w (g .outputs) (nets .atWires) k h,
+        net-value listed cells fit g ok present-outputs (settingOf s 0 (g .inputs)) w nets l
+            (output m),
+        values-only g ok (settingOf s 0 (g .inputs)) v hv (varOf l)
+            (defined-placed g ok (varOf l) (ok .used l (Memᴰ·append-left (each (λ (a : And). a .left ∷ a .right ∷ []) (g .ands)) m))),
+      )
 
 -- ---- arrivals are no matter of the check
 
@@ -238,20 +231,27 @@ module _ (library graph netlist : List ℕ) (words : ℕ) (cells : List Cell) (h
       → need (h .size) (h .outputs) + 8 * lineEnds netlist ≤ words → readGraph graph h ≡ holds g → lowest (unplaced g) ≡ none → length (g .inputs) ≤ 12
       → readNetlist cells g netlist ≡ holds ds → judgeNets (inputNets g) ds ≡ holds ds → readEdited library graph netlist words ≡ holds (record { graph = g; drivers = ds })
   unfolding readEdited next unless unlessAt
-  edited-read a b c l hd n gr p i r j =
-      let a′ = is-true (leb (length library) 65536) (le→leb (length library) 65536 a) in
-      let b′ = is-true (leb (length graph) 65536) (le→leb (length graph) 65536 b) in
-      let c′ = is-true (leb (length netlist) 65536) (le→leb (length netlist) 65536 c) in
-      let n′ = is-true (leb (need (h .size) (h .outputs) + 8 * lineEnds netlist) words) (le→leb (need (h .size) (h .outputs) + 8 * lineEnds netlist) words n) in
-      let i′ = is-true (leb (length (g .inputs)) 12) (le→leb (length (g .inputs)) 12 i) in
-      rw (a′, b′, c′, l, hd, n′, gr, p, i′, r, j)
+  edited-read a b c l hd n gr p i r j = rw (
+    (is-true (leb (length library) 65536) (le→leb (length library) 65536 a)),
+    (is-true (leb (length graph) 65536) (le→leb (length graph) 65536 b)),
+    (is-true (leb (length netlist) 65536) (le→leb (length netlist) 65536 c)),
+    l,
+    hd,
+    (is-true
+        (leb (need (h .size) (h .outputs) + 8 * lineEnds netlist) words)
+        (le→leb (need (h .size) (h .outputs) + 8 * lineEnds netlist) words n)),
+    gr,
+    p,
+    (is-true (leb (length (g .inputs)) 12) (le→leb (length (g .inputs)) 12 i)),
+    r,
+    j,
+  )
 
 -- "Given memory enough, every netlist that `map` prints from the same texts with I up to 12 is accepted."
 pub accepts-printed : (c : Call) → AcceptsPrinted c
-accepts-printed c d t f words e o few short enough =
-    edited-compared (c .library) (c .graph) t words (record { graph = g; drivers = ds }) reads .accepts .1
-    (λ s b k h. timed-right g es ds s k
-    (subst (λ (x : Graph). Right x ds s k) (sym (tx .isTimed)) (printed-right listed cells fit (d .graph) ok small (ch .covered) (rd .0) (rd .1) s k (subst (λ (n : ℕ). k < n) (sym (outs-length .2)) h))))
+accepts-printed c d t f words e o few short enough = edited-compared (c .library) (c .graph) t words
+    (record { graph = g; drivers = ds }) reads .accepts .1 (λ s b k h. timed-right g es ds s k
+    (rw (tx .isTimed) (printed-right listed cells fit (d .graph) ok small (ch .covered) (rd .0) (rd .1) s k (rw (outs-length .2) h))))
   where
     tx : Texts c d
     tx = texts-read c d e
@@ -301,14 +301,16 @@ accepts-printed c d t f words e o few short enough =
     counted = graph-counted (c .graph) (tx .header) g (tx .isHeader) (tx .isGraph)
 
     netlist-read : readNetlist listed g t ≡ holds ds
-    netlist-read =
-        sym (timed-netlist g es listed t) ∙ ap (λ (x : Graph). readNetlist listed x t) (tx .isTimed)
-        ∙ ap (readNetlist listed (d .graph)) (pr .isText) ∙ with-timings (readNetlist listed (d .graph)) (holds ds) (d .ranged) listed cells (d .graph) (rd .2)
+    netlist-read = cc (
+      timed-netlist g es listed t,
+      tx .isTimed,
+      pr .isText,
+      with-timings (readNetlist listed (d .graph)) (holds ds)
+          (d .ranged) listed cells (d .graph) (rd .2),
+    )
 
     nets-judged : judgeNets (inputNets g) ds ≡ holds ds
-    nets-judged =
-        ap (λ (ns : List (List ℕ)). judgeNets ns ds) (sym (timed-inputs g es) ∙ ap inputNets (tx .isTimed))
-        ∙ drivers-pass listed cells fit (d .graph) ok small (ch .covered) (rd .0) (rd .1)
+    nets-judged = cc (timed-inputs g es, tx .isTimed, drivers-pass listed cells fit (d .graph) ok small (ch .covered) (rd .0) (rd .1))
 
     placed : lowest (unplaced g) ≡ none
     placed = unfold lowest in ap lowest (sym (timed-unplaced g es) ∙ ap unplaced (tx .isTimed) ∙ ch .placed)

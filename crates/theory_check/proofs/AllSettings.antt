@@ -1,13 +1,13 @@
 -- The numbers below 2^I are all settings of the inputs, "input k as bit k": so an answer over these numbers is one over every setting. Assumes nothing.
-use Prim.Native.Nat.{ℕ, zero, suc, _+_, _*_, _/_, _%_, _^_, _≤_, _<_}
+use Prim.Native.Nat.{ℕ, zero, suc, _+_, _*_, _^_, _<_}
 use native.Mathlib.Nat.{le-refl, le-of-suc-le-suc, not-suc-le-zero, zero-add, pow-suc}
 use native.Mathlib.Omega.{arith}
-use mathlib.Core.Path.{_≡_, refl, sym, _∙_, ap, subst}
-use mathlib.Core.Bool.{Bool, true, false, cond}
+use mathlib.Core.Path.{_≡_, refl, sym, _∙_, ap}
+use mathlib.Core.Bool.{Bool, false}
 use mathlib.Core.List.{List, [], _∷_, map, List·Memᴰ, List·Memᴰ·head, List·Memᴰ·tail, Memᴰ·cast}
-use lib.Dec.{T, eqb, eqb→eq, eqb-refl}
+use lib.Dec.{eqb, eqb→eq, eqb-refl}
 use lib.ListN.{length, getD}
-use Rattle.model.specs.Base.{bit, one}
+use Rattle.model.specs.Base.{bit}
 use Rattle.model.specs.Table.{rowOf}
 use Rattle.model.specs.Graph.{Graph, GraphValues}
 use Rattle.model.specs.Check.{Driver, settingOf}
@@ -15,29 +15,10 @@ use Rattle.model.specs.CheckDemands.{ValuesUnder, RightUnder, Right}
 use Rattle.model.specs.Demands.{Distinct}
 use Rattle.theory_graph.proofs.Lists.{map-same, is-true, getD-in}
 use Rattle.theory_graph.proofs.Distinct.{length-map}
+use Rattle.theory_graph.proofs.Split.{by-bool}
+use Rattle.theory_graph.proofs.Literals.{one-le, bit-row}
 
 -- ---- a number with given bits
-
-bit-low : (b : Bool) (n : ℕ) → bit (one b + 2 * n) 0 ≡ b
-unfolding bit one
-bit-low true n = ap (λ (k : ℕ). eqb k 1) (let e : (1 + 2 * n) % 2 ≡ 1 = omega arith in e)
-bit-low false n = ap (λ (k : ℕ). eqb k 1) (let e : (0 + 2 * n) % 2 ≡ 0 = omega arith in e)
-
-bit-high : (b : Bool) (n i : ℕ) → bit (one b + 2 * n) (suc i) ≡ bit n i
-unfolding bit one
-bit-high true n i = ap (λ (k : ℕ). bit k i) (let e : (1 + 2 * n) / 2 ≡ n = omega arith in e)
-bit-high false n i = ap (λ (k : ℕ). bit k i) (let e : (0 + 2 * n) / 2 ≡ n = omega arith in e)
-
-bit-row : (bs : List Bool) (i : ℕ) → i < length bs → bit (rowOf bs) i ≡ getD bs i false
-unfolding rowOf
-bit-row [] i h = absurd (not-suc-le-zero h)
-bit-row (b ∷ bs) zero h = bit-low b (rowOf bs)
-bit-row (b ∷ bs) (suc i) h = bit-high b (rowOf bs) i ∙ bit-row bs i (le-of-suc-le-suc h)
-
-one-le : (b : Bool) → one b ≤ 1
-unfolding one
-one-le true = le-refl 1
-one-le false = omega arith
 
 two-pow : (n : ℕ) → 2 ^ suc n ≡ 2 * 2 ^ n
 two-pow n = pow-suc 2 n ∙ (let e : 2 ^ n * 2 ≡ 2 * 2 ^ n = omega arith in e)
@@ -52,14 +33,10 @@ row-lt (b ∷ bs) = omega (arith, one-le b, row-lt bs, two-pow (length bs))
 setting-at : (s k : ℕ) (us : List ℕ) → Distinct us → (j : ℕ) → j < length us → settingOf s k us (getD us j 0) ≡ bit s (k + j)
 unfolding settingOf
 setting-at s k [] once j h = absurd (not-suc-le-zero h)
-setting-at s k (u ∷ us) once zero h =
-    ap (λ (t : Bool). cond t (bit s k) (settingOf s (suc k) us u)) (is-true (eqb u u) (eqb-refl u)) ∙ ap (bit s) (let e : k ≡ k + 0 = omega arith in e)
-setting-at s k (u ∷ us) once (suc j) h =
-    go (eqb u (getD us j 0)) (eqb→eq u (getD us j 0)) ∙ setting-at s (suc k) us (once .1) j (omega arith) ∙ ap (bit s) (let e : suc k + j ≡ k + suc j = omega arith in e)
-  where
-    go : (t : Bool) → (T t → u ≡ getD us j 0) → cond t (bit s k) (settingOf s (suc k) us (getD us j 0)) ≡ settingOf s (suc k) us (getD us j 0)
-    go true y = absurd (once .0 (Memᴰ·cast (y tt) (getD-in us j 0 (omega arith))))
-    go false y = refl
+setting-at s k (u ∷ us) once zero h = cc (is-true (eqb u u) (eqb-refl u), let e : k ≡ k + 0 = omega arith in e)
+setting-at s k (u ∷ us) once (suc j) h = by-bool (eqb u (getD us j 0)) (λ e. rw e (absurd
+    (once .0 (Memᴰ·cast ((rw e at (eqb→eq u (getD us j 0))) tt) (getD-in us j 0 (omega (arith, rw e at (eqb→eq u (getD us j 0)))))))))
+    (λ q. rw q) ∙ setting-at s (suc k) us (once .1) j (omega arith) ∙ ap (bit s) (let e : suc k + j ≡ k + suc j = omega arith in e)
 
 pub setting-numbered : (us : List ℕ) → Distinct us → (s k : ℕ) → k < length us → settingOf s 0 us (getD us k 0) ≡ bit s k
 setting-numbered us once s k h = setting-at s 0 us once k h ∙ ap (bit s) (zero-add k)
@@ -76,15 +53,13 @@ getD-map f (x ∷ xs) zero h = refl
 getD-map f (x ∷ xs) (suc i) h = getD-map f xs i (le-of-suc-le-suc h)
 
 pub every-setting : (us : List ℕ) → Distinct us → (setting : ℕ → Bool) → (s : ℕ) × (s < 2 ^ length us) × ((v : ℕ) → List·Memᴰ v us → settingOf s 0 us v ≡ setting v)
-every-setting us once setting = (rowOf (map setting us), subst (λ (n : ℕ). rowOf (map setting us) < 2 ^ n) (length-map setting us) (row-lt (map setting us)), agrees)
-  where
-    agrees : (v : ℕ) → List·Memᴰ v us → settingOf (rowOf (map setting us)) 0 us v ≡ setting v
-    agrees v m =
-        let i = index-of v us m in
-        subst (λ (x : ℕ). settingOf (rowOf (map setting us)) 0 us x ≡ setting x) (i .2)
-        (setting-numbered us once (rowOf (map setting us)) (i .0) (i .1)
-        ∙ bit-row (map setting us) (i .0) (subst (λ (n : ℕ). i .0 < n) (sym (length-map setting us)) (i .1))
-        ∙ getD-map setting us (i .0) (i .1))
+every-setting us once setting = (
+  rowOf (map setting us),
+  rw (← length-map setting us) (row-lt (map setting us)),
+  (λ v m.
+      let i = index-of v us m in rw (← i .2) (setting-numbered us once (rowOf (map setting us)) (i .0) (i .1)
+      ∙ bit-row (map setting us) (i .0) false (rw (length-map setting us) (i .1)) ∙ getD-map setting us (i .0) (i .1))),
+)
 
 -- ---- values ask of a setting nothing but its inputs
 

@@ -3,10 +3,10 @@
 use Prim.Native.Nat.{ℕ, _+_, _*_, _≤_}
 use native.Mathlib.Omega.{arith}
 use mathlib.Core.Path.{_≡_, refl, sym, _∙_, ap, subst}
-use mathlib.Core.Logic.{_⊎_, inl, inr, _↔_}
+use mathlib.Core.Logic.{_⊎_, inl, inr, _↔_, ⊎-elim}
 use mathlib.Core.Bool.{_&&_}
 use mathlib.Core.Option.{none, some}
-use mathlib.Core.List.{List, [], _∷_, _++_}
+use mathlib.Core.List.{List, _∷_, _++_}
 use lib.Dec.{T, leb}
 use lib.ListN.{length, drop, length-append}
 use mir.Facts.{and-yes, yes-and, leb-yes, yes-leb}
@@ -19,19 +19,18 @@ use Rattle.model.specs.GraphText.{readHeader, readGraph}
 use Rattle.model.specs.Check.{Driver, Edited, inputNets, lineEnds, readNetlist, judgeNets, unlessAt, readEdited}
 use Rattle.model.specs.declared.Cell.{Cell}
 use Rattle.model.specs.declared.Header.{Header}
-use Rattle.theory_graph.specs.Accepted.{libraryFits, distinct}
+use Rattle.theory_graph.specs.Accepted.{distinct}
 use Rattle.theory_order.proofs.Splits.{lowest-none, none-in}
 use Rattle.model.specs.OrderDemands.{OrderOfAll}
 use Rattle.theory_order.proofs.Orders.{unplaced-none-iff, unplaced-lowest-iff}
 use Rattle.theory_text.proofs.ReadLibrary.{library-fits}
-use Rattle.theory_text.proofs.ReadGraph.{graph-known}
+use Rattle.theory_text.proofs.ReadGraph.{graph-known, once-distinct}
 use Rattle.promises.specs.Refusals.{Exactly, LibraryHolds, LibraryFault, HeaderHolds, HeaderFault, GraphIn, GraphFault}
 use Rattle.promises.specs.Outcomes.{LowestUnplaced}
 use Rattle.theory_refusals.proofs.Results.{exactly-next, exactly-unless, exactly-holds, exactly-map}
 use Rattle.theory_refusals.proofs.LibraryForms.{library-exactly}
 use Rattle.theory_refusals.proofs.HeaderForms.{header-exactly}
 use Rattle.theory_refusals.proofs.GraphForms.{graph-exactly}
-use Rattle.theory_refusals.proofs.OutcomeForms.{once-distinct}
 use Rattle.theory_check.specs.CheckForms.{InputNames}
 use Rattle.theory_check.specs.CheckRefusals.{EditedIn, EditedFault, NetsHold, NetsFault, AllShort, Enough, ToGraph, ToNetlist, CheckFault, one, ofLibrary, ofHeader, ten, ofGraph, fifteen, thirtyOne, ofNetlist, ofNets, CheckHolds, CheckRefusals}
 use Rattle.theory_check.proofs.CheckNets.{exactly-at, nets-exactly}
@@ -50,10 +49,6 @@ nets-only g r = inputs-only r
 
 -- ---- 15
 
-lowest-nil : (xs : List ℕ) → xs ≡ [] → lowest xs ≡ none
-unfolding lowest
-lowest-nil xs e = ap lowest e
-
 module _ (g : Graph) (once : T (distinct (0 ∷ g .inputs ++ andVars g))) where
   unplaced-some : (v : ℕ) → (lowest (unplaced g) ≡ some v) ↔ LowestUnplaced g v
   unplaced-some v =
@@ -61,17 +56,17 @@ module _ (g : Graph) (once : T (distinct (0 ∷ g .inputs ++ andVars g))) where
       ((λ e. let p = i .0 e in record { isAnd = p .0; noOrder = p .1; lower = p .2 }), λ l. i .1 (l .isAnd, l .noOrder, l .lower))
 
   unplaced-not : (lowest (unplaced g) ≡ none) ↔ OrderOfAll g
-  unplaced-not =
-      ((λ e. unplaced-none-iff g once .0 (none-in (unplaced g) (λ v m. lowest-none (unplaced g) e v m))), λ o. lowest-nil (unplaced g) (unplaced-none-iff g once .1 o))
+  unplaced-not = (
+    (λ e. unplaced-none-iff g once .0 (none-in (unplaced g) (λ v m. lowest-none (unplaced g) e v m))),
+    λ o.
+        (unfold lowest in ap lowest (unplaced-none-iff g once .1 o)),
+  )
 
 module _ (library graph netlist : List ℕ) (words : ℕ) where
   -- ---- what the texts before are
 
   inside : (h : Header) → HeaderHolds graph h → h .next ≤ length graph
-  inside h x =
-      let b = x .begins in
-      let long : length graph ≡ length (b .front) + length (b .behind) = ap length (b .whole) ∙ length-append (b .front) (b .behind) in
-      omega (arith, b .is .next)
+  inside h x = let b = x .begins in omega (arith, ap length (b .whole) ∙ length-append (b .front) (b .behind), b .is .next)
 
   abbrev GraphIs : Header → Graph → Type 0
   GraphIs h g = GraphIn (drop (h .next) graph) h g
@@ -79,9 +74,6 @@ module _ (library graph netlist : List ℕ) (words : ℕ) where
   once-in : (h : Header) → HeaderHolds graph h → (g : Graph) → GraphIs h g → T (distinct (0 ∷ g .inputs ++ andVars g))
   once-in h x g y =
       once-distinct (0 ∷ g .inputs ++ andVars g) (graph-known graph h g (header-exactly graph .accepts h .1 x) (graph-exactly graph h (inside h x) .accepts g .1 y) .once)
-
-  fits-in : (cs : List Cell) → LibraryHolds library cs → T (libraryFits cs)
-  fits-in cs x = library-fits library cs (library-exactly library .accepts cs .1 x)
 
   short-form : T (leb (length library) 65536 && (leb (length graph) 65536 && leb (length netlist) 65536)) → AllShort library graph netlist
   short-form t =
@@ -107,13 +99,6 @@ module _ (library graph netlist : List ℕ) (words : ℕ) where
   abbrev readNets : List Cell → Graph → Read Edited
   readNets cs g = next (readNetlist cs g netlist) (λ ds. next (judgeNets (inputNets g) ds) (λ es. holds (made g es)))
 
-  nets-read : (cs : List Cell) → LibraryHolds library cs → (g : Graph) → Exactly (Nets cs g) (NoNets cs g) (readNets cs g)
-  nets-read cs c g =
-      exactly-next (λ ds x e. (es : List Driver) × (y : NetsHold (inputNets g) ds es) × (made g es ≡ e))
-      (λ ds x n k. NetsFault (inputNets g) ds n k ⊎ ((es : List Driver) × (y : NetsHold (inputNets g) ds es) × ⊥)) (readNetlist cs g netlist)
-      (λ ds. next (judgeNets (inputNets g) ds) (λ es. holds (made g es))) (edited-exactly cs g (fits-in cs c) netlist)
-      (λ ds x. exactly-next (λ es y e. made g es ≡ e) (λ es y n k. ⊥) (judgeNets (inputNets g) ds) (λ es. holds (made g es)) (nets-exactly (inputNets g) ds) (λ es y. exactly-holds (made g es)))
-
   -- ---- 15 and 31
 
   abbrev Few : Graph → Type 0
@@ -127,11 +112,6 @@ module _ (library graph netlist : List ℕ) (words : ℕ) where
 
   abbrev readPlaced : List Cell → Graph → Read Edited
   readPlaced cs g = unlessAt (lowest (unplaced g)) 15 (unless (leb (length (g .inputs)) 12) 31 0 (readNets cs g))
-
-  placed-read : (cs : List Cell) → LibraryHolds library cs → (h : Header) → HeaderHolds graph h → (g : Graph) → GraphIs h g → Exactly (Placed cs g) (NotPlaced cs g) (readPlaced cs g)
-  placed-read cs c h x g y =
-      exactly-at (LowestUnplaced g) (OrderOfAll g) (lowest (unplaced g)) 15 (unless (leb (length (g .inputs)) 12) 31 0 (readNets cs g)) (unplaced-some g (once-in h x g y)) (unplaced-not g (once-in h x g y))
-      (λ o. exactly-unless (Few g) (leb (length (g .inputs)) 12) 31 0 (readNets cs g) (λ t. leb-yes t) (λ f. yes-leb f) (nets-read cs c g))
 
   -- ---- 10 and the graph
 
@@ -153,7 +133,16 @@ module _ (library graph netlist : List ℕ) (words : ℕ) where
       (λ h x n k. ((¬ Enough netlist words h) × (n ≡ 10) × (k ≡ 0)) ⊎ (Enough netlist words h × (GraphFault (drop (h .next) graph) h n k ⊎ ((g : Graph) × (y : GraphIs h g) × NotPlaced cs g n k))))
       (readHeader graph) (λ h. unless (leb (need (h .size) (h .outputs) + 8 * lineEnds netlist) words) 10 0 (next (readGraph graph h) (readPlaced cs))) (header-exactly graph)
       (λ h x. exactly-unless (Enough netlist words h) (leb (need (h .size) (h .outputs) + 8 * lineEnds netlist) words) 10 0 (next (readGraph graph h) (readPlaced cs)) (λ t. leb-yes t) (λ y. yes-leb y)
-      (exactly-next (λ g y e. Placed cs g e) (λ g y n k. NotPlaced cs g n k) (readGraph graph h) (readPlaced cs) (graph-exactly graph h (inside h x)) (λ g y. placed-read cs c h x g y)))
+      (exactly-next (λ g y e. Placed cs g e) (λ g y n k. NotPlaced cs g n k) (readGraph graph h) (readPlaced cs) (graph-exactly graph h (inside h x)) (λ g y.
+      (exactly-at (LowestUnplaced g) (OrderOfAll g) (lowest (unplaced g)) 15 (unless (leb (length (g .inputs)) 12) 31 0 (readNets cs g))
+      (unplaced-some g (once-in h x g y)) (unplaced-not g (once-in h x g y)) (λ o. exactly-unless (Few g) (leb (length (g .inputs)) 12) 31 0
+      (readNets cs g) (λ t. leb-yes t) (λ f. yes-leb f) (
+      exactly-next (λ ds x e. (es : List Driver) × (y : NetsHold (inputNets g) ds es) × (made g es ≡ e))
+      (λ ds x n k. NetsFault (inputNets g) ds n k ⊎ ((es : List Driver) × (y : NetsHold (inputNets g) ds es) × ⊥))
+      (readNetlist cs g netlist) (λ ds. next (judgeNets (inputNets g) ds) (λ es. holds (made g es)))
+      (edited-exactly cs g (library-fits library cs (library-exactly library .accepts cs .1 c)) netlist) (λ ds x.
+      exactly-next (λ es y e. made g es ≡ e) (λ es y n k. ⊥) (judgeNets (inputNets g) ds) (λ es. holds (made g es))
+      (nets-exactly (inputNets g) ds) (λ es y. exactly-holds (made g es)))))))))
 
   abbrev All : Edited → Type 0
   All e = AllShort library graph netlist × ((cs : List Cell) × (c : LibraryHolds library cs) × Headed cs e)
@@ -162,81 +151,76 @@ module _ (library graph netlist : List ℕ) (words : ℕ) where
   NotAll n k =
       ((¬ AllShort library graph netlist) × (n ≡ 1) × (k ≡ 0)) ⊎ (AllShort library graph netlist × (LibraryFault library n k ⊎ ((cs : List Cell) × (c : LibraryHolds library cs) × NotHeaded cs n k)))
 
-  all-read : Exactly All NotAll (readEdited library graph netlist words)
-  unfolding readEdited
-  all-read =
-      exactly-unless (AllShort library graph netlist) (leb (length library) 65536 && (leb (length graph) 65536 && leb (length netlist) 65536)) 1 0 (next (readLibrary library) readHeaded) short-form short-back
-      (exactly-next (λ cs c e. Headed cs e) (λ cs c n k. NotHeaded cs n k) (readLibrary library) readHeaded (library-exactly library) (λ cs c. headed-read cs c))
-
   -- ---- in the words of the conditions
 
   to-graph : AllShort library graph netlist → (cs : List Cell) → LibraryHolds library cs → (h : Header) → HeaderHolds graph h → Enough netlist words h → (g : Graph) → GraphIs h g → ToGraph library graph netlist words cs h g
   to-graph s cs c h x w g y = record { toCells = record { short = s; cells = c }; header = x; enough = w; isGraph = y }
 
   there : (e : Edited) → All e → CheckHolds library graph netlist words e
-  there e p = go (p .1 .0) (p .1 .1) (p .1 .2)
-    where
-      go : (cs : List Cell) → LibraryHolds library cs → Headed cs e → CheckHolds library graph netlist words e
-      go cs c hd =
-          let gr = hd .2 .1 in
-          let pl = gr .2 in
-          let ns = pl .1 .1 in
-          subst (CheckHolds library graph netlist words) (ns .2 .2)
-          (record {
-            cells = cs;
-            toNetlist = record { header = hd .0; toGraph = to-graph (p .0) cs c (hd .0) (hd .1) (hd .2 .0) (gr .0) (gr .1); placed = pl .0; few = pl .1 .0 };
-            drivers = ns .0;
-            areDrivers = ns .1;
-            nets = inputNets (gr .0);
-            areNets = nets-are (gr .0);
-            sound = ns .2 .1;
-          })
+  there e p = let gr = (p .1 .2) .2 .1 in let pl = gr .2 in let ns = pl .1 .1 in subst (CheckHolds library graph netlist words) (ns .2 .2)
+      (record {
+        cells = (p .1 .0);
+        toNetlist = record {
+          header = (p .1 .2) .0;
+          toGraph = to-graph (p .0) (p .1 .0) (p .1 .1) ((p .1 .2) .0) ((p .1 .2) .1) ((p .1 .2) .2 .0) (gr .0) (gr .1);
+          placed = pl .0;
+          few = pl .1 .0;
+        };
+        drivers = ns .0;
+        areDrivers = ns .1;
+        nets = inputNets (gr .0);
+        areNets = nets-are (gr .0);
+        sound = ns .2 .1;
+      })
 
   back : (e : Edited) → CheckHolds library graph netlist words e → All e
-  back e q =
-      let m = q .toNetlist in
-      let t = m .toGraph in
-      let s : NetsHold (inputNets (e .graph)) (q .drivers) (e .drivers) = subst (λ (ws : List (List ℕ)). NetsHold ws (q .drivers) (e .drivers)) (nets-only (e .graph) (q .areNets)) (q .sound) in
-      (t .toCells .short, (q .cells, t .toCells .cells, (m .header, t .header, (t .enough, (e .graph, t .isGraph, (m .placed, (m .few, (q .drivers, q .areDrivers, (e .drivers, s, refl)))))))))
+  back e q = (
+    ((q .toNetlist) .toGraph) .toCells .short,
+    (
+      q .cells,
+      ((q .toNetlist) .toGraph) .toCells .cells,
+      (
+        (q .toNetlist) .header,
+        ((q .toNetlist) .toGraph) .header,
+        (
+          ((q .toNetlist) .toGraph) .enough,
+          (
+            e .graph,
+            ((q .toNetlist) .toGraph) .isGraph,
+            (
+              (q .toNetlist) .placed,
+              ((q .toNetlist) .few, (q .drivers, q .areDrivers, (e .drivers, (rw (← nets-only (e .graph) (q .areNets)) (q .sound)), refl))),
+            ),
+          ),
+        ),
+      ),
+    ),
+  )
 
   as-fault : (m j n k : ℕ) → n ≡ m → k ≡ j → CheckFault library graph netlist words m j → CheckFault library graph netlist words n k
   as-fault m j n k e f x = subst (λ (i : ℕ). CheckFault library graph netlist words i k) (sym e) (subst (CheckFault library graph netlist words m) (sym f) x)
 
   down : (n k : ℕ) → NotAll n k → CheckFault library graph netlist words n k
   down n k (inl p) = as-fault 1 0 n k (p .1) (p .2) (one (p .0))
-  down n k (inr p) = in-library (p .1)
+  down n k (inr p) = ⊎-elim (ofLibrary (p .0)) (λ q. in-header (q .0) (q .1) (q .2)) (p .1)
     where
       in-nets : (cs : List Cell) (g : Graph) → ToNetlist library graph netlist words cs g → NoNets cs g n k → CheckFault library graph netlist words n k
       in-nets cs g m (inl f) = ofNetlist m f
-      in-nets cs g m (inr q) = go (q .0) (q .1) (q .2)
-        where
-          go : (ds : List Driver) → EditedIn cs g netlist ds → NetsFault (inputNets g) ds n k ⊎ ((es : List Driver) × (y : NetsHold (inputNets g) ds es) × ⊥) → CheckFault library graph netlist words n k
-          go ds x (inl f) = ofNets m x (nets-are g) f
-          go ds x (inr f) = absurd (f .2)
+      in-nets cs g m (inr q) = ⊎-elim (ofNets m (q .1) (nets-are g)) (λ e. absurd (e .2)) (q .2)
 
       in-placed : (cs : List Cell) (h : Header) (g : Graph) → ToGraph library graph netlist words cs h g → NotPlaced cs g n k → CheckFault library graph netlist words n k
       in-placed cs h g t (inl q) = as-fault 15 k n k (q .0) refl (fifteen t (q .1))
-      in-placed cs h g t (inr q) = go (q .1)
-        where
-          go : ((¬ Few g) × (n ≡ 31) × (k ≡ 0)) ⊎ (Few g × NoNets cs g n k) → CheckFault library graph netlist words n k
-          go (inl f) = as-fault 31 0 n k (f .1) (f .2) (thirtyOne t (q .0) (f .0))
-          go (inr f) = in-nets cs g (record { header = h; toGraph = t; placed = q .0; few = f .0 }) (f .1)
+      in-placed cs h g t (inr q) = ⊎-elim (λ f. as-fault 31 0 n k (f .1) (f .2) (thirtyOne t (q .0) (f .0)))
+          (λ e. in-nets cs g (record { header = h; toGraph = t; placed = q .0; few = e .0 }) (e .1)) (q .1)
 
       in-header : (cs : List Cell) → LibraryHolds library cs → NotHeaded cs n k → CheckFault library graph netlist words n k
       in-header cs c (inl f) = ofHeader (record { short = p .0; cells = c }) f
-      in-header cs c (inr q) = go (q .0) (q .1) (q .2)
+      in-header cs c (inr q) = ⊎-elim (λ f. as-fault 10 0 n k (f .1) (f .2) (ten (record { short = p .0; cells = c }) (q .1) (f .0)))
+          (λ e. in-graph (q .0) (q .1) (e .0) (e .1)) (q .2)
         where
           in-graph : (h : Header) → HeaderHolds graph h → Enough netlist words h → GraphFault (drop (h .next) graph) h n k ⊎ ((g : Graph) × (y : GraphIs h g) × NotPlaced cs g n k) → CheckFault library graph netlist words n k
           in-graph h x w (inl f) = ofGraph (record { short = p .0; cells = c }) x w f
           in-graph h x w (inr f) = in-placed cs h (f .0) (to-graph (p .0) cs c h x w (f .0) (f .1)) (f .2)
-
-          go : (h : Header) → HeaderHolds graph h → ((¬ Enough netlist words h) × (n ≡ 10) × (k ≡ 0)) ⊎ (Enough netlist words h × (GraphFault (drop (h .next) graph) h n k ⊎ ((g : Graph) × (y : GraphIs h g) × NotPlaced cs g n k))) → CheckFault library graph netlist words n k
-          go h x (inl f) = as-fault 10 0 n k (f .1) (f .2) (ten (record { short = p .0; cells = c }) x (f .0))
-          go h x (inr f) = in-graph h x (f .0) (f .1)
-
-      in-library : LibraryFault library n k ⊎ ((cs : List Cell) × (c : LibraryHolds library cs) × NotHeaded cs n k) → CheckFault library graph netlist words n k
-      in-library (inl f) = ofLibrary (p .0) f
-      in-library (inr q) = in-header (q .0) (q .1) (q .2)
 
   -- what the texts up to the graph leave
   of-graph : {cs : List Cell} {h : Header} {g : Graph} {n k : ℕ} → ToGraph library graph netlist words cs h g → NotPlaced cs g n k → NotAll n k
@@ -257,4 +241,8 @@ module _ (library graph netlist : List ℕ) (words : ℕ) where
   up n k (ofNets {g = g} {ds} m x r f) = of-netlist m (inr (ds, x, inl (subst (λ (ws : List (List ℕ)). NetsFault ws ds n k) (nets-only g r) f)))
 
   pub check-exactly : CheckRefusals library graph netlist words
-  check-exactly = exactly-map (readEdited library graph netlist words) (λ e. (there e, back e)) (λ n k. (down n k, up n k)) all-read
+  check-exactly = exactly-map (readEdited library graph netlist words) (λ e. (there e, back e)) (λ n k. (down n k, up n k))
+      (unfold readEdited in exactly-unless (AllShort library graph netlist)
+      (leb (length library) 65536 && (leb (length graph) 65536 && leb (length netlist) 65536)) 1 0
+      (next (readLibrary library) readHeaded) short-form short-back (exactly-next (λ cs c e. Headed cs e) (λ cs c n k. NotHeaded cs n k)
+      (readLibrary library) readHeaded (library-exactly library) (λ cs c. headed-read cs c)))

@@ -20,6 +20,7 @@ use Rattle.theory_check.specs.CheckForms.{Due, modelDue, nothingDue, Nex
 use Rattle.theory_check.specs.CheckRefusals.{EditedIn, Finished, EditedFault, thirtyTwo, Netlists}
 use Rattle.theory_check.proofs.CheckSteps.{lineStep, reads-step}
 use Rattle.theory_check.proofs.CheckRun.{left, goes-on, stops, ends, finished, finished?, netlist-left}
+use Rattle.theory_graph.proofs.Split.{by-option, by-list}
 
 none-some : {d : Due} → _≡_ {A = Option Due} none (some d) → ⊥
 none-some e = let z : _≡_ {A = ℕ} 0 1 = cc in omega arith
@@ -35,41 +36,24 @@ module _ (cells : List Cell) (g : Graph) (fits : T (libraryFits cells)) where
 
   -- `.end` stands before: what follows is not read
   done : (end : ℕ) (d : Due) (s rest : List ℕ) (ls : List Line) → Reached cells g s d → (ds : List Driver) → d ≡ nothingDue ds → Result (Held (s ++ rest)) (Refused (s ++ rest)) (left end cells g d ls)
-  done end d s rest ls r ds f =
-      result-as (holds ds) (left end cells g d ls) (ap (λ (x : Due). left end cells g x ls) f ∙ finished end cells g ds ls)
-      (held (record { front = s; behind = rest; whole = refl; lines = subst (Reached cells g s) f r }))
+  done end d s rest ls r ds f = result-as (holds ds) (left end cells g d ls) (cc (finished end cells g ds ls))
+      (held (record { front = s; behind = rest; whole = refl; lines = rw f at r }))
 
   result : (ls : List Line) (end : ℕ) (d : Due) (s rest : List ℕ) → Reached cells g s d → linesFrom (length s) [] rest ≡ ls → length (s ++ rest) ≡ end
       → Result (Held (s ++ rest)) (Refused (s ++ rest)) (left end cells g d ls)
-  result [] end d s rest r e q = finished? d (done end d s rest [] r) no
-    where
-      none-left : rest ≡ []
-      none-left = lines-none (length s) rest e
-
-      at-end : end ≡ length s
-      at-end = sym q ∙ ap (λ (x : List ℕ). length (s ++ x)) none-left ∙ ap length (append-nil s)
-
-      no : (¬ Finished d) → Result (Held (s ++ rest)) (Refused (s ++ rest)) (left end cells g d [])
-      no f =
-          result-as (fault 32 end) (left end cells g d []) (ends end cells g d f)
-          (refused (subst (Refused (s ++ rest) 32) (sym at-end) (thirtyTwo r f (λ p. none-begins (reads-step cells g fits (length s) d) (length s) rest e (p .0) (p .1)))))
-  result (l ∷ ls) end d s rest r e q = finished? d (done end d s rest (l ∷ ls) r) (λ n. go n (lineStep cells g (length s) d l) refl (result ls end))
-    where
-      place : l .offset ≡ length s
-      place = first-split (length s) rest l ls e .offset
-
-      go : (¬ Finished d) → (o : Option Due) → lineStep cells g (length s) d l ≡ o
-          → ((x : Due) (s′ rest′ : List ℕ) → Reached cells g s′ x → linesFrom (length s′) [] rest′ ≡ ls → length (s′ ++ rest′) ≡ end → Result (Held (s′ ++ rest′)) (Refused (s′ ++ rest′)) (left end cells g x ls))
-          → Result (Held (s ++ rest)) (Refused (s ++ rest)) (left end cells g d (l ∷ ls))
-      go n none f later =
-          result-as (fault 32 (l .offset)) (left end cells g d (l ∷ ls)) (stops end cells g (length s) d l ls place n f)
-          (refused (subst (Refused (s ++ rest) 32) (sym place) (thirtyTwo r n (λ p. none-some (sym f ∙ begins-read (reads-step cells g fits (length s) d) (length s) rest l ls e (p .0) (p .1))))))
-      go n (some x) f later =
-          let m = reads-step cells g fits (length s) d .form (length s) rest l ls e x f in
-          let is : (s ++ m .front) ++ m .behind ≡ s ++ rest = append-assoc s (m .front) (m .behind) ∙ ap (λ (y : List ℕ). s ++ y) (sym (m .whole)) in
-          result-as (left end cells g x ls) (left end cells g d (l ∷ ls)) (goes-on end cells g (length s) d l ls x place f)
-          (subst (λ (y : List ℕ). Result (Held y) (Refused y) (left end cells g x ls)) is
-          (later x (s ++ m .front) (m .behind) (aLine r (m .is)) (ap (λ (i : ℕ). linesFrom i [] (m .behind)) (length-append s (m .front)) ∙ m .later) (ap length is ∙ q)))
+  result [] end d s rest r e q = finished? d (done end d s rest [] r) (λ f. result-as (fault 32 end) (left end cells g d [])
+      (ends end cells g d f) (refused (subst (Refused (s ++ rest) 32) (sym
+      (sym q ∙ ap (λ (x : List ℕ). length (s ++ x)) (lines-none (length s) rest e) ∙ ap length (append-nil s)))
+      (thirtyTwo r f (λ p. none-begins (reads-step cells g fits (length s) d) (length s) rest e (p .0) (p .1))))))
+  result (l ∷ ls) end d s rest r e q =
+      let place = first-split (length s) rest l ls e .offset in
+      finished? d (done end d s rest (l ∷ ls) r) (λ n. by-option (lineStep cells g (length s) d l) (λ f.
+      result-as (fault 32 (l .offset)) (left end cells g d (l ∷ ls)) (stops end cells g (length s) d l ls place n f) (refused (rw place
+      (thirtyTwo r n (λ p. none-some (sym f ∙ begins-read (reads-step cells g fits (length s) d) (length s) rest l ls e (p .0) (p .1)))))))
+      (λ x p. let m = reads-step cells g fits (length s) d .form (length s) rest l ls e x p in let is :
+      (s ++ m .front) ++ m .behind ≡ s ++ rest = append-assoc s (m .front) (m .behind) ∙ ap (λ (y : List ℕ). s ++ y) (sym (m .whole)) in
+      result-as (left end cells g x ls) (left end cells g d (l ∷ ls)) (goes-on end cells g (length s) d l ls x place p) (rw is at
+      (result ls end x (s ++ m .front) (m .behind) (aLine r (m .is)) (cc (length-append s (m .front), m .later)) (ap length is ∙ q)))))
 
   -- ---- and back
 
@@ -78,38 +62,32 @@ module _ (cells : List Cell) (g : Graph) (fits : T (libraryFits cells)) where
   reached end noLine rest = refl
   reached end (aLine {s} {l} {d} {e} r h) rest =
       let b = reads-step cells g fits (length s) d .back (length s) l rest e h in
-      ap (λ (x : List ℕ). left end cells g modelDue (linesFrom 0 [] x)) (append-assoc s l rest)
-      ∙ reached end r (l ++ rest)
-      ∙ ap (left end cells g d) (b .lines)
-      ∙ goes-on end cells g (length s) d (b .line) (linesFrom (length s + length l) [] rest) e (first-split (length s) (l ++ rest) (b .line) (linesFrom (length s + length l) [] rest) (b .lines) .offset) (b .read)
-      ∙ ap (λ (n : ℕ). left end cells g e (linesFrom n [] rest)) (sym (length-append s l))
-
-  held-read : (end : ℕ) (t : List ℕ) (ds : List Driver) → Held t ds → left end cells g modelDue (linesFrom 0 [] t) ≡ holds ds
-  held-read end t ds h =
-      ap (λ (x : List ℕ). left end cells g modelDue (linesFrom 0 [] x)) (h .whole) ∙ reached end (h .lines) (h .behind) ∙ finished end cells g ds (linesFrom (length (h .front)) [] (h .behind))
+      cc (
+        append-assoc s l rest,
+        reached end r (l ++ rest),
+        b .lines,
+        goes-on end cells g (length s) d (b .line)
+            (linesFrom (length s + length l) [] rest) e
+            (first-split (length s) (l ++ rest) (b .line) (linesFrom (length s + length l) [] rest) (b .lines) .offset)
+            (b .read),
+        length-append s l,
+      )
 
   -- a line that may not stand there, or none
   stopped : (end : ℕ) (d : Due) (s t : List ℕ) → end ≡ length (s ++ t) → (¬ Finished d) → (¬ ((a : Due) × Begins (NextLine cells g (length s) d) t a))
       → left end cells g d (linesFrom (length s) [] t) ≡ fault 32 (length s)
-  stopped end d s t q n b = go (linesFrom (length s) [] t) refl
-    where
-      go : (ls : List Line) → linesFrom (length s) [] t ≡ ls → left end cells g d ls ≡ fault 32 (length s)
-      go [] e = ends end cells g d n ∙ ap (fault 32) (q ∙ ap (λ (x : List ℕ). length (s ++ x)) (lines-none (length s) t e) ∙ ap length (append-nil s))
-      go (l ∷ ls) e = some-line (lineStep cells g (length s) d l) refl
-        where
-          place : l .offset ≡ length s
-          place = first-split (length s) t l ls e .offset
-
-          some-line : (o : Option Due) → lineStep cells g (length s) d l ≡ o → left end cells g d (l ∷ ls) ≡ fault 32 (length s)
-          some-line none f = stops end cells g (length s) d l ls place n f ∙ ap (fault 32) place
-          some-line (some x) f = absurd (b (x, found-begins (reads-step cells g fits (length s) d) (reads-step cells g fits (length s) d .form (length s) t l ls e x f)))
+  stopped end d s t q n b = by-list (linesFrom (length s) [] t) (λ e. rw e (ends end cells g d n
+      ∙ ap (fault 32) (q ∙ ap (λ (x : List ℕ). length (s ++ x)) (lines-none (length s) t e) ∙ ap length (append-nil s)))) (λ l ls p. rw p
+      (let place = first-split (length s) t l ls p .offset in by-option (lineStep cells g (length s) d l)
+      (λ f. stops end cells g (length s) d l ls place n f ∙ ap (fault 32) place) (λ x q. absurd
+      (b (x, found-begins (reads-step cells g fits (length s) d) (reads-step cells g fits (length s) d .form (length s) t l ls p x q))))))
 
   refused-read : {t : List ℕ} {n k : ℕ} → Refused t n k → left (length t) cells g modelDue (linesFrom 0 [] t) ≡ fault n k
   refused-read (thirtyTwo {s} {t} {d} r n b) = reached (length (s ++ t)) r t ∙ stopped (length (s ++ t)) d s t refl n b
 
   pub edited-exactly : (t : List ℕ) → Netlists cells g t
   edited-exactly t =
-      exactly (readNetlist cells g t)
-      (result-as (left (length t) cells g modelDue (linesFrom 0 [] t)) (readNetlist cells g t) (netlist-left cells g t) (result (linesFrom 0 [] t) (length t) modelDue [] t noLine refl refl))
-      (λ ds h. netlist-left cells g t ∙ held-read (length t) t ds h)
-      (λ n k h. netlist-left cells g t ∙ refused-read h)
+      exactly (readNetlist cells g t) (result-as (left (length t) cells g modelDue (linesFrom 0 [] t)) (readNetlist cells g t)
+      (netlist-left cells g t) (result (linesFrom 0 [] t) (length t) modelDue [] t noLine refl refl)) (λ ds h. netlist-left cells g t
+      ∙ ap (λ (x : List ℕ). left (length t) cells g modelDue (linesFrom 0 [] x)) (h .whole) ∙ reached (length t) (h .lines) (h .behind)
+      ∙ finished (length t) cells g ds (linesFrom (length (h .front)) [] (h .behind))) (λ n k h. netlist-left cells g t ∙ refused-read h)

@@ -3,7 +3,7 @@
 use Prim.Native.Nat.{ℕ}
 use native.Mathlib.Omega.{arith}
 use mathlib.Core.Path.{_≡_, refl, sym, _∙_, ap, ap₂, subst}
-use mathlib.Core.Logic.{_⊎_, inl, inr, _↔_}
+use mathlib.Core.Logic.{_⊎_, inl, inr, _↔_, ⊎-elim}
 use mathlib.Core.Bool.{Bool, true, false, not, cond}
 use mathlib.Core.Option.{Option, none, some}
 use mathlib.Core.List.{List, [], _∷_, _++_, map-append, append-nil, append-assoc, nil≢cons, head-eq-of-cons-eq, tail-eq-of-cons-eq, List·Memᴰ, List·Memᴰ·head, List·Memᴰ·tail, List·Memᴰ·not-nil, List·Memᴰ·append-cases, Memᴰ·append-left, Memᴰ·append-right}
@@ -22,6 +22,7 @@ use Rattle.theory_check.specs.CheckRefusals.{FirstLine, NoLine, Again, U
 use Rattle.theory_check.proofs.Settling.{FeedsNet, directly, through, among-in, among-out, netsOf}
 use Rattle.theory_check.proofs.Circles.{circle-found, found-circle}
 use Rattle.theory_check.proofs.Judged.{twice-none, one-driver}
+use Rattle.theory_graph.proofs.Split.{by-member, by-bool}
 
 -- ---- the first line that passes a test, by the lines before it
 
@@ -59,29 +60,25 @@ module _ (p : List Driver → Driver → Bool) where
   found : (bs ds : List Driver) (k : ℕ) → firstBy p bs ds ≡ some k → Found p bs ds k
   unfolding firstBy
   found bs [] k e = let z : _≡_ {A = ℕ} 0 1 = cc in absurd (omega arith)
-  found bs (d ∷ ds) k e = go (p bs d) refl e (found (bs ++ (d ∷ [])) ds k)
-    where
-      go : (b : Bool) → p bs d ≡ b → cond b (some (d .offset)) (firstBy p (bs ++ (d ∷ [])) ds) ≡ some k → (firstBy p (bs ++ (d ∷ [])) ds ≡ some k → Found p (bs ++ (d ∷ [])) ds k) → Found p bs (d ∷ ds) k
-      go true q f later = record {
-        before = [];
-        driver = d;
-        after = ds;
-        isAll = refl;
-        is = subst (λ (y : List Driver). T (p y d)) (sym (append-nil bs)) (subst T (sym q) tt);
-        first = λ xs x ys z. absurd (no-split xs x ys z);
-        isPlace = cc;
-      }
-      go false q f later =
-          let r = later f in
-          record {
-            before = d ∷ r .before;
-            driver = r .driver;
-            after = r .after;
-            isAll = ap (λ (y : List Driver). d ∷ y) (r .isAll);
-            is = subst (λ (y : List Driver). T (p y (r .driver))) (behind bs d (r .before)) (r .is);
-            first = none-cons bs d (r .before) (λ t. subst T q t) (r .first);
-            isPlace = r .isPlace;
-          }
+  found bs (d ∷ ds) k e = by-bool (p bs d) (λ q. record {
+    before = [];
+    driver = d;
+    after = ds;
+    isAll = refl;
+    is = subst (λ (y : List Driver). T (p y d)) (sym (append-nil bs)) (subst T (sym q) tt);
+    first = λ xs x ys z. absurd (no-split xs x ys z);
+    isPlace = cc;
+  }) (λ r. record {
+    before = d ∷ (found (bs ++ (d ∷ [])) ds k (rw r at e)) .before;
+    driver = (found (bs ++ (d ∷ [])) ds k (rw r at e)) .driver;
+    after = (found (bs ++ (d ∷ [])) ds k (rw r at e)) .after;
+    isAll = ap (λ (y : List Driver). d ∷ y) (found (bs ++ (d ∷ [])) ds k (rw r at e) .isAll);
+    is = subst (λ (y : List Driver). T (p y (found (bs ++ (d ∷ [])) ds k (rw r at e) .driver)))
+        (behind bs d (found (bs ++ (d ∷ [])) ds k (rw r at e) .before)) (found (bs ++ (d ∷ [])) ds k (rw r at e) .is);
+    first = none-cons bs d (found (bs ++ (d ∷ [])) ds k (rw r at e) .before) (λ t. subst T r t)
+        (found (bs ++ (d ∷ [])) ds k (rw r at e) .first);
+    isPlace = (found (bs ++ (d ∷ [])) ds k (rw r at e)) .isPlace;
+  })
 
   unfound : (bs ds : List Driver) → firstBy p bs ds ≡ none → Unfound p bs ds
   unfolding firstBy
@@ -106,9 +103,8 @@ module _ (p : List Driver → Driver → Bool) where
   finds : (bs before : List Driver) (d : Driver) (after : List Driver) → Unfound p bs before → T (p (bs ++ before) d) → firstBy p bs (before ++ (d ∷ after)) ≡ some (d .offset)
   unfolding firstBy
   finds bs [] d after f t = ap (λ (b : Bool). cond b (some (d .offset)) (firstBy p (bs ++ (d ∷ [])) after)) (is-true (p bs d) (subst (λ (y : List Driver). T (p y d)) (append-nil bs) t))
-  finds bs (x ∷ before) d after f t =
-      skip bs x (before ++ (d ∷ after)) (first-fails bs x before f)
-      ∙ finds (bs ++ (x ∷ [])) before d after (later-fail bs x before f) (subst (λ (y : List Driver). T (p y d)) (sym (behind bs x before)) t)
+  finds bs (x ∷ before) d after f t = skip bs x (before ++ (d ∷ after)) (first-fails bs x before f)
+      ∙ finds (bs ++ (x ∷ [])) before d after (later-fail bs x before f) (rw (behind bs x before) t)
 
   finds-none : (bs ds : List Driver) → Unfound p bs ds → firstBy p bs ds ≡ none
   unfolding firstBy
@@ -124,26 +120,25 @@ module _ (P : List Driver → Driver → Type 0) (p : List Driver → Driver →
   within before e after xs d ys a b = a ∙ ap (λ (y : List Driver). y ++ (e ∷ after)) b ∙ append-assoc xs (d ∷ ys) (e ∷ after)
 
   first-exactly : (k : ℕ) → (firstBy p [] ds ≡ some k) ↔ FirstLine P ds k
-  first-exactly k = (form, turn)
-    where
-      form : firstBy p [] ds ≡ some k → FirstLine P ds k
-      form e =
-          let f = found p [] ds k e in
-          record {
-            before = f .before;
-            driver = f .driver;
-            after = f .after;
-            isAll = f .isAll;
-            is = there (f .before) (f .driver) (f .after) (f .isAll) (f .is);
-            first = λ xs d ys z q. f .first xs d ys z (back xs d (ys ++ (f .driver ∷ f .after)) (within (f .before) (f .driver) (f .after) xs d ys (f .isAll) z) q);
-            isPlace = f .isPlace;
-          }
-
-      turn : FirstLine P ds k → firstBy p [] ds ≡ some k
-      turn f =
-          ap (firstBy p []) (f .isAll)
-          ∙ finds p [] (f .before) (f .driver) (f .after) (λ xs d ys z t. f .first xs d ys z (there xs d (ys ++ (f .driver ∷ f .after)) (within (f .before) (f .driver) (f .after) xs d ys (f .isAll) z) t)) (back (f .before) (f .driver) (f .after) (f .isAll) (f .is))
-          ∙ ap some (f .isPlace)
+  first-exactly k = (
+    (λ e. let f = found p [] ds k e in record {
+      before = f .before;
+      driver = f .driver;
+      after = f .after;
+      isAll = f .isAll;
+      is = there (f .before) (f .driver) (f .after) (f .isAll) (f .is);
+      first = λ xs d ys z q. f .first xs d ys z
+          (back xs d (ys ++ (f .driver ∷ f .after)) (within (f .before) (f .driver) (f .after) xs d ys (f .isAll) z) q);
+      isPlace = f .isPlace;
+    }),
+    (λ f. cc (
+      f .isAll,
+      finds p [] (f .before) (f .driver) (f .after) (λ xs d ys z t. f .first xs d ys z
+          (there xs d (ys ++ (f .driver ∷ f .after)) (within (f .before) (f .driver) (f .after) xs d ys (f .isAll) z) t))
+          (back (f .before) (f .driver) (f .after) (f .isAll) (f .is)),
+      f .isPlace,
+    )),
+  )
 
   none-exactly : (firstBy p [] ds ≡ none) ↔ NoLine P ds
   none-exactly = ((λ e bs d cs z q. unfound p [] ds e bs d cs z (back bs d cs z q)), λ f. finds-none p [] ds (λ bs d cs z t. f bs d cs z (there bs d cs z t)))
@@ -158,43 +153,33 @@ line-first q bs (d ∷ ds) = ap (λ (r : Option ℕ). cond (q d) (some (d .offse
 abbrev known : List (List ℕ) → List Driver → Driver → Bool
 known inputs bs d = among (d .net) (inputs ++ netsOf bs)
 
-among-same : (n : List ℕ) (ms ns : List (List ℕ)) → (List·Memᴰ n ms → List·Memᴰ n ns) → (List·Memᴰ n ns → List·Memᴰ n ms) → among n ms ≡ among n ns
-among-same n ms ns f g =
-    on (among n ms) (λ t. is-true (among n ms) t ∙ sym (among-in n ns (f (among-out n ms t))))
-    (λ t. is-false (among n ms) t ∙ sym (is-false (among n ns) (not-T (among n ns) (λ u. T-not (among n ms) t (subst T (sym (among-in n ms (g (among-out n ns u)))) tt)))))
-
 twice-first : (inputs seen : List (List ℕ)) (bs ds : List Driver) → ((n : List ℕ) → List·Memᴰ n seen ↔ List·Memᴰ n (inputs ++ netsOf bs)) → drivenTwice seen ds ≡ firstBy (known inputs) bs ds
 unfolding drivenTwice firstBy
 twice-first inputs seen bs [] h = refl
 twice-first inputs seen bs (d ∷ ds) h =
-    ap₂ (λ (b : Bool) (r : Option ℕ). cond b (some (d .offset)) r) (among-same (d .net) seen (inputs ++ netsOf bs) (h (d .net) .0) (h (d .net) .1))
-    (twice-first inputs (d .net ∷ seen) (bs ++ (d ∷ [])) ds more)
+    let nets = map-append (λ (e : Driver). e .net) bs (d ∷ []) in
+    cc (
+      on (among (d .net) seen)
+          (λ t. is-true (among (d .net) seen) t ∙ sym (among-in (d .net) (inputs ++ netsOf bs) ((h (d .net) .0) (among-out (d .net) seen t))))
+          (λ t. is-false (among (d .net) seen) t ∙ sym (is-false (among (d .net) (inputs ++ netsOf bs))
+          (not-T (among (d .net) (inputs ++ netsOf bs)) (λ u. T-not (among (d .net) seen) t
+          (rw (among-in (d .net) seen ((h (d .net) .1) (among-out (d .net) (inputs ++ netsOf bs) u))) tt))))),
+      twice-first inputs (d .net ∷ seen)
+          (bs ++ (d ∷ [])) ds (λ n. ((λ m. rw nets (take n m)), λ m. put n (rw (← nets) m))),
+    )
   where
-    nets : netsOf (bs ++ (d ∷ [])) ≡ netsOf bs ++ (d .net ∷ [])
-    nets = map-append (λ (e : Driver). e .net) bs (d ∷ [])
-
     put : (n : List ℕ) → List·Memᴰ n (inputs ++ (netsOf bs ++ (d .net ∷ []))) → List·Memᴰ n (d .net ∷ seen)
     put n m = go (List·Memᴰ·append-cases inputs m)
       where
-        in-nets : List·Memᴰ n (netsOf bs) ⊎ List·Memᴰ n (d .net ∷ []) → List·Memᴰ n (d .net ∷ seen)
-        in-nets (inl i) = List·Memᴰ·tail (h n .1 (Memᴰ·append-right inputs i))
-        in-nets (inr (List·Memᴰ·head e)) = List·Memᴰ·head e
-        in-nets (inr (List·Memᴰ·tail i)) = absurd (List·Memᴰ·not-nil i)
-
         go : List·Memᴰ n inputs ⊎ List·Memᴰ n (netsOf bs ++ (d .net ∷ [])) → List·Memᴰ n (d .net ∷ seen)
         go (inl i) = List·Memᴰ·tail (h n .1 (Memᴰ·append-left (netsOf bs) i))
-        go (inr i) = in-nets (List·Memᴰ·append-cases (netsOf bs) i)
+        go (inr i) = ⊎-elim (λ q. List·Memᴰ·tail (h n .1 (Memᴰ·append-right inputs q)))
+            (λ x. by-member x List·Memᴰ·head (λ p. absurd (List·Memᴰ·not-nil p))) (List·Memᴰ·append-cases (netsOf bs) i)
 
     take : (n : List ℕ) → List·Memᴰ n (d .net ∷ seen) → List·Memᴰ n (inputs ++ (netsOf bs ++ (d .net ∷ [])))
     take n (List·Memᴰ·head e) = Memᴰ·append-right inputs (Memᴰ·append-right (netsOf bs) (List·Memᴰ·head e))
-    take n (List·Memᴰ·tail m) = go (List·Memᴰ·append-cases inputs (h n .0 m))
-      where
-        go : List·Memᴰ n inputs ⊎ List·Memᴰ n (netsOf bs) → List·Memᴰ n (inputs ++ (netsOf bs ++ (d .net ∷ [])))
-        go (inl i) = Memᴰ·append-left (netsOf bs ++ (d .net ∷ [])) i
-        go (inr i) = Memᴰ·append-right inputs (Memᴰ·append-left (d .net ∷ []) i)
-
-    more : (n : List ℕ) → List·Memᴰ n (d .net ∷ seen) ↔ List·Memᴰ n (inputs ++ netsOf (bs ++ (d ∷ [])))
-    more n = ((λ m. subst (λ (ms : List (List ℕ)). List·Memᴰ n (inputs ++ ms)) (sym nets) (take n m)), λ m. put n (subst (λ (ms : List (List ℕ)). List·Memᴰ n (inputs ++ ms)) nets m))
+    take n (List·Memᴰ·tail m) = ⊎-elim (Memᴰ·append-left (netsOf bs ++ (d .net ∷ [])))
+        (λ q. Memᴰ·append-right inputs (Memᴰ·append-left (d .net ∷ []) q)) (List·Memᴰ·append-cases inputs (h n .0 m))
 
 -- ---- the conditions
 
@@ -212,12 +197,9 @@ again-back inputs bs d (inr m) = subst T (sym (among-in (d .net) (inputs ++ nets
 stray-form : (nets us : List (List ℕ)) → T (any (λ (n : List ℕ). not (among n nets)) us) → (n : List ℕ) × List·Memᴰ n us × (¬ List·Memᴰ n nets)
 unfolding any
 stray-form nets [] t = absurd t
-stray-form nets (u ∷ us) t = go (or-yes (not (among u nets)) (any (λ (n : List ℕ). not (among n nets)) us) t) (stray-form nets us)
-  where
-    go : T (not (among u nets)) ⊎ T (any (λ (n : List ℕ). not (among n nets)) us) → (T (any (λ (n : List ℕ). not (among n nets)) us) → (n : List ℕ) × List·Memᴰ n us × (¬ List·Memᴰ n nets))
-        → (n : List ℕ) × List·Memᴰ n (u ∷ us) × (¬ List·Memᴰ n nets)
-    go (inl h) later = (u, List·Memᴰ·head refl, λ m. T-not (among u nets) h (subst T (sym (among-in u nets m)) tt))
-    go (inr h) later = let r = later h in (r .0, List·Memᴰ·tail (r .1), r .2)
+stray-form nets (u ∷ us) t = ⊎-elim (λ h. (u, List·Memᴰ·head refl, λ m. T-not (among u nets) h (subst T (sym (among-in u nets m)) tt)))
+    (λ q. let r = (stray-form nets us) q in (r .0, List·Memᴰ·tail (r .1), r .2))
+    (or-yes (not (among u nets)) (any (λ (n : List ℕ). not (among n nets)) us) t)
 
 stray-back : (nets us : List (List ℕ)) (n : List ℕ) → List·Memᴰ n us → (¬ List·Memᴰ n nets) → T (any (λ (x : List ℕ). not (among x nets)) us)
 unfolding any
@@ -234,11 +216,8 @@ undriven-form inputs ds bs d t =
     (r .0, r .1, (λ m. r .2 (Memᴰ·append-left (netsOf ds) m)), λ m. r .2 (Memᴰ·append-right inputs m))
 
 undriven-back : (inputs : List (List ℕ)) (ds bs : List Driver) (d : Driver) → Undriven inputs ds bs d → T (stray inputs ds d)
-undriven-back inputs ds bs d u = stray-back (inputs ++ netsOf ds) (d .uses) (u .0) (u .1) (λ m. go (List·Memᴰ·append-cases inputs m))
-  where
-    go : List·Memᴰ (u .0) inputs ⊎ List·Memᴰ (u .0) (netsOf ds) → ⊥
-    go (inl m) = u .2 m
-    go (inr m) = u .3 m
+undriven-back inputs ds bs d u = stray-back (inputs ++ netsOf ds) (d .uses) (u .0) (u .1) (λ m. ⊎-elim (λ q. u .2 q) (λ e. u .3 e)
+    (List·Memᴰ·append-cases inputs m))
 
 feeds-form : {ds : List Driver} {x y : List ℕ} → FeedsNet ds x y → Feeds ds x y
 feeds-form (directly d m u) = direct d m u
@@ -255,26 +234,24 @@ pub exactly-at : {A : Type 0} {H : A → Type 0} {F : ℕ → ℕ → Type 0} (S
 unfolding unlessAt
 exactly-at {A} {H} {F} S N none m r s n e = record {
   accepts = λ a. ((λ q. (n .0 refl, e (n .0 refl) .accepts a .0 q)), λ p. e (n .0 refl) .accepts a .1 (p .1));
-  refuses = λ i k. ((λ q. inr (n .0 refl, e (n .0 refl) .refuses i k .0 q)), up i k);
+  refuses = λ i k. (
+    (λ q. inr (n .0 refl, e (n .0 refl) .refuses i k .0 q)),
+    (λ x. ⊎-elim
+        (λ z. let z : _≡_ {A = Option ℕ} none (some k) = s k .1 (z .1) in let y : _≡_ {A = ℕ} 0 1 = cc in absurd (omega arith))
+        (λ w. e (w .0) .refuses i k .1 (w .1)) x),
+  );
 }
-  where
-    up : (i k : ℕ) → ((i ≡ m) × S k) ⊎ (N × F i k) → r ≡ fault i k
-    up i k (inl p) = let z : _≡_ {A = Option ℕ} none (some k) = s k .1 (p .1) in let y : _≡_ {A = ℕ} 0 1 = cc in absurd (omega arith)
-    up i k (inr p) = e (p .0) .refuses i k .1 (p .1)
-exactly-at {A} {H} {F} S N (some j) m r s n e = record {
-  accepts = λ a. ((λ q. absurd (fault-never q)), λ p. absurd (never (n .1 (p .0))));
-  refuses = λ i k. (down i k, up i k);
-}
-  where
-    never : _≡_ {A = Option ℕ} (some j) none → ⊥
-    never z = let y : _≡_ {A = ℕ} 0 1 = cc in omega arith
-
-    down : (i k : ℕ) → _≡_ {A = Read A} (fault m j) (fault i k) → ((i ≡ m) × S k) ⊎ (N × F i k)
-    down i k q = in-fault {A = A} (λ x y. ((x ≡ m) × S y) ⊎ (N × F x y)) m j (inl (refl, s j .0 refl)) .has i k q
-
-    up : (i k : ℕ) → ((i ≡ m) × S k) ⊎ (N × F i k) → _≡_ {A = Read A} (fault m j) (fault i k)
-    up i k (inl p) = let z : some j ≡ some k = s k .1 (p .1) in let y : j ≡ k = cc in ap₂ (λ (u v : ℕ). fault u v) (sym (p .0)) y
-    up i k (inr p) = absurd (never (n .1 (p .0)))
+exactly-at {A} {H} {F} S N (some j) m r s n e =
+    let never : _≡_ {A = Option ℕ} (some j) none → ⊥ = λ z. let y : _≡_ {A = ℕ} 0 1 = cc in omega arith in
+    record {
+      accepts = λ a. ((λ q. absurd (fault-never q)), λ p. absurd (never (n .1 (p .0))));
+      refuses = λ i k. (
+        (λ x. in-fault {A = A} (λ x y. ((x ≡ m) × S y) ⊎ (N × F x y)) m j (inl (refl, s j .0 refl)) .has i k x),
+        (λ z. ⊎-elim
+            (λ w. let z : some j ≡ some k = s k .1 (w .1) in let y : j ≡ k = cc in ap₂ (λ (u v : ℕ). fault u v) (sym (w .0)) y)
+            (λ u. absurd (never (n .1 (u .0)))) z),
+      );
+    }
 
 module _ (inputs : List (List ℕ)) (ds : List Driver) where
   twice-is : drivenTwice inputs ds ≡ firstBy (known inputs) [] ds
@@ -329,40 +306,27 @@ module _ (inputs : List (List ℕ)) (ds : List Driver) where
   All es = NoLine (Again inputs) ds × (NoLine (Undriven inputs ds) ds × (NoLine (Circling ds) ds × (ds ≡ es)))
 
   abbrev Not : ℕ → ℕ → Type 0
-  Not n k =
-      ((n ≡ 33) × FirstLine (Again inputs) ds k)
-      ⊎ (NoLine (Again inputs) ds × (((n ≡ 33) × FirstLine (Undriven inputs ds) ds k) ⊎ (NoLine (Undriven inputs ds) ds × (((n ≡ 33) × FirstLine (Circling ds) ds k) ⊎ (NoLine (Circling ds) ds × ⊥)))))
-
-  all-exactly : Exactly All Not (judgeNets inputs ds)
-  unfolding judgeNets
-  all-exactly =
-      exactly-at (FirstLine (Again inputs) ds) (NoLine (Again inputs) ds) (drivenTwice inputs ds) 33 _ twice-some twice-not
-      (λ once. exactly-at (FirstLine (Undriven inputs ds) ds) (NoLine (Undriven inputs ds) ds) (undriven inputs ds) 33 _ unfed-some unfed-not
-      (λ fed. exactly-at (FirstLine (Circling ds) ds) (NoLine (Circling ds) ds) (firstLine (onCircle ds) ds) 33 (holds ds) (circle-some once) (circle-not once) (λ straight. exactly-holds ds)))
+  Not n k = ((n ≡ 33) × FirstLine (Again inputs) ds k) ⊎ (NoLine (Again inputs) ds × (((n ≡ 33) × FirstLine (Undriven inputs ds) ds k) ⊎
+      (NoLine (Undriven inputs ds) ds × (((n ≡ 33) × FirstLine (Circling ds) ds k) ⊎ (NoLine (Circling ds) ds × ⊥)))))
 
   pub nets-exactly : Judged inputs ds
-  nets-exactly = exactly-map (judgeNets inputs ds) (λ es. (there es, back es)) (λ n k. (down n k, up n k)) all-exactly
+  nets-exactly =
+      let there : (es : List Driver) → All es
+      → NetsHold inputs ds es = λ es p. record { once = p .0; fed = p .1 .0; straight = p .1 .1 .0; same = p .1 .1 .1 } in
+      let back : (es : List Driver) → NetsHold inputs ds es → All es = λ es h. (h .once, (h .fed, (h .straight, h .same))) in
+      exactly-map (judgeNets inputs ds) (λ es. (there es, back es)) (λ n k. (down n k, up n k)) (unfold judgeNets in exactly-at
+      (FirstLine (Again inputs) ds) (NoLine (Again inputs) ds) (drivenTwice inputs ds) 33 _ twice-some twice-not (λ once.
+      exactly-at (FirstLine (Undriven inputs ds) ds) (NoLine (Undriven inputs ds) ds) (undriven inputs ds) 33 _ unfed-some unfed-not (λ fed.
+      exactly-at (FirstLine (Circling ds) ds) (NoLine (Circling ds) ds) (firstLine (onCircle ds) ds) 33 (holds ds) (circle-some once)
+      (circle-not once) (λ straight. exactly-holds ds))))
     where
-      there : (es : List Driver) → All es → NetsHold inputs ds es
-      there es p = record { once = p .0; fed = p .1 .0; straight = p .1 .1 .0; same = p .1 .1 .1 }
-
-      back : (es : List Driver) → NetsHold inputs ds es → All es
-      back es h = (h .once, (h .fed, (h .straight, h .same)))
-
       as-33 : (n k : ℕ) → n ≡ 33 → NetsFault inputs ds 33 k → NetsFault inputs ds n k
       as-33 n k e f = subst (λ (i : ℕ). NetsFault inputs ds i k) (sym e) f
 
       down : (n k : ℕ) → Not n k → NetsFault inputs ds n k
       down n k (inl p) = as-33 n k (p .0) (twice (p .1))
-      down n k (inr p) = go (p .1)
-        where
-          last : NoLine (Undriven inputs ds) ds → ((n ≡ 33) × FirstLine (Circling ds) ds k) ⊎ (NoLine (Circling ds) ds × ⊥) → NetsFault inputs ds n k
-          last fed (inl q) = as-33 n k (q .0) (circle (p .0) fed (q .1))
-          last fed (inr q) = absurd (q .1)
-
-          go : ((n ≡ 33) × FirstLine (Undriven inputs ds) ds k) ⊎ (NoLine (Undriven inputs ds) ds × (((n ≡ 33) × FirstLine (Circling ds) ds k) ⊎ (NoLine (Circling ds) ds × ⊥))) → NetsFault inputs ds n k
-          go (inl q) = as-33 n k (q .0) (unfed (p .0) (q .1))
-          go (inr q) = last (q .0) (q .1)
+      down n k (inr p) = ⊎-elim (λ q. as-33 n k (q .0) (unfed (p .0) (q .1))) (λ e.
+          ⊎-elim (λ q. as-33 n k (q .0) (circle (p .0) (e .0) (q .1))) (λ r. absurd (r .1)) (e .1)) (p .1)
 
       up : (n k : ℕ) → NetsFault inputs ds n k → Not n k
       up n k (twice f) = inl (refl, f)

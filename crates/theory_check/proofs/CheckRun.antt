@@ -3,7 +3,7 @@
 use Prim.Native.Nat.{ℕ, zero, suc}
 use native.Mathlib.Omega.{arith}
 use mathlib.Core.Path.{_≡_, refl, sym, _∙_, ap}
-use mathlib.Core.Bool.{Bool, true, false, not, cond, _&&_}
+use mathlib.Core.Bool.{Bool, true, false, cond, _&&_}
 use mathlib.Core.Option.{Option, none, some}
 use mathlib.Core.List.{List, [], _∷_, _++_, append-nil, append-assoc}
 use lib.Dec.{T, not-T}
@@ -23,6 +23,7 @@ use Rattle.theory_check.specs.CheckForms.{Due, modelDue, inputsDue, outp
 use Rattle.theory_check.specs.CheckRefusals.{Finished}
 use Rattle.theory_check.proofs.CheckWords.{inputsLine, outputsLine}
 use Rattle.theory_check.proofs.CheckSteps.{isGateLine, isWireLine, wireOf, wireStep, gateStep, stepOf, lineStep}
+use Rattle.theory_graph.proofs.Split.{by-bool}
 
 next-cong : {A B : Type 0} (r : Read A) (f h : A → Read B) → ((a : A) → f a ≡ h a) → next r f ≡ next r h
 unfolding next
@@ -104,10 +105,6 @@ module _ (end : ℕ) (cells : List Cell) (g : Graph) where
   unfolding gateDriver andThen only
   driver-is l t = ap (λ (b : Bool). andThen (only b (fields (l .bytes))) (gateOfFields cells (l .offset))) (is-true (endedByTen l) t)
 
-  driver-open : (l : Line) → T (not (endedByTen l)) → gateDriver cells l ≡ none
-  unfolding gateDriver andThen only
-  driver-open l t = ap (λ (b : Bool). andThen (only b (fields (l .bytes))) (gateOfFields cells (l .offset))) (is-false (endedByTen l) t)
-
   abbrev gateRead : Option Driver → Line → List Line → Read (List Driver)
   gateRead o l ls = next (from? o 32 (l .offset)) (λ d. next (readDrivers cells end (length (g .outputs)) ls) (λ ds. holds (d ∷ ds)))
 
@@ -118,15 +115,13 @@ module _ (end : ℕ) (cells : List Cell) (g : Graph) where
 
   gated-some : (ds : List Driver) (l : Line) (ls : List Line) (d : Driver) → isGateLine (l .bytes) ≡ true → gateDriver cells l ≡ some d → gated ds (l ∷ ls) ≡ gated (ds ++ (d ∷ [])) ls
   unfolding next from?
-  gated-some ds l ls d b e =
-      gated-is ds l ls true b
-      ∙ ap (λ (o : Option Driver). next (gateRead o l ls) (λ es. holds (ds ++ es))) e
-      ∙ next-next (readDrivers cells end (length (g .outputs)) ls) (λ es. d ∷ es) (λ es. ds ++ es)
-      ∙ next-same (readDrivers cells end (length (g .outputs)) ls) (λ es. ds ++ (d ∷ es)) (λ es. (ds ++ (d ∷ [])) ++ es) (λ es. sym (append-assoc ds (d ∷ []) es))
-
-  gated-none : (ds : List Driver) (l : Line) (ls : List Line) → isGateLine (l .bytes) ≡ true → gateDriver cells l ≡ none → gated ds (l ∷ ls) ≡ fault 32 (l .offset)
-  unfolding next from?
-  gated-none ds l ls b e = gated-is ds l ls true b ∙ ap (λ (o : Option Driver). next (gateRead o l ls) (λ es. holds (ds ++ es))) e
+  gated-some ds l ls d b e = cc (
+    gated-is ds l ls true b,
+    next-next (readDrivers cells end (length (g .outputs)) ls) (λ es. d ∷ es)
+        (λ es. ds ++ es),
+    next-same (readDrivers cells end (length (g .outputs)) ls) (λ es. ds ++ (d ∷ es)) (λ es. (ds ++ (d ∷ [])) ++ es)
+        (λ es. sym (append-assoc ds (d ∷ []) es)),
+  )
 
   -- ---- `.names` lines
 
@@ -139,9 +134,8 @@ module _ (end : ℕ) (cells : List Cell) (g : Graph) where
 
   name-not : (k : ℕ) (l : Line) → (T (endedByTen l) → ¬ T (isWireLine k (fields (l .bytes)))) → nameDriver k l ≡ none
   unfolding nameDriver only
-  name-not k l n =
-      ap (λ (x : Bool). only x (wireOf (l .offset) k (fields (l .bytes))))
-      (is-false (endedByTen l && isWireLine k (fields (l .bytes))) (not-T (endedByTen l && isWireLine k (fields (l .bytes))) (λ t. let q = and-yes (endedByTen l) (isWireLine k (fields (l .bytes))) t in n (q .0) (q .1))))
+  name-not k l n = cc (is-false (endedByTen l && isWireLine k (fields (l .bytes))) (not-T (endedByTen l && isWireLine k (fields (l .bytes)))
+      (λ t. let q = and-yes (endedByTen l) (isWireLine k (fields (l .bytes))) t in n (q .0) (q .1))))
 
   wired-some : (k n : ℕ) (ds : List Driver) (l : Line) (ls : List Line) (d : Driver) → nameDriver k l ≡ some d → wired k (suc n) ds (l ∷ ls) ≡ next (pastRow end ls) (wired (suc k) n (ds ++ (d ∷ [])))
   unfolding readNames next from?
@@ -152,14 +146,6 @@ module _ (end : ℕ) (cells : List Cell) (g : Graph) where
       (λ rest. next-next (readNames end (suc k) n rest) (λ es. d ∷ es) (λ es. ds ++ es)
       ∙ next-same (readNames end (suc k) n rest) (λ es. ds ++ (d ∷ es)) (λ es. (ds ++ (d ∷ [])) ++ es) (λ es. sym (append-assoc ds (d ∷ []) es)))
 
-  wired-none : (k n : ℕ) (ds : List Driver) (l : Line) (ls : List Line) → nameDriver k l ≡ none → wired k (suc n) ds (l ∷ ls) ≡ fault 32 (l .offset)
-  unfolding readNames next from?
-  wired-none k n ds l ls e = ap (λ (o : Option Driver). next (nameRead o k n l ls) (λ es. holds (ds ++ es))) e
-
-  end-yes : (k : ℕ) (ds : List Driver) (l : Line) (ls : List Line) → T (endedByTen l) → T (same (l .bytes) (text ".end")) → wired k zero ds (l ∷ ls) ≡ holds ds
-  unfolding readNames next
-  end-yes k ds l ls t u = ap (λ (r : Read (List Driver)). next r (λ es. holds (ds ++ es))) (line-yes (text ".end") l (holds []) t u) ∙ ap holds (append-nil ds)
-
   row-yes : (l : Line) (ls : List Line) (f : List Line → Read (List Driver)) → T (endedByTen l) → T (same (l .bytes) (text "1 1")) → next (pastRow end (l ∷ ls)) f ≡ f ls
   unfolding pastRow next
   row-yes l ls f t u = ap (λ (r : Read (List Line)). next r f) (line-yes (text "1 1") l (holds ls) t u)
@@ -168,7 +154,8 @@ module _ (end : ℕ) (cells : List Cell) (g : Graph) where
   unfolding left wireStep
   wire-on at k zero ds l ls e o t q =
       let p = only-out (same (l .bytes) (text ".end")) (nothingDue ds) e q in
-      end-yes k ds l ls t (p .0) ∙ ap (λ (d : Due). left d ls) (p .1)
+      unfold readNames next in ap (λ (r : Read (List Driver)). next r (λ es. holds (ds ++ es)))
+      (line-yes (text ".end") l (holds []) t (p .0)) ∙ ap holds (append-nil ds) ∙ ap (λ (d : Due). left d ls) (p .1)
   wire-on at k (suc n) ds l ls e o t q =
       let p = only-out (isWireLine k (fields (l .bytes))) (coverDue (suc k) n (ds ++ (wireOf at k (fields (l .bytes)) ∷ []))) e q in
       wired-some k n ds l ls (wireOf at k (fields (l .bytes))) (name-is k l t (p .0) ∙ ap (λ (i : ℕ). some (wireOf i k (fields (l .bytes)))) o) ∙ ap (λ (d : Due). left d ls) (p .1)
@@ -178,7 +165,8 @@ module _ (end : ℕ) (cells : List Cell) (g : Graph) where
   wire-off at k zero ds l ls q =
       unfold readNames next in ap (λ (r : Read (List Driver)). next r (λ es. holds (ds ++ es))) (line-no (text ".end") l (holds []) (λ t. none-fails (same (l .bytes) (text ".end")) (nothingDue ds) (q t)))
   wire-off at k (suc n) ds l ls q =
-      wired-none k n ds l ls (name-not k l (λ t. none-fails (isWireLine k (fields (l .bytes))) (coverDue (suc k) n (ds ++ (wireOf at k (fields (l .bytes)) ∷ []))) (q t)))
+      unfold readNames next from? in ap (λ (o : Option Driver). next (nameRead o k n l ls) (λ es. holds (ds ++ es))) (name-not k l
+      (λ t. none-fails (isWireLine k (fields (l .bytes))) (coverDue (suc k) n (ds ++ (wireOf at k (fields (l .bytes)) ∷ []))) (q t)))
 
   past-all : (ls : List Line) (f : List Line → Read (List Driver)) → next (pastLines end [] ls) f ≡ f ls
   unfolding pastLines next
@@ -198,16 +186,11 @@ module _ (end : ℕ) (cells : List Cell) (g : Graph) where
       let a = took at outputsDue l e q in
       let p = only-out (same (l .bytes) (outputsLine g)) (gateDue []) e (a .1) in
       past-yes (outputsLine g) [] l ls _ (a .0) (p .0) ∙ past-all ls (gated []) ∙ ap (λ (d : Due). left d ls) (p .1)
-  goes-on at (gateDue ds) l ls e o q = let a = took at (gateDue ds) l e q in go (isGateLine (l .bytes)) refl (a .0) (a .1)
-    where
-      go : (b : Bool) → isGateLine (l .bytes) ≡ b → T (endedByTen l) → gateStep b cells at (length (g .outputs)) ds (l .bytes) ≡ some e → gated ds (l ∷ ls) ≡ left e ls
-      go true f t r =
-          unfold gateStep left in
-          let x = then-out (gateOfFields cells at (fields (l .bytes))) (λ d. some (gateDue (ds ++ (d ∷ [])))) e r in
-          let h : some (gateDue (ds ++ (x .0 ∷ []))) ≡ some e = x .2 in
-          let z : gateDue (ds ++ (x .0 ∷ [])) ≡ e = cc in
-          gated-some ds l ls (x .0) f (driver-is l t ∙ ap (λ (i : ℕ). gateOfFields cells i (fields (l .bytes))) o ∙ x .1) ∙ ap (λ (d : Due). left d ls) z
-      go false f t r = unfold gateStep in gated-is ds l ls false f ∙ wire-on at zero (length (g .outputs)) ds l ls e o t r
+  goes-on at (gateDue ds) l ls e o q = let a = took at (gateDue ds) l e q in by-bool (isGateLine (l .bytes)) (λ f. unfold gateStep left in
+      let x = then-out (gateOfFields cells at (fields (l .bytes))) (λ d. some (gateDue (ds ++ (d ∷ [])))) e (rw f at (a .1)) in let h : some
+      (gateDue (ds ++ (x .0 ∷ []))) ≡ some e = x .2 in let z : gateDue (ds ++ (x .0 ∷ [])) ≡ e = cc in gated-some ds l ls (x .0) f
+      (driver-is l (a .0) ∙ ap (λ (i : ℕ). gateOfFields cells i (fields (l .bytes))) o ∙ x .1) ∙ ap (λ (d : Due). left d ls) z)
+      (λ p. unfold gateStep in gated-is ds l ls false p ∙ wire-on at zero (length (g .outputs)) ds l ls e o (a .0) (rw p at (a .1)))
   goes-on at (wireDue k n ds) l ls e o q = let a = took at (wireDue k n ds) l e q in wire-on at k n ds l ls e o (a .0) (a .1)
   goes-on at (coverDue k n ds) l ls e o q =
       let a = took at (coverDue k n ds) l e q in
@@ -220,17 +203,17 @@ module _ (end : ℕ) (cells : List Cell) (g : Graph) where
   stops at modelDue l ls o n q = past-no (text ".model top") _ l ls _ (λ t. none-fails (same (l .bytes) (text ".model top")) inputsDue (refused at modelDue l q t))
   stops at inputsDue l ls o n q = past-no (inputsLine g) _ l ls _ (λ t. none-fails (same (l .bytes) (inputsLine g)) outputsDue (refused at inputsDue l q t))
   stops at outputsDue l ls o n q = past-no (outputsLine g) _ l ls _ (λ t. none-fails (same (l .bytes) (outputsLine g)) (gateDue []) (refused at outputsDue l q t))
-  stops at (gateDue ds) l ls o n q = go (isGateLine (l .bytes)) refl (refused at (gateDue ds) l q)
+  stops at (gateDue ds) l ls o n q = by-bool (isGateLine (l .bytes)) (λ f. (unfold next from? in cc (
+    gated-is ds l ls true f,
+    (on (endedByTen l) (λ t. driver-is l t ∙ ap (λ (i : ℕ). gateOfFields cells i (fields (l .bytes))) o
+        ∙ none-then (gateOfFields cells at (fields (l .bytes))) (unfold gateStep in (rw f at (refused at (gateDue ds) l q)) t))
+        (λ t. (unfold gateDriver andThen only in cc (is-false (endedByTen l) t)))),
+  ))) (λ e. gated-is ds l ls false e
+      ∙ wire-off at zero (length (g .outputs)) ds l ls (λ t. unfold gateStep in (rw e at (refused at (gateDue ds) l q)) t))
     where
       none-then : (x : Option Driver) → andThen x (λ d. some (gateDue (ds ++ (d ∷ [])))) ≡ none → x ≡ none
       none-then none e = refl
       none-then (some d) e = unfold andThen in let z : _≡_ {A = ℕ} 0 1 = cc in absurd (omega arith)
-
-      go : (b : Bool) → isGateLine (l .bytes) ≡ b → (T (endedByTen l) → gateStep b cells at (length (g .outputs)) ds (l .bytes) ≡ none) → gated ds (l ∷ ls) ≡ fault 32 (l .offset)
-      go true f r =
-          gated-none ds l ls f
-          (on (endedByTen l) (λ t. driver-is l t ∙ ap (λ (i : ℕ). gateOfFields cells i (fields (l .bytes))) o ∙ none-then (gateOfFields cells at (fields (l .bytes))) (unfold gateStep in r t)) (λ t. driver-open l t))
-      go false f r = gated-is ds l ls false f ∙ wire-off at zero (length (g .outputs)) ds l ls (λ t. unfold gateStep in r t)
   stops at (wireDue k m ds) l ls o n q = wire-off at k m ds l ls (refused at (wireDue k m ds) l q)
   stops at (coverDue k m ds) l ls o n q =
       unfold pastRow next in ap (λ (r : Read (List Line)). next r (wired k m ds)) (line-no (text "1 1") l (holds ls) (λ t. none-fails (same (l .bytes) (text "1 1")) (wireDue k m ds) (refused at (coverDue k m ds) l q t)))

@@ -18,7 +18,7 @@ use Rattle.model.specs.Check.{Driver, isNet, gateOfFields}
 use Rattle.model.specs.declared.Cell.{Cell}
 use Rattle.theory_graph.proofs.Lists.{is-true, same-eq, same-refl}
 use Rattle.theory_graph.specs.Accepted.{libraryFits}
-use Rattle.theory_text.proofs.Steps.{only-out, then-out}
+use Rattle.theory_text.proofs.Steps.{only-out, then-out, only-yes}
 use Rattle.theory_text.proofs.Plain.{Free, above}
 use Rattle.promises.specs.Forms.{Decimal, joined}
 use Rattle.theory_refusals.proofs.FieldForms.{AllFree, fields-joined, joined-free}
@@ -58,15 +58,11 @@ stepOf cells g at (nothingDue ds) w = none
 abbrev pub lineStep : List Cell → Graph → ℕ → Due → Line → Option Due
 lineStep cells g at d l = andThen (only (closed true l) (l .bytes)) (stepOf cells g at d)
 
-only-yes : {A : Type 0} (b : Bool) (a : A) → T b → only b a ≡ some a
-unfolding only
-only-yes b a t = ap (λ (x : Bool). only x a) (is-true b t)
-
 is-text : (key w : List ℕ) (d e : Due) → only (same w key) d ≡ some e → (key ≡ w) × (d ≡ e)
 is-text key w d e q = let p = only-out (same w key) d e q in (sym (same-eq w key (p .0)), p .1)
 
 -- three fields
-three : (ws : List (List ℕ)) → length ws ≡ 3 → ws ≡ getD ws 0 [] ∷ getD ws 1 [] ∷ getD ws 2 [] ∷ []
+pub three : (ws : List (List ℕ)) → length ws ≡ 3 → ws ≡ getD ws 0 [] ∷ getD ws 1 [] ∷ getD ws 2 [] ∷ []
 three [] e = absurd (omega arith)
 three (a ∷ []) e = absurd (omega arith)
 three (a ∷ b ∷ []) e = absurd (omega arith)
@@ -81,9 +77,8 @@ wire-fields : {k : ℕ} {v w : List ℕ} → NetName v → Decimal w k → field
 wire-fields {k} {v} {w} n d = fields-joined (text ".names") (v ∷ (111 ∷ w) ∷ []) (wire-words 32 (lit< tt) n d)
 
 wire-passes : (k : ℕ) {v w : List ℕ} → NetName v → Decimal w k → T (isWireLine k (text ".names" ∷ v ∷ (111 ∷ w) ∷ []))
-wire-passes k {v} {w} n d =
-    yes-and (same (text ".names") (text ".names")) (isNet v && same (111 ∷ w) (outName k)) (same-refl (text ".names"))
-    (yes-and (isNet v) (same (111 ∷ w) (outName k)) (net-back v n) (subst (λ (x : List ℕ). T (same (111 ∷ w) x)) (out-name d) (same-refl (111 ∷ w))))
+wire-passes k {v} {w} n d = yes-and (same (text ".names") (text ".names")) (isNet v && same (111 ∷ w) (outName k))
+    (same-refl (text ".names")) (yes-and (isNet v) (same (111 ∷ w) (outName k)) (net-back v n) (rw (← out-name d) (same-refl (111 ∷ w))))
 
 module _ (cells : List Cell) (g : Graph) (fits : T (libraryFits cells)) (at : ℕ) where
   abbrev Step : Due → List ℕ → Due → Type 0
@@ -91,9 +86,7 @@ module _ (cells : List Cell) (g : Graph) (fits : T (libraryFits cells)) (at : �
 
   wire-step : (k n : ℕ) (ds : List Driver) (w : List ℕ) (e : Due) → wireStep at k n ds w ≡ some e → Step (wireDue k n ds) w e
   unfolding wireStep
-  wire-step k zero ds w e q =
-      let p = is-text (text ".end") w (nothingDue ds) e q in
-      subst (λ (x : List ℕ). Step (wireDue k zero ds) x e) (p .0) (subst (Step (wireDue k zero ds) (text ".end")) (p .1) end)
+  wire-step k zero ds w e q = let p = is-text (text ".end") w (nothingDue ds) e q in rw (← p .0) (rw (← p .1) end)
   wire-step k (suc n) ds w e q =
       let ws = fields w in
       let p = only-out (isWireLine k ws) (coverDue (suc k) n (ds ++ (wireOf at k ws ∷ []))) e q in
@@ -110,9 +103,7 @@ module _ (cells : List Cell) (g : Graph) (fits : T (libraryFits cells)) (at : �
 
   step-form : (d : Due) (w : List ℕ) (e : Due) → stepOf cells g at d w ≡ some e → Step d w e
   unfolding stepOf gateStep
-  step-form modelDue w e q =
-      let p = is-text (text ".model top") w inputsDue e q in
-      subst (λ (x : List ℕ). Step modelDue x e) (p .0) (subst (Step modelDue (text ".model top")) (p .1) model)
+  step-form modelDue w e q = let p = is-text (text ".model top") w inputsDue e q in rw (← p .0) (rw (← p .1) model)
   step-form inputsDue w e q =
       let p = is-text (inputsLine g) w outputsDue e q in
       let l = inputs-line g in
@@ -124,17 +115,12 @@ module _ (cells : List Cell) (g : Graph) (fits : T (libraryFits cells)) (at : �
   step-form (gateDue ds) w e q = go (isGateLine w) (λ t. t) q
     where
       go : (b : Bool) → (T b → T (isGateLine w)) → gateStep b cells at (length (g .outputs)) ds w ≡ some e → Step (gateDue ds) w e
-      go true f r =
-          unfold gateStep in
-          let o = then-out (gateOfFields cells at (fields w)) (λ d. some (gateDue (ds ++ (d ∷ [])))) e r in
-          let h : some (gateDue (ds ++ (o .0 ∷ []))) ≡ some e = o .2 in
-          let z : gateDue (ds ++ (o .0 ∷ [])) ≡ e = cc in
-          subst (Step (gateDue ds) w) z (gate (gate-form cells fits at w (o .0) (f tt) (o .1)))
+      go true f r = unfold gateStep in let o = then-out (gateOfFields cells at (fields w)) (λ d. some (gateDue (ds ++ (d ∷ [])))) e r in
+          let h : some (gateDue (ds ++ (o .0 ∷ []))) ≡ some e = o .2 in let z : gateDue (ds ++ (o .0 ∷ [])) ≡ e = cc in rw (← z)
+          (gate (gate-form cells fits at w (o .0) (f tt) (o .1)))
       go false f r = unfold gateStep in behind (wire-step zero (length (g .outputs)) ds w e r)
   step-form (wireDue k n ds) w e q = wire-step k n ds w e q
-  step-form (coverDue k n ds) w e q =
-      let p = is-text (text "1 1") w (wireDue k n ds) e q in
-      subst (λ (x : List ℕ). Step (coverDue k n ds) x e) (p .0) (subst (Step (coverDue k n ds) (text "1 1")) (p .1) cover)
+  step-form (coverDue k n ds) w e q = let p = is-text (text "1 1") w (wireDue k n ds) e q in rw (← p .0) (rw (← p .1) cover)
   step-form (nothingDue ds) w e q = let z : _≡_ {A = ℕ} 0 1 = cc in absurd (omega arith)
 
   -- what follows the gate lines is none of them
@@ -147,9 +133,7 @@ module _ (cells : List Cell) (g : Graph) (fits : T (libraryFits cells)) (at : �
   unfolding wireStep
   wire-step-back (wire {k} {n} {ds} {v} {w} h d) =
       let f = wire-fields h d in
-      only-yes (isWireLine k (fields (joined (text ".names" ∷ v ∷ (111 ∷ w) ∷ [])))) _ (subst (λ (x : List (List ℕ)). T (isWireLine k x)) (sym f) (wire-passes k h d))
-      ∙ ap (λ (x : List (List ℕ)). some (coverDue (suc k) n (ds ++ (wireOf at k x ∷ [])))) f
-      ∙ ap (λ (x : List ℕ). some (coverDue (suc k) n (ds ++ (record { offset = at; table = 2; uses = v ∷ []; net = x } ∷ [])))) (sym (out-name d))
+      cc (only-yes (isWireLine k (fields (joined (text ".names" ∷ v ∷ (111 ∷ w) ∷ [])))) _ (rw f (wire-passes k h d)), out-name d)
   wire-step-back (end {k} {ds}) = only-yes (same (text ".end") (text ".end")) (nothingDue ds) (same-refl (text ".end"))
 
   step-back : {d : Due} {w : List ℕ} {e : Due} → Step d w e → stepOf cells g at d w ≡ some e
@@ -160,9 +144,7 @@ module _ (cells : List Cell) (g : Graph) (fits : T (libraryFits cells)) (at : �
   step-back (outputs {ws} l) =
       only-yes (same (joined (text ".outputs" ∷ ws)) (outputsLine g)) (gateDue []) (subst (λ (x : List ℕ). T (same (joined (text ".outputs" ∷ ws)) x)) (outputs-back g l) (same-refl (joined (text ".outputs" ∷ ws))))
   step-back (gate {ds} {w} {d} h) =
-      ap (λ (b : Bool). gateStep b cells at (length (g .outputs)) ds w)
-      (is-true (isGateLine w) (subst (λ (x : List (List ℕ)). T (same (getD x 0 []) (text ".gate"))) (sym (gate-fields cells fits at w d h)) (same-refl (text ".gate"))))
-      ∙ ap (λ (o : Option Driver). andThen o (λ x. some (gateDue (ds ++ (x ∷ []))))) (gate-back cells fits at w d h)
+      cc (is-true (isGateLine w) (rw (gate-fields cells fits at w d h) (same-refl (text ".gate"))), gate-back cells fits at w d h)
   step-back (behind {ds} {w} h) = ap (λ (b : Bool). gateStep b cells at (length (g .outputs)) ds w) (not-gate h) ∙ wire-step-back h
   step-back (wire n d) = wire-step-back (wire n d)
   step-back (cover {k} {n} {ds}) = only-yes (same (text "1 1") (text "1 1")) (wireDue k n ds) (same-refl (text "1 1"))

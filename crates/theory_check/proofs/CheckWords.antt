@@ -3,8 +3,8 @@ use Prim.Native.Nat.{ℕ, zero, suc, _+_, _^_, _≤_, _<_}
 use native.Mathlib.Nat.{le-refl}
 use native.Mathlib.Omega.{arith}
 use mathlib.Core.Path.{_≡_, refl, sym, _∙_, ap, ap₂, subst}
-use mathlib.Core.Logic.{_⊎_, inl, inr}
-use mathlib.Core.Bool.{Bool, true, false, not, cond, _&&_, _||_}
+use mathlib.Core.Logic.{_⊎_, inl, inr, ⊎-elim}
+use mathlib.Core.Bool.{Bool, false, not, cond, _&&_, _||_}
 use mathlib.Core.Option.{Option, none, some}
 use mathlib.Core.List.{List, [], _∷_, _++_, map, append-nil, List·Memᴰ, List·Memᴰ·head, List·Memᴰ·tail}
 use lib.Dec.{T, eqb, leb, ltb, lit<}
@@ -25,6 +25,8 @@ use Rattle.theory_text.proofs.Plain.{Free, above, decimal-free}
 use Rattle.promises.specs.Forms.{Within, Letter, Decimal, joined}
 use Rattle.theory_refusals.proofs.FieldForms.{within-form, within-back, letter-form, letter-back, yes-or, decimal-only, digits-form, AllFree, joins, fields-joined, name-form, name-free}
 use Rattle.theory_check.specs.CheckForms.{NetName, Bound, bound, Pins, output, pin, InputNames, noInput, oneInput, OutputNames, noOutput, oneOutput, GateWords}
+use Rattle.theory_graph.proofs.Split.{by-bool}
+use Rattle.theory_text.proofs.Names.{library-cell}
 
 -- ---- nets
 
@@ -33,21 +35,19 @@ unfolding isNet
 net-form w t =
     let p = and-yes (leb 1 (length w)) (leb (length w) 8 && all (λ (b : ℕ). isLetter b || between 48 57 b) w) t in
     let q = and-yes (leb (length w) 8) (all (λ (b : ℕ). isLetter b || between 48 57 b) w) (p .1) in
-    record { least = leb-yes (p .0); most = leb-yes (q .0); bytes = λ b m. go b (or-yes (isLetter b) (between 48 57 b) (all-of (λ (x : ℕ). isLetter x || between 48 57 x) w (q .1) b m)) }
-  where
-    go : (b : ℕ) → T (isLetter b) ⊎ T (between 48 57 b) → Letter b ⊎ Within 48 57 b
-    go b (inl h) = inl (letter-form b h)
-    go b (inr h) = inr (within-form 48 57 b h)
+    record {
+      least = leb-yes (p .0);
+      most = leb-yes (q .0);
+      bytes = λ b m. (⊎-elim (λ h. inl (letter-form b h)) (λ e. inr (within-form 48 57 b e))
+          (or-yes (isLetter b) (between 48 57 b) (all-of (λ (x : ℕ). isLetter x || between 48 57 x) w (q .1) b m)));
+    }
 
 pub net-back : (w : List ℕ) → NetName w → T (isNet w)
 unfolding isNet
-net-back w n =
-    yes-and (leb 1 (length w)) (leb (length w) 8 && all (λ (b : ℕ). isLetter b || between 48 57 b) w) (yes-leb (n .least))
-    (yes-and (leb (length w) 8) (all (λ (b : ℕ). isLetter b || between 48 57 b) w) (yes-leb (n .most)) (all-in (λ (b : ℕ). isLetter b || between 48 57 b) w (λ b m. go b (n .bytes b m))))
-  where
-    go : (b : ℕ) → Letter b ⊎ Within 48 57 b → T (isLetter b || between 48 57 b)
-    go b (inl h) = yes-or (isLetter b) (between 48 57 b) (inl (letter-back b h))
-    go b (inr h) = yes-or (isLetter b) (between 48 57 b) (inr (within-back 48 57 b h))
+net-back w n = yes-and (leb 1 (length w)) (leb (length w) 8 && all (λ (b : ℕ). isLetter b || between 48 57 b) w) (yes-leb (n .least))
+    (yes-and (leb (length w) 8) (all (λ (b : ℕ). isLetter b || between 48 57 b) w) (yes-leb (n .most))
+    (all-in (λ (b : ℕ). isLetter b || between 48 57 b) w (λ b m. ⊎-elim (λ h. yes-or (isLetter b) (between 48 57 b) (inl (letter-back b h)))
+    (λ q. yes-or (isLetter b) (between 48 57 b) (inr (within-back 48 57 b q))) (n .bytes b m))))
 
 pin-form : (b : ℕ) (w n : List ℕ) → pinNet b w ≡ some n → Bound b w n
 unfolding pinNet
@@ -74,12 +74,7 @@ unfolding boundNets from
 pins-form i zero [] ns e = let z : _≡_ {A = ℕ} 0 1 = cc in absurd (omega arith)
 pins-form i zero (w ∷ []) ns e =
     let a = then-out (pinNet 79 w) (λ n. andThen (boundNets [] []) (λ ms. some (n ∷ ms))) ns e in
-    let b = then-out (boundNets [] []) (λ ms. some (a .0 ∷ ms)) ns (a .2) in
-    let h : some [] ≡ some (b .0) = b .1 in
-    let y : [] ≡ b .0 = cc in
-    let z : some (a .0 ∷ b .0) ≡ some ns = b .2 in
-    let q : a .0 ∷ [] ≡ ns = cc in
-    ([], a .0, sym q, refl, output (pin-form 79 w (a .0) (a .1)))
+    ([], a .0, sym cc, refl, output (pin-form 79 w (a .0) (a .1)))
 pins-form i zero (w ∷ v ∷ ws) ns e =
     let a = then-out (pinNet 79 w) (λ n. andThen (boundNets [] (v ∷ ws)) (λ ms. some (n ∷ ms))) ns e in
     let b = then-out (boundNets [] (v ∷ ws)) (λ ms. some (a .0 ∷ ms)) ns (a .2) in
@@ -118,11 +113,9 @@ last-is (u ∷ us) o = last-is us o
 pub named-form : (cs : List Cell) (w : List ℕ) (c : Cell) → cellNamed cs w ≡ some c → List·Memᴰ c cs × (nameOf c ≡ w)
 unfolding cellNamed
 named-form [] w c e = let z : _≡_ {A = ℕ} 0 1 = cc in absurd (omega arith)
-named-form (d ∷ cs) w c e = go (same (nameOf d) w) (same-eq (nameOf d) w) e (named-form cs w c)
-  where
-    go : (b : Bool) → (T b → nameOf d ≡ w) → cond b (some d) (cellNamed cs w) ≡ some c → (cellNamed cs w ≡ some c → List·Memᴰ c cs × (nameOf c ≡ w)) → List·Memᴰ c (d ∷ cs) × (nameOf c ≡ w)
-    go true f q later = let z : d ≡ c = cc in (List·Memᴰ·head (sym z), ap nameOf (sym z) ∙ f tt)
-    go false f q later = let r = later q in (List·Memᴰ·tail (r .0), r .1)
+named-form (d ∷ cs) w c e = by-bool (same (nameOf d) w)
+    (λ q. let z : d ≡ c = cc in (List·Memᴰ·head (sym z), ap nameOf (sym z) ∙ (rw q at (same-eq (nameOf d) w)) tt))
+    (λ p. let r = (named-form cs w c) (rw p at e) in (List·Memᴰ·tail (r .0), r .1))
 
 others : (c : Cell) (cs : List Cell) → T (libraryFits (c ∷ cs)) → T (cellFits c) × T (all (λ (d : Cell). not (same (nameOf c) (nameOf d))) cs) × T (libraryFits cs)
 unfolding libraryFits
@@ -133,15 +126,10 @@ others c cs t =
 
 pub named-back : (cs : List Cell) → T (libraryFits cs) → (c : Cell) → List·Memᴰ c cs → cellNamed cs (nameOf c) ≡ some c
 unfolding cellNamed
-named-back (d ∷ cs) t c (List·Memᴰ·head e) =
-    ap (λ (b : Bool). cond b (some d) (cellNamed cs (nameOf c))) (is-true (same (nameOf d) (nameOf c)) (subst (λ (x : Cell). T (same (nameOf d) (nameOf x))) (sym e) (same-refl (nameOf d)))) ∙ ap some (sym e)
+named-back (d ∷ cs) t c (List·Memᴰ·head e) = cc (is-true (same (nameOf d) (nameOf c)) (rw e (same-refl (nameOf d))))
 named-back (d ∷ cs) t c (List·Memᴰ·tail m) =
     let o = others d cs t in
     ap (λ (b : Bool). cond b (some d) (cellNamed cs (nameOf c))) (is-false (same (nameOf d) (nameOf c)) (all-of (λ (x : Cell). not (same (nameOf d) (nameOf x))) cs (o .1) c m)) ∙ named-back cs (o .2) c m
-
-pub listed-fits : (cs : List Cell) → T (libraryFits cs) → (c : Cell) → List·Memᴰ c cs → T (cellFits c)
-listed-fits (d ∷ cs) t c (List·Memᴰ·head e) = subst (λ (x : Cell). T (cellFits x)) (sym e) (others d cs t .0)
-listed-fits (d ∷ cs) t c (List·Memᴰ·tail m) = listed-fits cs (others d cs t .2) c m
 
 pub cell-free : (s : ℕ) → s < 48 → (c : Cell) → T (cellFits c) → Free s (nameOf c)
 unfolding cellFits
@@ -151,12 +139,12 @@ cell-free s h c t = name-free s h (name-form (nameOf c) (and-yes (isName (nameOf
 module _ (s : ℕ) (low : s < 33) where
   bytes-above : (w : List ℕ) → ((b : ℕ) → List·Memᴰ b w → Letter b ⊎ Within 48 57 b) → Free s w
   bytes-above [] f = tt
-  bytes-above (b ∷ w) f = (above s b (high (f b (List·Memᴰ·head refl))), bytes-above w (λ x m. f x (List·Memᴰ·tail m)))
-    where
-      high : Letter b ⊎ Within 48 57 b → s < b
-      high (inl (inl h)) = let k : 65 ≤ b = h .0 in omega arith
-      high (inl (inr h)) = let k : 97 ≤ b = h .0 in omega arith
-      high (inr h) = let k : 48 ≤ b = h .0 in omega arith
+  bytes-above (b ∷ w) f = (
+    above s b (⊎-elim
+        (⊎-elim (λ h. let k : 65 ≤ b = h .0 in omega arith) (λ q. let k : 97 ≤ b = q .0 in omega arith))
+        (λ e. let k : 48 ≤ b = e .0 in omega arith) (f b (List·Memᴰ·head refl))),
+    bytes-above w (λ x m. f x (List·Memᴰ·tail m)),
+  )
 
   pub net-free : {w : List ℕ} → NetName w → Free s w
   net-free {w} n = bytes-above w (n .bytes)
@@ -197,8 +185,7 @@ input-net v = ap₂ (λ (b : Bool) (n : ℕ). cond b 109 112 ∷ decimal n) (lit
 
 pub inputs-only : {vs : List ℕ} {ws : List (List ℕ)} → InputNames vs ws → ws ≡ map (λ (v : ℕ). netName (literal false v)) vs
 inputs-only noInput = refl
-inputs-only (oneInput {v} {w} {vs} {ws} d r) =
-    ap₂ (λ (x : List ℕ) (y : List (List ℕ)). x ∷ y) (ap (λ (x : List ℕ). 112 ∷ x) (decimal-only d) ∙ sym (input-net v)) (inputs-only r)
+inputs-only (oneInput {v} {w} {vs} {ws} d r) = cc (decimal-only d, input-net v, inputs-only r)
 
 pub inputs-are : (vs : List ℕ) → InputNames vs (map (λ (v : ℕ). netName (literal false v)) vs)
 inputs-are [] = noInput
@@ -290,7 +277,7 @@ module _ (cells : List Cell) (fits : T (libraryFits cells)) (at : ℕ) where
 
   pub words-free : (s : ℕ) → s < 33 → (w : List ℕ) (d : Driver) (g : GateWords cells at w d) → AllFree s (text ".gate" ∷ nameOf (g .cell) ∷ g .nets)
   unfolding text all
-  words-free s h w d g = (word-free s h (text ".gate") tt, (cell-free s (omega arith) (g .cell) (listed-fits cells fits (g .cell) (g .listed)), pins-free s h (lit< tt) (g .areNets)))
+  words-free s h w d g = (word-free s h (text ".gate") tt, (cell-free s (omega arith) (g .cell) (library-cell cells fits (g .cell) (g .listed)), pins-free s h (lit< tt) (g .areNets)))
 
   pub gate-fields : (w : List ℕ) (d : Driver) (g : GateWords cells at w d) → fields w ≡ text ".gate" ∷ nameOf (g .cell) ∷ g .nets
   gate-fields w d g = ap fields (g .whole) ∙ fields-joined (text ".gate") (nameOf (g .cell) ∷ g .nets) (words-free 32 (lit< tt) w d g)

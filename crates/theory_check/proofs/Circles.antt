@@ -4,7 +4,7 @@ use native.Mathlib.Nat.{le-refl, le-of-suc-le-suc, lt-of-not-le}
 use native.Mathlib.Decide.{decLe}
 use native.Mathlib.Omega.{arith}
 use mathlib.Core.Path.{_≡_, refl, sym, _∙_, ap, subst}
-use mathlib.Core.Logic.{_⊎_, inl, inr}
+use mathlib.Core.Logic.{_⊎_, inl, inr, ⊎-elim}
 use mathlib.Core.Bool.{Bool, true, false, not, cond, true≢false, false≢true}
 use mathlib.Core.List.{List, [], _∷_, List·Memᴰ, List·Memᴰ·head, List·Memᴰ·tail, List·Memᴰ·not-nil, Memᴰ·cast}
 use lib.Dec.{T}
@@ -13,25 +13,20 @@ use Rattle.model.specs.Base.{each, keep}
 use Rattle.model.specs.Check.{Driver, among, added, feeding, onCircle}
 use Rattle.theory_graph.proofs.Lists.{each-in, each-out, keep-in, keep-out}
 use Rattle.theory_check.proofs.Settling.{FeedsNet, directly, through, join-feeds, among-in, among-out}
+use Rattle.theory_graph.proofs.Split.{by-bool}
 
 -- ---- names put to a list
 
 added-keeps : (ns seen : List (List ℕ)) (x : List ℕ) → List·Memᴰ x seen → List·Memᴰ x (added ns seen)
 unfolding added
 added-keeps [] seen x m = m
-added-keeps (n ∷ ns) seen x m = added-keeps ns (cond (among n seen) seen (n ∷ seen)) x (go (among n seen))
-  where
-    go : (b : Bool) → List·Memᴰ x (cond b seen (n ∷ seen))
-    go true = m
-    go false = List·Memᴰ·tail m
+added-keeps (n ∷ ns) seen x m = added-keeps ns (cond (among n seen) seen (n ∷ seen)) x (by-bool (among n seen) (λ e. rw e m)
+    (λ q. rw q (List·Memᴰ·tail m)))
 
 added-has : (ns seen : List (List ℕ)) (x : List ℕ) → List·Memᴰ x ns → List·Memᴰ x (added ns seen)
 unfolding added
-added-has (n ∷ ns) seen x (List·Memᴰ·head e) = added-keeps ns (cond (among n seen) seen (n ∷ seen)) x (go (among n seen) (among-out n seen))
-  where
-    go : (b : Bool) → (T b → List·Memᴰ n seen) → List·Memᴰ x (cond b seen (n ∷ seen))
-    go true h = Memᴰ·cast e (h tt)
-    go false h = List·Memᴰ·head e
+added-has (n ∷ ns) seen x (List·Memᴰ·head e) = added-keeps ns (cond (among n seen) seen (n ∷ seen)) x (by-bool (among n seen)
+    (λ q. rw q (Memᴰ·cast e ((rw q at (among-out n seen)) tt))) (λ p. rw p (List·Memᴰ·head e)))
 added-has (n ∷ ns) seen x (List·Memᴰ·tail m) = added-has ns (cond (among n seen) seen (n ∷ seen)) x m
 
 added-only : (ns seen : List (List ℕ)) (x : List ℕ) → List·Memᴰ x (added ns seen) → List·Memᴰ x ns ⊎ List·Memᴰ x seen
@@ -39,27 +34,21 @@ unfolding added
 added-only [] seen x m = inr m
 added-only (n ∷ ns) seen x m = go (among n seen) (added-only ns (cond (among n seen) seen (n ∷ seen)) x m)
   where
-    cons : List·Memᴰ x (n ∷ seen) → List·Memᴰ x (n ∷ ns) ⊎ List·Memᴰ x seen
-    cons (List·Memᴰ·head e) = inl (List·Memᴰ·head e)
-    cons (List·Memᴰ·tail i) = inr i
-
     go : (b : Bool) → List·Memᴰ x ns ⊎ List·Memᴰ x (cond b seen (n ∷ seen)) → List·Memᴰ x (n ∷ ns) ⊎ List·Memᴰ x seen
     go b (inl i) = inl (List·Memᴰ·tail i)
     go true (inr i) = inr i
-    go false (inr i) = cons i
+    go false (inr i) = elim i [ List·Memᴰ·head e ↦ inl (List·Memᴰ·head e) | List·Memᴰ·tail q ↦ inr q ]
 
 -- ---- how many are kept
 
 keep-fewer : (p q : Driver → Bool) (ds : List Driver) → ((d : Driver) → List·Memᴰ d ds → p d ≡ true → q d ≡ true) → length (keep p ds) ≤ length (keep q ds)
 unfolding keep
 keep-fewer p q [] h = le-refl 0
-keep-fewer p q (d ∷ ds) h = go (p d) refl (q d) refl (keep-fewer p q ds (λ x m. h x (List·Memᴰ·tail m)))
-  where
-    go : (a : Bool) → p d ≡ a → (b : Bool) → q d ≡ b → length (keep p ds) ≤ length (keep q ds) → length (cond a (d ∷ keep p ds) (keep p ds)) ≤ length (cond b (d ∷ keep q ds) (keep q ds))
-    go true e true f r = omega arith
-    go true e false f r = absurd (true≢false (sym (h d (List·Memᴰ·head refl) e) ∙ f))
-    go false e true f r = omega arith
-    go false e false f r = r
+keep-fewer p q (d ∷ ds) h = by-bool (p d) (λ e. rw e (by-bool (q d)
+    (λ f. rw f (omega (arith, keep-fewer p q ds (λ x m. h x (List·Memᴰ·tail m)))))
+    (λ r. rw r (absurd (true≢false (sym (h d (List·Memᴰ·head refl) e) ∙ r)))))) (λ z. rw z (by-bool (q d)
+    (λ w. rw w (omega (arith, keep-fewer p q ds (λ x m. h x (List·Memᴰ·tail m)))))
+    (λ u. rw u (keep-fewer p q ds (λ x m. h x (List·Memᴰ·tail m))))))
 
 keep-same : (p q : Driver → Bool) (ds : List Driver) → ((d : Driver) → List·Memᴰ d ds → p d ≡ true → q d ≡ true) → length (keep q ds) ≤ length (keep p ds)
     → (d : Driver) → List·Memᴰ d ds → q d ≡ true → p d ≡ true
@@ -78,11 +67,7 @@ keep-same p q (x ∷ ds) h le d m e = go (p x) refl (q x) refl le m (keep-same p
 keep-most : (p : Driver → Bool) (es : List Driver) → length (keep p es) ≤ length es
 unfolding keep
 keep-most p [] = le-refl 0
-keep-most p (e ∷ es) = pick (p e) (keep-most p es)
-  where
-    pick : (b : Bool) → length (keep p es) ≤ length es → length (cond b (e ∷ keep p es) (keep p es)) ≤ suc (length es)
-    pick true h = omega arith
-    pick false h = omega arith
+keep-most p (e ∷ es) = by-bool (p e) (λ q. rw q (omega (arith, keep-most p es))) (λ r. rw r (omega (arith, keep-most p es)))
 
 -- ---- the closure
 
@@ -102,9 +87,8 @@ module _ (ds : List Driver) where
 
   step-uses : (seen : List (List ℕ)) (d : Driver) → List·Memᴰ d ds → List·Memᴰ (d .net) seen → (n : List ℕ) → List·Memᴰ n (d .uses) → List·Memᴰ n (step seen)
   unfolding step usesOf
-  step-uses seen d m i n u =
-      added-has (usesOf seen) seen n
-      (each-in (λ (e : Driver). e .uses) (keep-in (λ (e : Driver). among (e .net) seen) m (subst T (sym (among-in (d .net) seen i)) tt)) u)
+  step-uses seen d m i n u = added-has (usesOf seen) seen n
+      (each-in (λ (e : Driver). e .uses) (keep-in (λ (e : Driver). among (e .net) seen) m (rw (among-in (d .net) seen i) tt)) u)
 
   step-keeps : (seen : List (List ℕ)) (x : List ℕ) → List·Memᴰ x seen → List·Memᴰ x (step seen)
   unfolding step
@@ -113,21 +97,15 @@ module _ (ds : List Driver) where
   -- a closed list stays as it is
   step-closed : (seen : List (List ℕ)) → Closed seen → (x : List ℕ) → List·Memᴰ x (step seen) → List·Memᴰ x seen
   unfolding step usesOf Closed
-  step-closed seen c x m = elim (added-only (usesOf seen) seen x m) [
-    | inr i ↦ i
-    | inl i ↦
-        let o = each-out (λ (e : Driver). e .uses) (keep (λ (e : Driver). among (e .net) seen) ds) i in
-        let k = keep-out (λ (e : Driver). among (e .net) seen) ds (o .1) in
-        c (o .0) (k .0) (among-out (o .0 .net) seen (k .1)) x (o .2)
-  ]
+  step-closed seen c x m = ⊎-elim (λ i. let o = each-out (λ (e : Driver). e .uses) (keep (λ (e : Driver). among (e .net) seen) ds) i in
+      let k = keep-out (λ (e : Driver). among (e .net) seen) ds (o .1) in c (o .0) (k .0) (among-out (o .0 .net) seen (k .1)) x (o .2))
+      (λ i. i) (added-only (usesOf seen) seen x m)
 
   closed-stays : (fuel : ℕ) (seen : List (List ℕ)) → Closed seen → Closed (feeding fuel ds seen)
   unfolding feeding step usesOf
   closed-stays zero seen c = c
-  closed-stays (suc fuel) seen c = closed-stays fuel (step seen) again
-    where
-      again : Closed (step seen)
-      again = unfold Closed in (λ d m i n u. step-uses seen d m (step-closed seen c (d .net) i) n u)
+  closed-stays (suc fuel) seen c = closed-stays fuel (step seen)
+      (unfold Closed in (λ d m i n u. step-uses seen d m (step-closed seen c (d .net) i) n u))
 
   feeding-keeps : (fuel : ℕ) (seen : List (List ℕ)) (x : List ℕ) → List·Memᴰ x seen → List·Memᴰ x (feeding fuel ds seen)
   unfolding feeding step usesOf
@@ -140,21 +118,15 @@ module _ (ds : List Driver) where
   -- where no driver is new, the step is closed
   outside-less : (seen : List (List ℕ)) (d : Driver) → outside (step seen) d ≡ true → outside seen d ≡ true
   unfolding outside
-  outside-less seen d e = go (among (d .net) seen) refl
-    where
-      go : (b : Bool) → among (d .net) seen ≡ b → not b ≡ true
-      go true q = absurd (false≢true (ap not (sym (among-in (d .net) (step seen) (step-keeps seen (d .net) (among-out (d .net) seen (subst T (sym q) tt))))) ∙ e))
-      go false q = refl
+  outside-less seen d e = by-bool (among (d .net) seen) (λ q. rw q (absurd (false≢true
+      (ap not (sym (among-in (d .net) (step seen) (step-keeps seen (d .net) (among-out (d .net) seen (subst T (sym q) tt))))) ∙ e))))
+      (λ p. rw p)
 
   stable : (seen : List (List ℕ)) → count seen ≤ count (step seen) → Closed (step seen)
   unfolding count Closed outside
-  stable seen le d m i n u = step-uses seen d m (was (among (d .net) seen) refl) n u
-    where
-      was : (b : Bool) → among (d .net) seen ≡ b → List·Memᴰ (d .net) seen
-      was true q = among-out (d .net) seen (subst T (sym q) tt)
-      was false q =
-          absurd (false≢true (ap not (sym (among-in (d .net) (step seen) i))
-          ∙ keep-same (outside (step seen)) (outside seen) ds (λ x k. outside-less seen x) le d m (ap not q)))
+  stable seen le d m i n u = step-uses seen d m (by-bool (among (d .net) seen) (λ q. among-out (d .net) seen (subst T (sym q) tt)) (λ e.
+      absurd (false≢true (ap not (sym (among-in (d .net) (step seen) i)) ∙ keep-same (outside (step seen)) (outside seen) ds
+      (λ x k. outside-less seen x) le d m (ap not e))))) n u
 
   feeding-closed : (fuel : ℕ) (seen : List (List ℕ)) → count seen ≤ fuel → Closed (feeding (suc fuel) ds seen)
   unfolding feeding step usesOf
@@ -173,10 +145,6 @@ module _ (ds : List Driver) where
   reach seen c x y (directly d m u) i = c d m i x u
   reach seen c x y (through {y = z} d f m u) i = reach seen c x z f (c d m i z u)
 
-  count-most : (seen : List (List ℕ)) → count seen ≤ length ds
-  unfolding count
-  count-most seen = keep-most (outside seen) ds
-
   abbrev all-back : Driver → List (List ℕ)
   all-back d = feeding (suc (length ds)) ds (added (d .uses) [])
 
@@ -187,7 +155,7 @@ module _ (ds : List Driver) where
   circle-found same-net d m f = among-in (d .net) (all-back d) (begin (d .net) (d .net) refl f)
     where
       closed : Closed (all-back d)
-      closed = feeding-closed (length ds) (added (d .uses) []) (count-most (added (d .uses) []))
+      closed = feeding-closed (length ds) (added (d .uses) []) (unfold count in keep-most (outside (added (d .uses) [])) ds)
 
       used : (n : List ℕ) → List·Memᴰ n (d .uses) → List·Memᴰ n (all-back d)
       used n u = feeding-keeps (suc (length ds)) (added (d .uses) []) n (added-has (d .uses) [] n u)
@@ -200,16 +168,10 @@ module _ (ds : List Driver) where
   feeding-feeds : (t : List ℕ) (fuel : ℕ) (seen : List (List ℕ)) → ((x : List ℕ) → List·Memᴰ x seen → FeedsNet ds x t) → (x : List ℕ) → List·Memᴰ x (feeding fuel ds seen) → FeedsNet ds x t
   unfolding feeding step usesOf
   feeding-feeds t zero seen h x m = h x m
-  feeding-feeds t (suc fuel) seen h x m = feeding-feeds t fuel (step seen) (λ y i. new y i) x m
-    where
-      new : (y : List ℕ) → List·Memᴰ y (step seen) → FeedsNet ds y t
-      new y i = elim (added-only (usesOf seen) seen y i) [
-        | inr k ↦ h y k
-        | inl k ↦
-            let o = each-out (λ (e : Driver). e .uses) (keep (λ (e : Driver). among (e .net) seen) ds) k in
-            let q = keep-out (λ (e : Driver). among (e .net) seen) ds (o .1) in
-            join-feeds ds y (o .0 .net) t (directly (o .0) (q .0) (o .2)) (h (o .0 .net) (among-out (o .0 .net) seen (q .1)))
-      ]
+  feeding-feeds t (suc fuel) seen h x m = feeding-feeds t fuel (step seen) (λ y i. ⊎-elim (λ k. let o = each-out (λ (e : Driver). e .uses)
+      (keep (λ (e : Driver). among (e .net) seen) ds) k in let q = keep-out (λ (e : Driver). among (e .net) seen) ds (o .1) in
+      join-feeds ds y (o .0 .net) t (directly (o .0) (q .0) (o .2)) (h (o .0 .net) (among-out (o .0 .net) seen (q .1)))) (h y)
+      (added-only (usesOf seen) seen y i)) x m
 
   pub found-circle : (d : Driver) → List·Memᴰ d ds → onCircle ds d ≡ true → FeedsNet ds (d .net) (d .net)
   unfolding onCircle

@@ -66,11 +66,9 @@ first-wrong k (x ∷ xs) (y ∷ ys) e = go (Bool·beq x y) refl (firstWrong (suc
 
     go : (b : Bool) → Bool·beq x y ≡ b → (o : Option ℕ) → Wrong xs ys (suc k) o → Wrong (x ∷ xs) (y ∷ ys) k (cond b o (some k))
     go true q o (nowhere h) = nowhere (both (λ j. j < suc (length xs) → getD (x ∷ xs) j false ≡ getD (y ∷ ys) j false) (λ _. beq-eq x y q) (λ j i. h j (le-of-suc-le-suc i)))
-    go true q o (at j i n before) =
-        subst (λ (m : ℕ). Wrong (x ∷ xs) (y ∷ ys) k (some m)) (let z : k + suc j ≡ suc k + j = omega arith in z)
-        (at (suc j) (omega arith) n (both (λ i. i < suc j → getD (x ∷ xs) i false ≡ getD (y ∷ ys) i false) (λ _. beq-eq x y q) (λ i h. before i (le-of-suc-le-suc h))))
-    go false q o r =
-        subst (λ (m : ℕ). Wrong (x ∷ xs) (y ∷ ys) k (some m)) (let z : k + 0 ≡ k = omega arith in z)
+    go true q o (at j i n before) = rw (← let z : k + suc j ≡ suc k + j = omega arith in z) (at (suc j) (omega arith) n
+        (both (λ i. i < suc j → getD (x ∷ xs) i false ≡ getD (y ∷ ys) i false) (λ _. beq-eq x y q) (λ i h. before i (le-of-suc-le-suc h))))
+    go false q o r = subst (λ (m : ℕ). Wrong (x ∷ xs) (y ∷ ys) k (some m)) (let z : k + 0 ≡ k = omega arith in z)
         (at 0 (omega arith) (beq-not x y q) (λ i h. absurd (not-suc-le-zero h)))
 
 -- ---- the lowest setting
@@ -96,9 +94,8 @@ lowest-setting wrong (suc n) s = go (wrong s) refl (compareFrom n (suc s) wrong)
 
     go : (o : Option ℕ) → wrong s ≡ o → (c : Checked) → Lowest wrong (suc s) n c → Lowest wrong s (suc n) (elim o [ none ↦ c | some k ↦ Differs s k ])
     go none e c (never h) = never (both (λ r. r < suc n → wrong (s + r) ≡ none) (λ _. ap wrong here ∙ e) (λ r i. ap wrong (past r) ∙ h r (le-of-suc-le-suc i)))
-    go none e c (first r k h q before) =
-        subst (λ (m : ℕ). Lowest wrong s (suc n) (Differs m k)) (past r)
-        (first (suc r) k (omega arith) (ap wrong (past r) ∙ q) (both (λ q. q < suc r → wrong (s + q) ≡ none) (λ _. ap wrong here ∙ e) (λ q i. ap wrong (past q) ∙ before q (le-of-suc-le-suc i))))
+    go none e c (first r k h q before) = rw (← past r) (first (suc r) k (omega arith) (ap wrong (past r) ∙ q)
+        (both (λ q. q < suc r → wrong (s + q) ≡ none) (λ _. ap wrong here ∙ e) (λ q i. ap wrong (past q) ∙ before q (le-of-suc-le-suc i))))
     go (some k) e c l =
         subst (λ (m : ℕ). Lowest wrong s (suc n) (Differs m k)) here (first 0 k (omega arith) (ap wrong here ∙ e) (λ q h. absurd (not-suc-le-zero h)))
 
@@ -123,18 +120,9 @@ module _ (g : Graph) (ds : List Driver) (ok : Sound g ds) where
   unfolding order
   is-order = settled-order ds (ok .noCircle) (length ds) (inputNets g) ds (le-refl (length ds)) (λ d m. m) (ok .used)
 
-  nets-back : (n : List ℕ) → List·Memᴰ n (netsOf order) → List·Memᴰ n (netsOf ds)
-  nets-back n i = let w = map-out (λ (d : Driver). d .net) order i in Memᴰ·cast (w .2) (map-in (λ (d : Driver). d .net) (is-order .hasOnly (w .0) (w .1)))
-
-  nets-on : (n : List ℕ) → List·Memᴰ n (netsOf ds) → List·Memᴰ n (netsOf order)
-  nets-on n i = let w = map-out (λ (d : Driver). d .net) ds i in Memᴰ·cast (w .2) (map-in (λ (d : Driver). d .net) (is-order .has (w .0) (w .1)))
-
   away : (n : List ℕ) → List·Memᴰ n (inputNets g) → ¬ List·Memᴰ n (netsOf order)
-  away n m i = ok .apart n m (nets-back n i)
-
-  same-length : length (inputNets g) ≡ length (g .inputs)
-  unfolding inputNets
-  same-length = length-map _ (g .inputs)
+  away n m i = ok .apart n m (let w = map-out (λ (d : Driver). d .net) order i in Memᴰ·cast (w .2)
+      (map-in (λ (d : Driver). d .net) (is-order .hasOnly (w .0) (w .1))))
 
   starts : ℕ → List (List ℕ × Bool)
   starts s = inputValues s 0 (inputNets g)
@@ -144,7 +132,7 @@ module _ (g : Graph) (ds : List Driver) (ok : Sound g ds) where
 
   set : (s : ℕ) → map (netValue (starts s)) (inputNets g) ≡ map (settingOf s 0 (g .inputs)) (g .inputs)
   unfolding starts
-  set s = inputs-set s (inputNets g) (g .inputs) same-length (ok .inputsOnce) (ok .varsOnce)
+  set s = inputs-set s (inputNets g) (g .inputs) (unfold inputNets in length-map _ (g .inputs)) (ok .inputsOnce) (ok .varsOnce)
 
   the-values : (s : ℕ) → DriverValues g ds s (the s)
   unfolding the
@@ -160,9 +148,9 @@ module _ (g : Graph) (ds : List Driver) (ok : Sound g ds) where
 
   the-only : (s : ℕ) (w : List ℕ → Bool) → DriverValues g ds s w → (n : List ℕ) → List·Memᴰ n (netsOf ds) → w n ≡ the s n
   unfolding the
-  the-only s w h n m =
-      runs-only w (inputNets g) (starts s) order (is-order .ordered) (is-order .once (ok .once)) away
-      (map-agree w (netValue (starts s)) (inputNets g) (h .atInputs ∙ sym (set s))) (λ d i. h .atDrivers d (is-order .hasOnly d i)) n (inr (nets-on n m))
+  the-only s w h n m = runs-only w (inputNets g) (starts s) order (is-order .ordered) (is-order .once (ok .once)) away
+      (map-agree w (netValue (starts s)) (inputNets g) (h .atInputs ∙ sym (set s))) (λ d i. h .atDrivers d (is-order .hasOnly d i)) n (inr
+      (let w = map-out (λ (d : Driver). d .net) ds m in Memᴰ·cast (w .2) (map-in (λ (d : Driver). d .net) (is-order .has (w .0) (w .1)))))
 
   -- ---- an output, by computing
 
@@ -203,12 +191,6 @@ module _ (g : Graph) (ds : List Driver) (ok : Sound g ds) where
   got : ℕ → List Bool
   got s = map (the s) (outputNets g)
 
-  as-long : (s : ℕ) → length (wrong-in s) ≡ length (got s)
-  unfolding wrong-in got outputNets below
-  as-long s =
-      length-map (literalValue (valueOf g (settingOf s 0 (g .inputs)))) (g .outputs)
-      ∙ sym (length-map (the s) (map outName (from 0 (length (g .outputs)))) ∙ length-map outName (from 0 (length (g .outputs))) ∙ length-from (length (g .outputs)) 0)
-
   long : (s : ℕ) → length (wrong-in s) ≡ length (g .outputs)
   unfolding wrong-in
   long s = length-map (literalValue (valueOf g (settingOf s 0 (g .inputs)))) (g .outputs)
@@ -231,7 +213,15 @@ module _ (g : Graph) (ds : List Driver) (ok : Sound g ds) where
     bad : (k : ℕ) → k < length (g .outputs) → ¬ Right g ds s k → ((j : ℕ) → j < k → Right g ds s j) → At s (some k)
 
   at-setting : (s : ℕ) → At s (wrongAt g order s)
-  at-setting s = subst (At s) (sym (wrong-is s)) (go (firstWrong 0 (wrong-in s) (got s)) (first-wrong 0 (wrong-in s) (got s) (as-long s)))
+  at-setting s = rw (wrong-is s) (go (firstWrong 0 (wrong-in s) (got s)) (first-wrong 0 (wrong-in s) (got s)
+      (unfold wrong-in got outputNets below in cc (
+        length-map (literalValue (valueOf g (settingOf s 0 (g .inputs))))
+            (g .outputs),
+        length-map (the s) (map outName (from 0 (length (g .outputs)))),
+        length-map outName
+            (from 0 (length (g .outputs))),
+        length-from (length (g .outputs)) 0,
+      ))))
     where
       agree : (k : ℕ) → k < length (g .outputs) → getD (wrong-in s) k false ≡ getD (got s) k false → Right g ds s k
       agree k h e = right-is s k h (sym (wanted-at s k h) ∙ e ∙ got-at s k h)
@@ -264,10 +254,7 @@ module _ (g : Graph) (ds : List Driver) (ok : Sound g ds) where
     where
       go : (o : Option ℕ) → o ≡ some k → At s o → (k < length (g .outputs)) × (¬ Right g ds s k) × ((j : ℕ) → j < k → Right g ds s j)
       go o q (fine h) = absurd (false≢true (ap isSome q))
-      go o q (bad j h n before) =
-          let z : some j ≡ some k = q in
-          let y : j ≡ k = cc in
-          subst (λ (i : ℕ). (i < length (g .outputs)) × (¬ Right g ds s i) × ((x : ℕ) → x < i → Right g ds s x)) y (h, n, before)
+      go o q (bad j h n before) = let y : j ≡ k = cc in rw (← y) (h, n, before)
 
   AllRight : Type 0
   AllRight = (s : ℕ) → s < settings → (k : ℕ) → k < length (g .outputs) → Right g ds s k
@@ -286,24 +273,20 @@ module _ (g : Graph) (ds : List Driver) (ok : Sound g ds) where
     where
       go : (c : Checked) → Lowest (wrongAt g order) 0 settings c → Answers c
       go c (never h) = yes-all (λ s b. all-fine s (ap (wrongAt g order) (sym (zero-add s)) ∙ h s b))
-      go c (first r k h e before) =
-          subst (λ (s : ℕ). Answers (Differs s k)) (sym (zero-add r))
-          (let b = some-bad r k (ap (wrongAt g order) (sym (zero-add r)) ∙ e) in
-          no-at r k (h, b .0, b .1, b .2, (λ q i. all-fine q (ap (wrongAt g order) (sym (zero-add q)) ∙ before q i))))
+      go c (first r k h e before) = rw (zero-add r) (let b = some-bad r k (ap (wrongAt g order) (sym (zero-add r)) ∙ e) in no-at r k
+          (h, b .0, b .1, b .2, (λ q i. all-fine q (cc (zero-add q, before q i)))))
 
   -- two first differences are one
   one-bad : (s k r j : ℕ) → FirstBad s k → FirstBad r j → (s ≡ r) × (k ≡ j)
   unfolding FirstBad
-  one-bad s k r j a b = (e, le-antisymm (outs s k j a (subst (λ (x : ℕ). ¬ Right g ds x j) (sym e) (b .2))) (outs r j k b (subst (λ (x : ℕ). ¬ Right g ds x k) e (a .2))))
-    where
-      no-later : (s k r j : ℕ) → (k < length (g .outputs)) → (¬ Right g ds s k) → ((x : ℕ) → x < r → (i : ℕ) → i < length (g .outputs) → Right g ds x i) → r ≤ s
-      no-later s k r j h n f = elim (decLe r s) [ yes q ↦ q | no q ↦ absurd (n (f s (lt-of-not-le q) k h)) ]
-
-      e : s ≡ r
-      e = le-antisymm (no-later r j s k (b .1) (b .2) (a .4)) (no-later s k r j (a .1) (a .2) (b .4))
-
-      outs : (s k j : ℕ) → FirstBad s k → ¬ Right g ds s j → k ≤ j
-      outs s k j f n = elim (decLe k j) [ yes q ↦ q | no q ↦ absurd (n (f .3 j (lt-of-not-le q))) ]
+  one-bad s k r j a b =
+      let no-later : (s k r j : ℕ) → (k < length (g .outputs)) → (¬ Right g ds s k) →
+      ((x : ℕ) → x < r → (i : ℕ) → i < length (g .outputs) → Right g ds x i) → r ≤ s = λ s k r j h n f. elim
+      (decLe r s) [ yes q ↦ q | no q ↦ absurd (n (f s (lt-of-not-le q) k h)) ] in
+      let e = le-antisymm (no-later r j s k (b .1) (b .2) (a .4)) (no-later s k r j (a .1) (a .2) (b .4)) in
+      let outs : (s k j : ℕ) → FirstBad s k → ¬ Right g ds s j → k ≤ j = λ s k j f n. elim
+      (decLe k j) [ yes q ↦ q | no q ↦ absurd (n (f .3 j (lt-of-not-le q))) ] in
+      (e, le-antisymm (outs s k j a (subst (λ (x : ℕ). ¬ Right g ds x j) (sym e) (b .2))) (outs r j k b (subst (λ (x : ℕ). ¬ Right g ds x k) e (a .2))))
 
   settingIn : Checked → ℕ
   settingIn Equal = 0
@@ -336,7 +319,5 @@ module _ (g : Graph) (ds : List Driver) (ok : Sound g ds) where
 
       at-answer : (s k : ℕ) (c : Checked) → Answers c → (c ≡ Differs s k) ↔ FirstBad s k
       at-answer s k c (yes-all h) = ((λ e. absurd (true≢false (ap isAccepted e))), (λ f. absurd (f .2 (h s (f .0) k (f .1)))))
-      at-answer s k c (no-at r j f) = (
-        (λ e. subst (λ (x : ℕ). FirstBad x k) (ap settingIn e) (subst (λ (x : ℕ). FirstBad r x) (ap outputIn e) f)),
-        (λ b. let o = one-bad r j s k f b in ap₂ Differs (o .0) (o .1)),
-      )
+      at-answer s k c (no-at r j f) =
+          ((λ e. rw (← ap settingIn e) (rw (← ap outputIn e) f)), (λ b. let o = one-bad r j s k f b in ap₂ Differs (o .0) (o .1)))

@@ -4,7 +4,7 @@ use native.Mathlib.Nat.{not-suc-le-zero, le-of-suc-le-suc, zero-add}
 use native.Mathlib.Omega.{arith}
 use mathlib.Core.Path.{_≡_, refl, sym, _∙_, ap, subst}
 use mathlib.Core.Logic.{_⊎_}
-use mathlib.Core.Bool.{Bool, true, false, not, cond, _&&_, _||_, true≢false}
+use mathlib.Core.Bool.{Bool, true, false, not, cond, _&&_, true≢false}
 use mathlib.Core.Option.{Option, none, some}
 use mathlib.Core.List.{List, [], _∷_, _++_, List·Memᴰ, List·Memᴰ·head, List·Memᴰ·tail, List·Memᴰ·not-nil, List·Memᴰ·append-cases, Memᴰ·cast}
 use lib.Dec.{T, eqb}
@@ -20,6 +20,7 @@ use Rattle.theory_graph.proofs.Lists.{map-in}
 use Rattle.theory_text.proofs.Steps.{fault-never, next-out, from-out, holds-once, only-out}
 use Rattle.theory_check.proofs.Settling.{netsOf, NoCircle, among-in, among-out}
 use Rattle.theory_check.proofs.Circles.{circle-found}
+use Rattle.theory_graph.proofs.Split.{by-bool, by-member}
 
 isSome : Option ℕ → Bool
 isSome none = false
@@ -36,32 +37,22 @@ twice-none known (d ∷ ds) e = go (among (d .net) known) refl e (twice-none (d 
         → (drivenTwice (d .net ∷ known) ds ≡ none → Distinct (netsOf ds) × ((n : List ℕ) → List·Memᴰ n (d .net ∷ known) → ¬ List·Memᴰ n (netsOf ds)))
         → Distinct (netsOf (d ∷ ds)) × ((n : List ℕ) → List·Memᴰ n known → ¬ List·Memᴰ n (netsOf (d ∷ ds)))
     go true q h later = absurd (true≢false (unfold isSome in ap isSome h))
-    go false q h later =
-        let r = later h in
-        ((r .1 (d .net) (List·Memᴰ·head refl), r .0), (λ n m i. other n m i r))
-      where
-        other : (n : List ℕ) → List·Memᴰ n known → List·Memᴰ n (netsOf (d ∷ ds)) → Distinct (netsOf ds) × ((n : List ℕ) → List·Memᴰ n (d .net ∷ known) → ¬ List·Memᴰ n (netsOf ds)) → ⊥
-        other n m (List·Memᴰ·head u) r = true≢false (sym (among-in (d .net) known (Memᴰ·cast (sym u) m)) ∙ q)
-        other n m (List·Memᴰ·tail i) r = r .1 n (List·Memᴰ·tail m) i
+    go false q h later = (
+      (later h .1 (d .net) (List·Memᴰ·head refl), (later h) .0),
+      (λ n m i. by-member i
+          (λ u. true≢false (sym (among-in (d .net) known (Memᴰ·cast (sym u) m)) ∙ q)) (λ e. later h .1 n (List·Memᴰ·tail m) e)),
+    )
 
 none-such : (p : Driver → Bool) (ds : List Driver) → firstLine p ds ≡ none → (d : Driver) → List·Memᴰ d ds → p d ≡ false
 unfolding firstLine
-none-such p (x ∷ ds) e d m = go (p x) refl e m (none-such p ds)
-  where
-    go : (b : Bool) → p x ≡ b → cond b (some (x .offset)) (firstLine p ds) ≡ none → List·Memᴰ d (x ∷ ds) → (firstLine p ds ≡ none → (y : Driver) → List·Memᴰ y ds → p y ≡ false) → p d ≡ false
-    go true q h n later = absurd (true≢false (unfold isSome in ap isSome h))
-    go false q h (List·Memᴰ·head u) later = ap p u ∙ q
-    go false q h (List·Memᴰ·tail n) later = later h d n
+none-such p (x ∷ ds) e d m = by-bool (p x) (λ q. absurd (true≢false (unfold isSome in ap isSome (rw q at e))))
+    (λ r. elim m [ List·Memᴰ·head u ↦ ap p u ∙ r | List·Memᴰ·tail n ↦ none-such p ds (rw r at e) d n ])
 
 any-none : (nets us : List (List ℕ)) → any (λ (n : List ℕ). not (among n nets)) us ≡ false → (n : List ℕ) → List·Memᴰ n us → List·Memᴰ n nets
 unfolding any
-any-none nets (u ∷ us) e n m = go (among u nets) refl e m (any-none nets us)
-  where
-    go : (b : Bool) → among u nets ≡ b → (not b || any (λ (x : List ℕ). not (among x nets)) us) ≡ false → List·Memᴰ n (u ∷ us)
-        → (any (λ (x : List ℕ). not (among x nets)) us ≡ false → (x : List ℕ) → List·Memᴰ x us → List·Memᴰ x nets) → List·Memᴰ n nets
-    go true q h (List·Memᴰ·head s) later = Memᴰ·cast s (among-out u nets (subst T (sym q) tt))
-    go true q h (List·Memᴰ·tail i) later = later h n i
-    go false q h i later = absurd (true≢false h)
+any-none nets (u ∷ us) e n m = by-bool (among u nets) (λ q.
+    elim m [ List·Memᴰ·head s ↦ Memᴰ·cast s (among-out u nets (subst T (sym q) tt)) | List·Memᴰ·tail i ↦ any-none nets us (rw q at e) n i ])
+    (λ p. absurd (true≢false (rw p at e)))
 
 -- no two drivers of one net
 pub one-driver : (ds : List Driver) → Distinct (netsOf ds) → (d e : Driver) → List·Memᴰ d ds → List·Memᴰ e ds → d .net ≡ e .net → d ≡ e
@@ -128,26 +119,17 @@ names-driven end k (suc left) (l ∷ ls) ds e j h = go j h (λ i q. names-driven
     list : a .0 ∷ c .0 ≡ ds
     list = holds-once (c .2)
 
-    mine : outName k ≡ a .0 .net
-    mine = named-net k l (a .0) (from-out (nameDriver k l) 32 (l .offset) (a .0) (a .1))
-
     go : (i : ℕ) → i < suc left → ((i : ℕ) → i < left → List·Memᴰ (outName (suc k + i)) (netsOf (c .0))) → List·Memᴰ (outName (k + i)) (netsOf ds)
-    go zero q later =
-        subst (λ (es : List Driver). List·Memᴰ (outName (k + 0)) (netsOf es)) list
-        (List·Memᴰ·head (ap outName (let z : k + 0 ≡ k = omega arith in z) ∙ mine))
-    go (suc i) q later =
-        subst (λ (es : List Driver). List·Memᴰ (outName (k + suc i)) (netsOf es)) list
+    go zero q later = rw (← list) (List·Memᴰ·head (ap outName (let z : k + 0 ≡ k = omega arith in z)
+        ∙ (named-net k l (a .0) (from-out (nameDriver k l) 32 (l .offset) (a .0) (a .1)))))
+    go (suc i) q later = rw (← list)
         (List·Memᴰ·tail (Memᴰ·cast (ap outName (let z : k + suc i ≡ suc k + i = omega arith in z)) (later i (le-of-suc-le-suc q))))
 
 pub drivers-outputs : (cells : List Cell) (end outs : ℕ) (ls : List Line) (ds : List Driver) → readDrivers cells end outs ls ≡ holds ds → (j : ℕ) → j < outs → List·Memᴰ (outName j) (netsOf ds)
 unfolding readDrivers
 drivers-outputs cells end outs [] ds e j h = Memᴰ·cast (ap outName (sym (zero-add j))) (names-driven end 0 outs [] ds e j h)
-drivers-outputs cells end outs (l ∷ ls) ds e j h = go (isGate l) e (λ es. drivers-outputs cells end outs ls es)
-  where
-    go : (b : Bool) → cond b (next (from? (gateDriver cells l) 32 (l .offset)) (λ d. next (readDrivers cells end outs ls) (λ es. holds (d ∷ es)))) (readNames end 0 outs (l ∷ ls)) ≡ holds ds
-        → ((es : List Driver) → readDrivers cells end outs ls ≡ holds es → (i : ℕ) → i < outs → List·Memᴰ (outName i) (netsOf es)) → List·Memᴰ (outName j) (netsOf ds)
-    go true q later =
-        let a = next-out (from? (gateDriver cells l) 32 (l .offset)) _ ds q in
-        let b = next-out (readDrivers cells end outs ls) (λ es. holds (a .0 ∷ es)) ds (a .2) in
-        subst (λ (es : List Driver). List·Memᴰ (outName j) (netsOf es)) (holds-once (b .2)) (List·Memᴰ·tail (later (b .0) (b .1) j h))
-    go false q later = Memᴰ·cast (ap outName (sym (zero-add j))) (names-driven end 0 outs (l ∷ ls) ds q j h)
+drivers-outputs cells end outs (l ∷ ls) ds e j h = by-bool (isGate l) (λ q. let a = next-out
+    (from? (gateDriver cells l) 32 (l .offset)) _ ds (rw q at e) in let b = next-out (readDrivers cells end outs ls)
+    (λ es. holds (a .0 ∷ es)) ds (a .2) in subst (λ (es : List Driver). List·Memᴰ (outName j) (netsOf es)) (holds-once (b .2))
+    (List·Memᴰ·tail ((drivers-outputs cells end outs ls (b .0)) (b .1) j h)))
+    (λ p. Memᴰ·cast (ap outName (sym (zero-add j))) (names-driven end 0 outs (l ∷ ls) ds (rw p at e) j h))

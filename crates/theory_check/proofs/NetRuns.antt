@@ -1,10 +1,10 @@
 -- The values of the nets along an order: they follow the drivers, and any that do are they. Assumes nothing.
 use Prim.Native.Nat.{ℕ, zero, suc}
-use mathlib.Core.Path.{_≡_, refl, sym, _∙_, ap, ap₂, subst}
-use mathlib.Core.Logic.{_⊎_, inl, inr}
-use mathlib.Core.Bool.{Bool, true, false, cond}
+use mathlib.Core.Path.{_≡_, refl, sym, _∙_, ap, ap₂}
+use mathlib.Core.Logic.{_⊎_, inl, inr, ⊎-elim}
+use mathlib.Core.Bool.{Bool, cond}
 use mathlib.Core.List.{List, [], _∷_, map, List·Memᴰ, List·Memᴰ·head, List·Memᴰ·tail, List·Memᴰ·not-nil, Memᴰ·cast, head-eq-of-cons-eq, tail-eq-of-cons-eq}
-use lib.Dec.{T, eqb, eqb→eq}
+use lib.Dec.{eqb, eqb→eq}
 use mir.Facts.{yes-eqb}
 use lib.ListN.{length}
 use Rattle.model.specs.Base.{bit, same}
@@ -13,6 +13,7 @@ use Rattle.model.specs.Check.{Driver, netValue, runNets, inputValues, settingOf
 use Rattle.model.specs.Demands.{Distinct}
 use Rattle.theory_graph.proofs.Lists.{map-same, same-eq, same-refl, is-true}
 use Rattle.theory_check.proofs.Settling.{netsOf, Ordered}
+use Rattle.theory_graph.proofs.Split.{by-bool}
 
 -- ---- a look-up
 
@@ -22,11 +23,7 @@ value-here n b es = ap (λ (t : Bool). cond t b (netValue es n)) (is-true (same 
 
 value-past : (m n : List ℕ) (b : Bool) (es : List (List ℕ × Bool)) → ¬ (m ≡ n) → netValue ((m, b) ∷ es) n ≡ netValue es n
 unfolding netValue
-value-past m n b es h = go (same m n) (same-eq m n)
-  where
-    go : (t : Bool) → (T t → m ≡ n) → cond t b (netValue es n) ≡ netValue es n
-    go true y = absurd (h (y tt))
-    go false y = refl
+value-past m n b es h = by-bool (same m n) (λ e. rw e (absurd (h ((rw e at (same-eq m n)) tt)))) (λ q. rw q)
 
 -- what is known stays
 pub nets-stay : (ds : List Driver) (known : List (List ℕ × Bool)) (n : List ℕ) → ¬ List·Memᴰ n (netsOf ds) → netValue (runNets ds known) n ≡ netValue known n
@@ -51,21 +48,18 @@ pub runs-follow : (names : List (List ℕ)) (known : List (List ℕ × Bool)) (d
     → (d : Driver) → List·Memᴰ d ds → netValue (runNets ds known) (d .net) ≡ value (d .table) (rowOf (map (netValue (runNets ds known)) (d .uses)))
 unfolding runNets
 runs-follow names known (x ∷ ds) o once apart d (List·Memᴰ·head e) =
-    subst (λ (y : Driver). netValue (runNets ds next) (y .net) ≡ value (y .table) (rowOf (map (netValue (runNets ds next)) (y .uses)))) (sym e)
-    (nets-stay ds next (x .net) (once .0)
-    ∙ value-here (x .net) v known
-    ∙ ap (λ (bs : List Bool). value (x .table) (rowOf bs)) (map-same (netValue known) (netValue (runNets ds next)) (x .uses) before))
-  where
-    v : Bool
-    v = value (x .table) (rowOf (map (netValue known) (x .uses)))
-
-    next : List (List ℕ × Bool)
-    next = (x .net, v) ∷ known
-
-    before : (n : List ℕ) → List·Memᴰ n (x .uses) → netValue known n ≡ netValue (runNets ds next) n
-    before n m =
-        sym (nets-stay ds next n (λ i. apart n (o .0 n m) (List·Memᴰ·tail i))
-        ∙ value-past (x .net) n v known (λ q. apart n (o .0 n m) (List·Memᴰ·head (sym q))))
+    let v = value (x .table) (rowOf (map (netValue known) (x .uses))) in
+    let next : List (List ℕ × Bool) = (x .net, v) ∷ known in
+    rw e (cc (
+      nets-stay ds next (x .net) (once .0),
+      value-here
+          (x .net) v known,
+      map-same (netValue known) (netValue (runNets ds next)) (x .uses) (λ n m. cc (
+        nets-stay ds next n
+            (λ i. apart n (o .0 n m) (List·Memᴰ·tail i)),
+        value-past (x .net) n v known (λ q. apart n (o .0 n m) (List·Memᴰ·head (sym q))),
+      )),
+    ))
 runs-follow names known (x ∷ ds) o once apart d (List·Memᴰ·tail m) =
     runs-follow (x .net ∷ names) ((x .net, value (x .table) (rowOf (map (netValue known) (x .uses)))) ∷ known) ds (o .1) (once .1) (next-apart names x ds once apart) d m
 
@@ -78,7 +72,8 @@ unfolding runNets
 runs-only w names known [] o once apart start follow n (inl m) = start n m
 runs-only w names known [] o once apart start follow n (inr m) = absurd (List·Memᴰ·not-nil m)
 runs-only w names known (x ∷ ds) o once apart start follow n m =
-    runs-only w (x .net ∷ names) next ds (o .1) (once .1) (next-apart names x ds once apart) more (λ d i. follow d (List·Memᴰ·tail i)) n (shift m)
+    runs-only w (x .net ∷ names) next ds (o .1) (once .1) (next-apart names x ds once apart) more (λ d i. follow d (List·Memᴰ·tail i)) n (
+    ⊎-elim (λ i. inl (List·Memᴰ·tail i)) (λ q. elim q [ List·Memᴰ·head e ↦ inl (List·Memᴰ·head e) | List·Memᴰ·tail p ↦ inr p ]) m)
   where
     v : Bool
     v = value (x .table) (rowOf (map (netValue known) (x .uses)))
@@ -88,15 +83,8 @@ runs-only w names known (x ∷ ds) o once apart start follow n m =
 
     more : (k : List ℕ) → List·Memᴰ k (x .net ∷ names) → w k ≡ netValue next k
     more k (List·Memᴰ·head e) =
-        ap w e ∙ follow x (List·Memᴰ·head refl)
-        ∙ ap (λ (bs : List Bool). value (x .table) (rowOf bs)) (map-same w (netValue known) (x .uses) (λ u i. start u (o .0 u i)))
-        ∙ sym (ap (netValue next) e ∙ value-here (x .net) v known)
+        cc (follow x (List·Memᴰ·head refl), map-same w (netValue known) (x .uses) (λ u i. start u (o .0 u i)), value-here (x .net) v known)
     more k (List·Memᴰ·tail i) = start k i ∙ sym (value-past (x .net) k v known (λ q. apart k i (List·Memᴰ·head (sym q))))
-
-    shift : List·Memᴰ n names ⊎ List·Memᴰ n (x .net ∷ netsOf ds) → List·Memᴰ n (x .net ∷ names) ⊎ List·Memᴰ n (netsOf ds)
-    shift (inl i) = inl (List·Memᴰ·tail i)
-    shift (inr (List·Memᴰ·head e)) = inl (List·Memᴰ·head e)
-    shift (inr (List·Memᴰ·tail i)) = inr i
 
 -- ---- the inputs
 
@@ -116,17 +104,11 @@ setting-bits : (s k : ℕ) (us : List ℕ) → Distinct us → map (settingOf s 
 unfolding settingOf bitsFrom
 setting-bits s k [] once = refl
 setting-bits s k (u ∷ us) once = ap₂ (λ (b : Bool) (bs : List Bool). b ∷ bs) (here u u refl)
-    (map-same (settingOf s k (u ∷ us)) (settingOf s (suc k) us) us (λ v i. past v (λ e. once .0 (Memᴰ·cast e i))) ∙ setting-bits s (suc k) us (once .1))
+    (map-same (settingOf s k (u ∷ us)) (settingOf s (suc k) us) us (λ v i. by-bool (eqb u v)
+    (λ e. rw e (absurd (once .0 (Memᴰ·cast ((rw e at (eqb→eq u v)) tt) i)))) (λ q. rw q)) ∙ setting-bits s (suc k) us (once .1))
   where
     here : (a v : ℕ) → a ≡ v → settingOf s k (a ∷ us) v ≡ bit s k
     here a v e = ap (λ (t : Bool). cond t (bit s k) (settingOf s (suc k) us v)) (is-true (eqb a v) (yes-eqb e))
-
-    past : (v : ℕ) → ¬ (u ≡ v) → settingOf s k (u ∷ us) v ≡ settingOf s (suc k) us v
-    past v h = go (eqb u v) (eqb→eq u v)
-      where
-        go : (t : Bool) → (T t → u ≡ v) → cond t (bit s k) (settingOf s (suc k) us v) ≡ settingOf s (suc k) us v
-        go true y = absurd (h (y tt))
-        go false y = refl
 
 -- the inputs' nets have the inputs' settings
 pub inputs-set : (s : ℕ) (ns : List (List ℕ)) (us : List ℕ) → length ns ≡ length us → Distinct ns → Distinct us → map (netValue (inputValues s 0 ns)) ns ≡ map (settingOf s 0 us) us

@@ -2,46 +2,33 @@
 use Prim.Native.Nat.{ℕ, suc, _+_, _<_}
 use native.Mathlib.Nat.{add-zero}
 use native.Mathlib.Omega.{arith}
-use mathlib.Core.Path.{_≡_, refl, sym, _∙_, ap, ap₂, subst}
-use mathlib.Core.Bool.{Bool, true, false, cond, _&&_, _||_}
+use mathlib.Core.Path.{_≡_, refl, _∙_, ap, ap₂}
+use mathlib.Core.Bool.{Bool, true, _&&_}
 use mathlib.Core.Option.{Option, some}
 use mathlib.Core.List.{List, [], _∷_, _++_, map, append-assoc, append-nil, List·Memᴰ, List·Memᴰ·head, List·Memᴰ·tail}
-use lib.Dec.{T, eqb, leb, lit<}
-use lib.ListN.{length, take, getD}
+use lib.Dec.{T, eqb, lit<}
+use lib.ListN.{length, getD}
 use lib.Seq.{take-append-seam, getD-append-add}
-use mir.Facts.{and-yes, yes-eqb}
-use Rattle.model.specs.Base.{all, each, same, andThen, only, from, below}
-use Rattle.model.specs.Text.{Line, text, linesFrom, fields, isLetter, isNameByte, isName}
-use Rattle.model.specs.Reading.{Read, holds, next, unless, from?}
+use mir.Facts.{yes-eqb}
+use Rattle.model.specs.Base.{each, same, andThen, only, from, below}
+use Rattle.model.specs.Text.{Line, text, linesFrom, fields}
+use Rattle.model.specs.Reading.{holds, next, unless, from?}
 use Rattle.model.specs.Cells.{nameOf}
 use Rattle.model.specs.Netlist.{outName}
-use Rattle.model.specs.Blif.{named}
-use Rattle.model.specs.Check.{Driver, isNet, pinNet, boundNets, cellNamed, gateOfFields, gateDriver, isGate, nameDriver, isLine, pastRow, readNames, readDrivers}
+use Rattle.model.specs.Check.{Driver, isNet, pinNet, boundNets, gateOfFields, gateDriver, isGate, nameDriver, isLine, pastRow, readNames, readDrivers}
 use Rattle.model.specs.declared.Cell.{Cell}
 use Rattle.theory_graph.specs.Accepted.{libraryFits}
 use Rattle.theory_graph.proofs.Lists.{is-true, same-refl}
-use Rattle.theory_text.proofs.Plain.{Free, above, free-append, decimal-free, bytes-free}
+use Rattle.theory_text.proofs.Plain.{Free, above, free-append, Clear, Clears, spaced-free, name-clear, out-clear}
 use Rattle.theory_text.proofs.LineLaws.{lineOfBytes, line-first, fields-word, fields-last}
-use Rattle.theory_text.proofs.Names.{named-cell, cell-form, library-cell}
+use Rattle.theory_text.proofs.Names.{cell-form, library-cell}
+use Rattle.theory_check.proofs.CheckWords.{named-back}
 
 -- ---- words and lines
-
--- no space and no line end stands in the word
-abbrev pub Clear : List ℕ → Type 0
-Clear w = (s : ℕ) → s < 48 → Free s w
-
-abbrev pub Clears : List (List ℕ) → Type 0
-Clears [] = Unit {0}
-Clears (w ∷ ws) = Clear w × Clears ws
 
 -- a line: a keyword, and words with one space before each
 abbrev pub worded : List ℕ → List (List ℕ) → List ℕ
 worded key ws = key ++ each (λ (n : List ℕ). 32 ∷ n) ws
-
-spaced-free : (s : ℕ) → s < 48 → eqb 32 s ≡ false → (ws : List (List ℕ)) → Clears ws → Free s (each (λ (n : List ℕ). 32 ∷ n) ws)
-unfolding each
-spaced-free s h e [] c = tt
-spaced-free s h e (w ∷ ws) c = (e, free-append s w (each (λ (n : List ℕ). 32 ∷ n) ws) (c .0 s h) (spaced-free s h e ws (c .1)))
 
 -- its words as `fields` sees them
 pub fields-worded : (key : List ℕ) (ws : List (List ℕ)) → Free 32 key → Clears ws → fields (worded key ws) ≡ key ∷ ws
@@ -54,8 +41,7 @@ fields-worded key (w ∷ ws) f c =
 pub worded-line : (at : ℕ) (key : List ℕ) (ws : List (List ℕ)) (rest : List ℕ) → Free 10 key → Free 13 key → Clears ws
     → linesFrom at [] (worded key ws ++ (10 ∷ rest)) ≡ lineOfBytes at (worded key ws) ∷ linesFrom (at + suc (length (worded key ws))) [] rest
 worded-line at key ws rest f h c =
-    line-first at (worded key ws) rest
-    (free-append 10 key (each (λ (n : List ℕ). 32 ∷ n) ws) f (spaced-free 10 (lit< tt) refl ws c))
+    line-first at (worded key ws) rest (free-append 10 key (each (λ (n : List ℕ). 32 ∷ n) ws) f (spaced-free 10 (lit< tt) refl ws c))
     (free-append 13 key (each (λ (n : List ℕ). 32 ∷ n) ws) h (spaced-free 13 (lit< tt) refl ws c))
 
 -- ---- a gate's line
@@ -90,20 +76,6 @@ pub record Fine (cells : List Cell) (x : Shown) : Type 0 where
   pub nets : AreNets (x .pins)
   pub isNetToo : T (isNet (x .net)) × Clear (x .net)
 
--- the library finds a cell by its name
-named-some : (cs : List Cell) (c : Cell) → List·Memᴰ c cs → named cs (nameOf c) ≡ c → cellNamed cs (nameOf c) ≡ some c
-unfolding cellNamed named
-named-some (d ∷ cs) c n e = go (same (nameOf d) (nameOf c)) refl e n (named-some cs c)
-  where
-    go : (b : Bool) → same (nameOf d) (nameOf c) ≡ b → cond b d (named cs (nameOf c)) ≡ c → List·Memᴰ c (d ∷ cs)
-        → (List·Memᴰ c cs → named cs (nameOf c) ≡ c → cellNamed cs (nameOf c) ≡ some c) → cond b (some d) (cellNamed cs (nameOf c)) ≡ some c
-    go true q f i later = ap some f
-    go false q f (List·Memᴰ·head s) later = absurd (subst T (sym (ap (λ (x : Cell). same (nameOf x) (nameOf c)) (sym s)) ∙ q) (same-refl (nameOf c)))
-    go false q f (List·Memᴰ·tail i) later = later i f
-
-cell-named : (cells : List Cell) → T (libraryFits cells) → (c : Cell) → List·Memᴰ c cells → cellNamed cells (nameOf c) ≡ some c
-cell-named cells fit c m = named-some cells c m (named-cell cells fit c m)
-
 pin-net : (b c : ℕ) → b ≡ c → (n : List ℕ) → T (isNet n) → pinNet c (b ∷ 61 ∷ n) ≡ some n
 unfolding pinNet
 pin-net b c e n t = ap₂ (λ (x y : Bool). only (x && (true && y)) n) (is-true (eqb b c) (yes-eqb e)) (is-true (isNet n) t)
@@ -112,9 +84,7 @@ bound-from : (i b : ℕ) → b ≡ 65 + i → (ns : List (List ℕ)) (o : List �
     → boundNets (map (λ (j : ℕ). 65 + j) (from i (length ns)) ++ (79 ∷ [])) (bindWords b ns ++ ((79 ∷ 61 ∷ o) ∷ [])) ≡ some (ns ++ (o ∷ []))
 unfolding boundNets bindWords from andThen
 bound-from i b e [] o a t = ap (λ (x : Option (List ℕ)). andThen x (λ n. some (n ∷ []))) (pin-net 79 79 refl o t)
-bound-from i b e (n ∷ ns) o a t =
-    ap₂ (λ (x : Option (List ℕ)) (y : Option (List (List ℕ))). andThen x (λ m. andThen y (λ ms. some (m ∷ ms)))) (pin-net b (65 + i) e n (a .0 .0))
-    (bound-from (suc i) (suc b) (omega arith) ns o (a .1) t)
+bound-from i b e (n ∷ ns) o a t = cc (pin-net b (65 + i) e n (a .0 .0), bound-from (suc i) (suc b) (omega arith) ns o (a .1) t)
 
 -- what the line says
 abbrev pub driverAt : ℕ → Shown → Driver
@@ -122,34 +92,15 @@ driverAt at x = record { offset = at; table = x .cell .table; uses = x .pins; ne
 
 fields-driver : (cells : List Cell) → T (libraryFits cells) → (at : ℕ) (x : Shown) → Fine cells x → gateOfFields cells at (text ".gate" ∷ shownWords x) ≡ some (driverAt at x)
 unfolding gateOfFields shownWords text andThen below
-fields-driver cells fit at x f =
-    ap (λ (o : Option Cell). andThen o found) (cell-named cells fit (x .cell) (f .listed))
-    ∙ ap (λ (k : ℕ). andThen (boundNets (map (λ (j : ℕ). 65 + j) (from 0 k) ++ (79 ∷ [])) (bindWords 65 (x .pins) ++ ((79 ∷ 61 ∷ x .net) ∷ []))) (made k)) (sym (f .count))
-    ∙ ap (λ (o : Option (List (List ℕ))). andThen o (made (length (x .pins)))) (bound-from 0 65 refl (x .pins) (x .net) (f .nets) (f .isNetToo .0))
-    ∙ ap₂ (λ (us : List (List ℕ)) (n : List ℕ). some (record { offset = at; table = x .cell .table; uses = us; net = n })) (take-append-seam (x .pins) (x .net ∷ [])) last
-  where
-    found : Cell → Option Driver
-    found c = andThen (boundNets (map (λ (j : ℕ). 65 + j) (from 0 (c .pins)) ++ (79 ∷ [])) (bindWords 65 (x .pins) ++ ((79 ∷ 61 ∷ x .net) ∷ [])))
-        (λ nets. some (record { offset = at; table = c .table; uses = take (c .pins) nets; net = getD nets (c .pins) [] }))
-
-    made : ℕ → List (List ℕ) → Option Driver
-    made k nets = some (record { offset = at; table = x .cell .table; uses = take k nets; net = getD nets k [] })
-
-    last : getD (x .pins ++ (x .net ∷ [])) (length (x .pins)) [] ≡ x .net
-    last = ap (λ (k : ℕ). getD (x .pins ++ (x .net ∷ [])) k []) (sym (add-zero (length (x .pins)))) ∙ getD-append-add (x .pins) (x .net ∷ []) 0 []
-
--- no space and no line end stands in a cell's name
-name-clear : (w : List ℕ) → T (isName w) → Clear w
-unfolding isName isNameByte all
-name-clear [] t s h = absurd t
-name-clear (b ∷ bs) t s h =
-    let p = and-yes (isLetter b) (all isNameByte bs && leb (length bs) 7) t in
-    let q = and-yes (all isNameByte bs) (leb (length bs) 7) (p .1) in
-    bytes-free s (b ∷ bs) h (ap-or (isLetter b) _ _ (p .0) (q .0))
-  where
-    ap-or : (x y z : Bool) → T x → T z → T ((x || y) && z)
-    ap-or true y z t u = u
-    ap-or false y z t u = absurd t
+fields-driver cells fit at x f = cc (
+  named-back cells fit (x .cell) (f .listed),
+  f .count,
+  bound-from 0 65 refl (x .pins) (x .net) (f .nets)
+      (f .isNetToo .0),
+  take-append-seam (x .pins) (x .net ∷ []),
+  add-zero (length (x .pins)),
+  getD-append-add (x .pins) (x .net ∷ []) 0 [],
+)
 
 clear-words : (x : Shown) (cells : List Cell) → T (libraryFits cells) → Fine cells x → Clears (shownWords x)
 unfolding shownWords bindWords
@@ -178,9 +129,7 @@ shown-driver at x cells fit f =
 gate-first : (cells : List Cell) (end outs : ℕ) (l : Line) (ls : List Line) (d : Driver) (ds : List Driver)
     → isGate l ≡ true → gateDriver cells l ≡ some d → readDrivers cells end outs ls ≡ holds ds → readDrivers cells end outs (l ∷ ls) ≡ holds (d ∷ ds)
 unfolding readDrivers from? next
-gate-first cells end outs l ls d ds g e q =
-    ap (λ (b : Bool). cond b (next (from? (gateDriver cells l) 32 (l .offset)) (λ x. next (readDrivers cells end outs ls) (λ xs. holds (x ∷ xs)))) (readNames end 0 outs (l ∷ ls))) g
-    ∙ ap₂ (λ (o : Option Driver) (r : Read (List Driver)). next (from? o 32 (l .offset)) (λ x. next r (λ xs. holds (x ∷ xs)))) e q
+gate-first cells end outs l ls d ds g e q = cc
 
 -- ---- all gates' lines
 
@@ -200,20 +149,15 @@ pub gates-read : (cells : List Cell) → T (libraryFits cells) → (end outs : �
 unfolding each gatesAt behindGates
 gates-read cells fit end outs [] fine at rest ds e = e
 gates-read cells fit end outs (x ∷ xs) fine at rest ds e =
+    let f = fine x (List·Memᴰ·head refl) in
     ap (λ (t : List ℕ). readDrivers cells end outs (linesFrom at [] t))
     (append-assoc (shownLine x ++ (10 ∷ [])) (each (λ (y : Shown). shownLine y ++ (10 ∷ [])) xs) rest ∙ append-assoc (shownLine x) (10 ∷ []) (each (λ (y : Shown). shownLine y ++ (10 ∷ [])) xs ++ rest))
     ∙ ap (readDrivers cells end outs) (worded-line at (text ".gate") (shownWords x) (each (λ (y : Shown). shownLine y ++ (10 ∷ [])) xs ++ rest)
     (unfold text in (refl, (refl, (refl, (refl, (refl, tt)))))) (unfold text in (refl, (refl, (refl, (refl, (refl, tt)))))) (clear-words x cells fit f))
-    ∙ read-gate (linesFrom (at + suc (length (shownLine x))) [] (each (λ (y : Shown). shownLine y ++ (10 ∷ [])) xs ++ rest))
-    (gates-read cells fit end outs xs (λ y m. fine y (List·Memᴰ·tail m)) (at + suc (length (shownLine x))) rest ds e)
-  where
-    f : Fine cells x
-    f = fine x (List·Memᴰ·head refl)
-
-    read-gate : (ls : List Line) → readDrivers cells end outs ls ≡ holds (gatesAt (at + suc (length (shownLine x))) xs ++ ds)
-        → readDrivers cells end outs (lineOfBytes at (shownLine x) ∷ ls) ≡ holds (driverAt at x ∷ gatesAt (at + suc (length (shownLine x))) xs ++ ds)
-    read-gate ls q = gate-first cells end outs (lineOfBytes at (shownLine x)) ls (driverAt at x) (gatesAt (at + suc (length (shownLine x))) xs ++ ds)
-        (shown-gate at x cells fit f) (shown-driver at x cells fit f) q
+    ∙ (gate-first cells end outs (lineOfBytes at (shownLine x))
+    (linesFrom (at + suc (length (shownLine x))) [] (each (λ (y : Shown). shownLine y ++ (10 ∷ [])) xs ++ rest)) (driverAt at x)
+    (gatesAt (at + suc (length (shownLine x))) xs ++ ds) (shown-gate at x cells fit f) (shown-driver at x cells fit f)
+    (gates-read cells fit end outs xs (λ y m. fine y (List·Memᴰ·tail m)) (at + suc (length (shownLine x))) rest ds e))
 
 -- ---- the outputs' lines
 
@@ -235,10 +179,6 @@ unfolding text each outName
 namesAt at k [] = []
 namesAt at k (n ∷ ns) = wireDriver at k n ∷ namesAt (behindWire at k n) (suc k) ns
 
-pub out-clear : (k : ℕ) → Clear (outName k)
-unfolding outName
-out-clear k s h = (above s 111 (omega arith), decimal-free s k h)
-
 pub names-fields : (n : List ℕ) (k : ℕ) → Clear n → fields (worded (text ".names") (n ∷ outName k ∷ [])) ≡ text ".names" ∷ n ∷ outName k ∷ []
 unfolding text
 names-fields n k c = fields-worded (text ".names") (n ∷ outName k ∷ []) (refl, (refl, (refl, (refl, (refl, (refl, tt)))))) (c, (out-clear k, tt))
@@ -246,21 +186,18 @@ names-fields n k c = fields-worded (text ".names") (n ∷ outName k ∷ []) (ref
 name-driver : (at k : ℕ) (n : List ℕ) → T (isNet n) × Clear n → nameDriver k (lineOfBytes at (worded (text ".names") (n ∷ outName k ∷ []))) ≡ some (wireDriver at k n)
 unfolding nameDriver
 name-driver at k n h =
+    let made : List (List ℕ) → Option Driver = λ ws. only
+    (true && (eqb (length ws) 3 && (same (getD ws 0 []) (text ".names") && (isNet (getD ws 1 []) && same (getD ws 2 []) (outName k)))))
+    (record { offset = at; table = 2; uses = getD ws 1 [] ∷ []; net = outName k }) in
     ap made (names-fields n k (h .1))
     ∙ ap₂ (λ (a b : Bool). only (true && (true && (same (text ".names") (text ".names") && (a && b)))) (wireDriver at k n)) (is-true (isNet n) (h .0)) (is-true (same (outName k) (outName k)) (same-refl (outName k)))
     ∙ (unfold text same only in refl)
-  where
-    made : List (List ℕ) → Option Driver
-    made ws = only (true && (eqb (length ws) 3 && (same (getD ws 0 []) (text ".names") && (isNet (getD ws 1 []) && same (getD ws 2 []) (outName k)))))
-        (record { offset = at; table = 2; uses = getD ws 1 [] ∷ []; net = outName k })
 
 -- an output's two lines, and what is read behind them
 name-first : (end k left : ℕ) (l r : Line) (ls : List Line) (d : Driver) (ds : List Driver)
     → nameDriver k l ≡ some d → isLine (text "1 1") r ≡ true → readNames end (suc k) left ls ≡ holds ds → readNames end k (suc left) (l ∷ r ∷ ls) ≡ holds (d ∷ ds)
 unfolding readNames pastRow from? next unless
-name-first end k left l r ls d ds e t q =
-    ap₂ (λ (o : Option Driver) (b : Bool). next (from? o 32 (l .offset)) (λ x. next (unless b 32 (r .offset) (holds ls)) (λ rest. next (readNames end (suc k) left rest) (λ xs. holds (x ∷ xs))))) e t
-    ∙ ap (λ (z : Read (List Driver)). next z (λ xs. holds (d ∷ xs))) q
+name-first end k left l r ls d ds e t q = cc
 
 pub names-read : (end k : ℕ) (ns : List (List ℕ)) → AreNets ns → (at : ℕ) (rest : List ℕ)
     → readNames end k (length ns) (linesFrom at [] (namesText k ns ++ (text ".end" ++ (10 ∷ rest)))) ≡ holds (namesAt at k ns)
@@ -268,16 +205,11 @@ unfolding namesText namesAt text
 names-read end k [] a at rest =
     ap (readNames end k 0) (line-first at (text ".end") rest (refl, (refl, (refl, (refl, tt)))) (refl, (refl, (refl, (refl, tt))))) ∙ (unfold readNames isLine same unless in refl)
 names-read end k (n ∷ ns) a at rest =
-    ap (λ (t : List ℕ). readNames end k (suc (length ns)) (linesFrom at [] t)) apart
+    let behind : List ℕ = namesText (suc k) ns ++ (text ".end" ++ (10 ∷ rest)) in
+    ap (λ (t : List ℕ). readNames end k (suc (length ns)) (linesFrom at [] t)) (append-assoc (worded (text ".names") (n ∷ outName k ∷ []))
+    (10 ∷ text "1 1" ++ (10 ∷ namesText (suc k) ns)) (text ".end" ++ (10 ∷ rest)))
     ∙ ap (readNames end k (suc (length ns)))
     (worded-line at (text ".names") (n ∷ outName k ∷ []) (text "1 1" ++ (10 ∷ behind)) (refl, (refl, (refl, (refl, (refl, (refl, tt)))))) (refl, (refl, (refl, (refl, (refl, (refl, tt)))))) (a .0 .1, (out-clear k, tt))
     ∙ ap (λ (ls : List Line). lineOfBytes at (worded (text ".names") (n ∷ outName k ∷ [])) ∷ ls) (line-first _ (text "1 1") behind (refl, (refl, (refl, tt))) (refl, (refl, (refl, tt)))))
     ∙ name-first end k (length ns) _ _ (linesFrom (behindWire at k n) [] behind) (wireDriver at k n) (namesAt (behindWire at k n) (suc k) ns) (name-driver at k n (a .0)) (unfold isLine same in refl)
     (names-read end (suc k) ns (a .1) (behindWire at k n) rest)
-  where
-    behind : List ℕ
-    behind = namesText (suc k) ns ++ (text ".end" ++ (10 ∷ rest))
-
-    apart : (worded (text ".names") (n ∷ outName k ∷ []) ++ (10 ∷ text "1 1" ++ (10 ∷ namesText (suc k) ns))) ++ (text ".end" ++ (10 ∷ rest))
-        ≡ worded (text ".names") (n ∷ outName k ∷ []) ++ (10 ∷ text "1 1" ++ (10 ∷ behind))
-    apart = append-assoc (worded (text ".names") (n ∷ outName k ∷ [])) (10 ∷ text "1 1" ++ (10 ∷ namesText (suc k) ns)) (text ".end" ++ (10 ∷ rest))

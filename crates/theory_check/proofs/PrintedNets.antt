@@ -4,13 +4,13 @@ use Prim.Native.Nat.{ℕ, zero, suc, _+_, _*_, _/_, _%_, _^_, _≤_, _<_}
 use native.Mathlib.Nat.{pow-suc}
 use native.Mathlib.Omega.{arith}
 use mathlib.Core.Path.{_≡_, refl, sym, _∙_, ap, ap₂, subst}
-use mathlib.Core.Logic.{_⊎_, inl, inr}
+use mathlib.Core.Logic.{_⊎_, inl, inr, ⊎-elim}
 use mathlib.Core.Bool.{Bool, true, false, not, cond, _&&_, _||_}
 use mathlib.Core.Option.{Option, none, some}
 use mathlib.Core.List.{List, [], _∷_, _++_, map, List·Memᴰ, List·Memᴰ·head, List·Memᴰ·tail, List·Memᴰ·not-nil, List·Memᴰ·append-cases, Memᴰ·append-left, Memᴰ·append-right, Memᴰ·cast}
 use lib.Dec.{T, ltb, ltb→lt, leb, nltb→le, le→leb}
 use lib.ListN.{length}
-use Rattle.model.specs.Base.{bit, one, all, any, each, from, below}
+use Rattle.model.specs.Base.{bit, one, all, any, from, below}
 use Rattle.model.specs.Text.{digits, decimal, between, isLetter}
 use Rattle.model.specs.Reading.{holds}
 use Rattle.model.specs.Table.{value, rowOf}
@@ -18,7 +18,7 @@ use Rattle.model.specs.Graph.{Graph, varOf, negated}
 use Rattle.model.specs.Choice.{absent, chosen}
 use Rattle.model.specs.Cover.{output, fed}
 use Rattle.model.specs.Netlist.{Net, ofPhase, ofPair, Gate, netName, label, outName}
-use Rattle.model.specs.Blif.{GateLine, Wire, named, drives, fedBy, NetValues}
+use Rattle.model.specs.Blif.{Wire, drives, fedBy, NetValues}
 use Rattle.model.specs.Check.{Driver, isNet, among, drivenTwice, undriven, firstLine, onCircle, unlessAt, judgeNets, inputNets, settingOf}
 use Rattle.model.specs.CheckDemands.{DriverValues}
 use Rattle.model.specs.Demands.{Distinct, drivenNets}
@@ -26,8 +26,8 @@ use Rattle.model.specs.declared.Cell.{Cell}
 use Rattle.theory_graph.specs.Accepted.{Accepted}
 use Rattle.theory_graph.proofs.Lists.{map-in, map-out, each-in, map-map, map-same}
 use Rattle.theory_graph.proofs.Distinct.{length-map}
-use Rattle.theory_text.proofs.Plain.{label-free}
-use Rattle.theory_text.proofs.ReadBack.{lineOf, inputNames, wiresFrom, blifOf}
+use Rattle.theory_text.proofs.Plain.{label-free, Clear}
+use Rattle.theory_text.proofs.ReadBack.{lineOf, wiresFrom, blifOf}
 use Rattle.theory_text.proofs.Names.{label-once}
 use Rattle.theory.proofs.Numbered.{Fitting}
 use Rattle.theory.proofs.Settled.{inside-apart, OfPhase}
@@ -36,7 +36,9 @@ use Rattle.theory.proofs.Wires.{out-label, wire-targets}
 use Rattle.theory.proofs.Formed.{keyOf, few-key, few-at, needed-driven, well-formed}
 use Rattle.theory_check.proofs.Settling.{netsOf, FeedsNet, directly, through, NoCircle, join-feeds, among-in, among-out}
 use Rattle.theory_check.proofs.Circles.{found-circle}
-use Rattle.theory_check.proofs.PrintedLines.{Clear, AreNets, Shown, Fine, driverAt, gatesAt, wireDriver, namesAt}
+use Rattle.theory_check.proofs.PrintedLines.{AreNets, Shown, Fine, driverAt, gatesAt, wireDriver, namesAt}
+use Rattle.theory_graph.proofs.Split.{by-bool, by-member}
+use mir.Facts.{yes-and}
 
 -- ---- a net's name is in its form
 
@@ -45,26 +47,16 @@ isNetByte b = isLetter b || between 48 57 b
 
 digit-byte : (n : ℕ) → n < 10 → T (isNetByte (48 + n))
 unfolding isNetByte isLetter between
-digit-byte n h = or-right (isLetter (48 + n)) (leb 48 (48 + n)) (leb (48 + n) 57) (le→leb 48 (48 + n) (omega arith)) (le→leb (48 + n) 57 (omega arith))
-  where
-    or-right : (a b c : Bool) → T b → T c → T (a || (b && c))
-    or-right true b c t u = tt
-    or-right false true c t u = u
-    or-right false false c t u = absurd t
-
-and-both : (a b : Bool) → T a → T b → T (a && b)
-and-both true b t u = u
-and-both false b t u = absurd t
+digit-byte n h = by-bool (isLetter (48 + n)) (λ e. rw e tt) (λ q. rw q (by-bool (leb 48 (48 + n))
+    (λ p. rw p (le→leb (48 + n) 57 (omega arith))) (λ r. rw r (absurd (rw r at (le→leb 48 (48 + n) (omega arith)))))))
 
 digits-bytes : (fuel n : ℕ) (after : List ℕ) → T (all isNetByte after) → T (all isNetByte (digits fuel n after))
 unfolding digits all
 digits-bytes zero n after t = t
 digits-bytes (suc fuel) n after t =
-    go (ltb n 10) (ltb→lt n 10) (digits-bytes fuel (n / 10) ((48 + n % 10) ∷ after) (and-both (isNetByte (48 + n % 10)) (all isNetByte after) (digit-byte (n % 10) (omega arith)) t))
-  where
-    go : (b : Bool) → (T b → n < 10) → T (all isNetByte (digits fuel (n / 10) ((48 + n % 10) ∷ after))) → T (all isNetByte (cond b ((48 + n) ∷ after) (digits fuel (n / 10) ((48 + n % 10) ∷ after))))
-    go true y more = and-both (isNetByte (48 + n)) (all isNetByte after) (digit-byte n (y tt)) t
-    go false y more = more
+    by-bool (ltb n 10) (λ e. rw e (yes-and (isNetByte (48 + n)) (all isNetByte after) (digit-byte n ((rw e at (ltb→lt n 10)) tt)) t)) (λ q.
+    rw q (digits-bytes fuel (n / 10) ((48 + n % 10) ∷ after)
+    (yes-and (isNetByte (48 + n % 10)) (all isNetByte after) (digit-byte (n % 10) (omega arith)) t)))
 
 digits-short : (k fuel n : ℕ) (after : List ℕ) → n < 10 ^ suc k → length (digits fuel n after) ≤ suc k + length after
 unfolding digits
@@ -75,37 +67,36 @@ digits-short zero (suc fuel) n after h = go (ltb n 10) (nltb→le n 10)
     go true y = omega arith
     go false y = absurd (let z : 10 ≤ n = y tt in let q : n < 10 = h in omega arith)
 digits-short (suc k) (suc fuel) n after h =
-    go (ltb n 10) (digits-short k fuel (n / 10) ((48 + n % 10) ∷ after) (let q : n < 10 ^ suc k * 10 = subst (λ (m : ℕ). n < m) (pow-suc 10 (suc k)) h in omega arith))
-  where
-    go : (b : Bool) → length (digits fuel (n / 10) ((48 + n % 10) ∷ after)) ≤ suc k + suc (length after)
-        → length (cond b ((48 + n) ∷ after) (digits fuel (n / 10) ((48 + n % 10) ∷ after))) ≤ suc (suc k) + length after
-    go true more = omega arith
-    go false more = omega arith
+    by-bool (ltb n 10) (λ e. rw e (omega (
+      arith,
+      digits-short k fuel (n / 10) ((48 + n % 10) ∷ after)
+          (let q : n < 10 ^ suc k * 10 = rw (← pow-suc 10 (suc k)) h in omega arith),
+    ))) (λ p. rw p (omega (
+      arith,
+      digits-short k fuel (n / 10)
+          ((48 + n % 10) ∷ after) (let q : n < 10 ^ suc k * 10 = rw (← pow-suc 10 (suc k)) h in omega arith),
+    )))
 
 -- a net of a variable up to 4,095 has a letter and at most four digits
 net-bytes : (l : ℕ) → l < 8192 → (length (netName l) ≤ 5) × T (all isNetByte (netName l))
 unfolding netName decimal isNetByte isLetter between all varOf
-net-bytes l h =
-    let z : length (decimal (l / 2)) ≤ 4 + 0 = digits-short 3 (suc (l / 2)) (l / 2) [] (let q : l / 2 < 10000 = omega arith in q) in (
-      omega arith,
-      and-both (isNetByte (cond (negated l) 109 112)) (all isNetByte (decimal (l / 2))) (letter (negated l)) (digits-bytes (suc (l / 2)) (l / 2) [] tt),
-    )
-  where
-    letter : (b : Bool) → T (isNetByte (cond b 109 112))
-    letter true = tt
-    letter false = tt
+net-bytes l h = (
+  omega (arith, digits-short 3 (suc (l / 2)) (l / 2) [] (let q : l / 2 < 10000 = omega arith in q)),
+  yes-and
+      (isNetByte (cond (negated l) 109 112)) (all isNetByte (decimal (l / 2))) (by-bool (negated l) (λ e. rw e tt) (λ q. rw q tt))
+      (digits-bytes (suc (l / 2)) (l / 2) [] tt),
+)
 
 -- so that it is a net's name, and with the `s` of a net inside a pair too
 form-of : (w : List ℕ) → 1 ≤ length w → length w ≤ 8 → T (all isNetByte w) → T (isNet w)
 unfolding isNet isNetByte
-form-of w a b t = and-both (leb 1 (length w)) (leb (length w) 8 && all isNetByte w) (le→leb 1 (length w) a) (and-both (leb (length w) 8) (all isNetByte w) (le→leb (length w) 8 b) t)
+form-of w a b t = yes-and (leb 1 (length w)) (leb (length w) 8 && all isNetByte w) (le→leb 1 (length w) a) (yes-and (leb (length w) 8) (all isNetByte w) (le→leb (length w) 8 b) t)
 
 pub label-form : (n : Net) → keyOf n < 8192 → T (isNet (label n)) × Clear (label n)
 unfolding label keyOf netName all isNetByte isLetter between
 label-form (ofPhase l) h = let b = net-bytes l h in (form-of (netName l) (omega arith) (omega (arith, b .0)) (b .1), (λ s k. label-free s (ofPhase l) k))
 label-form (ofPair l) h =
-    let b = net-bytes l h in
-    (form-of (115 ∷ netName l) (omega arith) (omega (arith, b .0)) (b .1), (λ s k. label-free s (ofPair l) k))
+    (form-of (115 ∷ netName l) (omega arith) (omega (arith, (net-bytes l h) .0)) (net-bytes l h .1), (λ s k. label-free s (ofPair l) k))
 
 pub net-form : (l : ℕ) → l < 8192 → T (isNet (netName l)) × Clear (netName l)
 unfolding label keyOf
@@ -143,7 +134,7 @@ nets-append [] es = refl
 nets-append (d ∷ ds) es = ap (λ (xs : List (List ℕ)). d .net ∷ xs) (nets-append ds es)
 
 -- a wire has its net's value
-wire-value : (b : Bool) → value 2 (rowOf (b ∷ [])) ≡ b
+pub wire-value : (b : Bool) → value 2 (rowOf (b ∷ [])) ≡ b
 unfolding value rowOf bit one
 wire-value true = refl
 wire-value false = refl
@@ -168,15 +159,13 @@ back-distinct (x ∷ ns) ms d = back-distinct ns ms (d .1)
 once-none : (known : List (List ℕ)) (ds : List Driver) → Distinct (netsOf ds) → ((n : List ℕ) → List·Memᴰ n known → ¬ List·Memᴰ n (netsOf ds)) → drivenTwice known ds ≡ none
 unfolding drivenTwice
 once-none known [] once apart = refl
-once-none known (d ∷ ds) once apart = go (among (d .net) known) refl (once-none (d .net ∷ known) ds (once .1) more)
+once-none known (d ∷ ds) once apart = by-bool (among (d .net) known)
+    (λ e. rw e (absurd (apart (d .net) (among-out (d .net) known (subst T (sym e) tt)) (List·Memᴰ·head refl))))
+    (λ q. rw q (once-none (d .net ∷ known) ds (once .1) more))
   where
     more : (n : List ℕ) → List·Memᴰ n (d .net ∷ known) → ¬ List·Memᴰ n (netsOf ds)
     more n (List·Memᴰ·head e) i = once .0 (Memᴰ·cast (sym e) i)
     more n (List·Memᴰ·tail m) i = apart n m (List·Memᴰ·tail i)
-
-    go : (b : Bool) → among (d .net) known ≡ b → drivenTwice (d .net ∷ known) ds ≡ none → cond b (some (d .offset)) (drivenTwice (d .net ∷ known) ds) ≡ none
-    go true e later = absurd (apart (d .net) (among-out (d .net) known (subst T (sym e) tt)) (List·Memᴰ·head refl))
-    go false e later = later
 
 no-line : (p : Driver → Bool) (ds : List Driver) → ((d : Driver) → List·Memᴰ d ds → p d ≡ false) → firstLine p ds ≡ none
 unfolding firstLine
@@ -191,12 +180,14 @@ all-among nets (u ∷ us) h = ap₂ (λ (a b : Bool). not a || b) (among-in u ne
 pub nets-pass : (inputs : List (List ℕ)) (ds : List Driver) → Distinct (inputs ++ netsOf ds)
     → ((d : Driver) → List·Memᴰ d ds → (n : List ℕ) → List·Memᴰ n (d .uses) → List·Memᴰ n (inputs ++ netsOf ds)) → NoCircle ds → judgeNets inputs ds ≡ holds ds
 unfolding judgeNets undriven unlessAt
-nets-pass inputs ds once used circle =
-    ap (λ (o : Option ℕ). unlessAt o 33 (unlessAt (undriven inputs ds) 33 (unlessAt (firstLine (onCircle ds) ds) 33 (holds ds))))
-    (once-none inputs ds (back-distinct inputs (netsOf ds) once) (front-apart inputs (netsOf ds) once))
-    ∙ ap (λ (o : Option ℕ). unlessAt o 33 (unlessAt (firstLine (onCircle ds) ds) 33 (holds ds)))
-    (no-line (λ (d : Driver). any (λ (n : List ℕ). not (among n (inputs ++ netsOf ds))) (d .uses)) ds (λ d m. all-among (inputs ++ netsOf ds) (d .uses) (used d m)))
-    ∙ ap (λ (o : Option ℕ). unlessAt o 33 (holds ds)) (no-line (onCircle ds) ds (λ d m. off (onCircle ds d) refl (λ e. circle d m (found-circle ds d m e))))
+nets-pass inputs ds once used circle = cc (
+  once-none inputs ds (back-distinct inputs (netsOf ds) once)
+      (front-apart inputs (netsOf ds) once),
+  no-line (λ (d : Driver). any (λ (n : List ℕ). not (among n (inputs ++ netsOf ds))) (d .uses)) ds
+      (λ d m. all-among (inputs ++ netsOf ds) (d .uses) (used d m)),
+  no-line (onCircle ds) ds
+      (λ d m. off (onCircle ds d) refl (λ e. circle d m (found-circle ds d m e))),
+)
   where
     off : (b : Bool) {c : Bool} → c ≡ b → (c ≡ true → ⊥) → c ≡ false
     off true e h = absurd (h e)
@@ -230,14 +221,8 @@ round ds x y e (directly d m u) = record {
   isUsed = u;
   again = subst (λ (z : List ℕ). FeedsNet ds x z) (sym e) (directly d m u);
 }
-round ds x y e (through {y = z} d h m u) = record {
-  line = d;
-  isLine = m;
-  ofNet = refl;
-  user = z;
-  isUsed = u;
-  again = join-feeds ds z x z (subst (λ (w : List ℕ). FeedsNet ds z w) (sym e) (directly d m u)) h;
-}
+round ds x y e (through {y = z} d h m u) =
+    record { line = d; isLine = m; ofNet = refl; user = z; isUsed = u; again = join-feeds ds z x z (rw e (directly d m u)) h }
 
 module _ (listed cells : List Cell) (fit : Fitting listed cells) (g : Graph) (ok : Accepted g) (small : g .size ≤ 4095)
     (present-outputs : (l : ℕ) → List·Memᴰ l (g .outputs) → absent (chosen cells g l .source) ≡ false) (at behind : ℕ) where
@@ -266,11 +251,8 @@ module _ (listed cells : List Cell) (fit : Fitting listed cells) (g : Graph) (ok
   -- what feeds a gate of phase l is of a needed phase
   pin-needed : (l : ℕ) → IsPhase l → (t : Gate) → List·Memᴰ t (phaseGates listed cells g l) → (n : Net) → List·Memᴰ n (t .pins) → NeedsOf cells g (keyOf n)
   unfolding keyOf
-  pin-needed l h t m n i = go (of-gates listed cells fit g ok present-outputs l h t m .pins n i)
-    where
-      go : List·Memᴰ n (map ofPhase (fedAt cells g l)) ⊎ ((n ≡ ofPair l) × List·Memᴰ n (map (λ (u : Gate). u .net) (phaseGates listed cells g l))) → NeedsOf cells g (keyOf n)
-      go (inl j) = let x = map-out ofPhase (fedAt cells g l) j in subst (λ (k : Net). NeedsOf cells g (keyOf k)) (sym (x .2)) (fed (h .needs) (x .1))
-      go (inr j) = subst (λ (k : Net). NeedsOf cells g (keyOf k)) (sym (j .0)) (h .needs)
+  pin-needed l h t m n i = ⊎-elim (λ j. let x = map-out ofPhase (fedAt cells g l) j in rw (x .2) (fed (h .needs) (x .1)))
+      (λ q. rw (q .0) (h .needs)) (of-gates listed cells fit g ok present-outputs l h t m .pins n i)
 
   -- a gate's net is of its phase
   net-key : (l : ℕ) (t : Gate) → List·Memᴰ t (phaseGates listed cells g l) → keyOf (t .net) ≡ l
@@ -279,31 +261,34 @@ module _ (listed cells : List Cell) (fit : Fitting listed cells) (g : Graph) (ok
   pub gates-fine : (x : Shown) → List·Memᴰ x (map shownOf (chosenGates listed cells g)) → Fine listed x
   gates-fine x m =
       let o = map-out shownOf (chosenGates listed cells g) m in
-      let t = o .0 in
-      let r = gate-out listed cells fit g ok present-outputs t (o .1) in
-      let c = gate-listed listed cells fit g ok present-outputs t (o .1) in
+      let r = gate-out listed cells fit g ok present-outputs (o .0) (o .1) in
+      let c = gate-listed listed cells fit g ok present-outputs (o .0) (o .1) in
       subst (Fine listed) (sym (o .2)) (record {
         listed = c .0;
-        count = length-map label (t .pins) ∙ c .1;
-        nets = labels-form (t .pins) (pin-needed (r .at) (r .gates) t (r .isGate));
-        isNetToo = needed-form (t .net) (subst (NeedsOf cells g) (sym (net-key (r .at) t (r .isGate))) (r .gates .needs));
+        count = length-map label ((o .0) .pins) ∙ c .1;
+        nets = labels-form ((o .0) .pins) (pin-needed (r .at) (r .gates) (o .0) (r .isGate));
+        isNetToo = needed-form ((o .0) .net) (subst (NeedsOf cells g) (sym (net-key (r .at) (o .0) (r .isGate))) (r .gates .needs));
       })
 
   -- the nets that the lines drive are those of the netlist that reads back
   nets-driven : inputNets g ++ netsOf printedDrivers ≡ drivenNets (blifOf g (chosenGates listed cells g))
   unfolding inputNets drivenNets blifOf below
   nets-driven =
-      ap (λ (ns : List (List ℕ)). inputNames g ++ ns)
-      (nets-append (gatesAt at (map shownOf (chosenGates listed cells g))) (namesAt behind 0 (map netName (g .outputs)))
-      ∙ ap₂ (λ (a b : List (List ℕ)). a ++ b)
-      (gates-nets at (map shownOf (chosenGates listed cells g))
-      ∙ map-map (λ (x : Shown). x .net) shownOf (chosenGates listed cells g)
-      ∙ map-same (λ (u : Gate). label (u .net)) (λ (u : Gate). drives (lineOf u)) (chosenGates listed cells g)
-      (λ u m. sym (line-bound listed cells fit g ok present-outputs u m .isDriven))
-      ∙ sym (map-map drives lineOf (chosenGates listed cells g)))
-      (names-nets behind 0 (map netName (g .outputs))
-      ∙ ap (λ (n : ℕ). map outName (from 0 n)) (length-map netName (g .outputs))
-      ∙ sym (wire-targets (g .outputs))))
+      cc (
+        nets-append (gatesAt at (map shownOf (chosenGates listed cells g))) (namesAt behind 0 (map netName (g .outputs))),
+        gates-nets at
+            (map shownOf (chosenGates listed cells g)),
+        map-map (λ (x : Shown). x .net) shownOf (chosenGates listed cells g),
+        map-same
+            (λ (u : Gate). label (u .net)) (λ (u : Gate). drives (lineOf u)) (chosenGates listed cells g)
+            (λ u m. sym (line-bound listed cells fit g ok present-outputs u m .isDriven)),
+        map-map drives lineOf
+            (chosenGates listed cells g),
+        names-nets behind 0 (map netName (g .outputs)),
+        length-map netName (g .outputs),
+        wire-targets
+            (g .outputs),
+      )
 
   -- a line is a gate's of a phase, or an output's
   data IsLine (d : Driver) : Type 0 where
@@ -311,48 +296,28 @@ module _ (listed cells : List Cell) (fit : Fitting listed cells) (g : Graph) (ok
     ofOutput : (l i j : ℕ) → List·Memᴰ l (g .outputs) → d ≡ wireDriver i j (netName l) → IsLine d
 
   line-is : (d : Driver) → List·Memᴰ d printedDrivers → IsLine d
-  line-is d m = go (List·Memᴰ·append-cases (gatesAt at (map shownOf (chosenGates listed cells g))) m)
-    where
-      go : List·Memᴰ d (gatesAt at (map shownOf (chosenGates listed cells g))) ⊎ List·Memᴰ d (namesAt behind 0 (map netName (g .outputs))) → IsLine d
-      go (inl i) =
-          let x = gates-out at (map shownOf (chosenGates listed cells g)) d i in
-          let o = map-out shownOf (chosenGates listed cells g) (x .1) in
-          let r = gate-out listed cells fit g ok present-outputs (o .0) (o .1) in
-          ofGate (r .at) (x .2 .0) (o .0) (r .gates) (r .isGate) (o .1) (x .2 .1 ∙ ap (λ (y : Shown). driverAt (x .2 .0) y) (o .2))
-      go (inr i) =
-          let x = names-out behind 0 (map netName (g .outputs)) d i in
-          let o = map-out netName (g .outputs) (x .1) in
-          ofOutput (o .0) (x .2 .0) (x .2 .1) (o .1) (x .2 .2 ∙ ap (wireDriver (x .2 .0) (x .2 .1)) (o .2))
+  line-is d m = ⊎-elim (λ i. let x = gates-out at (map shownOf (chosenGates listed cells g)) d i in let o = map-out shownOf
+      (chosenGates listed cells g) (x .1) in let r = gate-out listed cells fit g ok present-outputs (o .0) (o .1) in ofGate (r .at)
+      (x .2 .0) (o .0) (r .gates) (r .isGate) (o .1) (cc (x .2 .1, o .2))) (λ q. let x = names-out behind 0
+      (map netName (g .outputs)) d q in let o = map-out netName (g .outputs) (x .1) in ofOutput (o .0) (x .2 .0) (x .2 .1) (o .1)
+      (cc (x .2 .2, o .2))) (List·Memᴰ·append-cases (gatesAt at (map shownOf (chosenGates listed cells g))) m)
 
   -- what a line uses is the net of a phase, or one inside a pair
   use-net : (d : Driver) → IsLine d → (n : List ℕ) → List·Memᴰ n (d .uses) → (m : Net) × NeedsOf cells g (keyOf m) × (n ≡ label m)
   unfolding label keyOf
-  use-net d (ofGate l k t h i c e) n m =
-      let o = map-out label (t .pins) (subst (λ (y : Driver). List·Memᴰ n (y .uses)) e m) in (o .0, pin-needed l h t i (o .0) (o .1), o .2)
-  use-net d (ofOutput l i j h e) n m = (ofPhase l, output h, one-of (subst (λ (y : Driver). List·Memᴰ n (y .uses)) e m))
-    where
-      one-of : List·Memᴰ n (netName l ∷ []) → n ≡ netName l
-      one-of (List·Memᴰ·head q) = q
-      one-of (List·Memᴰ·tail q) = absurd (List·Memᴰ·not-nil q)
-
-  formed-nets : (n : List ℕ) → List·Memᴰ n (each (fedBy listed) (map lineOf (chosenGates listed cells g))) → List·Memᴰ n (drivenNets (blifOf g (chosenGates listed cells g)))
-  unfolding blifOf
-  formed-nets n m =
-      well-formed listed cells fit g ok present-outputs (record { gates = 0; area = 0; arrival = 0 }) .driven n
-      (Memᴰ·append-right (map outName (below (length (g .outputs)))) (Memᴰ·append-left (map (λ (x : Wire). x .source) (wiresFrom 0 (g .outputs))) m))
+  use-net d (ofGate l k t h i c e) n m = let o = map-out label (t .pins) (rw e at m) in (o .0, pin-needed l h t i (o .0) (o .1), o .2)
+  use-net d (ofOutput l i j h e) n m = (ofPhase l, output h, (by-member (rw e at m) (λ q. q) (λ p. absurd (List·Memᴰ·not-nil p))))
 
   used-driven : (d : Driver) → List·Memᴰ d printedDrivers → (n : List ℕ) → List·Memᴰ n (d .uses) → List·Memᴰ n (inputNets g ++ netsOf printedDrivers)
   used-driven d m n u = subst (λ (ns : List (List ℕ)). List·Memᴰ n ns) (sym nets-driven) (go (line-is d m))
     where
       go : IsLine d → List·Memᴰ n (drivenNets (blifOf g (chosenGates listed cells g)))
-      go (ofGate l k t h i c e) =
-          formed-nets n (each-in (fedBy listed) (map-in lineOf c)
-          (subst (λ (ns : List (List ℕ)). List·Memᴰ n ns) (sym (line-bound listed cells fit g ok present-outputs t c .isFed)) (subst (λ (y : Driver). List·Memᴰ n (y .uses)) e u)))
-      go (ofOutput l i j h e) = Memᴰ·cast (one-of (subst (λ (y : Driver). List·Memᴰ n (y .uses)) e u)) (needed-driven listed cells fit g ok present-outputs l (output h))
-        where
-          one-of : List·Memᴰ n (netName l ∷ []) → n ≡ netName l
-          one-of (List·Memᴰ·head q) = q
-          one-of (List·Memᴰ·tail q) = absurd (List·Memᴰ·not-nil q)
+      go (ofGate l k t h i c e) = (unfold blifOf in well-formed listed cells fit g ok present-outputs
+          (record { gates = 0; area = 0; arrival = 0 }) .driven n (Memᴰ·append-right (map outName (below (length (g .outputs))))
+          (Memᴰ·append-left (map (λ (x : Wire). x .source) (wiresFrom 0 (g .outputs)))
+          (each-in (fedBy listed) (map-in lineOf c) (rw (line-bound listed cells fit g ok present-outputs t c .isFed) (rw e at u))))))
+      go (ofOutput l i j h e) = Memᴰ·cast (elim (rw e at u) [ List·Memᴰ·head q ↦ q | List·Memᴰ·tail p ↦ absurd (List·Memᴰ·not-nil p) ])
+          (needed-driven listed cells fit g ok present-outputs l (output h))
 
   -- what the line of a net of phase l uses: what feeds the phase, or, at the phase's own net, the net inside
   data Used (l : ℕ) (m : Net) (u : List ℕ) : Type 0 where
@@ -362,6 +327,7 @@ module _ (listed cells : List Cell) (fit : Fitting listed cells) (g : Graph) (ok
   line-uses : (m : Net) (d : Driver) → label m ≡ d .net → IsLine d → (u : List ℕ) → List·Memᴰ u (d .uses) → Used (keyOf m) m u
   line-uses m d e (ofOutput k i j h q) u n = absurd (out-label j m (sym (e ∙ ap (λ (y : Driver). y .net) q)))
   line-uses m d e (ofGate k i t h a c q) u n =
+      let same-net = label-once m (t .net) (e ∙ ap (λ (y : Driver). y .net) q) in
       subst (λ (l : ℕ). Used l m u) (sym (net-key k t a) ∙ ap keyOf (sym same-net)) (go m same-net (o .0) (o .2) (b .pins (o .0) (o .1)))
     where
       o : (p : Net) × List·Memᴰ p (t .pins) × (u ≡ label p)
@@ -369,9 +335,6 @@ module _ (listed cells : List Cell) (fit : Fitting listed cells) (g : Graph) (ok
 
       b : OfPhase listed (fedAt cells g k) k (phaseGates listed cells g k) t
       b = of-gates listed cells fit g ok present-outputs k h t a
-
-      same-net : m ≡ t .net
-      same-net = label-once m (t .net) (e ∙ ap (λ (y : Driver). y .net) q)
 
       phase-is : (x : ℕ) → keyOf (ofPhase x) ≡ x
       phase-is x = unfold keyOf in refl
@@ -386,8 +349,7 @@ module _ (listed cells : List Cell) (fit : Fitting listed cells) (g : Graph) (ok
           → Used k m u
       go m r p s (inl i) = by-phase m p s i
       go (ofPhase x) r p s (inr i) = byInside (ap ofPhase (sym (phase-is x) ∙ ap keyOf r ∙ net-key k t a)) (s ∙ ap label (i .0))
-      go (ofPair x) r p s (inr i) =
-          by-phase (ofPair x) (o .0) (o .2) (b .inside (sym r ∙ ap ofPair (sym (inner-is x) ∙ ap keyOf r ∙ net-key k t a)) (o .0) (o .1))
+      go (ofPair x) r p s (inr i) = by-phase (ofPair x) (o .0) (o .2) (b .inside (cc (inner-is x, net-key k t a)) (o .0) (o .1))
 
   -- no net feeds itself: what feeds it would
   net-free-of-circles : (l : ℕ) → NeedsOf cells g l → (m : Net) → keyOf m ≡ l → ¬ FeedsNet printedDrivers (label m) (label m)
@@ -405,29 +367,21 @@ module _ (listed cells : List Cell) (fit : Fitting listed cells) (g : Graph) (ok
           of-phase : (x : ℕ) (u : List ℕ) → List·Memᴰ x (fedAt cells g l) → u ≡ label (ofPhase x) → FeedsNet printedDrivers u u → ⊥
           of-phase x u m e f = ih x m (ofPhase x) (unfold keyOf in refl) (subst (λ (w : List ℕ). FeedsNet printedDrivers w w) e f)
 
-          inner : (x : ℕ) → keyOf (ofPair x) ≡ l → FeedsNet printedDrivers (label (ofPair x)) (label (ofPair x)) → ⊥
-          inner x k f = let r = around (ofPair x) k f in go (r .0) (r .1) (r .2)
-            where
-              go : (u : List ℕ) → FeedsNet printedDrivers u u → Used l (ofPair x) u → ⊥
-              go u h (byPhase y i e) = of-phase y u i e h
-              go u h (byInside e q) = inside-apart l x (sym e)
-
           whole : (m : Net) → keyOf m ≡ l → ¬ FeedsNet printedDrivers (label m) (label m)
-          whole m k f = let r = around m k f in go (r .0) (r .1) (r .2)
-            where
-              go : (u : List ℕ) → FeedsNet printedDrivers u u → Used l m u → ⊥
-              go u h (byPhase y i e) = of-phase y u i e h
-              go u h (byInside e q) = inner l (unfold keyOf in refl) (subst (λ (w : List ℕ). FeedsNet printedDrivers w w) q h)
+          whole m k f = let r = around m k f in elim (r .2) [
+            | byPhase y i e ↦ of-phase y (r .0) i e (r .1)
+            | byInside q p ↦ (let r = around (ofPair l) (unfold keyOf in refl)
+                (subst (λ (w : List ℕ). FeedsNet printedDrivers w w) p (r .1)) in elim
+                (r .2) [ byPhase y i e ↦ of-phase y (r .0) i e (r .1) | byInside q p ↦ inside-apart l l (sym q) ])
+          ]
 
   no-circle : NoCircle printedDrivers
-  no-circle d m f = go (line-is d m)
-    where
-      go : IsLine d → ⊥
-      go (ofGate l k t h i c e) = net-free-of-circles l (h .needs) (t .net) (net-key l t i) (subst (λ (y : Driver). FeedsNet printedDrivers (y .net) (y .net)) e f)
-      go (ofOutput l i j h e) =
-          let u = feeds-used printedDrivers (d .net) (d .net) f in
-          let r = use-net (u .0) (line-is (u .0) (u .1)) (d .net) (u .2) in
-          out-label j (r .0) (sym (ap (λ (y : Driver). y .net) e) ∙ r .2)
+  no-circle d m f = elim (line-is d m) [
+    | ofGate l k t h i c e ↦ net-free-of-circles l (h .needs) (t .net) (net-key l t i)
+        (subst (λ (y : Driver). FeedsNet printedDrivers (y .net) (y .net)) e f)
+    | ofOutput q p j r z ↦ let u = feeds-used printedDrivers (d .net) (d .net) f in let r = use-net (u .0) (line-is (u .0) (u .1)) (d .net)
+        (u .2) in out-label j (r .0) (sym (ap (λ (y : Driver). y .net) z) ∙ r .2)
+  ]
 
   -- 33 finds nothing
   pub drivers-pass : judgeNets (inputNets g) printedDrivers ≡ holds printedDrivers
@@ -439,16 +393,16 @@ module _ (listed cells : List Cell) (fit : Fitting listed cells) (g : Graph) (ok
   unfolding blifOf inputNets
   drivers-values s w h = record {
     atInputs = h .atInputs;
-    atGates = λ t m. at-gate t (map-out lineOf (chosenGates listed cells g) m);
-    atWires = wires-hand w behind 0 (g .outputs) (λ d m. h .atDrivers d (Memᴰ·append-right (gatesAt at (map shownOf (chosenGates listed cells g))) m));
+    atGates = λ t m. (let b = line-bound listed cells fit g ok present-outputs (map-out lineOf (chosenGates listed cells g) m .0)
+        (map-out lineOf (chosenGates listed cells g) m .1) in let k = gates-have at (map shownOf (chosenGates listed cells g))
+        (shownOf (map-out lineOf (chosenGates listed cells g) m .0))
+        (map-in shownOf (map-out lineOf (chosenGates listed cells g) m .1)) in rw (map-out lineOf (chosenGates listed cells g) m .2) (cc (
+          b .isDriven,
+          h .atDrivers (driverAt (k .0) (shownOf (map-out lineOf (chosenGates listed cells g) m .0)))
+              (Memᴰ·append-left (namesAt behind 0 (map netName (g .outputs))) (k .1)),
+          b .isCell,
+          b .isFed,
+        )));
+    atWires = wires-hand w behind 0 (g .outputs)
+        (λ d m. h .atDrivers d (Memᴰ·append-right (gatesAt at (map shownOf (chosenGates listed cells g))) m));
   }
-    where
-      at-gate : (t : GateLine) → (u : Gate) × List·Memᴰ u (chosenGates listed cells g) × (t ≡ lineOf u) → w (drives t) ≡ value (named listed (t .cell) .table) (rowOf (map w (fedBy listed t)))
-      at-gate t o =
-          let u = o .0 in
-          let b = line-bound listed cells fit g ok present-outputs u (o .1) in
-          let k = gates-have at (map shownOf (chosenGates listed cells g)) (shownOf u) (map-in shownOf (o .1)) in
-          subst (λ (x : GateLine). w (drives x) ≡ value (named listed (x .cell) .table) (rowOf (map w (fedBy listed x)))) (sym (o .2))
-          (ap w (b .isDriven)
-          ∙ h .atDrivers (driverAt (k .0) (shownOf u)) (Memᴰ·append-left (namesAt behind 0 (map netName (g .outputs))) (k .1))
-          ∙ sym (ap₂ (λ (c : Cell) (nets : List (List ℕ)). value (c .table) (rowOf (map w nets))) (b .isCell) (b .isFed)))

@@ -3,8 +3,8 @@ use Prim.Native.Nat.{ℕ, zero, suc, _≤_}
 use native.Mathlib.Nat.{not-suc-le-zero}
 use native.Mathlib.Omega.{arith}
 use mathlib.Core.Path.{_≡_, refl, sym, _∙_, ap, subst}
-use mathlib.Core.Logic.{_⊎_, inl, inr}
-use mathlib.Core.Bool.{Bool, true, false, cond, _&&_, _||_, true≢false}
+use mathlib.Core.Logic.{_⊎_, inl, inr, ⊎-elim}
+use mathlib.Core.Bool.{Bool, true, false, cond, _||_, true≢false}
 use mathlib.Core.Option.{Option, none, some}
 use mathlib.Core.List.{List, [], _∷_, map, List·Memᴰ, List·Memᴰ·head, List·Memᴰ·tail, List·Memᴰ·not-nil, Memᴰ·cast}
 use lib.Dec.{T}
@@ -13,6 +13,8 @@ use Rattle.model.specs.Base.{any, all, same, andThen}
 use Rattle.model.specs.Check.{Driver, among, takeReady, settled}
 use Rattle.model.specs.Demands.{Distinct}
 use Rattle.theory_graph.proofs.Lists.{map-in, map-out, same-eq, same-refl, is-true, all-of}
+use Rattle.theory_graph.proofs.Split.{by-bool, by-member}
+use Rattle.theory_order.proofs.Splits.{no-more}
 
 -- ---- a list without repetition is no longer than one that has its elements
 
@@ -22,35 +24,15 @@ record Without {A : Type 0} (x : A) (ys : List A) : Type 0 where
   keeps : (y : A) → List·Memᴰ y ys → (y ≡ x) ⊎ List·Memᴰ y rest
 
 without : {A : Type 0} (x : A) (ys : List A) → List·Memᴰ x ys → Without x ys
-without x (y ∷ ys) (List·Memᴰ·head e) = record { rest = ys; shorter = refl; keeps = λ z m. go z m }
-  where
-    go : (z : _) → List·Memᴰ z (y ∷ ys) → (z ≡ x) ⊎ List·Memᴰ z ys
-    go z (List·Memᴰ·head q) = inl (q ∙ sym e)
-    go z (List·Memᴰ·tail m) = inr m
+without x (y ∷ ys) (List·Memᴰ·head e) = record { rest = ys; shorter = refl; keeps = λ z m. (by-member m (λ q. inl (q ∙ sym e)) inr) }
 without x (y ∷ ys) (List·Memᴰ·tail m) = more (without x ys m)
   where
     more : Without x ys → Without x (y ∷ ys)
-    more w = record { rest = y ∷ w .rest; shorter = ap suc (w .shorter); keeps = λ z n. go z n }
-      where
-        later : (z : _) → (z ≡ x) ⊎ List·Memᴰ z (w .rest) → (z ≡ x) ⊎ List·Memᴰ z (y ∷ w .rest)
-        later z (inl q) = inl q
-        later z (inr i) = inr (List·Memᴰ·tail i)
-
-        go : (z : _) → List·Memᴰ z (y ∷ ys) → (z ≡ x) ⊎ List·Memᴰ z (y ∷ w .rest)
-        go z (List·Memᴰ·head q) = inr (List·Memᴰ·head q)
-        go z (List·Memᴰ·tail i) = later z (w .keeps z i)
-
-pub no-longer : {A : Type 0} (xs ys : List A) → Distinct xs → ((x : A) → List·Memᴰ x xs → List·Memᴰ x ys) → length xs ≤ length ys
-no-longer [] ys d h = omega arith
-no-longer (x ∷ xs) ys d h =
-    let w = without x ys (h x (List·Memᴰ·head refl)) in
-    let r : length xs ≤ length (w .rest) = no-longer xs (w .rest) (d .1) (λ y m. other w y m (w .keeps y (h y (List·Memᴰ·tail m)))) in
-    let s : length ys ≡ suc (length (w .rest)) = w .shorter in
-    omega arith
-  where
-    other : (w : Without x ys) (y : _) → List·Memᴰ y xs → (y ≡ x) ⊎ List·Memᴰ y (w .rest) → List·Memᴰ y (w .rest)
-    other w y m (inl e) = absurd (d .0 (Memᴰ·cast (sym e) m))
-    other w y m (inr i) = i
+    more w = record {
+      rest = y ∷ w .rest;
+      shorter = ap suc (w .shorter);
+      keeps = λ z n. (by-member n (λ q. inr (List·Memᴰ·head q)) (λ i. ⊎-elim inl (λ e. inr (List·Memᴰ·tail e)) (w .keeps z i)));
+    }
 
 -- ---- circles
 
@@ -93,7 +75,7 @@ path ds left sub none-on back d m zero = record {
   isLeft = m;
   seen = d .net ∷ [];
   once = (List·Memᴰ·not-nil, tt);
-  ofLeft = λ x i. one x i;
+  ofLeft = λ x i. (Memᴰ·cast (only-one x i) (map-in (λ (e : Driver). e .net) m));
   fed = λ x i. inl (only-one x i);
   long = refl;
 }
@@ -101,9 +83,6 @@ path ds left sub none-on back d m zero = record {
     only-one : (x : List ℕ) → List·Memᴰ x (d .net ∷ []) → x ≡ d .net
     only-one x (List·Memᴰ·head e) = e
     only-one x (List·Memᴰ·tail i) = absurd (List·Memᴰ·not-nil i)
-
-    one : (x : List ℕ) → List·Memᴰ x (d .net ∷ []) → List·Memᴰ x (netsOf left)
-    one x i = Memᴰ·cast (only-one x i) (map-in (λ (e : Driver). e .net) m)
 path ds left sub none-on back d m (suc n) = step (path ds left sub none-on back d m n)
   where
     step : Path ds left n → Path ds left (suc n)
@@ -112,8 +91,8 @@ path ds left sub none-on back d m (suc n) = step (path ds left sub none-on back 
       isLeft = b .isLeft;
       seen = b .by .net ∷ p .seen;
       once = ((λ i. none-on (b .by) (sub (b .by) (b .isLeft)) (reaches (b .by .net) i)), p .once);
-      ofLeft = λ x i. left-of x i;
-      fed = λ x i. fed-by x i;
+      ofLeft = λ x i. (by-member i (λ e. Memᴰ·cast e (map-in (λ (e : Driver). e .net) (b .isLeft))) (λ q. p .ofLeft x q));
+      fed = λ x i. (elim i [ List·Memᴰ·head e ↦ inl e | List·Memᴰ·tail q ↦ inr (reaches x q) ]);
       long = ap suc (p .long);
     }
       where
@@ -129,14 +108,6 @@ path ds left sub none-on back d m (suc n) = step (path ds left sub none-on back 
           | inr f ↦ join-feeds ds (b .by .net) (p .last .net) x first f
         ]
 
-        left-of : (x : List ℕ) → List·Memᴰ x (b .by .net ∷ p .seen) → List·Memᴰ x (netsOf left)
-        left-of x (List·Memᴰ·head e) = Memᴰ·cast e (map-in (λ (e : Driver). e .net) (b .isLeft))
-        left-of x (List·Memᴰ·tail i) = p .ofLeft x i
-
-        fed-by : (x : List ℕ) → List·Memᴰ x (b .by .net ∷ p .seen) → (x ≡ b .by .net) ⊎ FeedsNet ds (b .by .net) x
-        fed-by x (List·Memᴰ·head e) = inl e
-        fed-by x (List·Memᴰ·tail i) = inr (reaches x i)
-
 length-nets : (ds : List Driver) → length (netsOf ds) ≡ length ds
 length-nets [] = refl
 length-nets (d ∷ ds) = ap suc (length-nets ds)
@@ -146,9 +117,7 @@ pub none-left : (ds left : List Driver) → ((d : Driver) → List·Memᴰ d lef
     → (d : Driver) → ¬ List·Memᴰ d left
 none-left ds left sub none-on back d m =
     let p = path ds left sub none-on back d m (length left) in
-    let h : length (p .seen) ≤ length (netsOf left) = no-longer (p .seen) (netsOf left) (p .once) (p .ofLeft) in
-    let e : length (p .seen) ≡ suc (length left) = p .long in
-    absurd (omega (arith, length-nets left))
+    absurd (omega (arith, p .long, no-more (p .seen) (netsOf left) (p .once) (p .ofLeft), length-nets left))
 
 -- ---- the order
 
@@ -159,26 +128,15 @@ Ordered known (d ∷ ds) = ((n : List ℕ) → List·Memᴰ n (d .uses) → List
 
 pub among-out : (n : List ℕ) (ns : List (List ℕ)) → T (among n ns) → List·Memᴰ n ns
 unfolding among any
-among-out n (m ∷ ns) t = go (same n m) (same-eq n m) t (among-out n ns)
-  where
-    go : (b : Bool) → (T b → n ≡ m) → T (b || any (same n) ns) → (T (any (same n) ns) → List·Memᴰ n ns) → List·Memᴰ n (m ∷ ns)
-    go true y u later = List·Memᴰ·head (y tt)
-    go false y u later = List·Memᴰ·tail (later u)
-
-all-known : (known us : List (List ℕ)) → T (all (λ (n : List ℕ). among n known) us) → (n : List ℕ) → List·Memᴰ n us → List·Memᴰ n known
-unfolding all
-all-known known us t n m = among-out n known (all-of (λ (x : List ℕ). among x known) us t n m)
+among-out n (m ∷ ns) t = by-bool (same n m) (λ e. List·Memᴰ·head ((rw e at (same-eq n m)) tt))
+    (λ q. List·Memᴰ·tail (among-out n ns (rw q at t)))
 
 -- a use that is not known
 unknown : (known us : List (List ℕ)) → all (λ (n : List ℕ). among n known) us ≡ false → (n : List ℕ) × List·Memᴰ n us × (among n known ≡ false)
 unfolding all
 unknown known [] e = absurd (true≢false e)
-unknown known (u ∷ us) e = go (among u known) refl e (unknown known us)
-  where
-    go : (b : Bool) → among u known ≡ b → (b && all (λ (n : List ℕ). among n known) us) ≡ false
-        → (all (λ (n : List ℕ). among n known) us ≡ false → (n : List ℕ) × List·Memᴰ n us × (among n known ≡ false)) → (n : List ℕ) × List·Memᴰ n (u ∷ us) × (among n known ≡ false)
-    go true p q later = let r = later q in (r .0, List·Memᴰ·tail (r .1), r .2)
-    go false p q later = (u, List·Memᴰ·head refl, p)
+unknown known (u ∷ us) e = by-bool (among u known) (λ p. let r = (unknown known us) (rw p at e) in (r .0, List·Memᴰ·tail (r .1), r .2))
+    (λ q. (u, List·Memᴰ·head refl, q))
 
 -- what is taken, and what is left
 record Taken (known : List (List ℕ)) (ds : List Driver) (d : Driver) (left : List Driver) : Type 0 where
@@ -206,8 +164,8 @@ take-ready known (d ∷ ds) = go (all (λ (n : List ℕ). among n known) (d .use
     later e left t = record {
       knows = t .knows;
       isOne = List·Memᴰ·tail (t .isOne);
-      sub = λ x m. under x m;
-      rest = λ x m. over x (cons-cases x m);
+      sub = λ x m. (by-member m List·Memᴰ·head (λ p. List·Memᴰ·tail (t .sub x p)));
+      rest = λ x m. (⊎-elim (λ q. inr (List·Memᴰ·head q)) (λ p. ⊎-elim inl (λ p. inr (List·Memᴰ·tail p)) (t .rest x p)) (cons-cases x m));
       shorter = ap suc (t .shorter);
       once = λ o. let r = t .once (o .1) in ((λ i. apart o r i), ((λ i. o .0 (nets-sub i)), r .1));
     }
@@ -219,22 +177,10 @@ take-ready known (d ∷ ds) = go (all (λ (n : List ℕ). among n known) (d .use
         apart o r (List·Memᴰ·head q) = o .0 (Memᴰ·cast (sym q) (map-in (λ (y : Driver). y .net) (t .isOne)))
         apart o r (List·Memᴰ·tail i) = r .0 i
 
-        under : (x : Driver) → List·Memᴰ x (d ∷ left) → List·Memᴰ x (d ∷ ds)
-        under x (List·Memᴰ·head q) = List·Memᴰ·head q
-        under x (List·Memᴰ·tail m) = List·Memᴰ·tail (t .sub x m)
-
-        beyond : (x : Driver) → (x ≡ e) ⊎ List·Memᴰ x left → (x ≡ e) ⊎ List·Memᴰ x (d ∷ left)
-        beyond x (inl q) = inl q
-        beyond x (inr m) = inr (List·Memᴰ·tail m)
-
-        over : (x : Driver) → (x ≡ d) ⊎ List·Memᴰ x ds → (x ≡ e) ⊎ List·Memᴰ x (d ∷ left)
-        over x (inl q) = inr (List·Memᴰ·head q)
-        over x (inr m) = beyond x (t .rest x m)
-
     go : (b : Bool) → all (λ (n : List ℕ). among n known) (d .uses) ≡ b → (o : Option (Driver × List Driver)) → Ready known ds o
         → Ready known (d ∷ ds) (cond b (some (d, ds)) (andThen {B = Driver × List Driver} o (λ r. some (r .0, d ∷ r .1))))
     go true e o r = ready d ds (record {
-      knows = all-known known (d .uses) (subst T (sym e) tt);
+      knows = unfold all in λ n m. among-out n known (all-of (λ (x : List ℕ). among x known) (d .uses) (subst T (sym e) tt) n m);
       isOne = List·Memᴰ·head refl;
       sub = λ x m. List·Memᴰ·tail m;
       rest = cons-cases;
@@ -251,11 +197,7 @@ take-ready known (d ∷ ds) = go (all (λ (n : List ℕ). among n known) (d .use
 pub among-in : (n : List ℕ) (ns : List (List ℕ)) → List·Memᴰ n ns → among n ns ≡ true
 unfolding among any
 among-in n (m ∷ ns) (List·Memᴰ·head e) = ap (λ (b : Bool). b || any (same n) ns) (is-true (same n m) (subst (λ (x : List ℕ). T (same n x)) e (same-refl n)))
-among-in n (m ∷ ns) (List·Memᴰ·tail i) = go (same n m) (among-in n ns i)
-  where
-    go : (b : Bool) → any (same n) ns ≡ true → (b || any (same n) ns) ≡ true
-    go true q = refl
-    go false q = q
+among-in n (m ∷ ns) (List·Memᴰ·tail i) = by-bool (same n m) (λ e. cc) (λ q. cc (among-in n ns i))
 
 -- the drivers of an order, and that it is one
 pub record IsOrder (known : List (List ℕ)) (left order : List Driver) : Type 0 where
@@ -291,31 +233,21 @@ settled-order ds none-on (suc fuel) known left h sub uses = go (takeReady known 
         record { ordered = tt; has = λ d m. absurd (none-here d m); hasOnly = λ d m. absurd (List·Memᴰ·not-nil m); once = λ o. tt }
     go (some r) (ready d rest t) more = record {
       ordered = (t .knows, k .ordered);
-      has = λ x m. here x (t .rest x m);
-      hasOnly = λ x m. there x m;
+      has = λ x m. (⊎-elim List·Memᴰ·head (λ e. List·Memᴰ·tail (k .has x e)) (t .rest x m));
+      hasOnly = λ x m. (by-member m (λ q. Memᴰ·cast q (t .isOne)) (λ e. t .sub x (k .hasOnly x e)));
       once = λ o. let r = t .once o in ((λ i. r .0 (nets-rest i)), k .once (r .1));
     }
       where
         again : (x : Driver) → List·Memᴰ x rest → (n : List ℕ) → List·Memᴰ n (x .uses) → List·Memᴰ n (d .net ∷ known) ⊎ List·Memᴰ n (netsOf rest)
         again x m n i = elim (uses x (t .sub x m) n i) [
           | inl a ↦ inl (List·Memᴰ·tail a)
-          | inr a ↦ let o = map-out (λ (e : Driver). e .net) left a in moved (o .0) (o .2) (t .rest (o .0) (o .1))
+          | inr a ↦ let o = map-out (λ (e : Driver). e .net) left a in
+              ⊎-elim (λ q. inl (List·Memᴰ·head ((o .2) ∙ ap (λ (z : Driver). z .net) q)))
+              (λ j. inr (Memᴰ·cast (o .2) (map-in (λ (z : Driver). z .net) j))) (t .rest (o .0) (o .1))
         ]
-          where
-            moved : (y : Driver) → n ≡ y .net → (y ≡ d) ⊎ List·Memᴰ y rest → List·Memᴰ n (d .net ∷ known) ⊎ List·Memᴰ n (netsOf rest)
-            moved y e (inl q) = inl (List·Memᴰ·head (e ∙ ap (λ (z : Driver). z .net) q))
-            moved y e (inr j) = inr (Memᴰ·cast e (map-in (λ (z : Driver). z .net) j))
 
         k : IsOrder (d .net ∷ known) rest (settled fuel (d .net ∷ known) rest)
         k = more (d .net ∷ known) rest (let s : length left ≡ suc (length rest) = t .shorter in omega arith) (λ x m. sub x (t .sub x m)) again
 
         nets-rest : {n : List ℕ} → List·Memᴰ n (netsOf (settled fuel (d .net ∷ known) rest)) → List·Memᴰ n (netsOf rest)
         nets-rest i = let w = map-out (λ (y : Driver). y .net) (settled fuel (d .net ∷ known) rest) i in Memᴰ·cast (w .2) (map-in (λ (y : Driver). y .net) (k .hasOnly (w .0) (w .1)))
-
-        here : (x : Driver) → (x ≡ d) ⊎ List·Memᴰ x rest → List·Memᴰ x (d ∷ settled fuel (d .net ∷ known) rest)
-        here x (inl q) = List·Memᴰ·head q
-        here x (inr m) = List·Memᴰ·tail (k .has x m)
-
-        there : (x : Driver) → List·Memᴰ x (d ∷ settled fuel (d .net ∷ known) rest) → List·Memᴰ x left
-        there x (List·Memᴰ·head q) = Memᴰ·cast q (t .isOne)
-        there x (List·Memᴰ·tail m) = t .sub x (k .hasOnly x m)

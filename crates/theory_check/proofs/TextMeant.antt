@@ -4,14 +4,14 @@ use Prim.Native.Nat.{ℕ, zero, suc, _+_, _≤_, _<_}
 use native.Mathlib.Nat.{add-zero}
 use native.Mathlib.Omega.{arith}
 use mathlib.Core.Path.{_≡_, refl, sym, _∙_, ap, ap₂, subst}
-use mathlib.Core.Logic.{_⊎_, inl, inr}
+use mathlib.Core.Logic.{inl, inr, ⊎-elim}
 use mathlib.Core.Bool.{Bool, true, false, cond, _&&_, true≢false, false≢true}
 use mathlib.Core.Option.{Option, none, some}
 use mathlib.Core.List.{List, [], _∷_, _++_, map, reverse, reverse-cons, append-assoc, append-nil, List·Memᴰ, List·Memᴰ·head, List·Memᴰ·tail, List·Memᴰ·not-nil, List·Memᴰ·append-cases, Memᴰ·append-left, Memᴰ·append-right}
 use lib.Dec.{T, eqb, eqb→eq, lit<}
 use lib.ListN.{length, take, getD}
 use lib.Seq.{take-append-seam, getD-append-add}
-use mir.Facts.{and-yes, eqb-yes, yes-eqb, no-eqb}
+use mir.Facts.{and-yes, eqb-yes}
 use Rattle.model.specs.Base.{each, same, andThen, only, from, below}
 use Rattle.model.specs.Text.{Line, endedByTen, text, closing, linesFrom, onto, split, parts, fields}
 use Rattle.model.specs.Reading.{holds, next, from?}
@@ -23,12 +23,15 @@ use Rattle.model.specs.Blif.{Binding, GateLine, Wire, Blif, Body, longer, bindi
 use Rattle.model.specs.Check.{Driver, isNet, pinNet, boundNets, cellNamed, gateOfFields, gateDriver, isGate, nameDriver, isLine, pastRow, readNames, readDrivers, pastLines, inputNets, outputNets, frameOf, readNetlist}
 use Rattle.model.specs.CheckDemands.{ValuesUnder, MeansText}
 use Rattle.model.specs.declared.Cell.{Cell}
-use Rattle.theory_graph.proofs.Lists.{map-map, map-same, same-eq, is-true, is-false}
+use Rattle.theory_graph.proofs.Lists.{map-map, map-same, same-eq}
 use Rattle.theory_graph.proofs.Distinct.{from-low}
-use Rattle.theory_text.proofs.Plain.{Free, above, free-append, decimal-free, net-free}
+use Rattle.theory_text.proofs.Plain.{Free, above, decimal-free, net-free, free-reverse}
 use Rattle.theory_text.proofs.LineLaws.{lines-step}
-use Rattle.theory_text.proofs.ReadBack.{parts-line}
+use Rattle.theory_text.proofs.ReadBack.{parts-line, at-first, at-later, no-gate-end}
 use Rattle.theory_text.proofs.Steps.{fault-never, holds-once, unless-out, from-out, next-out, then-out, only-out}
+use Rattle.theory_graph.proofs.Split.{by-bool, by-list}
+use Rattle.theory_check.proofs.CheckSteps.{three}
+use Rattle.theory_check.proofs.PrintedNets.{wire-value}
 
 isSome : {A : Type 0} → Option A → Bool
 isSome none = false
@@ -49,39 +52,19 @@ data Along : List Line → List (List ℕ) → Type 0 where
   other : {l : Line} {ls : List Line} {ps : List (List ℕ)} → endedByTen l ≡ false → Along (l ∷ ls) ps
   line : {l : Line} {ls : List Line} {p : List ℕ} {ps : List (List ℕ)} → p ≡ l .bytes → Along ls ps → Along (l ∷ ls) (p ∷ ps)
 
-free-reverse : (s : ℕ) (xs : List ℕ) → Free s xs → Free s (reverse xs)
-free-reverse s [] f = tt
-free-reverse s (x ∷ xs) f = subst (Free s) (sym (reverse-cons x xs)) (free-append s (reverse xs) (x ∷ []) (free-reverse s xs (f .1)) (f .0, tt))
-
 closed-along : (at : ℕ) (held : List ℕ) (ls : List Line) (ps : List (List ℕ)) → Along ls ps → Along (closing at held ∷ ls) (reverse held ∷ ps)
 unfolding closing
 closed-along at [] ls ps a = line refl a
-closed-along at (h ∷ hs) ls ps a = go (eqb h 13)
-  where
-    go : (t : Bool) → Along (cond t (record { offset = at; bytes = reverse hs; ending = 2 }) (record { offset = at; bytes = reverse (h ∷ hs); ending = 1 }) ∷ ls) (reverse (h ∷ hs) ∷ ps)
-    go true = other refl
-    go false = line refl a
+closed-along at (h ∷ hs) ls ps a = by-bool (eqb h 13) (λ e. rw e (other refl)) (λ q. rw q (line refl a))
 
 along : (at : ℕ) (held bs : List ℕ) → Free 10 held → Along (linesFrom at held bs) (parts 10 (reverse held ++ bs))
 unfolding linesFrom
 along at [] [] f = done
 along at (h ∷ hs) [] f = other refl
-along at held (b ∷ bs) f =
-    subst (λ (ls : List Line). Along ls (parts 10 (reverse held ++ (b ∷ bs)))) (sym (lines-step at held b bs))
-    (go (eqb b 10) refl (along (at + suc (length held)) [] bs tt) (λ e. along at (b ∷ held) bs (e, f)))
-  where
-    moved : reverse (b ∷ held) ++ bs ≡ reverse held ++ (b ∷ bs)
-    moved = ap (λ (x : List ℕ). x ++ bs) (reverse-cons b held) ∙ append-assoc (reverse held) (b ∷ []) bs
-
-    go : (t : Bool) → eqb b 10 ≡ t → Along (linesFrom (at + suc (length held)) [] bs) (parts 10 bs)
-        → (eqb b 10 ≡ false → Along (linesFrom at (b ∷ held) bs) (parts 10 (reverse (b ∷ held) ++ bs)))
-        → Along (cond t (closing at held ∷ linesFrom (at + suc (length held)) [] bs) (linesFrom at (b ∷ held) bs)) (parts 10 (reverse held ++ (b ∷ bs)))
-    go true e a more =
-        let q : b ≡ 10 = eqb→eq b 10 (subst T (sym e) tt) in
-        subst (λ (ps : List (List ℕ)). Along (closing at held ∷ linesFrom (at + suc (length held)) [] bs) ps)
-        (sym (ap (λ (x : ℕ). parts 10 (reverse held ++ (x ∷ bs))) q ∙ parts-line 10 (reverse held) bs (free-reverse 10 held f)))
-        (closed-along at held (linesFrom (at + suc (length held)) [] bs) (parts 10 bs) a)
-    go false e a more = subst (λ (x : List ℕ). Along (linesFrom at (b ∷ held) bs) (parts 10 x)) moved (more e)
+along at held (b ∷ bs) f = rw (lines-step at held b bs) (by-bool (eqb b 10) (λ q. rw q (let q : b ≡ 10 = eqb→eq b 10 (rw q tt) in rw
+    (ap (λ (x : ℕ). parts 10 (reverse held ++ (x ∷ bs))) q ∙ parts-line 10 (reverse held) bs (free-reverse 10 held f))
+    (closed-along at held (linesFrom (at + suc (length held)) [] bs) (parts 10 bs) (along (at + suc (length held)) [] bs tt)))) (λ p. rw p
+    (rw (ap (λ (x : List ℕ). x ++ bs) (reverse-cons b held) ∙ append-assoc (reverse held) (b ∷ []) bs) at (along at (b ∷ held) bs (p, f)))))
 
 -- a line that byte 10 alone ends is the first part
 record Headed (l : Line) (ls : List Line) (ps : List (List ℕ)) : Type 0 where
@@ -115,27 +98,18 @@ unfolding parts fields onto split
 parted [] = short refl
 parted (b ∷ w) = go (eqb b 32) refl (parted w)
   where
-    put : (ps fs : List (List ℕ)) → fs ≡ ps ++ ([] ∷ []) → (onto b ps ≡ onto b fs) ⊎ (onto b fs ≡ onto b ps ++ ([] ∷ []))
-    put [] fs e = inl (sym (ap (onto b) e))
-    put (p ∷ ps) fs e = inr (ap (onto b) e)
-
-    turn : eqb b 32 ≡ false → (onto b (parts 32 w) ≡ onto b (fields w)) ⊎ (onto b (fields w) ≡ onto b (parts 32 w) ++ ([] ∷ [])) → Parted (b ∷ w)
-    turn e (inl q) = alike (ap (λ (t : Bool). split t b (parts 32 w)) e ∙ q ∙ sym (ap (λ (t : Bool). split t b (fields w)) e))
-    turn e (inr q) = short (ap (λ (t : Bool). split t b (fields w)) e ∙ q ∙ sym (ap (λ (t : Bool). split t b (parts 32 w) ++ ([] ∷ [])) e))
-
     go : (t : Bool) → eqb b 32 ≡ t → Parted w → Parted (b ∷ w)
     go true e (alike q) = alike (ap₂ (λ (t : Bool) (ps : List (List ℕ)). split t b ps) e q ∙ sym (ap (λ (t : Bool). split t b (fields w)) e))
     go true e (short q) = short (ap₂ (λ (t : Bool) (ps : List (List ℕ)). split t b ps) e q ∙ sym (ap (λ (t : Bool). split t b (parts 32 w) ++ ([] ∷ [])) e))
     go false e (alike q) = alike (ap (split (eqb b 32) b) q)
-    go false e (short q) = turn e (put (parts 32 w) (fields w) q)
+    go false e (short q) = ⊎-elim
+        (λ z. alike (ap (λ (t : Bool). split t b (parts 32 w)) e ∙ z ∙ sym (ap (λ (t : Bool). split t b (fields w)) e)))
+        (λ u. short (ap (λ (t : Bool). split t b (fields w)) e ∙ u ∙ sym (ap (λ (t : Bool). split t b (parts 32 w) ++ ([] ∷ [])) e)))
+        (by-list (parts 32 w) (λ e. rw e (inl (sym (ap (onto b) (rw e at q))))) (λ p ps r. rw r (inr (ap (onto b) (rw r at q)))))
 
 -- where the last field is not empty they are the same
 parts-fields : (w : List ℕ) → ¬ (lastOf (fields w) ≡ []) → parts 32 w ≡ fields w
-parts-fields w n = go (parted w)
-  where
-    go : Parted w → parts 32 w ≡ fields w
-    go (alike e) = e
-    go (short e) = absurd (n (ap lastOf e ∙ last-empty (parts 32 w)))
+parts-fields w n = elim (parted w) [ alike e ↦ e | short q ↦ absurd (n (ap lastOf q ∙ last-empty (parts 32 w))) ]
 
 -- ---- a gate's words
 
@@ -214,15 +188,6 @@ nets-bound (suc m) i (w ∷ ws) nets e =
       full = λ v z. r .full w z;
     }
 
--- the nets by the pins' names
-at-first : (b c : ℕ) → b ≡ c → (net : List ℕ) (ps : List Binding) → netAt (record { pin = b ∷ []; net = net } ∷ ps) (c ∷ []) ≡ net
-unfolding netAt same
-at-first b c e net ps = ap (λ (t : Bool). cond (t && true) net (netAt ps (c ∷ []))) (is-true (eqb b c) (yes-eqb e))
-
-at-later : (b c : ℕ) → ¬ (b ≡ c) → (net : List ℕ) (ps : List Binding) → netAt (record { pin = b ∷ []; net = net } ∷ ps) (c ∷ []) ≡ netAt ps (c ∷ [])
-unfolding netAt same
-at-later b c d net ps = ap (λ (t : Bool). cond (t && true) net (netAt ps (c ∷ []))) (is-false (eqb b c) (no-eqb d))
-
 drives-from : (b : ℕ) (ns : List (List ℕ)) (o : List ℕ) → b + length ns ≤ 79 → netAt (binds b ns o) outputName ≡ o
 unfolding binds
 drives-from b [] o h = at-first 79 79 refl o []
@@ -233,21 +198,17 @@ unfolding binds from
 fed-from i b e [] o = refl
 fed-from i b e (n ∷ ns) o =
     ap₂ (λ (x : List ℕ) (xs : List (List ℕ)). x ∷ xs) (at-first b (65 + i) e n (binds (suc b) ns o))
-    (map-same (λ (j : ℕ). netAt (binds b (n ∷ ns) o) ((65 + j) ∷ [])) (λ (j : ℕ). netAt (binds (suc b) ns o) ((65 + j) ∷ [])) (from (suc i) (length ns)) later
+    (map-same (λ (j : ℕ). netAt (binds b (n ∷ ns) o) ((65 + j) ∷ [])) (λ (j : ℕ). netAt (binds (suc b) ns o) ((65 + j) ∷ [])) (from (suc i) (length ns))
+    (λ j m. at-later b (65 + j) (let d : ¬ (b ≡ 65 + j) = λ q. omega (arith, from-low (length ns) (suc i) j m) in d) n (binds (suc b) ns o))
     ∙ fed-from (suc i) (suc b) (omega arith) ns o)
-  where
-    later : (j : ℕ) → List·Memᴰ j (from (suc i) (length ns)) → netAt (binds b (n ∷ ns) o) ((65 + j) ∷ []) ≡ netAt (binds (suc b) ns o) ((65 + j) ∷ [])
-    later j m = at-later b (65 + j) (let d : ¬ (b ≡ 65 + j) = λ q. omega (arith, from-low (length ns) (suc i) j m) in d) n (binds (suc b) ns o)
 
 -- the listed cell of a name, by either reader
 named-is : (cells : List Cell) (name : List ℕ) (c : Cell) → cellNamed cells name ≡ some c → (named cells name ≡ c) × List·Memᴰ c cells
 unfolding cellNamed named
 named-is [] name c e = absurd (none-never e)
-named-is (d ∷ cs) name c e = go (same (nameOf d) name) e (named-is cs name c)
-  where
-    go : (b : Bool) → cond b (some d) (cellNamed cs name) ≡ some c → (cellNamed cs name ≡ some c → (named cs name ≡ c) × List·Memᴰ c cs) → (cond b d (named cs name) ≡ c) × List·Memᴰ c (d ∷ cs)
-    go true q later = (some-once q, List·Memᴰ·head (sym (some-once q)))
-    go false q later = let r = later q in (r .0, List·Memᴰ·tail (r .1))
+named-is (d ∷ cs) name c e = by-bool (same (nameOf d) name)
+    (λ q. rw q (some-once (rw q at e), List·Memᴰ·head (sym (some-once (rw q at e)))))
+    (λ p. rw p (let r = (named-is cs name c) (rw p at e) in (r .0, List·Memᴰ·tail (r .1))))
 
 -- ---- lines against drivers
 
@@ -297,14 +258,9 @@ unfolding gateOfFields below letters lastOf drives fedBy pinNames
 gate-words cells few at [] d e = absurd (none-never e)
 gate-words cells few at (k ∷ []) d e = absurd (none-never e)
 gate-words cells few at (k ∷ name ∷ ws) d e =
-    let a = then-out (cellNamed cells name) _ d e in
-    let c = a .0 in
-    let b = then-out (boundNets (letters 0 (c .pins)) ws) (λ nets. some (record { offset = at; table = c .table; uses = take (c .pins) nets; net = getD nets (c .pins) [] })) d (a .2) in
-    go c (b .0) (named-is cells name c (a .1)) (some-once (b .2)) (nets-bound (c .pins) 0 ws (b .0) (b .1))
-  where
-    go : (c : Cell) (nets : List (List ℕ)) → (named cells name ≡ c) × List·Memᴰ c cells
-        → record { offset = at; table = c .table; uses = take (c .pins) nets; net = getD nets (c .pins) [] } ≡ d → Bound 65 (c .pins) ws nets → GateWords cells (k ∷ name ∷ ws) d
-    go c nets n q r = record {
+    let go : (c : Cell) (nets : List (List ℕ)) → (named cells name ≡ c) × List·Memᴰ c cells
+    → record { offset = at; table = c .table; uses = take (c .pins) nets; net = getD nets (c .pins) [] } ≡ d → Bound 65 (c .pins) ws nets
+    → GateWords cells (k ∷ name ∷ ws) d = λ c nets n q r. record {
       key = k;
       name = name;
       ws = ws;
@@ -312,21 +268,21 @@ gate-words cells few at (k ∷ name ∷ ws) d e =
       full = r .full name;
       bindings = binds 65 (r .uses) (r .out);
       reads = r .reads;
-      says = subst (λ (x : Driver). Says cells x (record { cell = name; bindings = binds 65 (r .uses) (r .out) })) q (record {
-        net =
-            drives-from 65 (r .uses) (r .out) (omega (arith, r .count, few c (n .1)))
-            ∙ sym (ap (λ (xs : List (List ℕ)). getD xs (c .pins) []) (r .are)
-            ∙ ap (λ (i : ℕ). getD (r .uses ++ (r .out ∷ [])) i []) (sym (r .count) ∙ sym (add-zero (length (r .uses))))
-            ∙ getD-append-add (r .uses) (r .out ∷ []) 0 []);
+      says = rw (← q) (record {
+        net = drives-from 65 (r .uses) (r .out) (omega (arith, r .count, few c (n .1)))
+            ∙ sym (cc (r .are, r .count, add-zero (length (r .uses)), getD-append-add (r .uses) (r .out ∷ []) 0 []));
         table = ap (λ (x : Cell). x .table) (n .0);
-        fed =
-            ap (λ (x : Cell). map (netAt (binds 65 (r .uses) (r .out))) (pinNames (x .pins))) (n .0)
+        fed = ap (λ (x : Cell). map (netAt (binds 65 (r .uses) (r .out))) (pinNames (x .pins))) (n .0)
             ∙ ap (λ (i : ℕ). map (netAt (binds 65 (r .uses) (r .out))) (pinNames i)) (sym (r .count))
             ∙ map-map (netAt (binds 65 (r .uses) (r .out))) (λ (j : ℕ). (65 + j) ∷ []) (from 0 (length (r .uses)))
-            ∙ fed-from 0 65 refl (r .uses) (r .out)
-            ∙ sym (ap (take (c .pins)) (r .are) ∙ ap (λ (i : ℕ). take i (r .uses ++ (r .out ∷ []))) (sym (r .count)) ∙ take-append-seam (r .uses) (r .out ∷ []));
+            ∙ fed-from 0 65 refl (r .uses) (r .out) ∙ sym (cc (r .are, r .count, take-append-seam (r .uses) (r .out ∷ [])));
       });
-    }
+    } in
+    let a = then-out (cellNamed cells name) _ d e in
+    let c = a .0 in
+    let b = then-out (boundNets (letters 0 (c .pins)) ws)
+    (λ nets. some (record { offset = at; table = c .table; uses = take (c .pins) nets; net = getD nets (c .pins) [] })) d (a .2) in
+    go c (b .0) (named-is cells name c (a .1)) (some-once (b .2)) (nets-bound (c .pins) 0 ws (b .0) (b .1))
 
 -- a gate's line by either reader
 gate-read : (cells : List Cell) → Few cells → (l : Line) (d : Driver) → T (isGate l) → gateDriver cells l ≡ some d
@@ -336,10 +292,8 @@ gate-read cells few l d g e =
     let a = then-out (only (endedByTen l) (fields (l .bytes))) (gateOfFields cells (l .offset)) d e in
     let o = only-out (endedByTen l) (fields (l .bytes)) (a .0) (a .1) in
     let w = gate-words cells few (l .offset) (a .0) d (a .2) in
-    let f : fields (l .bytes) ≡ w .key ∷ w .name ∷ w .ws = o .1 ∙ w .are in
-    let key : w .key ≡ text ".gate" = same-eq (w .key) (text ".gate") (subst (λ (fs : List (List ℕ)). T (same (getD fs 0 []) (text ".gate"))) f g) in
-    let p : parts 32 (l .bytes) ≡ text ".gate" ∷ w .name ∷ w .ws =
-    parts-fields (l .bytes) (subst (λ (fs : List (List ℕ)). ¬ (lastOf fs ≡ [])) (sym (o .1)) (w .full)) ∙ f ∙ ap (λ (x : List ℕ). x ∷ w .name ∷ w .ws) key in (
+    let p : parts 32 (l .bytes) ≡ text ".gate" ∷ w .name ∷ w .ws = parts-fields (l .bytes) (rw (o .1) (w .full)) ∙ (o .1 ∙ w .are)
+    ∙ ap (λ (x : List ℕ). x ∷ w .name ∷ w .ws) (same-eq (w .key) (text ".gate") (rw (o .1 ∙ w .are) at g)) in (
       o .0,
       (
         record { cell = w .name; bindings = w .bindings },
@@ -350,13 +304,6 @@ gate-read cells few l d g e =
     )
 
 -- ---- the `.names` lines
-
-three : (ws : List (List ℕ)) → length ws ≡ 3 → ws ≡ getD ws 0 [] ∷ getD ws 1 [] ∷ getD ws 2 [] ∷ []
-three [] e = absurd (let z : 0 ≡ 3 = e in omega arith)
-three (a ∷ []) e = absurd (let z : 1 ≡ 3 = e in omega arith)
-three (a ∷ b ∷ []) e = absurd (let z : 2 ≡ 3 = e in omega arith)
-three (a ∷ b ∷ c ∷ []) e = refl
-three (a ∷ b ∷ c ∷ d ∷ ws) e = absurd (let z : suc (suc (suc (suc (length ws)))) ≡ 3 = e in omega arith)
 
 -- a `.names` line by either reader
 record NameWords (k : ℕ) (l : Line) (d : Driver) : Type 0 where
@@ -405,10 +352,6 @@ unfolding readWires same text
 end-wires [] = refl
 end-wires (q ∷ qs) = refl
 
-end-gate : readGate (text ".end") ≡ none
-unfolding readGate wordsAfter afterWord parts split onto same text only andThen
-end-gate = refl
-
 record NamesRead (ds : List Driver) (ps : List (List ℕ)) : Type 0 where
   first : List ℕ
   behind : List (List ℕ)
@@ -433,10 +376,6 @@ wire-read p qs k source xs n e q =
     ap (λ (t : Bool). cond t (some []) (andThen (readWire p (text "1 1")) (λ x. andThen (readWires qs) (λ ys. some (x ∷ ys))))) n
     ∙ ap₂ (λ (fs : List (List ℕ)) (o : Option (List Wire)). andThen (andThen (afterWord (text ".names") fs) wireOf) (λ x. andThen o (λ ys. some (x ∷ ys)))) e q
 
-wire-gate : (p : List ℕ) (a b : List ℕ) → parts 32 p ≡ text ".names" ∷ a ∷ b ∷ [] → readGate p ≡ none
-unfolding readGate wordsAfter afterWord only same text andThen
-wire-gate p a b e = ap (λ (fs : List (List ℕ)). andThen (afterWord (text ".gate") fs) gateOf) e
-
 names-read : (end k left : ℕ) (ls : List Line) (ds : List Driver) (ps : List (List ℕ)) → Along ls ps → readNames end k left ls ≡ holds ds → NamesRead ds ps
 unfolding readNames
 names-read end k zero [] ds ps a e = absurd (fault-never e)
@@ -449,7 +388,7 @@ names-read end k zero (l ∷ ls) ds ps a e =
       first = text ".end";
       behind = h .behind;
       are = q;
-      noGate = end-gate;
+      noGate = no-gate-end;
       wires = [];
       reads = ap readWires q ∙ end-wires (h .behind);
       hand = subst (λ (xs : List Driver). All2 Hands xs []) (holds-once (u .1)) nil;
@@ -468,7 +407,8 @@ names-read end k (suc left) (l ∷ ls) ds ps al e =
       first = l .bytes;
       behind = text "1 1" ∷ r .0;
       are = q;
-      noGate = wire-gate (l .bytes) (n .source) (outName k) (n .partsAre);
+      noGate = unfold readGate wordsAfter afterWord only same text andThen in ap
+          (λ (fs : List (List ℕ)). andThen (afterWord (text ".gate") fs) gateOf) (n .partsAre);
       wires = record { source = n .source; target = outName k } ∷ m .wires;
       reads = ap readWires q ∙ wire-read (l .bytes) (r .0) k (n .source) (m .wires) (one-field (l .bytes) k (n .source) (outName k) (n .fieldsAre)) (n .partsAre) (m .reads);
       hand = subst (λ (xs : List Driver). All2 Hands xs (record { source = n .source; target = outName k } ∷ m .wires)) (holds-once (c .2)) (cons (n .hands) (m .hand));
@@ -479,10 +419,6 @@ names-read end k (suc left) (l ∷ ls) ds ps al e =
 body-gate : (l : List ℕ) (ls : List (List ℕ)) (t : GateLine) (b : Body) → readGate l ≡ some t → readBody ls ≡ some b → readBody (l ∷ ls) ≡ some (record { gates = t ∷ b .gates; wires = b .wires })
 unfolding readBody bodyFrom andThen
 body-gate l ls t b e q = ap₂ (λ (o : Option GateLine) (x : Option Body). bodyFrom o x (readWires (l ∷ ls))) e q
-
-body-wires : (l : List ℕ) (ls : List (List ℕ)) (xs : List Wire) → readGate l ≡ none → readWires (l ∷ ls) ≡ some xs → readBody (l ∷ ls) ≡ some (record { gates = []; wires = xs })
-unfolding readBody bodyFrom andThen
-body-wires l ls xs e q = ap₂ (λ (o : Option GateLine) (x : Option (List Wire)). bodyFrom o (readBody ls) x) e q
 
 record DriversRead (cells : List Cell) (ds : List Driver) (ps : List (List ℕ)) : Type 0 where
   body : Body
@@ -496,7 +432,7 @@ record DriversRead (cells : List Cell) (ds : List Driver) (ps : List (List ℕ))
 only-names : (cells : List Cell) (ds : List Driver) (ps : List (List ℕ)) → NamesRead ds ps → DriversRead cells ds ps
 only-names cells ds ps n = record {
   body = record { gates = []; wires = n .wires };
-  reads = ap readBody (n .are) ∙ body-wires (n .first) (n .behind) (n .wires) (n .noGate) (ap readWires (sym (n .are)) ∙ n .reads);
+  reads = ap readBody (n .are) ∙ (unfold readBody bodyFrom andThen in cc ((n .noGate), (ap readWires (sym (n .are)) ∙ n .reads)));
   ofGates = [];
   ofNames = ds;
   are = refl;
@@ -554,10 +490,6 @@ worded-map : {A : Type 0} (f : A → List ℕ) → ((x : A) → Word (f x)) → 
 worded-map f h [] = tt
 worded-map f h (x ∷ xs) = (h x, worded-map f h xs)
 
-net-word : (l : ℕ) → Word (netName l)
-unfolding netName
-net-word l = word (net-free 32 l (lit< tt))
-
 out-word : (k : ℕ) → Word (outName k)
 unfolding outName
 out-word k = word (refl, decimal-free 32 k (lit< tt))
@@ -573,10 +505,6 @@ names-words key (word {b = b} {w = w} f) [] ps = ap (parts 32) (append-nil (b �
 names-words key (word {b = b} {w = w} f) (n ∷ ns) ps =
     parts-line 32 (b ∷ w) (n ++ each (λ (m : List ℕ). 32 ∷ m) ns) f ∙ ap (λ (xs : List (List ℕ)). (b ∷ w) ∷ xs) (names-words n (ps .0) ns (ps .1))
 
-inputs-word : Word (text ".inputs")
-unfolding text
-inputs-word = word {b = 46} {w = 105 ∷ 110 ∷ 112 ∷ 117 ∷ 116 ∷ 115 ∷ []} (refl, (refl, (refl, (refl, (refl, (refl, (refl, tt)))))))
-
 outputs-word : Word (text ".outputs")
 unfolding text
 outputs-word = word {b = 46} {w = 111 ∷ 117 ∷ 116 ∷ 112 ∷ 117 ∷ 116 ∷ 115 ∷ []} (refl, (refl, (refl, (refl, (refl, (refl, (refl, (refl, tt))))))))
@@ -584,28 +512,16 @@ outputs-word = word {b = 46} {w = 111 ∷ 117 ∷ 116 ∷ 112 ∷ 117 ∷ 116 �
 frame-read : (g : Graph) (qs : List (List ℕ)) (b : Body) → readBody qs ≡ some b
     → readLines (frameOf g ++ qs) ≡ some (record { inputs = inputNets g; outputs = outputNets g; gates = b .gates; wires = b .wires })
 unfolding readLines frameOf wordsAfter afterWord inputNets outputNets same only text andThen
-frame-read g qs b e =
-    ap (λ (ps : List (List ℕ)). andThen (afterWord (text ".inputs") ps) (λ is. andThen (wordsAfter (text ".outputs") (text ".outputs" ++ each (λ (n : List ℕ). 32 ∷ n) outs)) (λ os. andThen (readBody qs) (model is os))))
-    (names-words (text ".inputs") inputs-word ins (worded-map (λ (v : ℕ). netName (literal false v)) (λ v. net-word (literal false v)) (g .inputs)))
-    ∙ ap (λ (ps : List (List ℕ)). andThen (afterWord (text ".outputs") ps) (λ os. andThen (readBody qs) (model ins os)))
-    (names-words (text ".outputs") outputs-word outs (worded-map outName out-word (below (length (g .outputs)))))
-    ∙ ap (λ (x : Option Body). andThen x (model ins outs)) e
-  where
-    ins : List (List ℕ)
-    ins = map (λ (v : ℕ). netName (literal false v)) (g .inputs)
-
-    outs : List (List ℕ)
-    outs = map outName (below (length (g .outputs)))
-
-    model : List (List ℕ) → List (List ℕ) → Body → Option Blif
-    model is os x = some (record { inputs = is; outputs = os; gates = x .gates; wires = x .wires })
+frame-read g qs b e = cc (
+  names-words (text ".inputs")
+      (word {b = 46} {w = 105 ∷ 110 ∷ 112 ∷ 117 ∷ 116 ∷ 115 ∷ []} (refl, (refl, (refl, (refl, (refl, (refl, (refl, tt))))))))
+      (map (λ (v : ℕ). netName (literal false v)) (g .inputs))
+      (worded-map (λ (v : ℕ). netName (literal false v)) (λ v. (word (net-free 32 (literal false v) (lit< tt)))) (g .inputs)),
+  names-words
+      (text ".outputs") outputs-word (map outName (below (length (g .outputs)))) (worded-map outName out-word (below (length (g .outputs)))),
+)
 
 -- ---- the values
-
-wire-value : (b : Bool) → value 2 (rowOf (b ∷ [])) ≡ b
-unfolding value rowOf Rattle.model.specs.Base.bit Rattle.model.specs.Base.one
-wire-value true = refl
-wire-value false = refl
 
 module _ (cells : List Cell) (g : Graph) (ds : List Driver) (ps : List (List ℕ)) (r : DriversRead cells ds ps) (setting : ℕ → Bool) (w : List ℕ → Bool) where
   abbrev model : Blif
@@ -614,27 +530,22 @@ module _ (cells : List Cell) (g : Graph) (ds : List Driver) (ps : List (List ℕ
   values-on : ValuesUnder g ds setting w → NetValues cells model (map setting (g .inputs)) w
   values-on h = record {
     atInputs = h .atInputs;
-    atGates = λ t m.
-        let a = all2-right (Says cells) (r .ofGates) (r .body .gates) (r .say) t m in
-        ap w (a .2 .net) ∙ h .atDrivers (a .0) (subst (List·Memᴰ (a .0)) (sym (r .are)) (Memᴰ·append-left (r .ofNames) (a .1)))
-        ∙ sym (ap₂ (λ (n : ℕ) (ns : List (List ℕ)). value n (rowOf (map w ns))) (a .2 .table) (a .2 .fed));
-    atWires = λ x m.
-        let a = all2-right Hands (r .ofNames) (r .body .wires) (r .hand) x m in
-        ap w (sym (a .2 .target)) ∙ h .atDrivers (a .0) (subst (List·Memᴰ (a .0)) (sym (r .are)) (Memᴰ·append-right (r .ofGates) (a .1)))
+    atGates = λ t m. let a = all2-right (Says cells) (r .ofGates) (r .body .gates) (r .say) t m in ap w (a .2 .net)
+        ∙ h .atDrivers (a .0) (rw (r .are) (Memᴰ·append-left (r .ofNames) (a .1))) ∙ sym (cc (a .2 .table, a .2 .fed));
+    atWires = λ x m. let a = all2-right Hands (r .ofNames) (r .body .wires) (r .hand) x m in ap w (sym (a .2 .target))
+        ∙ h .atDrivers (a .0) (rw (r .are) (Memᴰ·append-right (r .ofGates) (a .1)))
         ∙ ap₂ (λ (n : ℕ) (ns : List (List ℕ)). value n (rowOf (map w ns))) (a .2 .table) (a .2 .source) ∙ wire-value (w (x .source));
   }
 
   values-back : NetValues cells model (map setting (g .inputs)) w → ValuesUnder g ds setting w
-  values-back h = record { atInputs = h .atInputs; atDrivers = λ d m. go d (List·Memᴰ·append-cases (r .ofGates) (subst (List·Memᴰ d) (r .are) m)) }
-    where
-      go : (d : Driver) → List·Memᴰ d (r .ofGates) ⊎ List·Memᴰ d (r .ofNames) → w (d .net) ≡ value (d .table) (rowOf (map w (d .uses)))
-      go d (inl m) =
-          let a = all2-left (Says cells) (r .ofGates) (r .body .gates) (r .say) d m in
-          ap w (sym (a .2 .net)) ∙ h .atGates (a .0) (a .1) ∙ ap₂ (λ (n : ℕ) (ns : List (List ℕ)). value n (rowOf (map w ns))) (a .2 .table) (a .2 .fed)
-      go d (inr m) =
-          let a = all2-left Hands (r .ofNames) (r .body .wires) (r .hand) d m in
-          ap w (a .2 .target) ∙ h .atWires (a .0) (a .1)
-          ∙ sym (ap₂ (λ (n : ℕ) (ns : List (List ℕ)). value n (rowOf (map w ns))) (a .2 .table) (a .2 .source) ∙ wire-value (w (a .0 .source)))
+  values-back h = record {
+    atInputs = h .atInputs;
+    atDrivers = λ d m. (⊎-elim (λ q. let a = all2-left (Says cells) (r .ofGates) (r .body .gates) (r .say) d q in ap w (sym (a .2 .net))
+        ∙ h .atGates (a .0) (a .1) ∙ ap₂ (λ (n : ℕ) (ns : List (List ℕ)). value n (rowOf (map w ns))) (a .2 .table) (a .2 .fed)) (λ e.
+        let a = all2-left Hands (r .ofNames) (r .body .wires) (r .hand) d e in ap w (a .2 .target) ∙ h .atWires (a .0) (a .1) ∙ sym
+        (ap₂ (λ (n : ℕ) (ns : List (List ℕ)). value n (rowOf (map w ns))) (a .2 .table) (a .2 .source) ∙ wire-value (w (a .0 .source))))
+        (List·Memᴰ·append-cases (r .ofGates) (rw (← r .are) m)));
+  }
 
 -- what `readNetlist` reads means what `readBlif` reads
 pub netlist-means : (cells : List Cell) → Few cells → (g : Graph) (netlist : List ℕ) (ds : List Driver) → readNetlist cells g netlist ≡ holds ds → MeansText cells g netlist ds

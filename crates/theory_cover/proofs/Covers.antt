@@ -5,9 +5,7 @@ use Prim.Native.Nat.{ℕ, zero, suc, _+_, _*_, _≤_}
 use native.Mathlib.Nat.{not-suc-le-zero}
 use native.Mathlib.Omega.{arith}
 use mathlib.Core.Path.{_≡_, refl, sym, _∙_, ap, subst}
-use mathlib.Core.Bool.{Bool, true, false, not}
 use mathlib.Core.List.{List, [], _∷_, _++_, map, append-assoc, List·Memᴰ, List·Memᴰ·head, List·Memᴰ·tail, List·Memᴰ·not-nil, List·Memᴰ·eq-of-singleton, Memᴰ·append-left, Memᴰ·cast}
-use lib.Dec.{T}
 use lib.ListN.{length}
 use Rattle.model.specs.Base.{find}
 use Rattle.model.specs.Graph.{Graph, placeF, placingOrder, varOf, negated, opposite}
@@ -24,6 +22,7 @@ use Rattle.theory_graph.proofs.Runs.{along}
 use Rattle.theory_graph.proofs.Nodes.{node-input}
 use Rattle.theory_graph.proofs.CutFacts.{cutsKnown, cuts-entry, cuts-none, leaves-before}
 use Rattle.theory_cover.proofs.Matches.{cutFor, cut-listed, matched-leaf}
+use Rattle.theory_graph.proofs.Split.{by-bool, by-nat}
 
 -- a source that is no inverter
 abbrev pub Straight : Source → Type 0
@@ -51,9 +50,7 @@ module _ (cells : List Cell) (g : Graph) (once : Distinct (placingOrder g)) (out
       go Input h = tt
       go Nothing h = subst (λ (s : Source). Allowed cells g (opposite l) s) h (c .allowed (opposite l) n′)
       go (Matched m) h = tt
-      go (Inverted j) h =
-          absurd (c .noCircle l n
-          (through (directly (subst (λ (s : Source). List·Memᴰ l (feeds cells (cutsOf g) (opposite l) s)) (sym h) (List·Memᴰ·head (sym (opposite-back l))))) feeding))
+      go (Inverted j) h = absurd (c .noCircle l n (through (directly (rw h (List·Memᴰ·head (sym (opposite-back l))))) feeding))
 
   -- what is never placed has no source but inverters
   unplaced-straight : (l : ℕ) → ¬ List·Memᴰ (varOf l) (placingOrder g) → Needs l → ¬ Straight (c .source l)
@@ -61,13 +58,10 @@ module _ (cells : List Cell) (g : Graph) (once : Distinct (placingOrder g)) (out
   unplaced-straight l h n = go (c .source l) refl
     where
       go : (s : Source) → c .source l ≡ s → ¬ Straight s
-      go Input s t =
-          let o : IsOwn g l = subst (Allowed cells g l) s (c .allowed l n) in
-          h (List·Memᴰ·tail (Memᴰ·append-left (placeF (length (g .ands)) (g .ands) (0 ∷ g .inputs)) (o .isInput)))
+      go Input s t = h (List·Memᴰ·tail
+          (Memᴰ·append-left (placeF (length (g .ands)) (g .ands) (0 ∷ g .inputs)) (subst (Allowed cells g l) s (c .allowed l n) .isInput)))
       go Nothing s t = t
-      go (Matched m) s t =
-          let k : IsMatch cells g l m = subst (Allowed cells g l) s (c .allowed l n) in
-          List·Memᴰ·not-nil (subst (λ (cs : List (List ℕ)). List·Memᴰ (cutFor g l m) cs) (cuts-none g (varOf l) h) (cut-listed cells g l m k))
+      go (Matched m) s t = List·Memᴰ·not-nil (rw (cuts-none g (varOf l) h) at (cut-listed cells g l m (rw s at (c .allowed l n))))
       go (Inverted i) s t = t
 
   pub unplaced-never : (l : ℕ) → ¬ List·Memᴰ (varOf l) (placingOrder g) → ¬ Needs l
@@ -87,10 +81,8 @@ module _ (cells : List Cell) (g : Graph) (once : Distinct (placingOrder g)) (out
   input-cut : (v : ℕ) → List·Memᴰ v (g .inputs) → (d : List ℕ) → List·Memᴰ d (cutsOf g v) → d ≡ v ∷ []
   unfolding nodeCuts
   input-cut = along (λ u. List·Memᴰ u (g .inputs) → (d : List ℕ) → List·Memᴰ d (cutsOf g u) → d ≡ u ∷ []) (placingOrder g)
-      (λ u h i d m. absurd (List·Memᴰ·not-nil (subst (λ (cs : List (List ℕ)). List·Memᴰ d cs) (cuts-none g u h) m)))
-      (λ pre u post e _ i d m.
-      List·Memᴰ·eq-of-singleton (subst (λ (cs : List (List ℕ)). List·Memᴰ d cs)
-      (cuts-entry g pre u post e once ∙ ap (nodeCuts (λ w. find [] w (cutsKnown g pre)) u) (node-input g u once i)) m))
+      (λ u h i d m. absurd (List·Memᴰ·not-nil (rw (cuts-none g u h) at m))) (λ pre u post e _ i d m. List·Memᴰ·eq-of-singleton
+      (rw (cuts-entry g pre u post e once ∙ ap (nodeCuts (λ w. find [] w (cutsKnown g pre)) u) (node-input g u once i)) at m))
 
   straight-input : (l : ℕ) → List·Memᴰ (varOf l) (g .inputs) → Needs l → Straight (c .source l) → c .source l ≡ Input
   straight-input l i n = go (c .source l) refl
@@ -107,10 +99,6 @@ module _ (cells : List Cell) (g : Graph) (once : Distinct (placingOrder g)) (out
   pub own-only : (l : ℕ) → IsOwn g l → Needs l → c .source l ≡ Input
   own-only l o n = go (c .source l) refl
     where
-      never : (b : Bool) → T (not b) → T (not (not b)) → ⊥
-      never true t u = t
-      never false t u = u
-
       go : (s : Source) → c .source l ≡ s → c .source l ≡ Input
       go Input s = s
       go Nothing s = absurd (subst (Allowed cells g l) s (c .allowed l n))
@@ -118,8 +106,8 @@ module _ (cells : List Cell) (g : Graph) (once : Distinct (placingOrder g)) (out
       go (Inverted i) s =
           let f = fed-straight l i n s in
           let e : c .source (opposite l) ≡ Input = straight-input (opposite l) (Memᴰ·cast (opposite-var l) (o .isInput)) (f .0) (f .1) in
-          let p : IsOwn g (opposite l) = subst (Allowed cells g (opposite l)) e (c .allowed (opposite l) (f .0)) in
-          absurd (never (negated l) (o .positive) (subst (λ (b : Bool). T (not b)) (opposite-neg l) (p .positive)))
+          let p : IsOwn g (opposite l) = rw e at (c .allowed (opposite l) (f .0)) in
+          absurd (by-bool (negated l) (λ e. rw e at (o .positive)) (λ q. rw q at (rw (opposite-neg l) at (p .positive))))
 
   -- ---- what feeds a phase
 
@@ -143,9 +131,8 @@ module _ (cells : List Cell) (g : Graph) (once : Distinct (placingOrder g)) (out
       → (varOf x ≡ v) × Needs x × Straight (c .source x)
   unfolding feeds
   fed-opposite v l i p n s x j =
-      let f = fed-straight l i n s in
       let q : x ≡ opposite l = List·Memᴰ·eq-of-singleton (subst (λ (r : Source). List·Memᴰ x (feeds cells (cutsOf g) l r)) s j) in
-      (ap varOf q ∙ opposite-var l ∙ p, fed n j, subst (λ (y : ℕ). Straight (c .source y)) (sym q) (f .1))
+      (ap varOf q ∙ opposite-var l ∙ p, fed n j, subst (λ (y : ℕ). Straight (c .source y)) (sym q) (fed-straight l i n s .1))
 
   -- a phase that a cover needs has no inverter, or is fed by one that has none
   turned : (P : Type 0) (l : ℕ) → Needs l → (Straight (c .source l) → P) → ((i : ℕ) → c .source l ≡ Inverted i → P) → P
@@ -159,8 +146,7 @@ module _ (cells : List Cell) (g : Graph) (once : Distinct (placingOrder g)) (out
 
   -- Induction along what feeds: each phase that a cover needs after those that it is fed by.
   pub by-feeding : (P : ℕ → Type 0) → ((l : ℕ) → Needs l → ((x : ℕ) → List·Memᴰ x (feeds cells (cutsOf g) l (c .source l)) → P x) → P l) → (l : ℕ) → Needs l → P l
-  by-feeding P step l n =
-      along (λ v. (x : ℕ) → varOf x ≡ v → Needs x → P x) (placingOrder g)
+  by-feeding P step l n = along (λ v. (x : ℕ) → varOf x ≡ v → Needs x → P x) (placingOrder g)
       (λ u h x p k. absurd (unplaced-never x (λ m. h (Memᴰ·cast (sym p) m)) k)) turn (varOf l) l refl n
     where
       turn : (pre : List ℕ) (v : ℕ) (post : List ℕ) → placingOrder g ≡ pre ++ (v ∷ post) → ((u : ℕ) → ¬ List·Memᴰ u (v ∷ post) → (x : ℕ) → varOf x ≡ u → Needs x → P x)
@@ -203,40 +189,33 @@ module _ (cells : List Cell) (g : Graph) (once : Distinct (placingOrder g)) (out
 
   settled-next : (n : ℕ) (pre : List ℕ) (v : ℕ) (post : List ℕ) → placingOrder g ≡ pre ++ (v ∷ post) → ((u : ℕ) → ¬ List·Memᴰ u (v ∷ post) → Settled n u) → Settled (suc n) v
   unfolding Settled
-  settled-next n pre v post e known l p need k h =
-      turned (time k l ≡ time (suc k) l) l need (λ t. plain l p need t k (omega arith)) (λ i s. turn i s k h)
+  settled-next n pre v post e known l p need k h = turned (time k l ≡ time (suc k) l) l need (λ t. plain l p need t k (omega arith)) (λ i s.
+      by-nat k (λ q. rw q (absurd (let z : ⊥ = omega (arith, rw q at h) in z))) (λ j r. rw r
+      (again j l (λ x m. let o = fed-opposite v l i p need s x m in plain x (o .0) (o .1) (o .2) j (omega (arith, rw r at h))))))
     where
       plain : (y : ℕ) → varOf y ≡ v → Needs y → Straight (c .source y) → (j : ℕ) → suc (2 * n) ≤ j → time j y ≡ time (suc j) y
       plain y q m t zero a = absurd (not-suc-le-zero a)
       plain y q m t (suc j) a = again j y (λ x i. known (varOf x) (feeds-before pre v post e y q m t x i) x refl (fed m i) j (omega arith))
 
-      turn : (i : ℕ) → c .source l ≡ Inverted i → (j : ℕ) → 2 * suc n ≤ j → time j l ≡ time (suc j) l
-      turn i s zero a = absurd (let z : ⊥ = omega arith in z)
-      turn i s (suc j) a = again j l (λ x m. let o = fed-opposite v l i p need s x m in plain x (o .0) (o .1) (o .2) j (omega arith))
-
   settle : (n : ℕ) (pre post : List ℕ) → placingOrder g ≡ pre ++ post → ((u : ℕ) → ¬ List·Memᴰ u post → Settled n u) → (u : ℕ) → Settled (n + length post) u
   unfolding Settled
   settle n pre [] e known u l p need k h = known u List·Memᴰ·not-nil l p need k (omega arith)
   settle n pre (v ∷ post) e known u l p need k h =
+      let later : (x : ℕ) → Settled n x → Settled (suc n) x = λ x s y q m j a. s y q m j (omega arith) in
       settle (suc n) (pre ++ (v ∷ [])) post (e ∙ sym (append-assoc pre (v ∷ []) post))
-      (λ x d. by-eqb x v (λ s. subst (Settled (suc n)) (sym s) (settled-next n pre v post e known)) (λ s. later x (known x (not-in s d))))
-      u l p need k (omega arith)
+      (λ x d. by-eqb x v (λ s. rw s (settled-next n pre v post e known)) (λ s. later x (known x (not-in s d)))) u l p need k (omega arith)
     where
       not-in : {x : ℕ} → ¬ (x ≡ v) → ¬ List·Memᴰ x post → ¬ List·Memᴰ x (v ∷ post)
       not-in a b (List·Memᴰ·head q) = a q
       not-in a b (List·Memᴰ·tail m) = b m
 
-      later : (x : ℕ) → Settled n x → Settled (suc n) x
-      later x s y q m j a = s y q m j (omega arith)
-
   -- a cover has arrivals, on the phases that it needs no others, and at inputs' own nets the inputs'
   pub covers-timed : Timed cells g outs c
   unfolding time Settled arrivalBy
-  covers-timed = record {
-    starts = λ at a l n o. a .timed l n ∙ ap (arrivalBy cells g at l) (own-only l o n);
-    has = (time rounds, record { timed = λ l n. settle 0 [] (placingOrder g) refl (λ u h l p k. absurd (unplaced-never l (λ m. h (Memᴰ·cast (sym p) m)) k)) (varOf l) l refl n rounds (omega arith) });
-    alone = λ at bt a b. by-feeding (λ l. at l ≡ bt l) (λ l n e. a .timed l n ∙ same-arrival at bt l e ∙ sym (b .timed l n));
-  }
-    where
-      rounds : ℕ
-      rounds = 2 * length (placingOrder g)
+  covers-timed =
+      let rounds : ℕ = 2 * length (placingOrder g) in
+      record {
+        starts = λ at a l n o. a .timed l n ∙ ap (arrivalBy cells g at l) (own-only l o n);
+        has = (time rounds, record { timed = λ l n. settle 0 [] (placingOrder g) refl (λ u h l p k. absurd (unplaced-never l (λ m. h (Memᴰ·cast (sym p) m)) k)) (varOf l) l refl n rounds (omega arith) });
+        alone = λ at bt a b. by-feeding (λ l. at l ≡ bt l) (λ l n e. a .timed l n ∙ same-arrival at bt l e ∙ sym (b .timed l n));
+      }

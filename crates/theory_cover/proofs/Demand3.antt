@@ -47,13 +47,11 @@ starts phase k (l ∷ ls) = go (absent (phase l .source)) refl (uncovered phase 
     step n e p (suc i) q = p i (le-of-suc-le-suc q)
 
     go : (b : Bool) → absent (phase l .source) ≡ b → (us : List ℕ) → Starts phase (suc k) ls us → Starts phase k (l ∷ ls) (cond b (k ∷ us) us)
-    go true e us s =
-        subst (λ (n : ℕ). Starts phase k (l ∷ ls) (n ∷ us)) (add-zero k)
+    go true e us s = subst (λ (n : ℕ). Starts phase k (l ∷ ls) (n ∷ us)) (add-zero k)
         (at 0 us (record { here = omega arith; none-at = e; before = λ i h. absurd (not-suc-le-zero h) }))
     go false e us (nowhere h) = nowhere (step (length ls) e h)
-    go false e us (at j rest f) =
-        subst (λ (n : ℕ). Starts phase k (l ∷ ls) (n ∷ rest)) (add-suc k j ∙ sym (suc-add k j))
-        (at (suc j) rest (record { here = let h : j < length ls = f .here in omega arith; none-at = f .none-at; before = step j e (f .before) }))
+    go false e us (at j rest f) = rw (← add-suc k j ∙ sym (suc-add k j)) (at (suc j) rest
+        (record { here = let h : j < length ls = f .here in omega arith; none-at = f .none-at; before = step j e (f .before) }))
 
 module _ (cells : List Cell) (g : Graph) (ok : Accepted g) where
   -- a phase that a cover needs is chosen a source, and none is earlier in the cover
@@ -92,22 +90,17 @@ module _ (cells : List Cell) (g : Graph) (ok : Accepted g) where
       (λ e. let z : _≡_ {A = ℕ} 0 1 = cc in absurd (omega arith)),
       (λ p. absurd (p .hasNone (present-covered (getD (g .outputs) k 0) (h k (p .isOutput))))),
     )
-    lowest-from k us (at j rest f) = (
-      (λ e. let q : 0 + j ≡ k = cc in subst (LowestUncovered cells g) (sym (zero-add j) ∙ q) here),
-      (λ p. ap (refused 17) (zero-add j ∙ meet p)),
-    )
-      where
-        here : LowestUncovered cells g j
-        here = record {
+    lowest-from k us (at j rest f) =
+        let here : LowestUncovered cells g j = record {
           isOutput = f .here;
           hasNone = choice-nothing (getD (g .outputs) j 0) .0 (subst T (sym (f .none-at)) tt);
           before = λ i h. present-covered (getD (g .outputs) i 0) (f .before i h);
-        }
-
-        meet : LowestUncovered cells g k → j ≡ k
-        meet p = le-antisymm
-            (elim (decLe j k) [ yes h ↦ h | no h ↦ absurd (p .hasNone (present-covered (getD (g .outputs) k 0) (f .before k (lt-of-not-le h)))) ])
-            (elim (decLe k j) [ yes h ↦ h | no h ↦ absurd (here .hasNone (p .before j (lt-of-not-le h))) ])
+        } in (
+          (λ e. let q : 0 + j ≡ k = cc in subst (LowestUncovered cells g) (sym (zero-add j) ∙ q) here),
+          (λ p. ap (refused 17) (zero-add j ∙ (le-antisymm (elim
+              (decLe j k) [ yes h ↦ h | no h ↦ absurd (p .hasNone (present-covered (getD (g .outputs) k 0) (f .before k (lt-of-not-le h)))) ])
+              (elim (decLe k j) [ yes h ↦ h | no h ↦ absurd (here .hasNone (p .before j (lt-of-not-le h))) ])))),
+        )
 
     printed-from : (us : List ℕ) → Starts (chosen cells g) 0 (g .outputs) us → ((l : ℕ) → List·Memᴰ l (g .outputs) → Cover cells g (l ∷ []))
         → printed listed cells g (chosen cells g) us ≡ mapped (choiceText listed cells g) (choiceFigures listed cells g)

@@ -4,16 +4,15 @@ use Prim.Native.Nat.{ℕ, _+_, _≤_}
 use native.Mathlib.Nat.{le-refl, le-trans, le-of-eq, zero-add}
 use native.Mathlib.Omega.{arith}
 use mathlib.Core.Path.{_≡_, refl, sym, _∙_, ap, subst}
-use mathlib.Core.Bool.{Bool, true, false, not, cond, true≢false}
+use mathlib.Core.Bool.{Bool, true, not, true≢false}
 use mathlib.Core.List.{List, [], _∷_, _++_, map, List·Memᴰ, List·Memᴰ·head, List·Memᴰ·tail, List·Memᴰ·not-nil, List·Memᴰ·eq-of-singleton, Memᴰ·cast}
-use lib.Dec.{T}
 use lib.ListN.{getD}
 use Rattle.model.specs.Base.{find}
 use Rattle.model.specs.Cells.{cellAt, noCell}
 use Rattle.model.specs.Graph.{Graph, Node, constant, input, undefined, both, node, placingOrder, varOf, negated, opposite}
 use Rattle.model.specs.Cuts.{nodeCuts, cutsOf}
 use Rattle.model.specs.Matching.{matchNets}
-use Rattle.model.specs.Choice.{Phases, noPhase, feeds, cellOf, latest, absent, choose, phaseOf, matchPhase, matchPhases, inverterPhases, direct, chosen}
+use Rattle.model.specs.Choice.{Phases, feeds, cellOf, latest, absent, choose, phaseOf, matchPhase, matchPhases, inverterPhases, direct, chosen}
 use Rattle.model.specs.Cover.{IsMatch, IsOwn, IsInverting, Allowed, Needed, output, fed, arrivalBy, Cover, CoverArrivals}
 use Rattle.model.specs.Demands.{Distinct}
 use Rattle.model.specs.declared.Cell.{Cell}
@@ -29,20 +28,15 @@ use Rattle.theory_graph.proofs.CutFacts.{cutsKnown, cuts-entry, leaves-before}
 use Rattle.theory_cover.proofs.Turns.{Beats, choose-beats, phasesKnown, chosen-known, own, chosen-entry}
 use Rattle.theory_cover.proofs.Covers.{Straight, fed-straight, unplaced-never, covers-timed}
 use Rattle.theory_cover.proofs.Matches.{cutFor, cut-listed, match-tried, matched-leaf, matchPhase-in, invertedPhase, inverter-in}
+use Rattle.theory_graph.proofs.Split.{by-bool}
 
 -- ---- a cell's arrival
 
 latest-mono : (f h : ℕ → ℕ) (xs ds : List ℕ) → ((x : ℕ) → List·Memᴰ x xs → f x ≤ h x) → latest (map f xs) ds ≤ latest (map h xs) ds
 unfolding latest
 latest-mono f h [] ds le = le-refl 0
-latest-mono f h (x ∷ xs) [] le =
-    let a : f x ≤ h x = le x (List·Memᴰ·head refl) in
-    let b : latest (map f xs) [] ≤ latest (map h xs) [] = latest-mono f h xs [] (λ y m. le y (List·Memᴰ·tail m)) in
-    omega arith
-latest-mono f h (x ∷ xs) (d ∷ ds) le =
-    let a : f x ≤ h x = le x (List·Memᴰ·head refl) in
-    let b : latest (map f xs) ds ≤ latest (map h xs) ds = latest-mono f h xs ds (λ y m. le y (List·Memᴰ·tail m)) in
-    omega arith
+latest-mono f h (x ∷ xs) [] le = omega (arith, latest-mono f h xs [] (λ y m. le y (List·Memᴰ·tail m)), le x (List·Memᴰ·head refl))
+latest-mono f h (x ∷ xs) (d ∷ ds) le = omega (arith, latest-mono f h xs ds (λ y m. le y (List·Memᴰ·tail m)), le x (List·Memᴰ·head refl))
 
 -- an inverter's arrival is its net's with the pin's delay
 pub latest-one : (t : ℕ) (ds : List ℕ) → t + getD ds 0 0 ≡ latest (t ∷ []) ds
@@ -81,8 +75,7 @@ match-direct cells g once pre l post e m h known = at (node g (varOf l)) refl
   where
     cut-at : (k : Node) → node g (varOf l) ≡ k → List·Memᴰ (cutFor g l m) (nodeCuts (λ u. find [] u (cutsKnown g pre)) (varOf l) k)
     cut-at k q =
-        subst (λ (cs : List (List ℕ)). List·Memᴰ (cutFor g l m) cs)
-        (cuts-entry g pre (varOf l) post e once ∙ ap (nodeCuts (λ u. find [] u (cutsKnown g pre)) (varOf l)) q) (cut-listed cells g l m h)
+        subst (λ (cs : List (List ℕ)). List·Memᴰ (cutFor g l m) cs) (cc (cuts-entry g pre (varOf l) post e once)) (cut-listed cells g l m h)
 
     at : (k : Node) → node g (varOf l) ≡ k
         → direct cells g known (varOf l) (cutsOf g (varOf l)) (negated l) k ≡ choose (matchPhases cells g known (varOf l) (negated l) 0 (cutsOf g (varOf l)))
@@ -104,31 +97,17 @@ module _ (cells : List Cell) (g : Graph) (once : Distinct (placingOrder g)) (out
       → Needs l → (m : Match) → c .source l ≡ Matched m → IsMatch cells g l m → Beats (matchPhase cells (phasesKnown cells g pre) (cutFor g l m) m) (at l)
   unfolding Good feeds absent
   match-beats pre l post e ih n m s h =
-      subst (λ (w : Phase). Beats w (at l)) (sym (matchPhase-in cells (phasesKnown cells g pre) (cutFor g l m) m (λ x i. each-beats x i .present)))
-      (record { present = refl; early = le-trans by-pins (le-of-eq (sym on-time)) })
-    where
-      fs : List ℕ
-      fs = matchNets cells (cutFor g l m) m
-
-      look : ℕ → Phase
-      look = phaseOf (phasesKnown cells g pre)
-
-      needs : (x : ℕ) → List·Memᴰ x fs → Needs x
-      needs x i = fed n (subst (λ (t : Source). List·Memᴰ x (feeds cells (cutsOf g) l t)) (sym s) i)
-
-      each-beats : (x : ℕ) → List·Memᴰ x fs → Beats (look x) (at x)
-      each-beats x i =
-          let before : ¬ List·Memᴰ (varOf x) (varOf l ∷ post) =
-          leaves-before g pre (varOf l) post e once (cutFor g l m) (cut-listed cells g l m h) (h .notAlone) (varOf x) (matched-leaf cells g l m x h i) in
-          subst (λ (w : Phase). Beats w (at x)) (chosen-known cells g pre (varOf l) post e x before) (ih (varOf x) before x refl (needs x i))
-
-      by-pins : latest (map (λ (w : Phase). w .arrival) (map look fs)) (cellAt cells (m .cell) .delays) ≤ latest (map at fs) (cellAt cells (m .cell) .delays)
-      by-pins = subst (λ (ts : List ℕ). latest ts (cellAt cells (m .cell) .delays) ≤ latest (map at fs) (cellAt cells (m .cell) .delays))
-          (sym (map-map (λ (w : Phase). w .arrival) look fs))
-          (latest-mono (λ (x : ℕ). look x .arrival) at fs (cellAt cells (m .cell) .delays) (λ x i. each-beats x i .early))
-
-      on-time : at l ≡ latest (map at fs) (cellAt cells (m .cell) .delays)
-      on-time = times .timed l n ∙ ap (arrivalBy cells g at l) s ∙ arrival-matched cells g at l m
+      let fs = matchNets cells (cutFor g l m) m in
+      let look = phaseOf (phasesKnown cells g pre) in
+      let each-beats : (x : ℕ) → List·Memᴰ x fs → Beats (look x) (at x) = λ x i. let before : ¬ List·Memᴰ (varOf x)
+      (varOf l ∷ post) = leaves-before g pre (varOf l) post e once (cutFor g l m) (cut-listed cells g l m h) (h .notAlone) (varOf x)
+      (matched-leaf cells g l m x h i) in rw (← chosen-known cells g pre (varOf l) post e x before)
+      (ih (varOf x) before x refl (fed n (rw s i))) in
+      let by-pins : latest (map (λ (w : Phase). w .arrival) (map look fs)) (cellAt cells (m .cell) .delays) ≤ latest (map at fs)
+      (cellAt cells (m .cell) .delays) = rw (map-map (λ (w : Phase). w .arrival) look fs)
+      (latest-mono (λ (x : ℕ). look x .arrival) at fs (cellAt cells (m .cell) .delays) (λ x i. each-beats x i .early)) in
+      rw (matchPhase-in cells (phasesKnown cells g pre) (cutFor g l m) m (λ x i. each-beats x i .present))
+      (record { present = refl; early = le-trans by-pins (le-of-eq (cc (times .timed l n, arrival-matched cells g at l m))) })
 
   -- where the cover has no inverter, the choice without inverters is as early
   straight-beats : (pre : List ℕ) (l : ℕ) (post : List ℕ) → placingOrder g ≡ pre ++ (varOf l ∷ post) → ((u : ℕ) → ¬ List·Memᴰ u (varOf l ∷ post) → Good u)
@@ -136,25 +115,18 @@ module _ (cells : List Cell) (g : Graph) (once : Distinct (placingOrder g)) (out
   unfolding direct
   straight-beats pre l post e ih n = go (c .source l) refl
     where
-      own : (b : Bool) → T (not b) → at l ≡ g .late (varOf l) → Beats (cond b noPhase (record { source = Input; arrival = g .late (varOf l) })) (at l)
-      own true t q = absurd t
-      own false t q = record { present = refl; early = le-of-eq (sym q) }
-
-      tried : (m : Match) → c .source l ≡ Matched m → IsMatch cells g l m
-          → Beats (choose (matchPhases cells g (phasesKnown cells g pre) (varOf l) (negated l) 0 (cutsOf g (varOf l)))) (at l)
-      tried m s h =
-          choose-beats (matchPhase cells (phasesKnown cells g pre) (cutFor g l m) m) (at l) (matchPhases cells g (phasesKnown cells g pre) (varOf l) (negated l) 0 (cutsOf g (varOf l)))
-          (match-tried cells g (phasesKnown cells g pre) l m h) (match-beats pre l post e ih n m s h)
-
       go : (s : Source) → c .source l ≡ s → Straight s → Beats (direct cells g (phasesKnown cells g pre) (varOf l) (cutsOf g (varOf l)) (negated l) (node g (varOf l))) (at l)
       go Input s t =
-          let o : IsOwn g l = subst (Allowed cells g l) s (c .allowed l n) in
-          subst (λ (k : Node). Beats (direct cells g (phasesKnown cells g pre) (varOf l) (cutsOf g (varOf l)) (negated l) k) (at l))
-          (sym (node-input g (varOf l) once (o .isInput))) (own (negated l) (o .positive) (times .timed l n ∙ ap (arrivalBy cells g at l) s ∙ arrival-input cells g at l))
+          let o : IsOwn g l = rw s at (c .allowed l n) in
+          rw (node-input g (varOf l) once (o .isInput)) (by-bool (negated l) (λ q. rw q (absurd (rw q at (o .positive))))
+          (λ p. rw p (record { present = refl; early = le-of-eq (sym (cc (times .timed l n, arrival-input cells g at l))) })))
       go Nothing s t = absurd t
       go (Matched m) s t =
           let h : IsMatch cells g l m = subst (Allowed cells g l) s (c .allowed l n) in
-          subst (λ (w : Phase). Beats w (at l)) (sym (match-direct cells g once pre l post e m h (phasesKnown cells g pre))) (tried m s h)
+          subst (λ (w : Phase). Beats w (at l)) (sym (match-direct cells g once pre l post e m h (phasesKnown cells g pre))) (choose-beats
+          (matchPhase cells (phasesKnown cells g pre) (cutFor g l m) m) (at l)
+          (matchPhases cells g (phasesKnown cells g pre) (varOf l) (negated l) 0 (cutsOf g (varOf l)))
+          (match-tried cells g (phasesKnown cells g pre) l m h) (match-beats pre l post e ih n m s h))
       go (Inverted i) s t = absurd t
 
   -- the same at a variable and a phase that are equal to the literal's

@@ -4,7 +4,7 @@ use Prim.Native.Nat.{ℕ, zero, suc, _+_, _-_, _*_, _/_, _%_, _^_, _≤_, _<_, c
 use native.Mathlib.Nat.{le-refl, le-of-suc-le-suc, not-suc-le-zero, add-zero, zero-add, suc-add, add-suc, pow-suc}
 use native.Mathlib.Omega.{arith}
 use mathlib.Core.Path.{_≡_, refl, sym, _∙_, ap, ap₂, subst}
-use mathlib.Core.Logic.{_⊎_, inl, inr}
+use mathlib.Core.Logic.{⊎-elim}
 use mathlib.Core.Bool.{Bool, true, false, not, _&&_, Bool·beq}
 use mathlib.Core.List.{List, [], _∷_, map, List·Memᴰ, List·Memᴰ·not-nil, List·Memᴰ·cases-cons, List·Memᴰ·eq-of-singleton}
 use lib.Dec.{T, eqb, eqb→eq, leb, leb→le, ltb, ltb→lt}
@@ -25,23 +25,14 @@ use Rattle.model.specs.declared.Match.{Match}
 use Rattle.model.specs.declared.Source.the-variants.{Cell as Matched}
 use Rattle.theory_graph.proofs.Lists.{all-of, below-in, keep-out}
 use Rattle.theory_graph.proofs.Sets.{union-only}
-use Rattle.theory_graph.proofs.Literals.{lit-var, lit-neg, opposite-var, opposite-neg}
+use Rattle.theory_graph.proofs.Literals.{lit-var, lit-neg, opposite-var, opposite-neg, bit-low, bit-high, one-le, bit-row}
 use Rattle.theory_graph.proofs.Runs.{along}
 use Rattle.theory_graph.proofs.Walk.{Valuation, Carry}
 use Rattle.theory_graph.proofs.CutFacts.{cutsKnown, cuts-entry, cuts-none, cut-value}
 use Rattle.theory_cover.proofs.Matches.{fits-places, fits-rows, cutFor, cut-listed}
+use Rattle.theory_graph.proofs.Split.{by-bool}
 
 -- ---- bits
-
-bit-low : (b : Bool) (n : ℕ) → bit (one b + 2 * n) 0 ≡ b
-unfolding bit one
-bit-low true n = ap (λ (k : ℕ). eqb k 1) (let e : (1 + 2 * n) % 2 ≡ 1 = omega arith in e)
-bit-low false n = ap (λ (k : ℕ). eqb k 1) (let e : (0 + 2 * n) % 2 ≡ 0 = omega arith in e)
-
-bit-high : (b : Bool) (n i : ℕ) → bit (one b + 2 * n) (suc i) ≡ bit n i
-unfolding bit one
-bit-high true n i = ap (λ (k : ℕ). bit k i) (let e : (1 + 2 * n) / 2 ≡ n = omega arith in e)
-bit-high false n i = ap (λ (k : ℕ). bit k i) (let e : (0 + 2 * n) / 2 ≡ n = omega arith in e)
 
 -- a table has the values that it is made of
 pub bit-tabulate : (f : ℕ → Bool) (n r : ℕ) → r < n → bit (tabulate f n) r ≡ f r
@@ -53,23 +44,10 @@ bit-tabulate f (suc n) (suc r) h = bit-high (f 0) (tabulate (λ q. f (suc q)) n)
 pub two-pow : (n : ℕ) → 2 ^ suc n ≡ 2 * 2 ^ n
 two-pow n = pow-suc 2 n ∙ (let e : 2 ^ n * 2 ≡ 2 * 2 ^ n = omega arith in e)
 
-one-le : (b : Bool) → one b ≤ 1
-unfolding one
-one-le true = le-refl 1
-one-le false = omega arith
-
 pub tabulate-lt : (f : ℕ → Bool) (n : ℕ) → tabulate f n < 2 ^ n
 unfolding tabulate
 tabulate-lt f zero = le-refl 1
-tabulate-lt f (suc n) =
-    omega (arith, one-le (f 0), tabulate-lt (λ r. f (suc r)) n, two-pow n)
-
--- the bits of a row are what it is made of
-pub bit-row : (bs : List Bool) (i : ℕ) (d : Bool) → i < length bs → bit (rowOf bs) i ≡ getD bs i d
-unfolding rowOf
-bit-row [] i d h = absurd (not-suc-le-zero h)
-bit-row (b ∷ bs) zero d h = bit-low b (rowOf bs)
-bit-row (b ∷ bs) (suc i) d h = bit-high b (rowOf bs) i ∙ bit-row bs i d (le-of-suc-le-suc h)
+tabulate-lt f (suc n) = omega (arith, one-le (f 0), tabulate-lt (λ r. f (suc r)) n, two-pow n)
 
 -- the complement's bits
 bit-complement : (n t r : ℕ) → t < 2 ^ n → r < n → bit (2 ^ n - 1 - t) r ≡ not (bit t r)
@@ -87,13 +65,8 @@ bit-complement (suc n) t zero h k = go (eqb (t % 2) 1) (eqb→eq (t % 2) 1) eqb-
     go true y m = ap (λ (x : ℕ). eqb x 1) (odd (y tt))
     go false y m = ap (λ (x : ℕ). eqb x 1) (even (m tt))
 bit-complement (suc n) t (suc r) h k =
-    ap (λ (x : ℕ). bit x r) halved ∙ bit-complement n (t / 2) r small (le-of-suc-le-suc k)
-  where
-    halved : (2 ^ suc n - 1 - t) / 2 ≡ 2 ^ n - 1 - t / 2
-    halved = omega (arith, two-pow n)
-
-    small : t / 2 < 2 ^ n
-    small = omega (arith, two-pow n)
+    let small : t / 2 < 2 ^ n = omega (arith, two-pow n) in
+    ap (λ (x : ℕ). bit x r) (omega (arith, two-pow n)) ∙ bit-complement n (t / 2) r small (le-of-suc-le-suc k)
 
 -- ---- rows
 
@@ -104,9 +77,6 @@ carry-row w (x ∷ xs) r i h = (
   ap (bit r) (sym (add-zero i)) ∙ h 0 (omega arith),
   carry-row w xs r (suc i) (λ k q. ap (bit r) (suc-add i k ∙ sym (add-suc i k)) ∙ h (suc k) (omega arith)),
 )
-
-row-bit : (w : ℕ → Bool) (xs : List ℕ) (k : ℕ) → k < length xs → bit (rowOf (map w xs)) k ≡ w (getD xs k 0)
-row-bit w xs k h = bit-row (map w xs) k (w 0) (omega (arith, length-map xs w)) ∙ List·getD-map w xs k 0
 
 pub row-lt : (bs : List Bool) (n : ℕ) → length bs ≤ n → rowOf bs < 2 ^ n
 unfolding rowOf
@@ -122,9 +92,13 @@ pins-row w zero places mask cut r h t = refl
 pins-row w (suc n) [] mask cut r h t = refl
 pins-row w (suc n) (p ∷ ps) mask cut r h t =
     let q = and-yes (ltb p (length cut)) (all (λ (x : ℕ). ltb x (length cut)) (take n ps)) t in
-    ap₂ (λ (a b : ℕ). a + 2 * b)
-    (ap one (ap₂ flip (lit-neg (bit mask 0) (getD cut p 0)) (ap w (lit-var (bit mask 0) (getD cut p 0)) ∙ sym (h p (ltb→lt p (length cut) (q .0))))))
-    (pins-row w n ps (mask / 2) cut r h (q .1))
+    cc (
+      lit-neg (bit mask 0) (getD cut p 0),
+      lit-var (bit mask 0) (getD cut p 0),
+      h p (ltb→lt p (length cut) (q .0)),
+      pins-row w n ps
+          (mask / 2) cut r h (q .1),
+    )
 
 pub beq-eq : (a b : Bool) → T (Bool·beq a b) → a ≡ b
 beq-eq true true t = refl
@@ -139,22 +113,15 @@ unfolding nodeCuts unions
 cut-small look v constant c m = subst (λ (d : List ℕ). length d ≤ 4) (sym (List·Memᴰ·eq-of-singleton m)) (omega arith)
 cut-small look v input c m = subst (λ (d : List ℕ). length d ≤ 4) (sym (List·Memᴰ·eq-of-singleton m)) (omega arith)
 cut-small look v undefined c m = absurd (List·Memᴰ·not-nil m)
-cut-small look v (both l r) c m =
-    outer (union-only compareCuts c ((v ∷ []) ∷ unions (look (varOf l)) (look (varOf r))) [] m)
-  where
-    inner : (c ≡ v ∷ []) ⊎ List·Memᴰ c (unions (look (varOf l)) (look (varOf r))) → length c ≤ 4
-    inner (inl e) = subst (λ (d : List ℕ). length d ≤ 4) (sym e) (omega arith)
-    inner (inr n) = leb→le (length c) 4 (keep-out (λ (d : List ℕ). leb (length d) 4) (each (λ (d : List ℕ). map (union compare d) (look (varOf r))) (look (varOf l))) n .1)
-
-    outer : List·Memᴰ c ((v ∷ []) ∷ unions (look (varOf l)) (look (varOf r))) ⊎ List·Memᴰ c [] → length c ≤ 4
-    outer (inl n) = inner (List·Memᴰ·cases-cons n)
-    outer (inr n) = absurd (List·Memᴰ·not-nil n)
+cut-small look v (both l r) c m = ⊎-elim (λ n. ⊎-elim (λ e. rw e (omega arith)) (λ q. leb→le (length c) 4
+    (keep-out (λ (d : List ℕ). leb (length d) 4) (each (λ (d : List ℕ). map (union compare d) (look (varOf r))) (look (varOf l))) q .1))
+    (List·Memᴰ·cases-cons n)) (λ q. absurd (List·Memᴰ·not-nil q))
+    (union-only compareCuts c ((v ∷ []) ∷ unions (look (varOf l)) (look (varOf r))) [] m)
 
 pub cut-length : (g : Graph) → Distinct (placingOrder g) → (v : ℕ) (c : List ℕ) → List·Memᴰ c (cutsOf g v) → length c ≤ 4
-cut-length g once =
-    along (λ v. (c : List ℕ) → List·Memᴰ c (cutsOf g v) → length c ≤ 4) (placingOrder g)
-    (λ u h c m. absurd (List·Memᴰ·not-nil (subst (λ (cs : List (List ℕ)). List·Memᴰ c cs) (cuts-none g u h) m)))
-    (λ pre v post e ih c m. cut-small (λ u. find [] u (cutsKnown g pre)) v (node g v) c (subst (λ (cs : List (List ℕ)). List·Memᴰ c cs) (cuts-entry g pre v post e once) m))
+cut-length g once = along (λ v. (c : List ℕ) → List·Memᴰ c (cutsOf g v) → length c ≤ 4) (placingOrder g)
+    (λ u h c m. absurd (List·Memᴰ·not-nil (rw (cuts-none g u h) at m)))
+    (λ pre v post e ih c m. cut-small (λ u. find [] u (cutsKnown g pre)) v (node g v) c (rw (cuts-entry g pre v post e once) at m))
 
 -- ---- the gate
 
@@ -168,37 +135,27 @@ pub gate-value : (cells : List Cell) (g : Graph) → Distinct (placingOrder g) �
     → value (cellAt cells (m .cell) .table) (rowOf (map (literalValue w) (feeds cells (cutsOf g) l (Matched m)))) ≡ literalValue w l
 unfolding value feeds matchNets rowsAgree placesFit cutTable literalValue
 gate-value cells g once setting w isValue l m k =
-    ap (bit (c .table)) (pins-row w (c .pins) places (m .mask) cut r carries (fits-places c places (m .mask) (length cut) f (k .agrees)))
-    ∙ sym (beq-eq (bit f r) (bit (c .table) (pinRow (c .pins) places (m .mask) r)) agree)
-    ∙ phase-bit (negated l) (cutTable g cut (varOf l)) r (tabulate-lt (λ q. walk (span g) g cut q (varOf l)) 16) r-small
-    ∙ ap (flip (negated l)) (bit-tabulate (λ q. walk (span g) g cut q (varOf l)) 16 r r-small
-    ∙ cut-value g once setting w isValue (varOf l) cut (cut-listed cells g l m k) r (carry-row w cut r 0 (λ i h. ap (bit r) (zero-add i) ∙ carries i h)))
-  where
-    c : Cell
-    c = cellAt cells (m .cell)
-
-    places : List ℕ
-    places = getD orders (m .order) []
-
-    cut : List ℕ
-    cut = cutFor g l m
-
-    f : ℕ
-    f = phaseTable (negated l) (cutTable g cut (varOf l))
-
-    r : ℕ
-    r = rowOf (map w cut)
-
-    r-small : r < 16
-    r-small = row-lt (map w cut) 4 (omega (arith, length-map cut w, cut-length g once (varOf l) cut (cut-listed cells g l m k)))
-
-    carries : (i : ℕ) → i < length cut → bit r i ≡ w (getD cut i 0)
-    carries i h = row-bit w cut i h
-
-    agree : T (Bool·beq (bit f r) (bit (c .table) (pinRow (c .pins) places (m .mask) r)))
-    agree =
-        all-of (λ (q : ℕ). Bool·beq (bit f q) (bit (c .table) (pinRow (c .pins) places (m .mask) q))) (below 16)
-        (fits-rows c places (m .mask) (length cut) f (k .agrees)) r (below-in 16 r r-small)
+    let c = cellAt cells (m .cell) in
+    let places = getD orders (m .order) [] in
+    let cut = cutFor g l m in
+    let f = phaseTable (negated l) (cutTable g cut (varOf l)) in
+    let r = rowOf (map w cut) in
+    let r-small = row-lt (map w cut) 4 (omega (arith, length-map cut w, cut-length g once (varOf l) cut (cut-listed cells g l m k))) in
+    let carries : (i : ℕ) → i < length cut → bit r i ≡ w (getD cut i 0) = λ i h.
+    (bit-row (map w cut) i (w 0) (omega (arith, length-map cut w)) ∙ List·getD-map w cut i 0) in
+    cc (
+      pins-row w (c .pins) places (m .mask) cut r carries
+          (fits-places c places (m .mask) (length cut) f (k .agrees)),
+      beq-eq (bit f r) (bit (c .table) (pinRow (c .pins) places (m .mask) r))
+          (all-of (λ (q : ℕ). Bool·beq (bit f q) (bit (c .table) (pinRow (c .pins) places (m .mask) q))) (below 16)
+          (fits-rows c places (m .mask) (length cut) f (k .agrees)) r (below-in 16 r r-small)),
+      phase-bit (negated l) (cutTable g cut (varOf l)) r
+          (tabulate-lt (λ q. walk (span g) g cut q (varOf l)) 16) r-small,
+      bit-tabulate
+          (λ q. walk (span g) g cut q (varOf l)) 16 r r-small,
+      cut-value g once setting w isValue (varOf l) cut (cut-listed cells g l m k) r
+          (carry-row w cut r 0 (λ i h. ap (bit r) (zero-add i) ∙ carries i h)),
+    )
 
 -- "a one-pin cell with table 0001"
 pub inverter-pins : (c : Cell) → T (isInverter c) → c .pins ≡ 1
@@ -212,12 +169,6 @@ inverter-table c t = eqb→eq (c .table) 1 (and-yes (eqb (c .table) 1) (ltb 0 (c
 -- an inverter computes its phase
 pub inverter-value : (c : Cell) (w : ℕ → Bool) (l : ℕ) → T (isInverter c) → value (c .table) (rowOf (literalValue w (opposite l) ∷ [])) ≡ literalValue w l
 unfolding value bit rowOf one flip literalValue
-inverter-value c w l t =
-    ap (λ (x : ℕ). bit x (rowOf (literalValue w (opposite l) ∷ []))) (inverter-table c t)
-    ∙ ap (λ (b : Bool). bit 1 (rowOf (b ∷ []))) (ap₂ flip (opposite-neg l) (ap w (opposite-var l))) ∙ turned (negated l) (w (varOf l))
-  where
-    turned : (a b : Bool) → bit 1 (rowOf (flip (not a) b ∷ [])) ≡ flip a b
-    turned true true = refl
-    turned true false = refl
-    turned false true = refl
-    turned false false = refl
+inverter-value c w l t = ap (λ (x : ℕ). bit x (rowOf (literalValue w (opposite l) ∷ []))) (inverter-table c t)
+    ∙ ap (λ (b : Bool). bit 1 (rowOf (b ∷ []))) (ap₂ flip (opposite-neg l) (ap w (opposite-var l))) ∙ by-bool (negated l)
+    (λ e. rw e (by-bool (w (varOf l)) (λ q. rw q) (λ p. rw p))) (λ r. rw r (by-bool (w (varOf l)) (λ z. rw z) (λ u. rw u)))

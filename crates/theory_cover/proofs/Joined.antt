@@ -3,7 +3,7 @@
 use Prim.Native.Nat.{ℕ, zero, suc, _+_, _^_, _≤_, _<_, max}
 use native.Mathlib.Nat.{le-of-suc-le-suc, not-suc-le-zero, le-of-eq, zero-add}
 use native.Mathlib.Omega.{arith}
-use mathlib.Core.Path.{_≡_, refl, sym, _∙_, ap, ap₂}
+use mathlib.Core.Path.{_≡_, refl, _∙_, ap}
 use mathlib.Core.Bool.{Bool, false}
 use mathlib.Core.List.{List, [], _∷_, _++_, map}
 use lib.ListN.{length, take, drop, getD}
@@ -12,7 +12,9 @@ use Rattle.model.specs.Table.{value, rowOf}
 use Rattle.model.specs.Choice.{latest}
 use Rattle.model.specs.Pairs.{splice, pairPins, pairValue, pairTable, joinDelays, pairDelays}
 use Rattle.model.specs.declared.Cell.{Cell}
-use Rattle.theory_cover.proofs.Gates.{bit-tabulate, bit-row, row-lt}
+use Rattle.theory_cover.proofs.Gates.{bit-tabulate, row-lt}
+use Rattle.theory_graph.proofs.Split.{by-nat}
+use Rattle.theory_graph.proofs.Literals.{bit-row}
 
 -- ---- arrivals
 
@@ -31,18 +33,14 @@ unfolding latest
 inner-first n d [] ds es h k = absurd (not-suc-le-zero h)
 inner-first n d (t ∷ ts) ds [] h k = absurd (not-suc-le-zero k)
 inner-first zero d (t ∷ ts) ds (e ∷ es) h k = omega arith
-inner-first (suc n) d (t ∷ ts) ds (e ∷ es) h k =
-    let r = inner-first n d ts ds es (le-of-suc-le-suc h) (le-of-suc-le-suc k) in omega (arith, r)
+inner-first (suc n) d (t ∷ ts) ds (e ∷ es) h k = omega (arith, (inner-first n d ts ds es (le-of-suc-le-suc h) (le-of-suc-le-suc k)))
 
 joined-latest : (p n : ℕ) (ts ds es : List ℕ) → 1 ≤ n → p + n ≤ length ts → p < length ds → n ≤ length es
     → latest ts (joinDelays p ds (take n es)) ≡ latest (splice p n (λ (us : List ℕ). latest us es) ts) ds
 unfolding joinDelays splice latest
 joined-latest zero n ts [] es a h k m = absurd (not-suc-le-zero k)
-joined-latest zero n ts (d ∷ ds) es a h k m = go n a h m
-  where
-    go : (n : ℕ) → 1 ≤ n → 0 + n ≤ length ts → n ≤ length es → latest ts (map (λ (e : ℕ). d + e) (take n es) ++ ds) ≡ max (latest (take n ts) es + d) (latest (drop n ts) ds)
-    go zero x y z = absurd (not-suc-le-zero x)
-    go (suc j) x y z = inner-first j d ts ds es (omega arith) z
+joined-latest zero n ts (d ∷ ds) es a h k m = by-nat n (λ e. rw e (absurd (not-suc-le-zero (rw e at a))))
+    (λ j q. rw q (inner-first j d ts ds es (omega (arith, rw q at a, rw q at h, rw q at m)) (rw q at m)))
 joined-latest (suc p) n ts [] es a h k m = absurd (not-suc-le-zero k)
 joined-latest (suc p) n [] (d ∷ ds) es a h k m = absurd (let z : suc (p + n) ≤ 0 = omega arith in not-suc-le-zero z)
 joined-latest (suc p) n (t ∷ ts) (d ∷ ds) es a h k m = ap (max (t + d)) (joined-latest p n ts ds es a (omega arith) (le-of-suc-le-suc k) m)
@@ -62,14 +60,18 @@ row-bits bs = go 0 bs (λ j h. ap (bit (rowOf bs)) (zero-add j) ∙ bit-row bs j
   where
     go : (i : ℕ) (cs : List Bool) → ((j : ℕ) → j < length cs → bit (rowOf bs) (i + j) ≡ getD cs j false) → map (bit (rowOf bs)) (from i (length cs)) ≡ cs
     go i [] h = refl
-    go i (c ∷ cs) h = ap₂ (λ (x : Bool) (xs : List Bool). x ∷ xs)
-        (ap (bit (rowOf bs)) (let e : i ≡ i + 0 = omega arith in e) ∙ h 0 (omega arith))
-        (go (suc i) cs (λ j q. ap (bit (rowOf bs)) (let e : suc i + j ≡ i + suc j = omega arith in e) ∙ h (suc j) (omega arith)))
+    go i (c ∷ cs) h = cc (
+      let e : i ≡ i + 0 = omega arith in e,
+      h 0 (omega arith),
+      go (suc i) cs
+          (λ j q. ap (bit (rowOf bs)) (let e : suc i + j ≡ i + suc j = omega arith in e) ∙ h (suc j) (omega arith)),
+    )
 
 -- a pair's table has the value of its two gates
 pub pair-value : (root inner : Cell) (pin : ℕ) (bs : List Bool) → length bs ≡ pairPins root inner → value (pairTable root pin inner) (rowOf bs) ≡ pairValue root pin inner bs
 unfolding value pairTable
-pair-value root inner pin bs e =
-    bit-tabulate (λ r. pairValue root pin inner (map (bit r) (below (pairPins root inner)))) (2 ^ pairPins root inner) (rowOf bs) (row-lt bs (pairPins root inner) (le-of-eq e))
-    ∙ ap (λ (n : ℕ). pairValue root pin inner (map (bit (rowOf bs)) (below n))) (sym e)
-    ∙ ap (pairValue root pin inner) (row-bits bs)
+pair-value root inner pin bs e = cc (
+  bit-tabulate (λ r. pairValue root pin inner (map (bit r) (below (pairPins root inner))))
+      (2 ^ pairPins root inner) (rowOf bs) (row-lt bs (pairPins root inner) (le-of-eq e)),
+  row-bits bs,
+)

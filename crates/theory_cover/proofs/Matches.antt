@@ -3,7 +3,7 @@ use Prim.Native.Nat.{ℕ, zero, suc, _+_, _/_, _^_, _<_}
 use native.Mathlib.Nat.{le-of-suc-le-suc, not-suc-le-zero, zero-add, add-zero, suc-add, add-suc}
 use native.Mathlib.Omega.{arith}
 use mathlib.Core.Path.{_≡_, refl, sym, _∙_, ap, subst}
-use mathlib.Core.Logic.{_⊎_, inl, inr}
+use mathlib.Core.Logic.{⊎-elim}
 use mathlib.Core.Bool.{Bool, true, false, not, cond, _&&_, true≢false}
 use mathlib.Core.List.{List, [], _∷_, map, List·Memᴰ, List·Memᴰ·head, List·Memᴰ·tail, List·Memᴰ·not-nil, List·Memᴰ·append-cases, Memᴰ·append-left, Memᴰ·append-right, Memᴰ·cast}
 use lib.Dec.{T, ltb, ltb→lt}
@@ -23,6 +23,7 @@ use Rattle.model.specs.declared.Phase.{Phase}
 use Rattle.model.specs.declared.Source.the-variants.{Cell as Matched, Inverter as Inverted}
 use Rattle.theory_graph.proofs.Lists.{map-in, map-out, each-in, each-out, keep-in, keep-out, any-none, any-each, below-in, below-out, getD-in, same-eq, same-refl}
 use Rattle.theory_graph.proofs.Literals.{lit-var}
+use Rattle.theory_graph.proofs.Split.{by-bool}
 
 -- ---- one cell
 
@@ -46,12 +47,11 @@ Agrees c m leaves f = T (fits c (getD orders (m .order) []) (m .mask) leaves f)
 
 cellMatches-in : (c : Cell) (m : Match) (leaves f : ℕ) → m .order < 24 → Agrees c m leaves f → List·Memᴰ m (cellMatches c (m .cell) (m .cut) leaves f)
 unfolding cellMatches
-cellMatches-in c m leaves f ordered t =
-    each-in (λ (j : ℕ). map (λ (k : ℕ). record { cut = m .cut; cell = m .cell; order = j; mask = k })
-    (keep (λ (k : ℕ). fits c (getD orders j []) k leaves f) (below (2 ^ c .pins))))
-    (below-in 24 (m .order) ordered)
+cellMatches-in c m leaves f ordered t = each-in (λ (j : ℕ). map (λ (k : ℕ). record { cut = m .cut; cell = m .cell; order = j; mask = k })
+    (keep (λ (k : ℕ). fits c (getD orders j []) k leaves f) (below (2 ^ c .pins)))) (below-in 24 (m .order) ordered)
     (map-in (λ (k : ℕ). record { cut = m .cut; cell = m .cell; order = m .order; mask = k })
-    (keep-in (λ (k : ℕ). fits c (getD orders (m .order) []) k leaves f) (below-in (2 ^ c .pins) (m .mask) (fits-mask c (getD orders (m .order) []) (m .mask) leaves f t)) t))
+    (keep-in (λ (k : ℕ). fits c (getD orders (m .order) []) k leaves f)
+    (below-in (2 ^ c .pins) (m .mask) (fits-mask c (getD orders (m .order) []) (m .mask) leaves f t)) t))
 
 pub cellMatches-out : (c : Cell) (line k leaves f : ℕ) (m : Match) → List·Memᴰ m (cellMatches c line k leaves f)
     → (m .cut ≡ k) × (m .cell ≡ line) × (m .order < 24) × Agrees c m leaves f
@@ -60,13 +60,13 @@ cellMatches-out c line k leaves f m i =
     let at = each-out (λ (j : ℕ). map (λ (n : ℕ). record { cut = k; cell = line; order = j; mask = n })
     (keep (λ (n : ℕ). fits c (getD orders j []) n leaves f) (below (2 ^ c .pins)))) (below 24) i in
     let back = map-out (λ (n : ℕ). record { cut = k; cell = line; order = at .0; mask = n })
-    (keep (λ (n : ℕ). fits c (getD orders (at .0) []) n leaves f) (below (2 ^ c .pins))) (at .2) in
-    let kept = keep-out (λ (n : ℕ). fits c (getD orders (at .0) []) n leaves f) (below (2 ^ c .pins)) (back .1) in
-    let e : m ≡ record { cut = k; cell = line; order = at .0; mask = back .0 } = back .2 in (
-      ap (λ (x : Match). x .cut) e,
-      ap (λ (x : Match). x .cell) e,
-      subst (λ (j : ℕ). j < 24) (sym (ap (λ (x : Match). x .order) e)) (below-out 24 (at .0) (at .1)),
-      subst (λ (x : Match). T (fits c (getD orders (x .order) []) (x .mask) leaves f)) (sym e) (kept .1),
+    (keep (λ (n : ℕ). fits c (getD orders (at .0) []) n leaves f) (below (2 ^ c .pins))) (at .2) in (
+      ap (λ (x : Match). x .cut) (back .2),
+      ap (λ (x : Match). x .cell) (back .2),
+      rw (ap (λ (x : Match). x .order) (back .2))
+          (below-out 24 (at .0) (at .1)),
+      rw (back .2)
+          (keep-out (λ (n : ℕ). fits c (getD orders (at .0) []) n leaves f) (below (2 ^ c .pins)) (back .1) .1),
     )
 
 -- ---- the cells on one cut
@@ -75,11 +75,9 @@ cutMatches-in : (cells : List Cell) (first k : ℕ) (m : Match) (leaves f : ℕ)
     → List·Memᴰ m (cellMatches (getD cells k noCell) (m .cell) (m .cut) leaves f) → List·Memᴰ m (cutMatches cells first (m .cut) leaves f)
 unfolding cutMatches
 cutMatches-in [] first k m leaves f e h n = absurd (not-suc-le-zero h)
-cutMatches-in (c ∷ cs) first zero m leaves f e h n =
-    Memᴰ·append-left (cutMatches cs (suc first) (m .cut) leaves f)
+cutMatches-in (c ∷ cs) first zero m leaves f e h n = Memᴰ·append-left (cutMatches cs (suc first) (m .cut) leaves f)
     (subst (λ (i : ℕ). List·Memᴰ m (cellMatches c i (m .cut) leaves f)) (sym e ∙ add-zero first) n)
-cutMatches-in (c ∷ cs) first (suc k) m leaves f e h n =
-    Memᴰ·append-right (cellMatches c first (m .cut) leaves f)
+cutMatches-in (c ∷ cs) first (suc k) m leaves f e h n = Memᴰ·append-right (cellMatches c first (m .cut) leaves f)
     (cutMatches-in cs (suc first) k m leaves f (suc-add first k ∙ sym (add-suc first k) ∙ e) (le-of-suc-le-suc h) n)
 
 pub record OnLine (cells : List Cell) (first k leaves f : ℕ) (m : Match) : Type 0 where
@@ -93,23 +91,16 @@ pub record OnLine (cells : List Cell) (first k leaves f : ℕ) (m : Match) : Typ
 pub cutMatches-out : (cells : List Cell) (first k leaves f : ℕ) (m : Match) → List·Memᴰ m (cutMatches cells first k leaves f) → OnLine cells first k leaves f m
 unfolding cutMatches
 cutMatches-out [] first k leaves f m i = absurd (List·Memᴰ·not-nil i)
-cutMatches-out (c ∷ cs) first k leaves f m i = go (List·Memᴰ·append-cases (cellMatches c first k leaves f) i) (cutMatches-out cs (suc first) k leaves f m)
-  where
-    go : List·Memᴰ m (cellMatches c first k leaves f) ⊎ List·Memᴰ m (cutMatches cs (suc first) k leaves f)
-        → (List·Memᴰ m (cutMatches cs (suc first) k leaves f) → OnLine cs (suc first) k leaves f m) → OnLine (c ∷ cs) first k leaves f m
-    go (inl j) back =
-        let o = cellMatches-out c first k leaves f m j in
-        record { isCut = o .0; place = 0; isPlace = add-zero first ∙ sym (o .1); hasPlace = omega arith; hasOrder = o .2; agrees = o .3 }
-    go (inr j) back =
-        let r = back j in
-        record {
-          isCut = r .isCut;
-          place = suc (r .place);
-          isPlace = add-suc first (r .place) ∙ sym (suc-add first (r .place)) ∙ r .isPlace;
-          hasPlace = let h : r .place < length cs = r .hasPlace in omega arith;
-          hasOrder = r .hasOrder;
-          agrees = r .agrees;
-        }
+cutMatches-out (c ∷ cs) first k leaves f m i = ⊎-elim (λ j. let o = cellMatches-out c first k leaves f m j in
+    record { isCut = o .0; place = 0; isPlace = add-zero first ∙ sym (o .1); hasPlace = omega arith; hasOrder = o .2; agrees = o .3 }) (λ q.
+    let r = (cutMatches-out cs (suc first) k leaves f m) q in record {
+      isCut = r .isCut;
+      place = suc (r .place);
+      isPlace = add-suc first (r .place) ∙ sym (suc-add first (r .place)) ∙ r .isPlace;
+      hasPlace = let h : r .place < length cs = r .hasPlace in omega arith;
+      hasOrder = r .hasOrder;
+      agrees = r .agrees;
+    }) (List·Memᴰ·append-cases (cellMatches c first k leaves f) i)
 
 -- ---- the cuts of a list, numbered from `first` on
 
@@ -132,10 +123,8 @@ module _ (cells : List Cell) (g : Graph) (known : ℕ → Phases) (v : ℕ) (neg
       → Agrees (getD cells (m .cell) noCell) m (length cut) (tableOf cut) → List·Memᴰ (matchPhase cells known cut m) (cutPhases cells g known v neg (m .cut) cut)
   unfolding cutPhases
   cutPhases-in cut m alone line ordered t =
-      go (same cut (v ∷ [])) (same-eq cut (v ∷ []))
-      (map-in (matchPhase cells known cut)
-      (cutMatches-in cells 0 (m .cell) m (length cut) (tableOf cut) (zero-add (m .cell)) line
-      (cellMatches-in (getD cells (m .cell) noCell) m (length cut) (tableOf cut) ordered t)))
+      go (same cut (v ∷ [])) (same-eq cut (v ∷ [])) (map-in (matchPhase cells known cut) (cutMatches-in cells 0 (m .cell) m (length cut)
+      (tableOf cut) (zero-add (m .cell)) line (cellMatches-in (getD cells (m .cell) noCell) m (length cut) (tableOf cut) ordered t)))
     where
       go : {w : Phase} {ws : List Phase} (b : Bool) → (T b → cut ≡ v ∷ []) → List·Memᴰ w ws → List·Memᴰ w (cond b [] ws)
       go true e i = absurd (alone (e tt))
@@ -165,12 +154,10 @@ module _ (cells : List Cell) (g : Graph) (known : ℕ → Phases) (v : ℕ) (neg
           → Agrees (getD cells (m .cell) noCell) m (length (getD cuts j [])) (tableOf (getD cuts j []))
           → List·Memᴰ (matchPhase cells known (getD cuts j []) m) (matchPhases cells g known v neg first cuts)
       go first [] j e h alone t = absurd (not-suc-le-zero h)
-      go first (cut ∷ cuts) zero e h alone t =
-          Memᴰ·append-left (matchPhases cells g known v neg (suc first) cuts)
+      go first (cut ∷ cuts) zero e h alone t = Memᴰ·append-left (matchPhases cells g known v neg (suc first) cuts)
           (subst (λ (k : ℕ). List·Memᴰ (matchPhase cells known cut m) (cutPhases cells g known v neg k cut)) (sym e ∙ add-zero first)
           (cutPhases-in cut m alone (r .hasCell) (r .hasOrder) t))
-      go first (cut ∷ cuts) (suc j) e h alone t =
-          Memᴰ·append-right (cutPhases cells g known v neg first cut)
+      go first (cut ∷ cuts) (suc j) e h alone t = Memᴰ·append-right (cutPhases cells g known v neg first cut)
           (go (suc first) cuts j (suc-add first j ∙ sym (add-suc first j) ∙ e) (le-of-suc-le-suc h) alone t)
 
   -- what the matches on a list of cuts give is given by a match on one of them
@@ -182,44 +169,33 @@ module _ (cells : List Cell) (g : Graph) (known : ℕ → Phases) (v : ℕ) (neg
   pub matchPhases-out : (first : ℕ) (cuts : List (List ℕ)) (w : Phase) → List·Memᴰ w (matchPhases cells g known v neg first cuts) → ByMatch first cuts w
   unfolding matchPhases
   matchPhases-out first [] w i = absurd (List·Memᴰ·not-nil i)
-  matchPhases-out first (cut ∷ cuts) w i =
-      go (List·Memᴰ·append-cases (cutPhases cells g known v neg first cut) i) (matchPhases-out (suc first) cuts w)
-    where
-      go : List·Memᴰ w (cutPhases cells g known v neg first cut) ⊎ List·Memᴰ w (matchPhases cells g known v neg (suc first) cuts)
-          → (List·Memᴰ w (matchPhases cells g known v neg (suc first) cuts) → ByMatch (suc first) cuts w) → ByMatch first (cut ∷ cuts) w
-      go (inl j) back =
-          let o = cutPhases-out first cut w j in
-          let r : OnLine cells 0 first (length cut) (tableOf cut) (o .1 .0) = o .1 .1 in
-          let line : r .place ≡ o .1 .0 .cell = sym (zero-add (r .place)) ∙ r .isPlace in
-          record {
-            match = o .1 .0;
-            onCut = record {
-              place = 0;
-              isPlace = add-zero first ∙ sym (r .isCut);
-              hasPlace = omega arith;
-              notAlone = o .0;
-              hasCell = subst (λ (j : ℕ). j < length cells) line (r .hasPlace);
-              hasOrder = r .hasOrder;
-              agrees = subst (λ (j : ℕ). Agrees (getD cells j noCell) (o .1 .0) (length cut) (tableOf cut)) line (r .agrees);
-            };
-            isPhase = o .1 .2;
-          }
-      go (inr j) back =
-          let b = back j in
-          let r : OnCut cells g v neg (suc first) cuts (b .match) = b .onCut in
-          record {
-            match = b .match;
-            onCut = record {
-              place = suc (r .place);
-              isPlace = add-suc first (r .place) ∙ sym (suc-add first (r .place)) ∙ r .isPlace;
-              hasPlace = let h : r .place < length cuts = r .hasPlace in omega arith;
-              notAlone = r .notAlone;
-              hasCell = r .hasCell;
-              hasOrder = r .hasOrder;
-              agrees = r .agrees;
-            };
-            isPhase = b .isPhase;
-          }
+  matchPhases-out first (cut ∷ cuts) w i = ⊎-elim (λ j. let o = cutPhases-out first cut w j in let r : OnLine cells 0 first (length cut)
+      (tableOf cut) (o .1 .0) = o .1 .1 in let line : r .place ≡ o .1 .0 .cell = sym (zero-add (r .place)) ∙ r .isPlace in record {
+        match = o .1 .0;
+        onCut = record {
+          place = 0;
+          isPlace = add-zero first ∙ sym (r .isCut);
+          hasPlace = omega arith;
+          notAlone = o .0;
+          hasCell = subst (λ (j : ℕ). j < length cells) line (r .hasPlace);
+          hasOrder = r .hasOrder;
+          agrees = subst (λ (j : ℕ). Agrees (getD cells j noCell) (o .1 .0) (length cut) (tableOf cut)) line (r .agrees);
+        };
+        isPhase = o .1 .2;
+      }) (λ q. let b = (matchPhases-out (suc first) cuts w) q in let r : OnCut cells g v neg (suc first) cuts (b .match) = b .onCut in
+      record {
+        match = b .match;
+        onCut = record {
+          place = suc (r .place);
+          isPlace = add-suc first (r .place) ∙ sym (suc-add first (r .place)) ∙ r .isPlace;
+          hasPlace = let h : r .place < length cuts = r .hasPlace in omega arith;
+          notAlone = r .notAlone;
+          hasCell = r .hasCell;
+          hasOrder = r .hasOrder;
+          agrees = r .agrees;
+        };
+        isPhase = b .isPhase;
+      }) (List·Memᴰ·append-cases (cutPhases cells g known v neg first cut) i)
 
 -- ---- the matches of a phase
 
@@ -236,17 +212,15 @@ cut-listed cells g l m h = getD-in (cutsOf g (varOf l)) (m .cut) [] (h .hasCut)
 pub match-tried : (cells : List Cell) (g : Graph) (known : ℕ → Phases) (l : ℕ) (m : Match) → IsMatch cells g l m
     → List·Memᴰ (matchPhase cells known (cutFor g l m) m) (matchPhases cells g known (varOf l) (negated l) 0 (cutsOf g (varOf l)))
 unfolding cutAt cellAt
-match-tried cells g known l m h =
-    matchPhases-in cells g known (varOf l) (negated l) 0 (cutsOf g (varOf l)) m
-    (record {
-      place = m .cut;
-      isPlace = zero-add (m .cut);
-      hasPlace = h .hasCut;
-      notAlone = h .notAlone;
-      hasCell = h .hasCell;
-      hasOrder = h .hasOrder;
-      agrees = h .agrees;
-    })
+match-tried cells g known l m h = matchPhases-in cells g known (varOf l) (negated l) 0 (cutsOf g (varOf l)) m (record {
+  place = m .cut;
+  isPlace = zero-add (m .cut);
+  hasPlace = h .hasCut;
+  notAlone = h .notAlone;
+  hasCell = h .hasCell;
+  hasOrder = h .hasOrder;
+  agrees = h .agrees;
+})
 
 -- what the choice tries comes of a match of the rules
 pub match-out : (cells : List Cell) (g : Graph) (known : ℕ → Phases) (l : ℕ) (w : Phase)
@@ -264,13 +238,8 @@ match-out cells g known l w i =
     at : (m : Match) (k : ℕ) → k ≡ m .cut → k < length (cutsOf g (varOf l)) → ¬ (getD (cutsOf g (varOf l)) k [] ≡ varOf l ∷ []) → m .cell < length cells → m .order < 24
         → Agrees (getD cells (m .cell) noCell) m (length (getD (cutsOf g (varOf l)) k [])) (phaseTable (negated l) (cutTable g (getD (cutsOf g (varOf l)) k []) (varOf l)))
         → IsMatch cells g l m
-    at m k e h alone line ordered t = record {
-      hasCut = subst (λ (j : ℕ). j < length (cutsOf g (varOf l))) e h;
-      notAlone = subst (λ (j : ℕ). ¬ (getD (cutsOf g (varOf l)) j [] ≡ varOf l ∷ [])) e alone;
-      hasCell = line;
-      hasOrder = ordered;
-      agrees = subst (λ (j : ℕ). Agrees (getD cells (m .cell) noCell) m (length (getD (cutsOf g (varOf l)) j [])) (phaseTable (negated l) (cutTable g (getD (cutsOf g (varOf l)) j []) (varOf l)))) e t;
-    }
+    at m k e h alone line ordered t =
+        record { hasCut = rw e at h; notAlone = rw e at alone; hasCell = line; hasOrder = ordered; agrees = rw e at t }
 
 -- ---- the nets that feed a match
 
@@ -279,8 +248,7 @@ fed-leaf : (n : ℕ) (places : List ℕ) (mask : ℕ) (cut : List ℕ) (x : ℕ)
 unfolding fedNets all
 fed-leaf zero places mask cut x t m = absurd (List·Memᴰ·not-nil m)
 fed-leaf (suc n) [] mask cut x t m = absurd (List·Memᴰ·not-nil m)
-fed-leaf (suc n) (p ∷ ps) mask cut x t (List·Memᴰ·head e) =
-    Memᴰ·cast (ap varOf e ∙ lit-var (bit mask 0) (getD cut p 0))
+fed-leaf (suc n) (p ∷ ps) mask cut x t (List·Memᴰ·head e) = Memᴰ·cast (ap varOf e ∙ lit-var (bit mask 0) (getD cut p 0))
     (getD-in cut p 0 (ltb→lt p (length cut) (and-yes (ltb p (length cut)) (all (λ (q : ℕ). ltb q (length cut)) (take n ps)) t .0)))
 fed-leaf (suc n) (p ∷ ps) mask cut x t (List·Memᴰ·tail m) =
     fed-leaf n ps (mask / 2) cut x (and-yes (ltb p (length cut)) (all (λ (q : ℕ). ltb q (length cut)) (take n ps)) t .1) m
@@ -301,9 +269,7 @@ matchedPhase cells known cut m =
 pub matchPhase-in : (cells : List Cell) (known : ℕ → Phases) (cut : List ℕ) (m : Match)
     → ((x : ℕ) → List·Memᴰ x (matchNets cells cut m) → absent (phaseOf known x .source) ≡ false) → matchPhase cells known cut m ≡ matchedPhase cells known cut m
 unfolding matchPhase
-matchPhase-in cells known cut m h =
-    ap (λ (b : Bool). cond b noPhase (matchedPhase cells known cut m))
-    (any-none (λ (p : Phase). absent (p .source)) (map (phaseOf known) (matchNets cells cut m))
+matchPhase-in cells known cut m h = cc (any-none (λ (p : Phase). absent (p .source)) (map (phaseOf known) (matchNets cells cut m))
     (λ w i. let o = map-out (phaseOf known) (matchNets cells cut m) i in ap (λ (y : Phase). absent (y .source)) (o .2) ∙ h (o .0) (o .1)))
 
 -- where a match gives a phase a source, its nets have sources
@@ -330,24 +296,11 @@ pub inverter-in : (cells : List Cell) (first k i : ℕ) (other : Phase) → firs
     → List·Memᴰ (invertedPhase (getD cells k noCell) i other) (inverterPhases cells first other)
 unfolding inverterPhases
 inverter-in [] first k i other e h t a = absurd (not-suc-le-zero h)
-inverter-in (c ∷ cs) first zero i other e h t a =
-    subst (λ (x : Bool). List·Memᴰ (invertedPhase c i other)
-    (cond (isInverter c && not x) (invertedPhase c first other ∷ inverterPhases cs (suc first) other) (inverterPhases cs (suc first) other)))
-    (sym a) (go (isInverter c) t)
-  where
-    go : (b : Bool) → T b → List·Memᴰ (invertedPhase c i other)
-        (cond (b && true) (invertedPhase c first other ∷ inverterPhases cs (suc first) other) (inverterPhases cs (suc first) other))
-    go true u = List·Memᴰ·head (ap (λ (j : ℕ). invertedPhase c j other) (sym e ∙ add-zero first))
-    go false u = absurd u
-inverter-in (c ∷ cs) first (suc k) i other e h t a =
-    go (isInverter c && not (absent (other .source)))
-    (inverter-in cs (suc first) k i other (suc-add first k ∙ sym (add-suc first k) ∙ e) (le-of-suc-le-suc h) t a)
-  where
-    go : (b : Bool) → List·Memᴰ (invertedPhase (getD cs k noCell) i other) (inverterPhases cs (suc first) other)
-        → List·Memᴰ (invertedPhase (getD cs k noCell) i other)
-        (cond b (invertedPhase c first other ∷ inverterPhases cs (suc first) other) (inverterPhases cs (suc first) other))
-    go true m = List·Memᴰ·tail m
-    go false m = m
+inverter-in (c ∷ cs) first zero i other e h t a = rw a (by-bool (isInverter c)
+    (λ q. rw q (List·Memᴰ·head (ap (λ (j : ℕ). invertedPhase c j other) (sym e ∙ add-zero first)))) (λ p. rw p (absurd (rw p at t))))
+inverter-in (c ∷ cs) first (suc k) i other e h t a = by-bool (isInverter c && not (absent (other .source))) (λ q. rw q
+    (List·Memᴰ·tail (inverter-in cs (suc first) k i other (suc-add first k ∙ sym (add-suc first k) ∙ e) (le-of-suc-le-suc h) t a)))
+    (λ p. rw p (inverter-in cs (suc first) k i other (suc-add first k ∙ sym (add-suc first k) ∙ e) (le-of-suc-le-suc h) t a))
 
 pub record InverterPhase (cells : List Cell) (first : ℕ) (other w : Phase) : Type 0 where
   pub place : ℕ
@@ -374,13 +327,12 @@ inverter-out (c ∷ cs) first other w i = go (isInverter c) (λ t. t) (absent (o
         → List·Memᴰ w (cond (b && not x) (invertedPhase c first other ∷ inverterPhases cs (suc first) other) (inverterPhases cs (suc first) other))
         → (List·Memᴰ w (inverterPhases cs (suc first) other) → InverterPhase cs (suc first) other w) → InverterPhase (c ∷ cs) first other w
     go true t true e j back = later (back j)
-    go true t false e (List·Memᴰ·head q) back =
-        record {
-          place = 0;
-          hasPlace = omega arith;
-          inverts = t tt;
-          present = e;
-          isPhase = q ∙ ap (λ (j : ℕ). invertedPhase c j other) (sym (add-zero first));
-        }
+    go true t false e (List·Memᴰ·head q) back = record {
+      place = 0;
+      hasPlace = omega arith;
+      inverts = t tt;
+      present = e;
+      isPhase = q ∙ ap (λ (j : ℕ). invertedPhase c j other) (sym (add-zero first));
+    }
     go true t false e (List·Memᴰ·tail j) back = later (back j)
     go false t x e j back = later (back j)

@@ -1,11 +1,11 @@
 -- The choice for an input's positive phase: its own net, at the input's arrival. Assumes nothing.
 use Prim.Native.Nat.{ℕ}
-use mathlib.Core.Path.{_≡_, refl, sym, _∙_, ap, subst}
+use mathlib.Core.Path.{_≡_, refl, sym, subst}
 use mathlib.Core.Bool.{false}
 use mathlib.Core.List.{List, [], _∷_, List·Memᴰ, List·Memᴰ·head, List·Memᴰ·not-nil, List·Memᴰ·eq-of-singleton}
 use Rattle.model.specs.Graph.{Graph, placingOrder, varOf}
 use Rattle.model.specs.Choice.{feeds, absent, chosen}
-use Rattle.model.specs.Cover.{IsOwn, Needed, output, fed, Feeds, directly, through, Cover}
+use Rattle.model.specs.Cover.{IsOwn, output, fed, directly, through, Cover}
 use Rattle.model.specs.Demands.{Distinct}
 use Rattle.model.specs.declared.Cell.{Cell}
 use Rattle.model.specs.declared.Source.the-variants.{Input}
@@ -19,24 +19,15 @@ module _ (cells : List Cell) (g : Graph) (once : Distinct (placingOrder g)) (l :
   unfolding feeds
   input-cover = record {
     source = λ x. Input;
-    allowed = λ x n. subst (IsOwn g) (sym (only-it x n)) o;
-    noCircle = λ x n f. none-fed x f;
+    allowed = λ x n. subst (IsOwn g) (sym (elim n [ output m ↦ List·Memᴰ·eq-of-singleton m | fed q i ↦ absurd (List·Memᴰ·not-nil i) ])) o;
+    noCircle = λ x n f. (elim f [ directly i ↦ List·Memᴰ·not-nil i | through q e ↦ List·Memᴰ·not-nil e ]);
   }
-    where
-      only-it : (x : ℕ) → Needed cells g (l ∷ []) (λ y. Input) x → x ≡ l
-      only-it x (output m) = List·Memᴰ·eq-of-singleton m
-      only-it x (fed n i) = absurd (List·Memᴰ·not-nil i)
-
-      none-fed : (x : ℕ) → Feeds cells g (λ y. Input) x x → ⊥
-      none-fed x (directly i) = List·Memᴰ·not-nil i
-      none-fed x (through f i) = List·Memᴰ·not-nil i
 
   -- so it is chosen a source
   own-present : (x : ℕ) → List·Memᴰ x (l ∷ []) → absent (chosen cells g x .source) ≡ false
   own-present x i =
       let t = covers-timed cells g once (l ∷ []) input-cover .has in
-      ap (λ (y : ℕ). absent (chosen cells g y .source)) (List·Memᴰ·eq-of-singleton i)
-      ∙ earliest cells g once (l ∷ []) input-cover (t .0) (t .1) l (output (List·Memᴰ·head refl)) .present
+      cc (List·Memᴰ·eq-of-singleton i, earliest cells g once (l ∷ []) input-cover (t .0) (t .1) l (output (List·Memᴰ·head refl)) .present)
 
   -- "for an input's positive phase its own net"
   pub own-chosen : chosen cells g l .source ≡ Input
@@ -45,6 +36,5 @@ module _ (cells : List Cell) (g : Graph) (once : Distinct (placingOrder g)) (l :
 
   -- "every arrival starts from it"
   pub own-arrival : chosen cells g l .arrival ≡ g .late (varOf l)
-  own-arrival =
-      covers-timed cells g once (l ∷ []) (chosen-cover cells g once (l ∷ []) own-present) .starts (λ x. chosen cells g x .arrival) (chosen-timed cells g once (l ∷ []) own-present)
-      l (output (List·Memᴰ·head refl)) o
+  own-arrival = covers-timed cells g once (l ∷ []) (chosen-cover cells g once (l ∷ []) own-present) .starts (λ x. chosen cells g x .arrival)
+      (chosen-timed cells g once (l ∷ []) own-present) l (output (List·Memᴰ·head refl)) o

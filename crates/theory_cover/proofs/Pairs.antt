@@ -3,14 +3,16 @@ use Prim.Native.Nat.{ℕ, zero, suc, _≤_, _<_, compare, Ordering, Ordering·lt
 use native.Mathlib.Nat.{lt-trans}
 use native.Mathlib.Omega.{arith}
 use mathlib.Core.Path.{_≡_, refl, sym, _∙_, subst}
-use mathlib.Core.Logic.{_⊎_, inl, inr}
-use mathlib.Core.Bool.{Bool, true, false, not, cond}
-use mathlib.Core.List.{List, [], _∷_, _++_, map, List·Memᴰ, List·Memᴰ·head, List·Memᴰ·tail, List·Memᴰ·not-nil, List·Memᴰ·append-cases}
+use mathlib.Core.Logic.{⊎-elim}
+use mathlib.Core.Bool.{Bool, not}
+use mathlib.Core.List.{List, [], _∷_, _++_, map, List·Memᴰ, List·Memᴰ·head, List·Memᴰ·tail, List·Memᴰ·append-cases}
 use lib.Dec.{T, isLe, isEq, eqb-refl, le→leb}
 use mir.Facts.{no-eqb}
 use Rattle.model.specs.Base.{keep, each, from, below}
 use Rattle.model.specs.Cuts.{after, compareLeaves}
 use Rattle.theory_graph.proofs.Lists.{map-out, keep-out, each-out, by-eqb}
+use Rattle.theory_graph.proofs.Split.{by-bool}
+use Rattle.theory_graph.proofs.Distinct.{from-low}
 
 -- ---- lists compared left to right
 
@@ -68,21 +70,17 @@ Pairwise {A} R (x ∷ xs) = ((y : A) → List·Memᴰ y xs → R x y) × Pairwis
 module _ {A : Type 0} (R : A → A → Type 0) where
   pub pairwise-append : (xs ys : List A) → Pairwise R xs → Pairwise R ys → ((x y : A) → List·Memᴰ x xs → List·Memᴰ y ys → R x y) → Pairwise R (xs ++ ys)
   pairwise-append [] ys p q h = q
-  pairwise-append (x ∷ xs) ys p q h =
-      ((λ y m. go y (List·Memᴰ·append-cases xs m)), pairwise-append xs ys (p .1) q (λ a b m n. h a b (List·Memᴰ·tail m) n))
-    where
-      go : (y : A) → List·Memᴰ y xs ⊎ List·Memᴰ y ys → R x y
-      go y (inl m) = p .0 y m
-      go y (inr m) = h x y (List·Memᴰ·head refl) m
+  pairwise-append (x ∷ xs) ys p q h = (
+    (λ y m. ⊎-elim (λ e. p .0 y e) (h x y (List·Memᴰ·head refl))
+        (List·Memᴰ·append-cases xs m)),
+    pairwise-append xs ys (p .1) q (λ a b m n. h a b (List·Memᴰ·tail m) n),
+  )
 
   pub pairwise-keep : (p : A → Bool) (xs : List A) → Pairwise R xs → Pairwise R (keep p xs)
   unfolding keep
   pairwise-keep p [] h = tt
-  pairwise-keep p (x ∷ xs) h = go (p x) (pairwise-keep p xs (h .1))
-    where
-      go : (b : Bool) → Pairwise R (keep p xs) → Pairwise R (cond b (x ∷ keep p xs) (keep p xs))
-      go true r = ((λ y m. h .0 y (keep-out p xs m .0)), r)
-      go false r = r
+  pairwise-keep p (x ∷ xs) h = by-bool (p x) (λ e. rw e ((λ y m. h .0 y (keep-out p xs m .0)), (pairwise-keep p xs (h .1))))
+      (λ q. rw q (pairwise-keep p xs (h .1)))
 
   pub pairwise-map : {B : Type 0} (S : B → B → Type 0) (f : B → A) → ((x y : B) → S x y → R (f x) (f y)) → (xs : List B) → Pairwise S xs → Pairwise R (map f xs)
   pairwise-map S f h [] p = tt
@@ -93,20 +91,13 @@ module _ {A : Type 0} (R : A → A → Type 0) where
       → ((x : B) → Pairwise R (f x)) → (xs : List B) → Pairwise S xs → Pairwise R (each f xs)
   unfolding each
   pairwise-each S f h one [] p = tt
-  pairwise-each S f h one (x ∷ xs) p =
-      pairwise-append (f x) (each f xs) (one x) (pairwise-each S f h one xs (p .1))
+  pairwise-each S f h one (x ∷ xs) p = pairwise-append (f x) (each f xs) (one x) (pairwise-each S f h one xs (p .1))
       (λ a b m n. let o = each-out f xs n in h x (o .0) (p .0 (o .0) (o .1)) a b m (o .2))
-
-from-after : (n i k : ℕ) → List·Memᴰ k (from i n) → i ≤ k
-unfolding from
-from-after zero i k m = absurd (List·Memᴰ·not-nil m)
-from-after (suc n) i k (List·Memᴰ·head e) = omega arith
-from-after (suc n) i k (List·Memᴰ·tail m) = let h : suc i ≤ k = from-after n (suc i) k m in omega arith
 
 from-ascends : (n i : ℕ) → Pairwise (λ (a b : ℕ). a < b) (from i n)
 unfolding from
 from-ascends zero i = tt
-from-ascends (suc n) i = ((λ k m. from-after n (suc i) k m), from-ascends n (suc i))
+from-ascends (suc n) i = ((λ k m. from-low n (suc i) k m), from-ascends n (suc i))
 
 pub below-ascends : (n : ℕ) → Pairwise (λ (a b : ℕ). a < b) (below n)
 unfolding below

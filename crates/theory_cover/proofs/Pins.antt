@@ -3,17 +3,17 @@
 --                                 rows the function's value is the cell's at its pins' values
 --     match-iff                   the same of a cut's function in a phase, by the walk from the root down
 -- Assumes nothing.
-use Prim.Native.Nat.{ℕ, zero, suc, _+_, _*_, _/_, _%_, _^_, _≤_, _<_}
+use Prim.Native.Nat.{ℕ, zero, suc, _/_, _%_, _^_, _≤_, _<_}
 use native.Mathlib.Nat.{le-of-suc-le-suc, not-suc-le-zero}
 use native.Mathlib.Omega.{arith}
-use mathlib.Core.Path.{_≡_, refl, sym, _∙_, ap, ap₂, subst}
+use mathlib.Core.Path.{_≡_, refl, sym, _∙_, ap, subst}
 use mathlib.Core.Logic.{_↔_}
 use mathlib.Core.Bool.{Bool, true, false, not, cond, _&&_, Bool·beq, true≢false, false≢true}
 use mathlib.Core.List.{List, [], _∷_, map}
 use lib.Dec.{T, ltb, ltb→lt, lt→ltb}
 use lib.ListN.{length, take, getD}
 use mir.Facts.{and-yes, yes-and, eqb-no}
-use Rattle.model.specs.Base.{all, bit, one, flip, from, below}
+use Rattle.model.specs.Base.{all, bit, flip, from, below}
 use Rattle.model.specs.Table.{value, rowOf, pinRow}
 use Rattle.model.specs.Graph.{Graph, span}
 use Rattle.model.specs.Cuts.{walk, cutTable}
@@ -51,9 +51,8 @@ no-bits : (fuel n : ℕ) → n ≤ fuel → ((j : ℕ) → bit n j ≡ false) �
 unfolding bit
 no-bits zero n h b = omega arith
 no-bits (suc fuel) n h b =
-    let q : n / 2 ≡ 0 = no-bits fuel (n / 2) (omega arith) (λ j. b (suc j)) in
     let d : ¬ (n % 2 ≡ 1) = eqb-no (subst (λ (t : Bool). T (not t)) (sym (b 0)) tt) in
-    omega arith
+    omega (arith, no-bits fuel (n / 2) (omega arith) (λ j. b (suc j)))
 
 clear-high : (m mask : ℕ) → ((j : ℕ) → m ≤ j → bit mask j ≡ false) → mask < 2 ^ m
 unfolding bit
@@ -74,9 +73,8 @@ each-place : (n : ℕ) (places : List ℕ) (leaves : ℕ) → n ≤ length place
 unfolding all
 each-place zero places leaves h k = tt
 each-place (suc n) [] leaves h k = absurd (not-suc-le-zero h)
-each-place (suc n) (p ∷ ps) leaves h k =
-    yes-and (ltb p leaves) (all (λ (q : ℕ). ltb q leaves) (take n ps)) (lt→ltb p leaves (k 0 (omega arith)))
-    (each-place n ps leaves (le-of-suc-le-suc h) (λ j i. k (suc j) (omega arith)))
+each-place (suc n) (p ∷ ps) leaves h k = yes-and (ltb p leaves) (all (λ (q : ℕ). ltb q leaves) (take n ps))
+    (lt→ltb p leaves (k 0 (omega arith))) (each-place n ps leaves (le-of-suc-le-suc h) (λ j i. k (suc j) (omega arith)))
 
 -- ---- the rows
 
@@ -96,8 +94,7 @@ unfolding pinRow rowOf from bit
 row-values zero places mask r h = refl
 row-values (suc n) [] mask r h = absurd (not-suc-le-zero h)
 row-values (suc n) (p ∷ ps) mask r h =
-    ap₂ (λ (a b : ℕ). a + 2 * b) (ap one (flip-cond (bit mask 0) (bit r p)))
-    (row-values n ps (mask / 2) r (le-of-suc-le-suc h) ∙ ap rowOf (sym (map-from (pinValue (p ∷ ps) mask r) n 0)))
+    cc (flip-cond (bit mask 0) (bit r p), row-values n ps (mask / 2) r (le-of-suc-le-suc h), map-from (pinValue (p ∷ ps) mask r) n 0)
 
 beq-same : (a b : Bool) → a ≡ b → T (Bool·beq a b)
 beq-same true true e = tt
@@ -112,27 +109,22 @@ module _ (c : Cell) (places : List ℕ) (mask leaves f : ℕ) (long : c .pins �
 
   pub fits-iff : T (fits c places mask leaves f) ↔ Fits c places mask leaves (value f)
   unfolding fits placesFit rowsAgree
-  fits-iff = (there, back)
+  fits-iff = (
+    (λ t. let p = and-yes (ltb mask (2 ^ c .pins)) (placesFit c places leaves && rowsAgree c places mask f) t in let q = and-yes
+        (placesFit c places leaves) (rowsAgree c places mask f) (p .1) in record {
+          noHighBit = high-clear (c .pins) mask (ltb→lt mask (2 ^ c .pins) (p .0));
+          inLeaves = places-each (c .pins) places leaves long (q .0);
+          agrees = λ r h. beq-eq (value f r) (value (c .table) (pinRow (c .pins) places mask r))
+              (all-of test (below 16) (q .1) r (below-in 16 r h)) ∙ in-row r;
+        }),
+    (λ m. yes-and (ltb mask (2 ^ c .pins)) (placesFit c places leaves && rowsAgree c places mask f)
+        (lt→ltb mask (2 ^ c .pins) (clear-high (c .pins) mask (m .noHighBit))) (yes-and (placesFit c places leaves)
+        (rowsAgree c places mask f) (each-place (c .pins) places leaves long (m .inLeaves)) (all-in test (below 16) (λ r i. beq-same
+        (value f r) (value (c .table) (pinRow (c .pins) places mask r)) (m .agrees r (below-out 16 r i) ∙ sym (in-row r)))))),
+  )
     where
       test : ℕ → Bool
       test r = Bool·beq (value f r) (value (c .table) (pinRow (c .pins) places mask r))
-
-      there : T (fits c places mask leaves f) → Fits c places mask leaves (value f)
-      there t =
-          let p = and-yes (ltb mask (2 ^ c .pins)) (placesFit c places leaves && rowsAgree c places mask f) t in
-          let q = and-yes (placesFit c places leaves) (rowsAgree c places mask f) (p .1) in
-          record {
-            noHighBit = high-clear (c .pins) mask (ltb→lt mask (2 ^ c .pins) (p .0));
-            inLeaves = places-each (c .pins) places leaves long (q .0);
-            agrees = λ r h. beq-eq (value f r) (value (c .table) (pinRow (c .pins) places mask r)) (all-of test (below 16) (q .1) r (below-in 16 r h)) ∙ in-row r;
-          }
-
-      back : Fits c places mask leaves (value f) → T (fits c places mask leaves f)
-      back m =
-          yes-and (ltb mask (2 ^ c .pins)) (placesFit c places leaves && rowsAgree c places mask f) (lt→ltb mask (2 ^ c .pins) (clear-high (c .pins) mask (m .noHighBit)))
-          (yes-and (placesFit c places leaves) (rowsAgree c places mask f) (each-place (c .pins) places leaves long (m .inLeaves))
-          (all-in test (below 16)
-          (λ r i. beq-same (value f r) (value (c .table) (pinRow (c .pins) places mask r)) (m .agrees r (below-out 16 r i) ∙ sym (in-row r)))))
 
 -- "For the negative phase the cut's function is complemented."
 module _ (c : Cell) (places : List ℕ) (mask : ℕ) (g : Graph) (cut : List ℕ) (v : ℕ) (neg : Bool) (long : c .pins ≤ length places) where
@@ -141,10 +133,12 @@ module _ (c : Cell) (places : List ℕ) (mask : ℕ) (g : Graph) (cut : List ℕ
 
   want-is : (r : ℕ) → r < 16 → value (phaseTable neg (cutTable g cut v)) r ≡ wanted r
   unfolding value cutTable
-  want-is r h =
-      phase-bit neg (cutTable g cut v) r (tabulate-lt (λ q. walk (span g) g cut q v) 16) h
-      ∙ ap (flip neg) (bit-tabulate (λ q. walk (span g) g cut q v) 16 r h)
-      ∙ flip-cond neg (walk (span g) g cut r v)
+  want-is r h = cc (
+    phase-bit neg (cutTable g cut v) r (tabulate-lt (λ q. walk (span g) g cut q v) 16) h,
+    bit-tabulate
+        (λ q. walk (span g) g cut q v) 16 r h,
+    flip-cond neg (walk (span g) g cut r v),
+  )
 
   pub match-iff : T (fits c places mask (length cut) (phaseTable neg (cutTable g cut v))) ↔ Fits c places mask (length cut) wanted
   match-iff =

@@ -14,7 +14,7 @@ use Rattle.model.specs.Cells.{cellAt, isInverter, noCell}
 use Rattle.model.specs.Graph.{Graph, placingOrder, varOf, negated, opposite}
 use Rattle.model.specs.Cuts.{cutsOf, cutTable}
 use Rattle.model.specs.Matching.{phaseTable, fits}
-use Rattle.model.specs.Choice.{Phases, noPhase, feeds, latest, absent, earlier, choose, matchPhase, cellMatches, cutMatches, cutPhases, matchPhases, inverterPhases, direct, chosen, rank, preference}
+use Rattle.model.specs.Choice.{Phases, feeds, latest, absent, earlier, choose, matchPhase, cellMatches, cutMatches, cutPhases, matchPhases, inverterPhases, direct, chosen, rank, preference}
 use Rattle.model.specs.Cover.{IsMatch, IsOwn, IsInverting, Allowed, arrivalBy}
 use Rattle.model.specs.Demands.{Distinct, Preferred}
 use Rattle.model.specs.declared.Cell.{Cell}
@@ -33,6 +33,7 @@ use Rattle.theory_cover.proofs.Covers.{Straight}
 use Rattle.theory_cover.proofs.Earliest.{latest-one, arrival-matched, arrival-inverted, match-direct}
 use Rattle.theory_cover.proofs.Sound.{Between, the-first, the-second, earlier-between, choose-in, match-known, match-times, own-fine, chosen-fine}
 use Rattle.theory_cover.proofs.Turns.{phasesKnown, own, chosen-entry, opposite-entry}
+use Rattle.theory_graph.proofs.Split.{by-bool}
 
 -- ---- the first of the earliest is the least, in a list that ascends in rank
 
@@ -56,34 +57,22 @@ least-then a b = record { present = a .present; upTo = up-trans (a .upTo) b }
 
 first-least : (a b : Phase) → absent (a .source) ≡ false → Least (earlier a b) a
 unfolding earlier preference
-first-least a b h =
-    subst (λ (x : Bool). Least (cond x b (cond (absent (b .source)) a (cond (ltb (b .arrival) (a .arrival)) b a))) a) (sym h)
-    (go (absent (b .source)) refl (ltb (b .arrival) (a .arrival)) (ltb→lt (b .arrival) (a .arrival)))
-  where
-    go : (y : Bool) → absent (b .source) ≡ y → (z : Bool) → (T z → b .arrival < a .arrival) → Least (cond y a (cond z b a)) a
-    go true e z k = least-self a h
-    go false e true k = record { present = e; upTo = less (k tt) }
-    go false e false k = least-self a h
+first-least a b h = rw h (by-bool (absent (b .source)) (λ e. rw e (least-self a h)) (λ q. rw q (by-bool (ltb (b .arrival) (a .arrival))
+    (λ p. rw p (record { present = q; upTo = less ((rw p at (ltb→lt (b .arrival) (a .arrival))) tt) })) (λ r. rw r (least-self a h)))))
 
 second-least : (a b w : Phase) → Least b w → (absent (a .source) ≡ false → UpTo (rank (a .source)) (rank (w .source))) → Least (earlier a b) w
 unfolding earlier preference
-second-least a b w h r =
-    subst (λ (y : Bool). Least (cond (absent (a .source)) b (cond y a (cond (ltb (b .arrival) (a .arrival)) b a))) w) (sym (h .present))
-    (go (absent (a .source)) refl (ltb (b .arrival) (a .arrival)) (nltb→le (b .arrival) (a .arrival)))
+second-least a b w h r = rw (h .present) (go (absent (a .source)) refl (ltb (b .arrival) (a .arrival)) (nltb→le (b .arrival) (a .arrival)))
   where
     go : (x : Bool) → absent (a .source) ≡ x → (z : Bool) → (T (not z) → a .arrival ≤ b .arrival) → Least (cond x b (cond z b a)) w
     go true e z k = h
     go false e true k = h
-    go false e false k =
-        let q : a .arrival ≤ b .arrival = k tt in
-        let s : b .arrival ≤ w .arrival = up-head (h .upTo) in
-        record { present = e; upTo = up-cons (omega arith) (r e) }
+    go false e false k = record { present = e; upTo = up-cons (omega (arith, up-head (h .upTo), k tt)) (r e) }
 
 pub choose-least : (ws : List Phase) → Ascending ws → (w : Phase) → List·Memᴰ w ws → absent (w .source) ≡ false → Least (choose ws) w
 unfolding choose
 choose-least (x ∷ ws) asc w (List·Memᴰ·head e) h = subst (Least (earlier x (choose ws))) (sym e) (first-least x (choose ws) (ap (λ (y : Phase). absent (y .source)) (sym e) ∙ h))
-choose-least (x ∷ ws) asc w (List·Memᴰ·tail m) h =
-    second-least x (choose ws) w (choose-least ws (asc .1) w m h) (λ p. asc .0 w m p h)
+choose-least (x ∷ ws) asc w (List·Memᴰ·tail m) h = second-least x (choose ws) w (choose-least ws (asc .1) w m h) (λ p. asc .0 w m p h)
 
 -- ---- what the choice tries ascends in rank
 
@@ -103,6 +92,8 @@ by-line a b e h = even refl (even e (less h))
 cellMatches-ascend : (c : Cell) (line k leaves f : ℕ) → Pairwise UpToMatch (cellMatches c line k leaves f)
 unfolding cellMatches rank
 cellMatches-ascend c line k leaves f =
+    let across : (x y : ℕ) → x < y → (a b : Match) → List·Memᴰ a (at x) → List·Memᴰ b (at y) → UpToMatch a b = λ x y h a b m n. rw
+    (map-out (one x) (masks x) m .2) (rw (map-out (one y) (masks y) n .2) (even refl (even refl (even refl (less h))))) in
     pairwise-each UpToMatch (λ (a b : ℕ). a < b) at across (λ order.
     pairwise-map UpToMatch (λ (a b : ℕ). a < b) (one order) (λ x y h. even refl (even refl (even refl (even refl (less h)))))
     (masks order) (pairwise-keep (λ (a b : ℕ). a < b) (λ (mask : ℕ). fits c (getD orders order []) mask leaves f) (below (2 ^ c .pins)) (below-ascends (2 ^ c .pins))))
@@ -117,78 +108,44 @@ cellMatches-ascend c line k leaves f =
     at : ℕ → List Match
     at order = map (one order) (masks order)
 
-    across : (x y : ℕ) → x < y → (a b : Match) → List·Memᴰ a (at x) → List·Memᴰ b (at y) → UpToMatch a b
-    across x y h a b m n =
-        let p = map-out (one x) (masks x) m in
-        let q = map-out (one y) (masks y) n in
-        subst (λ (s : Match). UpToMatch s b) (sym (p .2))
-        (subst (UpToMatch (one x (p .0))) (sym (q .2)) (even refl (even refl (even refl (less h)))))
-
 cutMatches-ascend : (cells : List Cell) (line k leaves f : ℕ) → Pairwise UpToMatch (cutMatches cells line k leaves f)
 unfolding cutMatches
 cutMatches-ascend [] line k leaves f = tt
 cutMatches-ascend (c ∷ cs) line k leaves f =
-    pairwise-append UpToMatch (cellMatches c line k leaves f) (cutMatches cs (suc line) k leaves f)
-    (cellMatches-ascend c line k leaves f) (cutMatches-ascend cs (suc line) k leaves f)
-    (λ a b m n.
-    let p = cellMatches-out c line k leaves f a m in
-    let q = cutMatches-out cs (suc line) k leaves f b n in
-    let h : suc line + q .place ≡ b .cell = q .isPlace in
-    let s : a .cell ≡ line = p .1 in
-    by-line a b (p .0 ∙ sym (q .isCut)) (omega arith))
+    pairwise-append UpToMatch (cellMatches c line k leaves f) (cutMatches cs (suc line) k leaves f) (cellMatches-ascend c line k leaves f)
+    (cutMatches-ascend cs (suc line) k leaves f) (λ a b m n. let p = cellMatches-out c line k leaves f a m in let q = cutMatches-out cs
+    (suc line) k leaves f b n in let h : suc line + q .place ≡ b .cell = q .isPlace in let s : a .cell ≡ line = p .1 in by-line a b
+    (p .0 ∙ sym (q .isCut)) (omega arith))
 
 module _ (cells : List Cell) (g : Graph) (known : ℕ → Phases) (v : ℕ) (neg : Bool) where
   -- the phases of two matches that have sources are ranked as the matches
   matched-rank : (c d : List ℕ) (a b : Match) → UpToMatch a b → absent (matchPhase cells known c a .source) ≡ false → absent (matchPhase cells known d b .source) ≡ false
       → UpTo (rank (matchPhase cells known c a .source)) (rank (matchPhase cells known d b .source))
-  matched-rank c d a b h p q =
-      subst (λ (w : Phase). UpTo (rank (w .source)) (rank (matchPhase cells known d b .source))) (sym (matchPhase-out cells known c a p .1))
-      (subst (λ (w : Phase). UpTo (rank (Matched a)) (rank (w .source))) (sym (matchPhase-out cells known d b q .1)) h)
-
-  cutPhases-ascend : (k : ℕ) (cut : List ℕ) → Ascending (cutPhases cells g known v neg k cut)
-  unfolding cutPhases
-  cutPhases-ascend k cut = go (same cut (v ∷ []))
-    where
-      found : List Match
-      found = cutMatches cells 0 k (length cut) (phaseTable neg (cutTable g cut v))
-
-      go : (b : Bool) → Ascending (cond b [] (map (matchPhase cells known cut) found))
-      go true = tt
-      go false =
-          pairwise-map InRank UpToMatch (matchPhase cells known cut) (λ a b h. matched-rank cut cut a b h) found
-          (cutMatches-ascend cells 0 k (length cut) (phaseTable neg (cutTable g cut v)))
+  matched-rank c d a b h p q = rw (matchPhase-out cells known c a p .1) (rw (matchPhase-out cells known d b q .1) h)
 
   pub matchPhases-ascend : (first : ℕ) (cuts : List (List ℕ)) → Ascending (matchPhases cells g known v neg first cuts)
   unfolding matchPhases
   matchPhases-ascend first [] = tt
-  matchPhases-ascend first (cut ∷ cuts) =
-      pairwise-append InRank (cutPhases cells g known v neg first cut) (matchPhases cells g known v neg (suc first) cuts)
-      (cutPhases-ascend first cut) (matchPhases-ascend (suc first) cuts) across
-    where
-      across : (x y : Phase) → List·Memᴰ x (cutPhases cells g known v neg first cut) → List·Memᴰ y (matchPhases cells g known v neg (suc first) cuts)
-          → absent (x .source) ≡ false → absent (y .source) ≡ false → UpTo (rank (x .source)) (rank (y .source))
-      across x y m n =
-          let p = cutPhases-out cells g known v neg first cut x m .1 in
-          let q = matchPhases-out cells g known v neg (suc first) cuts y n in
-          let a : p .0 .cut ≡ first = p .1 .isCut in
-          let b : suc first + q .onCut .place ≡ q .match .cut = q .onCut .isPlace in
-          subst (λ (w : Phase). absent (w .source) ≡ false → absent (y .source) ≡ false → UpTo (rank (w .source)) (rank (y .source))) (sym (p .2))
-          (subst (λ (w : Phase). absent (matchPhase cells known cut (p .0) .source) ≡ false → absent (w .source) ≡ false → UpTo (rank (matchPhase cells known cut (p .0) .source)) (rank (w .source))) (sym (q .isPhase))
-          (matched-rank cut (getD cuts (q .onCut .place) []) (p .0) (q .match) (by-cut (p .0) (q .match) (omega arith))))
+  matchPhases-ascend first (cut ∷ cuts) = pairwise-append InRank (cutPhases cells g known v neg first cut)
+      (matchPhases cells g known v neg (suc first) cuts) (unfold cutPhases in let found = cutMatches cells 0 first (length cut)
+      (phaseTable neg (cutTable g cut v)) in by-bool (same cut (v ∷ [])) (λ e. rw e tt) (λ q. rw q (pairwise-map InRank UpToMatch
+      (matchPhase cells known cut) (λ a b h. matched-rank cut cut a b h) found
+      (cutMatches-ascend cells 0 first (length cut) (phaseTable neg (cutTable g cut v)))))) (matchPhases-ascend
+      (suc first) cuts) (λ x y m n.
+      let p = cutPhases-out cells g known v neg first cut x m .1 in let q = matchPhases-out cells g known v neg (suc first) cuts y n in
+      let a : p .0 .cut ≡ first = p .1 .isCut in let b : suc first + q .onCut .place ≡ q .match .cut = q .onCut .isPlace in rw (p .2)
+      (rw (q .isPhase) (matched-rank cut (getD cuts (q .onCut .place) []) (p .0) (q .match) (by-cut (p .0) (q .match) (omega arith)))))
 
 inverters-ascend : (cells : List Cell) (first : ℕ) (other : Phase) → Ascending (inverterPhases cells first other)
 unfolding inverterPhases rank
 inverters-ascend [] first other = tt
 inverters-ascend (c ∷ cs) first other = go (isInverter c && not (absent (other .source))) (inverters-ascend cs (suc first) other)
   where
-    later-line : (k : ℕ) → first < suc first + k
-    later-line k = omega arith
-
     go : (b : Bool) → Ascending (inverterPhases cs (suc first) other) → Ascending (cond b (invertedPhase c first other ∷ inverterPhases cs (suc first) other) (inverterPhases cs (suc first) other))
     go true later = (
       (λ q m a b.
           let r = inverter-out cs (suc first) other q m in
-          subst (λ (w : Phase). UpTo (rank (Inverted first)) (rank (w .source))) (sym (r .isPhase)) (even refl (less (later-line (r .place))))),
+          subst (λ (w : Phase). UpTo (rank (Inverted first)) (rank (w .source))) (sym (r .isPhase)) (even refl (less (omega arith)))),
       later,
     )
     go false later = later
@@ -231,8 +188,7 @@ module _ (cells : List Cell) (g : Graph) (once : Distinct (placingOrder g)) (pre
 
   tried-least : (w : Phase) → List·Memᴰ w tries → absent (w .source) ≡ false → Least (chosen cells g l) w
   tried-least w m h =
-      subst (λ (p : Phase). Least p w) (sym (chosen-entry cells g pre (varOf l) post e once l refl))
-      (choose-least tries (joined-ascend cells mine other mine-straight) w m h)
+      rw (chosen-entry cells g pre (varOf l) post e once l refl) (choose-least tries (joined-ascend cells mine other mine-straight) w m h)
 
   mine-least : absent (mine .source) ≡ false → Least (chosen cells g l) mine
   mine-least h = tried-least mine (List·Memᴰ·head refl) h
@@ -240,23 +196,19 @@ module _ (cells : List Cell) (g : Graph) (once : Distinct (placingOrder g)) (pre
   -- "for an input's positive phase its own net"
   own-least : IsOwn g l → Least (chosen cells g l) (ruled Input)
   unfolding direct absent arrivalBy feeds latest
-  own-least o = subst (Least (chosen cells g l)) is-net (mine-least (ap (λ (p : Phase). absent (p .source)) is-net))
-    where
-      positive : (b : Bool) → T (not b) → _≡_ {A = Phase} (cond b noPhase (record { source = Input; arrival = g .late (varOf l) })) (record { source = Input; arrival = g .late (varOf l) })
-      positive true t = absurd t
-      positive false t = refl
-
-      is-net : mine ≡ record { source = Input; arrival = g .late (varOf l) }
-      is-net =
-          ap (direct cells g (phasesKnown cells g pre) (varOf l) (cutsOf g (varOf l)) (negated l)) (node-input g (varOf l) once (o .isInput))
-          ∙ positive (negated l) (o .positive)
+  own-least o =
+      let is-net : mine ≡ record { source = Input; arrival = g .late (varOf l) } = ap
+      (direct cells g (phasesKnown cells g pre) (varOf l) (cutsOf g (varOf l)) (negated l)) (node-input g (varOf l) once (o .isInput))
+      ∙ by-bool (negated l) (λ e. rw e (absurd (rw e at (o .positive)))) (λ q. rw q) in
+      subst (Least (chosen cells g l)) is-net (mine-least (ap (λ (p : Phase). absent (p .source)) is-net))
 
   match-least : (m : Match) → IsMatch cells g l m → ((x : ℕ) → List·Memᴰ x (feeds cells (cutsOf g) l (Matched m)) → absent (chosen cells g x .source) ≡ false)
       → Least (chosen cells g l) (ruled (Matched m))
   unfolding feeds absent
   match-least m h pins =
-      least-then (mine-least (subst (λ (p : Phase). absent (p .source) ≡ false) (sym best) (by .present)))
-      (subst (λ (p : Phase). UpTo (preference p) (preference (ruled (Matched m)))) (sym best) (by .upTo))
+      let by = choose-least tried (matchPhases-ascend cells g known (varOf l) (negated l) 0 (cutsOf g (varOf l))) (ruled (Matched m))
+      (subst (λ (p : Phase). List·Memᴰ p tried) by-rule (match-tried cells g known l m h)) refl in
+      least-then (mine-least (rw best (by .present))) (rw best (by .upTo))
     where
       known : ℕ → Phases
       known = phasesKnown cells g pre
@@ -268,45 +220,34 @@ module _ (cells : List Cell) (g : Graph) (once : Distinct (placingOrder g)) (pre
       best = match-direct cells g once pre l post e m h known
 
       by-rule : matchPhase cells known (cutFor g l m) m ≡ ruled (Matched m)
-      by-rule =
-          matchPhase-in cells known (cutFor g l m) m (λ x i. ap (λ (p : Phase). absent (p .source)) (sym (match-known cells g once pre l post e m h x i)) ∙ pins x i)
-          ∙ ap (λ (t : ℕ). record { source = Matched m; arrival = t })
-          (ap (λ (ts : List ℕ). latest ts (cellAt cells (m .cell) .delays)) (match-times cells g once pre l post e m h)
-          ∙ sym (arrival-matched cells g (λ x. chosen cells g x .arrival) l m))
-
-      by : Least (choose tried) (ruled (Matched m))
-      by = choose-least tried (matchPhases-ascend cells g known (varOf l) (negated l) 0 (cutsOf g (varOf l))) (ruled (Matched m))
-          (subst (λ (p : Phase). List·Memᴰ p tried) by-rule (match-tried cells g known l m h)) refl
+      by-rule = cc (
+        matchPhase-in cells known (cutFor g l m) m (λ x i.
+            ap (λ (p : Phase). absent (p .source)) (sym (match-known cells g once pre l post e m h x i))
+            ∙ pins x i),
+        match-times cells g once pre l post e m h,
+        arrival-matched cells g (λ x. chosen cells g x .arrival) l m,
+      )
 
   -- the opposite phase keeps its own source, or has an inverter that this phase feeds
   inverter-least : (i : ℕ) → IsInverting cells i → absent (chosen cells g (opposite l) .source) ≡ false → Least (chosen cells g l) (ruled (Inverted i))
   unfolding choose absent cellAt preference
   inverter-least i h pin =
-      go (earlier other inv) (earlier-between other inv (ap (λ (p : Phase). absent (p .source)) (sym entry) ∙ pin)) entry (ap (λ (p : Phase). absent (p .source)) (sym entry) ∙ pin)
+      let entry = opposite-entry cells g pre (varOf l) post e once l refl in
+      go (earlier other inv) (earlier-between other inv (cc entry)) entry (cc entry)
     where
       inv : Phase
       inv = choose (inverterPhases cells 0 mine)
 
-      entry : chosen cells g (opposite l) ≡ earlier other inv
-      entry = opposite-entry cells g pre (varOf l) post e once l refl
-
       time : (w : Phase) → chosen cells g (opposite l) ≡ w → w .arrival + getD (getD cells i noCell .delays) 0 0 ≡ ruled (Inverted i) .arrival
-      time w q =
-          latest-one (w .arrival) (getD cells i noCell .delays)
-          ∙ ap (λ (p : Phase). latest (p .arrival ∷ []) (getD cells i noCell .delays)) (sym q)
-          ∙ sym (arrival-inverted cells g (λ x. chosen cells g x .arrival) l i)
+      time w q = cc (latest-one (w .arrival) (getD cells i noCell .delays), arrival-inverted cells g (λ x. chosen cells g x .arrival) l i)
 
       go : (w : Phase) → Between other inv w → chosen cells g (opposite l) ≡ w → absent (w .source) ≡ false → Least (chosen cells g l) (ruled (Inverted i))
-      go w (the-first a) q k =
-          subst (λ (t : ℕ). Least (chosen cells g l) (record { source = Inverted i; arrival = t })) (time other q)
-          (tried-least (invertedPhase (getD cells i noCell) i other)
+      go w (the-first a) q k = rw (← time other q) (tried-least (invertedPhase (getD cells i noCell) i other)
           (List·Memᴰ·tail (inverter-in cells 0 i i other (zero-add i) (h .hasCell) (h .inverts) a)) refl)
       go w (the-second a) q k =
           let r = inverter-out cells 0 mine inv (choose-in (inverterPhases cells 0 mine) k) in
-          let t : inv .arrival ≡ mine .arrival + getD (getD cells (r .place) noCell .delays) 0 0 = ap (λ (p : Phase). p .arrival) (r .isPhase) in
-          let u : inv .arrival + getD (getD cells i noCell .delays) 0 0 ≡ ruled (Inverted i) .arrival = time inv q in
-          let s : mine .arrival ≤ ruled (Inverted i) .arrival = omega arith in
-          least-then (mine-least (r .present)) (up-cons s (straight-up (mine .source) (mine-straight (r .present)) i))
+          least-then (mine-least (r .present)) (up-cons (omega (arith, ap (λ (p : Phase). p .arrival) (r .isPhase), time inv q))
+          (straight-up (mine .source) (mine-straight (r .present)) i))
 
   source-least : (s : Source) → Allowed cells g l s → ((x : ℕ) → List·Memᴰ x (feeds cells (cutsOf g) l s) → absent (chosen cells g x .source) ≡ false)
       → Least (chosen cells g l) (ruled s)
@@ -325,8 +266,5 @@ module _ (cells : List Cell) (g : Graph) (once : Distinct (placingOrder g)) (pre
 
 -- the choice of a placed phase is the first by 01's order of preference
 pub choice-preferred : (cells : List Cell) (g : Graph) → Accepted g → (l : ℕ) → List·Memᴰ (varOf l) (placingOrder g) → Preferred cells g l
-choice-preferred cells g ok l =
-    along (λ v. (x : ℕ) → varOf x ≡ v → List·Memᴰ v (placingOrder g) → Preferred cells g x) (placingOrder g)
-    (λ u h x p m. absurd (h m))
-    (λ pre v post e ih x p m. preferred-turn cells g (order-once g ok) pre x post (subst (λ (w : ℕ). placingOrder g ≡ pre ++ (w ∷ post)) (sym p) e))
-    (varOf l) l refl
+choice-preferred cells g ok l = along (λ v. (x : ℕ) → varOf x ≡ v → List·Memᴰ v (placingOrder g) → Preferred cells g x) (placingOrder g)
+    (λ u h x p m. absurd (h m)) (λ pre v post e ih x p m. preferred-turn cells g (order-once g ok) pre x post (rw p e)) (varOf l) l refl

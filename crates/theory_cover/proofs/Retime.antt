@@ -46,12 +46,8 @@ latest-below f h (x ∷ xs) ds es le de = go ds es de (λ as′ bs. latest-below
         → latest (f x ∷ map f xs) ds ≤ latest (h x ∷ map h xs) es
     go [] [] q rest = let b : latest (map f xs) [] ≤ latest (map h xs) [] = rest [] [] (λ j. le-refl 0) in omega (arith, a)
     go [] (e ∷ es) q rest = let b : latest (map f xs) [] ≤ latest (map h xs) es = rest [] es (λ j. q (suc j)) in omega (arith, a)
-    go (d ∷ ds) [] q rest =
-        let c : d ≤ 0 = q 0 in
-        let b : latest (map f xs) ds ≤ latest (map h xs) [] = rest ds [] (λ j. q (suc j)) in omega (arith, a)
-    go (d ∷ ds) (e ∷ es) q rest =
-        let c : d ≤ e = q 0 in
-        let b : latest (map f xs) ds ≤ latest (map h xs) es = rest ds es (λ j. q (suc j)) in omega (arith, a)
+    go (d ∷ ds) [] q rest = omega (arith, rest ds [] (λ j. q (suc j)), q 0, a)
+    go (d ∷ ds) (e ∷ es) q rest = omega (arith, rest ds es (λ j. q (suc j)), q 0, a)
 
 module _ (cells : List Cell) (g : Graph) (once : Distinct (placingOrder g)) (delays : ℕ → List ℕ) where
   abbrev source : ℕ → Source
@@ -70,10 +66,7 @@ module _ (cells : List Cell) (g : Graph) (once : Distinct (placingOrder g)) (del
   time-known : (pre : List ℕ) (v : ℕ) (post : List ℕ) → placingOrder g ≡ pre ++ (v ∷ post) → (x : ℕ) → ¬ List·Memᴰ (varOf x) (v ∷ post) → time x ≡ timeOf (timesKnown pre) x
   unfolding retimed retimes timeOf
   time-known pre v post e x h =
-      ap (λ (p : Times). cond (negated x) (p .negative) (p .positive))
-      (ap (λ (vs : List ℕ). find noTimes (varOf x) (run timeStep vs [])) e
-      ∙ ap (find noTimes (varOf x)) (run-split noTimes timeStep pre (v ∷ post) [])
-      ∙ run-stays noTimes timeStep (v ∷ post) (run timeStep pre []) (varOf x) h)
+      cc (run-split noTimes timeStep pre (v ∷ post) [], run-stays noTimes timeStep (v ∷ post) (run timeStep pre []) (varOf x) h)
 
   -- a phase's own arrival in its variable's turn
   abbrev ownAt : List ℕ → ℕ → ℕ
@@ -89,15 +82,15 @@ module _ (cells : List Cell) (g : Graph) (once : Distinct (placingOrder g)) (del
   time-entry : (pre : List ℕ) (v : ℕ) (post : List ℕ) → placingOrder g ≡ pre ++ (v ∷ post) → (l : ℕ) → varOf l ≡ v
       → time l ≡ turnedTime (delays l) (ownAt pre l) (ownAt pre (opposite l)) (source l)
   unfolding retimed retimes timeOf opposite
-  time-entry pre v post e l p =
-      ap (λ (u : ℕ). cond (negated l) (find noTimes u (run timeStep (placingOrder g) []) .negative) (find noTimes u (run timeStep (placingOrder g) []) .positive)) p
-      ∙ ap (λ (x : Times). cond (negated l) (x .negative) (x .positive))
-      (ap (λ (vs : List ℕ). find noTimes v (run timeStep vs [])) e
-      ∙ ap (find noTimes v) (run-split noTimes timeStep pre (v ∷ post) [])
-      ∙ run-entry noTimes timeStep v post (run timeStep pre []) (no-twice-behind pre (v ∷ post) (subst Distinct e once) .0))
-      ∙ two-times pre v (negated l)
-      ∙ ap₂ (λ (x y : ℕ). turnedTime (delays x) (ownAt pre x) (ownAt pre y) (source x))
-      (ap (literal (negated l)) (sym p) ∙ lit-whole l) (ap (literal (not (negated l))) (sym p))
+  time-entry pre v post e l p = ap (λ (u : ℕ). cond (negated l) (find noTimes u (run timeStep (placingOrder g) []) .negative)
+      (find noTimes u (run timeStep (placingOrder g) []) .positive)) p ∙ ap (λ (x : Times). cond (negated l) (x .negative) (x .positive))
+      (cc (
+        run-split noTimes timeStep pre (v ∷ post) [],
+        run-entry noTimes timeStep v post (run timeStep pre [])
+            (no-twice-behind pre (v ∷ post) (rw (← e) once) .0),
+      )) ∙ two-times pre v (negated l) ∙ ap₂
+      (λ (x y : ℕ). turnedTime (delays x) (ownAt pre x) (ownAt pre y) (source x)) (ap (literal (negated l)) (sym p) ∙ lit-whole l)
+      (ap (literal (not (negated l))) (sym p))
 
   own-rule : (pre : List ℕ) (v : ℕ) (post : List ℕ) → placingOrder g ≡ pre ++ (v ∷ post) → (l : ℕ) → varOf l ≡ v → Straight (source l)
       → ownAt pre l ≡ timeBy cells g (delays l) time l (source l)
@@ -107,11 +100,8 @@ module _ (cells : List Cell) (g : Graph) (once : Distinct (placingOrder g)) (del
       go : (s : Source) → source l ≡ s → Straight s → ownTime cells g (delays l) (timesKnown pre) l s ≡ timeBy cells g (delays l) time l s
       go Input q u = refl
       go Nothing q u = absurd u
-      go (Matched m) q u =
-          ap (λ (ts : List ℕ). latest ts (delays l))
-          (map-same (timeOf (timesKnown pre)) time (feeds cells (cutsOf g) l (Matched m))
-          (λ x i. sym (time-known pre v post e x
-          (straight-before cells g once pre v post e l p (subst Straight (sym q) tt) x (subst (λ (r : Source). List·Memᴰ x (feeds cells (cutsOf g) l r)) (sym q) i)))))
+      go (Matched m) q u = cc (map-same (timeOf (timesKnown pre)) time (feeds cells (cutsOf g) l (Matched m))
+          (λ x i. sym (time-known pre v post e x (straight-before cells g once pre v post e l p (rw q tt) x (rw q i)))))
       go (Inverted c) q u = absurd u
 
   -- what an entry is, where the phase has no inverter
@@ -137,17 +127,13 @@ module _ (cells : List Cell) (g : Graph) (once : Distinct (placingOrder g)) (del
       go Input q = plain (subst Straight (sym q) tt)
       go Nothing q = absurd (subst (Allowed cells g l) q (chosen-fine cells g once l h .0 .allowed))
       go (Matched m) q = plain (subst Straight (sym q) tt)
-      go (Inverted c) q =
-          time-entry pre v post e l p
-          ∙ ap (turnedTime (delays l) (ownAt pre l) (ownAt pre (opposite l))) q
-          ∙ ap (λ (t : ℕ). latest (t ∷ []) (delays l)) (sym (straight-time pre v post e (opposite l) (opposite-var l ∙ p) (chosen-fine cells g once l h .1 c q)))
-          ∙ sym (ap (timeBy cells g (delays l) time l) q)
+      go (Inverted c) q = cc
+          (time-entry pre v post e l p, straight-time pre v post e (opposite l) (opposite-var l ∙ p) (chosen-fine cells g once l h .1 c q))
 
   -- the rule holds at every phase that is chosen a source
   pub retimed-rule : (l : ℕ) → Present cells g once l → time l ≡ timeBy cells g (delays l) time l (source l)
-  retimed-rule l h =
-      along (λ v. (x : ℕ) → varOf x ≡ v → Present cells g once x → time x ≡ timeBy cells g (delays x) time x (source x)) (placingOrder g)
-      (λ u k x p a. absurd (true≢false (sym (chosen-none cells g x (λ m. k (Memᴰ·cast (sym p) m))) ∙ a)))
+  retimed-rule l h = along (λ v. (x : ℕ) → varOf x ≡ v → Present cells g once x → time x ≡ timeBy cells g (delays x) time x (source x))
+      (placingOrder g) (λ u k x p a. absurd (true≢false (sym (chosen-none cells g x (λ m. k (Memᴰ·cast (sym p) m))) ∙ a)))
       (λ pre v post e ih. turn pre v post e) (varOf l) l refl h
 
 -- Under delays that are no larger than the chosen cells', no phase is later than it is chosen: so a low arrival is at most its phase's arrival.
@@ -161,8 +147,7 @@ module _ (cells : List Cell) (g : Graph) (once : Distinct (placingOrder g)) (del
 
   by-rule : (l : ℕ) → Present cells g once l → ((x : ℕ) → List·Memᴰ x (feeds cells (cutsOf g) l (chosen cells g l .source)) → timed x ≤ arrives x) → timed l ≤ arrives l
   unfolding timeBy arrivalBy cellOf
-  by-rule l h ih =
-      le-trans (le-of-eq (retimed-rule cells g once delays l h))
+  by-rule l h ih = le-trans (le-of-eq (retimed-rule cells g once delays l h))
       (le-trans (go (chosen cells g l .source) ih (smaller l h)) (le-of-eq (sym (chosen-fine cells g once l h .0 .timed))))
     where
       go : (s : Source) → ((x : ℕ) → List·Memᴰ x (feeds cells (cutsOf g) l s) → timed x ≤ arrives x) → ((j : ℕ) → getD (delays l) j 0 ≤ getD (cellOf cells s .delays) j 0)
@@ -174,8 +159,7 @@ module _ (cells : List Cell) (g : Graph) (once : Distinct (placingOrder g)) (del
 
   pub retimed-below : (l : ℕ) → Present cells g once l → timed l ≤ arrives l
   unfolding feeds
-  retimed-below l h =
-      along (λ v. (x : ℕ) → varOf x ≡ v → Present cells g once x → timed x ≤ arrives x) (placingOrder g)
+  retimed-below l h = along (λ v. (x : ℕ) → varOf x ≡ v → Present cells g once x → timed x ≤ arrives x) (placingOrder g)
       (λ u k x p a. absurd (true≢false (sym (chosen-none cells g x (λ m. k (Memᴰ·cast (sym p) m))) ∙ a))) at-turn (varOf l) l refl h
     where
       at-turn : (pre : List ℕ) (v : ℕ) (post : List ℕ) → placingOrder g ≡ pre ++ (v ∷ post) → ((u : ℕ) → ¬ List·Memᴰ u (v ∷ post) → (x : ℕ) → varOf x ≡ u → Present cells g once x → timed x ≤ arrives x)

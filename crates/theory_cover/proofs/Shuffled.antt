@@ -4,18 +4,17 @@ use Prim.Native.Nat.{ℕ, zero, suc, _≤_, _<_}
 use native.Mathlib.Nat.{le-refl, le-antisymm, lt-of-not-le}
 use native.Mathlib.Decide.{decLe}
 use native.Mathlib.Omega.{arith}
-use mathlib.Core.Path.{_≡_, refl, sym, _∙_, ap, ap₂, subst}
+use mathlib.Core.Path.{_≡_, refl, sym, _∙_, ap, subst}
 use mathlib.Core.Logic.{_↔_}
-use mathlib.Core.Bool.{Bool, true, false, true≢false}
-use mathlib.Core.List.{List, [], _∷_, map, List·Memᴰ, List·Memᴰ·head, List·Memᴰ·tail, List·Memᴰ·eq-of-singleton}
-use lib.Dec.{T}
+use mathlib.Core.Bool.{false, true≢false}
+use mathlib.Core.List.{List, [], _∷_, List·Memᴰ, List·Memᴰ·head, List·Memᴰ·tail, List·Memᴰ·eq-of-singleton}
 use lib.ListN.{length, getD}
-use Rattle.model.specs.Cells.{cellAt, noCell, isInverter}
-use Rattle.model.specs.Graph.{Graph, varOf, negated}
-use Rattle.model.specs.Cuts.{cutsOf, cutAt, cutTable}
+use Rattle.model.specs.Cells.{cellAt, noCell}
+use Rattle.model.specs.Graph.{Graph, varOf}
+use Rattle.model.specs.Cuts.{cutsOf, cutAt}
 use Rattle.model.specs.Table.{orders}
-use Rattle.model.specs.Matching.{phaseTable, fits, fedNets, matchNets}
-use Rattle.model.specs.Choice.{feeds, cellOf, latest, absent, chosen}
+use Rattle.model.specs.Matching.{fedNets, matchNets}
+use Rattle.model.specs.Choice.{feeds, cellOf, absent, chosen}
 use Rattle.model.specs.Cover.{Allowed, Needed, output, fed, Feeds, directly, through, arrivalBy, Cover, CoverArrivals}
 use Rattle.model.specs.ShuffleDemands.{EarliestAt, SameCells}
 use Rattle.model.specs.declared.Cell.{Cell}
@@ -27,6 +26,7 @@ use Rattle.theory_graph.proofs.Lists.{getD-in}
 use Rattle.theory_cover.proofs.Demand3.{choice-earliest, covered-present, present-covered}
 use Rattle.theory_cover.proofs.Sound.{chosen-cover, chosen-timed}
 use Rattle.theory_graph.proofs.Placing.{order-once}
+use Rattle.theory_graph.proofs.Split.{by-bool}
 
 -- the line of a cell
 pub record LineOf (c : Cell) (cells : List Cell) : Type 0 where
@@ -82,10 +82,8 @@ module _ (cells cells′ : List Cell) (held : (c : Cell) → List·Memᴰ c cell
     unfolding arrivalBy to cellOf matchTo
     timed-same arrival l Input = refl
     timed-same arrival l Nothing = refl
-    timed-same arrival l (Matched m) =
-        ap₂ (λ (fs : List ℕ) (c : Cell). latest (map arrival fs) (c .delays)) (fed-same l (Matched m)) (moved (m .cell) .same)
-    timed-same arrival l (Inverted i) =
-        ap₂ (λ (fs : List ℕ) (c : Cell). latest (map arrival fs) (c .delays)) (fed-same l (Inverted i)) (moved i .same)
+    timed-same arrival l (Matched m) = cc (fed-same l (Matched m), moved (m .cell) .same)
+    timed-same arrival l (Inverted i) = cc (fed-same l (Inverted i), moved i .same)
 
     allowed-same : (l : ℕ) (s : Source) → Allowed cells g l s → Allowed cells′ g l (to s)
     unfolding to matchTo
@@ -96,13 +94,9 @@ module _ (cells cells′ : List Cell) (held : (c : Cell) → List·Memᴰ c cell
       notAlone = a .notAlone;
       hasCell = moved (m .cell) .here (a .hasCell);
       hasOrder = a .hasOrder;
-      agrees = subst (λ (c : Cell). T (fits c (getD orders (m .order) []) (m .mask) (length (cutAt (cutsOf g) (varOf l) (m .cut)))
-          (phaseTable (negated l) (cutTable g (cutAt (cutsOf g) (varOf l) (m .cut)) (varOf l))))) (sym (moved (m .cell) .same)) (a .agrees);
+      agrees = rw (moved (m .cell) .same) (a .agrees);
     }
-    allowed-same l (Inverted i) a = record {
-      hasCell = moved i .here (a .hasCell);
-      inverts = subst (λ (c : Cell). T (isInverter c)) (sym (moved i .same)) (a .inverts);
-    }
+    allowed-same l (Inverted i) a = record { hasCell = moved i .here (a .hasCell); inverts = rw (moved i .same) (a .inverts) }
 
     module _ (outs : List ℕ) (c : Cover cells g outs) where
       src′ : ℕ → Source
@@ -177,21 +171,14 @@ pub earliest-one : (cells : List Cell) (g : Graph) (l t u : ℕ) → EarliestAt 
 earliest-one cells g l t u a b = le-antisymm (below-it t u a b) (below-it u t b a)
   where
     below-it : (t u : ℕ) → EarliestAt cells g l t → EarliestAt cells g l u → t ≤ u
-    below-it t u a b =
-        let r = b .reached in
-        subst (λ (x : ℕ). t ≤ x) (r .3) (a .least (l ∷ []) (r .0) (r .1) (r .2) (output (List·Memᴰ·head refl)))
+    below-it t u a b = let r = b .reached in rw (← r .3) (a .least (l ∷ []) (r .0) (r .1) (r .2) (output (List·Memᴰ·head refl)))
 
 module _ (cells cells′ : List Cell) (g : Graph) (ok : Accepted g) (s : SameCells cells cells′) where
   pub absent-same : (l : ℕ) → absent (chosen cells g l .source) ≡ absent (chosen cells′ g l .source)
-  absent-same l = go (absent (chosen cells g l .source)) refl (absent (chosen cells′ g l .source)) refl
-    where
-      go : (a : Bool) → absent (chosen cells g l .source) ≡ a → (b : Bool) → absent (chosen cells′ g l .source) ≡ b → a ≡ b
-      go true p true q = refl
-      go false p false q = refl
-      go false p true q = absurd (true≢false (sym q ∙ present-on cells cells′ g ok s l p))
-      go true p false q = absurd (true≢false (sym p ∙ present-on cells′ cells g ok (swapped cells cells′ s) l q))
+  absent-same l = by-bool (absent (chosen cells g l .source)) (λ p. rw p (by-bool (absent (chosen cells′ g l .source)) (λ q. rw q)
+      (λ e. rw e (absurd (true≢false (sym p ∙ present-on cells′ cells g ok (swapped cells cells′ s) l e)))))) (λ r. rw r (by-bool
+      (absent (chosen cells′ g l .source)) (λ w. rw w (absurd (true≢false (sym w ∙ present-on cells cells′ g ok s l r)))) (λ z. rw z)))
 
   pub arrival-same : (l : ℕ) → absent (chosen cells g l .source) ≡ false → chosen cells g l .arrival ≡ chosen cells′ g l .arrival
-  arrival-same l h =
-      earliest-one cells g l (chosen cells g l .arrival) (chosen cells′ g l .arrival) (chosen-earliest cells g ok l h)
+  arrival-same l h = earliest-one cells g l (chosen cells g l .arrival) (chosen cells′ g l .arrival) (chosen-earliest cells g ok l h)
       (earliest-same cells cells′ g s l (chosen cells′ g l .arrival) .1 (chosen-earliest cells′ g ok l (sym (absent-same l) ∙ h)))

@@ -1,9 +1,9 @@
 -- Libraries of the same cells form the same pairs: "Where pairs are formed, both libraries form theirs." Assumes nothing.
 use Prim.Native.Nat.{ℕ, _<_}
-use mathlib.Core.Path.{_≡_, sym, _∙_, ap, ap₂, subst}
-use mathlib.Core.Logic.{_⊎_, inl, inr}
+use mathlib.Core.Path.{_≡_, sym, _∙_, ap, ap₂}
+use mathlib.Core.Logic.{⊎-elim}
 use mathlib.Core.Bool.{Bool, true, false}
-use mathlib.Core.List.{List, _++_, map, List·Memᴰ, List·Memᴰ·append-cases, Memᴰ·append-left, Memᴰ·append-right}
+use mathlib.Core.List.{List, map, List·Memᴰ, List·Memᴰ·append-cases, Memᴰ·append-left, Memᴰ·append-right}
 use lib.Dec.{T}
 use lib.ListN.{length, getD}
 use Rattle.model.specs.Base.{keep, below}
@@ -28,18 +28,17 @@ record IsPair (cells : List Cell) (c : Cell) : Type 0 where
 pair-out : (cells : List Cell) (c : Cell) → List·Memᴰ c (map (cellOfPair cells) (pairsOf cells)) → IsPair cells c
 unfolding pairsOf cellOfPair cellAt
 pair-out cells c m =
-    let n = length cells in
     let a = map-out (cellOfPair cells) (pairsOf cells) m in
-    let b = each-out _ (below n) (a .1) in
+    let b = each-out _ (below (length cells)) (a .1) in
     let d = each-out _ (below (getD cells (b .0) noCell .pins)) (b .2) in
-    let e = map-out _ (keep (λ (j : ℕ). joins (getD cells (b .0) noCell) (getD cells j noCell)) (below n)) (d .2) in
-    let k = keep-out (λ (j : ℕ). joins (getD cells (b .0) noCell) (getD cells j noCell)) (below n) (e .1) in
+    let e = map-out _ (keep (λ (j : ℕ). joins (getD cells (b .0) noCell) (getD cells j noCell)) (below (length cells))) (d .2) in
+    let k = keep-out (λ (j : ℕ). joins (getD cells (b .0) noCell) (getD cells j noCell)) (below (length cells)) (e .1) in
     record {
       root = getD cells (b .0) noCell;
       inner = getD cells (e .0) noCell;
       pin = d .0;
-      hasRoot = getD-in cells (b .0) noCell (below-out n (b .0) (b .1));
-      hasInner = getD-in cells (e .0) noCell (below-out n (e .0) (k .0));
+      hasRoot = getD-in cells (b .0) noCell (below-out (length cells) (b .0) (b .1));
+      hasInner = getD-in cells (e .0) noCell (below-out (length cells) (e .0) (k .0));
       hasPin = below-out (getD cells (b .0) noCell .pins) (d .0) (d .1);
       fits = k .1;
       is = a .2 ∙ ap (cellOfPair cells) (e .2);
@@ -50,33 +49,25 @@ unfolding pairsOf cellOfPair cellAt
 pair-in cells c p =
     let r = line-of (p .root) cells (p .hasRoot) in
     let i = line-of (p .inner) cells (p .hasInner) in
-    let e : c ≡ cellOfPair cells (record { root = r .line; pin = p .pin; inner = i .line }) =
-    p .is ∙ ap₂ (λ (a b : Cell). pairOf a (p .pin) b) (sym (r .is)) (sym (i .is)) in
-    subst (λ (x : Cell). List·Memᴰ x (map (cellOfPair cells) (pairsOf cells))) (sym e)
-    (map-in (cellOfPair cells)
-    (each-in _ (below-in (length cells) (r .line) (r .here))
-    (each-in _ (below-in (getD cells (r .line) noCell .pins) (p .pin) (subst (λ (x : Cell). p .pin < x .pins) (sym (r .is)) (p .hasPin)))
-    (map-in _ (keep-in (λ (j : ℕ). joins (getD cells (r .line) noCell) (getD cells j noCell)) (below-in (length cells) (i .line) (i .here))
-    (subst (λ (x : Cell). T (joins x (getD cells (i .line) noCell))) (sym (r .is)) (subst (λ (x : Cell). T (joins (p .root) x)) (sym (i .is)) (p .fits))))))))
+    rw (p .is ∙ ap₂ (λ (a b : Cell). pairOf a (p .pin) b) (sym (r .is)) (sym (i .is))) (map-in (cellOfPair cells) (each-in _
+    (below-in (length cells) (r .line) (r .here)) (each-in _
+    (below-in (getD cells (r .line) noCell .pins) (p .pin) (rw (r .is) (p .hasPin))) (map-in _ (keep-in
+    (λ (j : ℕ). joins (getD cells (r .line) noCell) (getD cells j noCell)) (below-in (length cells) (i .line) (i .here))
+    (rw (r .is) (rw (i .is) (p .fits))))))))
 
 pairs-on : (cells cells′ : List Cell) → SameCells cells cells′ → (c : Cell) → List·Memᴰ c (withPairs cells) → List·Memᴰ c (withPairs cells′)
 unfolding withPairs
-pairs-on cells cells′ s c m = go (List·Memᴰ·append-cases cells m)
-  where
-    go : List·Memᴰ c cells ⊎ List·Memᴰ c (map (cellOfPair cells) (pairsOf cells)) → List·Memᴰ c (cells′ ++ map (cellOfPair cells′) (pairsOf cells′))
-    go (inl i) = Memᴰ·append-left (map (cellOfPair cells′) (pairsOf cells′)) (s c .0 i)
-    go (inr i) =
-        let p = pair-out cells c i in
-        Memᴰ·append-right cells′ (pair-in cells′ c (record {
-          root = p .root;
-          inner = p .inner;
-          pin = p .pin;
-          hasRoot = s (p .root) .0 (p .hasRoot);
-          hasInner = s (p .inner) .0 (p .hasInner);
-          hasPin = p .hasPin;
-          fits = p .fits;
-          is = p .is;
-        }))
+pairs-on cells cells′ s c m = ⊎-elim (λ i. Memᴰ·append-left (map (cellOfPair cells′) (pairsOf cells′)) (s c .0 i)) (λ q.
+    let p = pair-out cells c q in Memᴰ·append-right cells′ (pair-in cells′ c (record {
+      root = p .root;
+      inner = p .inner;
+      pin = p .pin;
+      hasRoot = s (p .root) .0 (p .hasRoot);
+      hasInner = s (p .inner) .0 (p .hasInner);
+      hasPin = p .hasPin;
+      fits = p .fits;
+      is = p .is;
+    }))) (List·Memᴰ·append-cases cells m)
 
 pub pairs-same : (paired : Bool) (cells cells′ : List Cell) → SameCells cells cells′ → SameCells (cellsFor paired cells) (cellsFor paired cells′)
 unfolding cellsFor

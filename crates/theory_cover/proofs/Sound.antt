@@ -3,7 +3,7 @@ use Prim.Native.Nat.{ℕ, _+_, _≤_, _<_}
 use native.Mathlib.Nat.{zero-add}
 use native.Mathlib.Omega.{arith}
 use mathlib.Core.Path.{_≡_, refl, sym, _∙_, ap, ap₂, subst}
-use mathlib.Core.Logic.{_⊎_, inl, inr, _↔_}
+use mathlib.Core.Logic.{_⊎_, inl, inr, _↔_, ⊎-elim}
 use mathlib.Core.Bool.{Bool, true, false, not, cond, true≢false, false≢true}
 use mathlib.Core.List.{List, [], _∷_, _++_, map, List·Memᴰ, List·Memᴰ·head, List·Memᴰ·tail, List·Memᴰ·not-nil, List·Memᴰ·eq-of-singleton, Memᴰ·cast}
 use lib.Dec.{T, ltb, ltb→lt}
@@ -27,9 +27,10 @@ use Rattle.theory_graph.proofs.Runs.{along}
 use Rattle.theory_graph.proofs.Nodes.{input-out}
 use Rattle.theory_graph.proofs.CutFacts.{leaves-before, leaves-closed}
 use Rattle.theory_cover.proofs.Turns.{phasesKnown, chosen-known, own, chosen-entry, opposite-entry, chosen-none}
-use Rattle.theory_cover.proofs.Matches.{cutFor, cut-listed, match-out, matched-leaf, matchedPhase, matchPhase-out, invertedPhase, InverterPhase, inverter-out}
+use Rattle.theory_cover.proofs.Matches.{cutFor, cut-listed, match-out, matched-leaf, matchPhase-out, InverterPhase, inverter-out}
 use Rattle.theory_cover.proofs.Covers.{Straight}
 use Rattle.theory_cover.proofs.Earliest.{latest-one, arrival-matched, arrival-inverted, nothing-uncovered}
+use Rattle.theory_graph.proofs.Split.{by-bool}
 
 -- ---- what is chosen is one of those tried
 
@@ -40,14 +41,9 @@ pub data Between (a b : Phase) : Phase → Type 0 where
 
 pub earlier-between : (a b : Phase) → absent (earlier a b .source) ≡ false → Between a b (earlier a b)
 unfolding earlier
-earlier-between a b = go (absent (a .source)) refl (absent (b .source)) (ltb (b .arrival) (a .arrival)) (ltb→lt (b .arrival) (a .arrival))
-  where
-    go : (x : Bool) → absent (a .source) ≡ x → (y z : Bool) → (T z → b .arrival < a .arrival)
-        → absent (cond x b (cond y a (cond z b a)) .source) ≡ false → Between a b (cond x b (cond y a (cond z b a)))
-    go true e y z k h = the-second (inl e)
-    go false e true z k h = the-first e
-    go false e false true k h = the-second (inr (k tt))
-    go false e false false k h = the-first e
+earlier-between a b = λ x. by-bool (absent (a .source)) (λ e. rw e (the-second (inl e))) (λ q. rw q (by-bool (absent (b .source))
+    (λ p. rw p (the-first q)) (λ r. rw r (by-bool (ltb (b .arrival) (a .arrival))
+    (λ z. rw z (the-second (inr ((rw z at (ltb→lt (b .arrival) (a .arrival))) tt)))) (λ w. rw w (the-first q))))))
 
 pub choose-in : (ws : List Phase) → absent (choose ws .source) ≡ false → List·Memᴰ (choose ws) ws
 unfolding choose noPhase absent
@@ -73,19 +69,12 @@ direct-out cells g known l = at
     tried = matchPhases cells g known (varOf l) (negated l) 0 (cutsOf g (varOf l))
 
     best : absent (choose tried .source) ≡ false → DirectPhase cells g known l (choose tried)
-    best h =
-        let o = match-out cells g known l (choose tried) (choose-in tried h) in
-        subst (DirectPhase cells g known l) (sym (o .2)) (by-match (o .0) (o .1))
-
-    net : (b : Bool) → negated l ≡ b → node g (varOf l) ≡ input → absent (cond b noPhase (record { source = Input; arrival = g .late (varOf l) }) .source) ≡ false
-        → DirectPhase cells g known l (cond b noPhase (record { source = Input; arrival = g .late (varOf l) }))
-    net true q e h = absurd (true≢false h)
-    net false q e h = own-net e q
+    best h = let o = match-out cells g known l (choose tried) (choose-in tried h) in rw (o .2) (by-match (o .0) (o .1))
 
     at : (k : Node) → node g (varOf l) ≡ k → absent (direct cells g known (varOf l) (cutsOf g (varOf l)) (negated l) k .source) ≡ false
         → DirectPhase cells g known l (direct cells g known (varOf l) (cutsOf g (varOf l)) (negated l) k)
     at constant e h = best h
-    at input e h = net (negated l) refl e h
+    at input e h = (by-bool (negated l) (λ q. rw q (absurd (true≢false (rw q at h)))) (λ p. rw p (own-net e p)))
     at undefined e h = absurd (true≢false h)
     at (both a b) e h = best h
 
@@ -95,13 +84,8 @@ earlier-keeps : (a b : Phase) → absent (a .source) ≡ false → (absent (b .s
 unfolding earlier
 earlier-keeps a b e (inl k) = ap₂ (λ (x y : Bool). cond x b (cond y a (cond (ltb (b .arrival) (a .arrival)) b a))) e k
 earlier-keeps a b e (inr k) =
-    ap (λ (x : Bool). cond x b (cond (absent (b .source)) a (cond (ltb (b .arrival) (a .arrival)) b a))) e
-    ∙ go (absent (b .source)) (ltb (b .arrival) (a .arrival)) (no-ltb k)
-  where
-    go : (y z : Bool) → T (not z) → cond y a (cond z b a) ≡ a
-    go true z t = refl
-    go false true t = absurd t
-    go false false t = refl
+    ap (λ (x : Bool). cond x b (cond (absent (b .source)) a (cond (ltb (b .arrival) (a .arrival)) b a))) e ∙ by-bool (absent (b .source))
+    (λ q. rw q) (λ p. rw p (by-bool (ltb (b .arrival) (a .arrival)) (λ r. rw r (absurd (rw r at (no-ltb k)))) (λ z. rw z)))
 
 -- the other phase's source stays as it is where this phase's is later
 pub other-stays : (cells : List Cell) (o a : Phase) → absent (o .source) ≡ false → (absent (a .source) ≡ true) ⊎ (o .arrival < a .arrival) → choose (o ∷ inverterPhases cells 0 a) ≡ o
@@ -112,10 +96,11 @@ other-stays cells o a e k = earlier-keeps o (choose (inverterPhases cells 0 a)) 
         → (absent (choose (inverterPhases cells 0 a) .source) ≡ true) ⊎ (o .arrival ≤ choose (inverterPhases cells 0 a) .arrival)
     go true q h = inl q
     go false q (inl h) = absurd (true≢false (sym h ∙ inverter-out cells 0 a (choose (inverterPhases cells 0 a)) (choose-in (inverterPhases cells 0 a) q) .present))
-    go false q (inr h) =
-        let r = inverter-out cells 0 a (choose (inverterPhases cells 0 a)) (choose-in (inverterPhases cells 0 a) q) in
-        let t : choose (inverterPhases cells 0 a) .arrival ≡ a .arrival + getD (getD cells (r .place) noCell .delays) 0 0 = ap (λ (w : Phase). w .arrival) (r .isPhase) in
-        inr (omega arith)
+    go false q (inr h) = inr (omega (
+      arith,
+      ap (λ (w : Phase). w .arrival)
+          (inverter-out cells 0 a (choose (inverterPhases cells 0 a)) (choose-in (inverterPhases cells 0 a) q) .isPhase),
+    ))
 
 -- ---- the chosen sources are a cover
 
@@ -138,16 +123,14 @@ module _ (cells : List Cell) (g : Graph) (once : Distinct (placingOrder g)) wher
   -- the nets of a match are known when its variable's turn comes
   pub match-known : (pre : List ℕ) (l : ℕ) (post : List ℕ) → placingOrder g ≡ pre ++ (varOf l ∷ post) → (m : Match) → IsMatch cells g l m
       → (x : ℕ) → List·Memᴰ x (matchNets cells (cutFor g l m) m) → chosen cells g x ≡ phaseOf (phasesKnown cells g pre) x
-  match-known pre l post e m k x j =
-      chosen-known cells g pre (varOf l) post e x
-      (leaves-before g pre (varOf l) post e once (cutFor g l m) (cut-listed cells g l m k) (k .notAlone) (varOf x) (matched-leaf cells g l m x k j))
+  match-known pre l post e m k x j = chosen-known cells g pre (varOf l) post e x (leaves-before g pre (varOf l) post e once (cutFor g l m)
+      (cut-listed cells g l m k) (k .notAlone) (varOf x) (matched-leaf cells g l m x k j))
 
   pub match-times : (pre : List ℕ) (l : ℕ) (post : List ℕ) → placingOrder g ≡ pre ++ (varOf l ∷ post) → (m : Match) → IsMatch cells g l m
       → map (λ (y : Phase). y .arrival) (map (phaseOf (phasesKnown cells g pre)) (matchNets cells (cutFor g l m) m)) ≡ map arr (matchNets cells (cutFor g l m) m)
-  match-times pre l post e m k =
-      map-map (λ (y : Phase). y .arrival) (phaseOf (phasesKnown cells g pre)) (matchNets cells (cutFor g l m) m)
+  match-times pre l post e m k = map-map (λ (y : Phase). y .arrival) (phaseOf (phasesKnown cells g pre)) (matchNets cells (cutFor g l m) m)
       ∙ map-same (λ (x : ℕ). phaseOf (phasesKnown cells g pre) x .arrival) arr (matchNets cells (cutFor g l m) m)
-      (λ x j. sym (ap (λ (y : Phase). y .arrival) (match-known pre l post e m k x j)))
+      (λ x j. sym (cc (match-known pre l post e m k x j)))
 
   -- the source without inverters, in a variable's turn
   direct-fine : (pre : List ℕ) (l : ℕ) (post : List ℕ) → placingOrder g ≡ pre ++ (varOf l ∷ post) → (w : Phase) → DirectPhase cells g (phasesKnown cells g pre) l w
@@ -162,6 +145,7 @@ module _ (cells : List Cell) (g : Graph) (once : Distinct (placingOrder g)) wher
     tt,
   )
   direct-fine pre l post e w (by-match m k) h =
+      let o = matchPhase-out cells (phasesKnown cells g pre) (cutFor g l m) m h in
       subst (λ (x : Phase). Fine l x × Straight (x .source)) (sym (o .1)) (
         record {
           allowed = k;
@@ -170,19 +154,14 @@ module _ (cells : List Cell) (g : Graph) (once : Distinct (placingOrder g)) wher
         },
         tt,
       )
-    where
-      o : ((x : ℕ) → List·Memᴰ x (matchNets cells (cutFor g l m) m) → absent (phaseOf (phasesKnown cells g pre) x .source) ≡ false)
-          × (matchPhase cells (phasesKnown cells g pre) (cutFor g l m) m ≡ matchedPhase cells (phasesKnown cells g pre) (cutFor g l m) m)
-      o = matchPhase-out cells (phasesKnown cells g pre) (cutFor g l m) m h
 
   pub own-fine : (pre : List ℕ) (v : ℕ) (post : List ℕ) → placingOrder g ≡ pre ++ (v ∷ post) → (l : ℕ) (b : Bool) → varOf l ≡ v → negated l ≡ b
       → absent (own cells g pre v b .source) ≡ false → Fine l (own cells g pre v b) × Straight (own cells g pre v b .source)
-  own-fine pre v post e l b p q =
-      subst (λ (b : Bool). absent (own cells g pre v b .source) ≡ false → Fine l (own cells g pre v b) × Straight (own cells g pre v b .source)) q
-      (subst (λ (v : ℕ). placingOrder g ≡ pre ++ (v ∷ post) → absent (own cells g pre v (negated l) .source) ≡ false
-      → Fine l (own cells g pre v (negated l)) × Straight (own cells g pre v (negated l) .source)) p
-      (λ e′ h. direct-fine pre l post e′ (own cells g pre (varOf l) (negated l))
-      (direct-out cells g (phasesKnown cells g pre) l (node g (varOf l)) refl h) h) e)
+  own-fine pre v post e l b p q = subst
+      (λ (b : Bool). absent (own cells g pre v b .source) ≡ false → Fine l (own cells g pre v b) × Straight (own cells g pre v b .source)) q
+      (subst (λ (v : ℕ). placingOrder g ≡ pre ++ (v ∷ post) → absent (own cells g pre v (negated l) .source) ≡ false → Fine l
+      (own cells g pre v (negated l)) × Straight (own cells g pre v (negated l) .source)) p (λ e′ h. direct-fine pre l post e′
+      (own cells g pre (varOf l) (negated l)) (direct-out cells g (phasesKnown cells g pre) l (node g (varOf l)) refl h) h) e)
 
   -- what is chosen is by the rules, and what an inverter is fed by has no inverter
   Good : ℕ → Type 0
@@ -191,20 +170,19 @@ module _ (cells : List Cell) (g : Graph) (once : Distinct (placingOrder g)) wher
   -- an inverter is by the rules, where the other phase keeps its own
   inverter-fine : (l : ℕ) (other w : Phase) → InverterPhase cells 0 other w → chosen cells g (opposite l) ≡ other → Fine l w
   unfolding feeds cellAt
-  inverter-fine l other w r o =
-      subst (Fine l) (sym (r .isPhase ∙ ap (λ (j : ℕ). invertedPhase (getD cells (r .place) noCell) j other) (zero-add (r .place))))
-      (record {
-        allowed = record { hasCell = r .hasPlace; inverts = r .inverts };
-        timed = latest-one (other .arrival) (getD cells (r .place) noCell .delays)
-            ∙ ap (λ (y : Phase). latest (y .arrival ∷ []) (getD cells (r .place) noCell .delays)) (sym o)
-            ∙ sym (arrival-inverted cells g arr l (r .place));
-        fedBy = λ x i. ap (λ (y : ℕ). absent (src y)) (List·Memᴰ·eq-of-singleton i) ∙ ap (λ (y : Phase). absent (y .source)) o ∙ r .present;
-      })
+  inverter-fine l other w r o = subst (Fine l) (cc (r .isPhase, zero-add (r .place))) (record {
+    allowed = record { hasCell = r .hasPlace; inverts = r .inverts };
+    timed = latest-one (other .arrival) (getD cells (r .place) noCell .delays)
+        ∙ ap (λ (y : Phase). latest (y .arrival ∷ []) (getD cells (r .place) noCell .delays)) (sym o)
+        ∙ sym (arrival-inverted cells g arr l (r .place));
+    fedBy = λ x i. ap (λ (y : ℕ). absent (src y)) (List·Memᴰ·eq-of-singleton i) ∙ ap (λ (y : Phase). absent (y .source)) o ∙ r .present;
+  })
 
   turn : (pre : List ℕ) (v : ℕ) (post : List ℕ) → placingOrder g ≡ pre ++ (v ∷ post) → Good v
   unfolding Good choose
   turn pre v post e l p h =
-      go (earlier mine inv) (earlier-between mine inv (ap (λ (y : Phase). absent (y .source)) (sym entry) ∙ h)) entry (ap (λ (y : Phase). absent (y .source)) (sym entry) ∙ h)
+      let entry = chosen-entry cells g pre v post e once l p in
+      go (earlier mine inv) (earlier-between mine inv (cc entry)) entry (cc entry)
     where
       mine : Phase
       mine = own cells g pre v (negated l)
@@ -215,24 +193,16 @@ module _ (cells : List Cell) (g : Graph) (once : Distinct (placingOrder g)) wher
       inv : Phase
       inv = choose (inverterPhases cells 0 other)
 
-      entry : chosen cells g l ≡ earlier mine inv
-      entry = chosen-entry cells g pre v post e once l p
-
-      sooner : InverterPhase cells 0 other inv → (absent (mine .source) ≡ true) ⊎ (inv .arrival < mine .arrival) → (absent (mine .source) ≡ true) ⊎ (other .arrival < mine .arrival)
-      sooner r (inl k) = inl k
-      sooner r (inr k) =
-          let t : inv .arrival ≡ other .arrival + getD (getD cells (r .place) noCell .delays) 0 0 = ap (λ (y : Phase). y .arrival) (r .isPhase) in inr (omega arith)
-
       go : (w : Phase) → Between mine inv w → chosen cells g l ≡ w → absent (w .source) ≡ false
           → Fine l (chosen cells g l) × ((i : ℕ) → src l ≡ Inverted i → Straight (src (opposite l)))
       go w (the-first a) q k =
-          let f = own-fine pre v post e l (negated l) p refl k in (
-            subst (Fine l) (sym q) (f .0),
-            (λ i s. absurd (subst Straight (sym (ap (λ (y : Phase). y .source) q) ∙ s) (f .1))),
-          )
+          let f = own-fine pre v post e l (negated l) p refl k in
+          (rw q (f .0), (λ i s. absurd (rw (sym (ap (λ (y : Phase). y .source) q) ∙ s) at (f .1))))
       go w (the-second a) q k =
           let r : InverterPhase cells 0 other inv = inverter-out cells 0 other inv (choose-in (inverterPhases cells 0 other) k) in
-          let o : chosen cells g (opposite l) ≡ other = opposite-entry cells g pre v post e once l p ∙ other-stays cells other mine (r .present) (sooner r a) in (
+          let o : chosen cells g (opposite l) ≡ other = opposite-entry cells g pre v post e once l p ∙ other-stays cells other mine (r .present) (
+          ⊎-elim inl (λ q. let t : inv .arrival ≡ other .arrival + getD (getD cells (r .place) noCell .delays) 0 0 = ap
+          (λ (y : Phase). y .arrival) (r .isPhase) in inr (omega arith)) a) in (
             subst (Fine l) (sym q) (inverter-fine l other inv r o),
             (λ i s. subst (λ (y : Phase). Straight (y .source)) (sym o)
                 (own-fine pre v post e (opposite l) (not (negated l)) (opposite-var l ∙ p) (opposite-neg l) (r .present) .1)),
@@ -277,10 +247,8 @@ module _ (cells : List Cell) (g : Graph) (once : Distinct (placingOrder g)) wher
       go : (s : Source) → src y ≡ s → Straight s → List·Memᴰ x (feeds cells (cutsOf g) y s) → ¬ List·Memᴰ (varOf x) (v ∷ post)
       go Input q u j = absurd (List·Memᴰ·not-nil j)
       go Nothing q u j = absurd u
-      go (Matched m) q u j =
-          let k = is-match y m q in
-          leaves-before g pre v post e once (cutFor g y m) (subst (λ (w : ℕ). List·Memᴰ (cutFor g y m) (cutsOf g w)) p (cut-listed cells g y m k))
-          (λ a. k .notAlone (a ∙ ap (λ (w : ℕ). w ∷ []) (sym p))) (varOf x) (matched-leaf cells g y m x k j)
+      go (Matched m) q u j = leaves-before g pre v post e once (cutFor g y m) (rw (← p) (cut-listed cells g y m (is-match y m q)))
+          (λ a. (is-match y m q) .notAlone (a ∙ ap (λ (w : ℕ). w ∷ []) (sym p))) (varOf x) (matched-leaf cells g y m x (is-match y m q) j)
       go (Inverted c) q u j = absurd u
 
   straight-all : (pre : List ℕ) (v : ℕ) (post : List ℕ) → placingOrder g ≡ pre ++ (v ∷ post) → (y : ℕ) → varOf y ≡ v → Straight (src y) → (x : ℕ) → Fed x y → ¬ List·Memᴰ (varOf x) (v ∷ post)
@@ -303,9 +271,8 @@ module _ (cells : List Cell) (g : Graph) (once : Distinct (placingOrder g)) wher
 
       turned : (c : ℕ) → src l ≡ Inverted c → Fed l l → ⊥
       turned c q (directly i) = not-opposite l (List·Memᴰ·eq-of-singleton (subst (λ (s : Source). List·Memᴰ l (feeds cells (cutsOf g) l s)) q i))
-      turned c q (through {y = z} k i) =
-          here (straight-all pre v post e (opposite l) (opposite-var l ∙ p) (chosen-fine l h .1 c q) l
-          (subst (λ (y : ℕ). Fed l y) (List·Memᴰ·eq-of-singleton (subst (λ (s : Source). List·Memᴰ z (feeds cells (cutsOf g) l s)) q i)) k))
+      turned c q (through {y = z} k i) = here (straight-all pre v post e (opposite l) (opposite-var l ∙ p) (chosen-fine l h .1 c q) l
+          (rw (List·Memᴰ·eq-of-singleton (rw q at i)) at k))
 
       go : (s : Source) → src l ≡ s → Fed l l → ⊥
       go Input q k = here (straight-all pre v post e l p (subst Straight (sym q) tt) l k)
@@ -314,8 +281,7 @@ module _ (cells : List Cell) (g : Graph) (once : Distinct (placingOrder g)) wher
       go (Inverted c) q k = turned c q k
 
   pub no-circle : (l : ℕ) → Present l → ¬ Fed l l
-  no-circle l h =
-      along (λ v. (x : ℕ) → varOf x ≡ v → Present x → ¬ Fed x x) (placingOrder g)
+  no-circle l h = along (λ v. (x : ℕ) → varOf x ≡ v → Present x → ¬ Fed x x) (placingOrder g)
       (λ u k x p a. absurd (true≢false (sym (chosen-none cells g x (λ m. k (Memᴰ·cast (sym p) m))) ∙ a)))
       (λ pre v post e ih. round pre v post e) (varOf l) l refl h
 
@@ -340,8 +306,9 @@ module _ (cells : List Cell) (g : Graph) (once : Distinct (placingOrder g)) wher
 
 -- Demand 3: the choice gives Nothing for a phase exactly where it has no cover
 pub nothing-iff : (cells : List Cell) (g : Graph) → Distinct (placingOrder g) → (l : ℕ) → T (absent (chosen cells g l .source)) ↔ (¬ Cover cells g (l ∷ []))
-nothing-iff cells g once l = ((λ t. nothing-uncovered cells g once l (is-true (absent (chosen cells g l .source)) t)), (λ no-cover. go (absent (chosen cells g l .source)) refl no-cover))
-  where
-    go : (b : Bool) → absent (chosen cells g l .source) ≡ b → ¬ Cover cells g (l ∷ []) → T b
-    go true e n = tt
-    go false e n = absurd (n (chosen-cover cells g once (l ∷ []) (λ x i. ap (λ (y : ℕ). absent (chosen cells g y .source)) (List·Memᴰ·eq-of-singleton i) ∙ e)))
+nothing-iff cells g once l = (
+  (λ t. nothing-uncovered cells g once l (is-true (absent (chosen cells g l .source)) t)),
+  (λ no-cover. by-bool
+      (absent (chosen cells g l .source)) (λ e. rw e tt) (λ q. rw q (absurd (no-cover
+      (chosen-cover cells g once (l ∷ []) (λ x i. ap (λ (y : ℕ). absent (chosen cells g y .source)) (List·Memᴰ·eq-of-singleton i) ∙ q)))))),
+)

@@ -2,10 +2,10 @@
 use Prim.Native.Nat.{ℕ, _≤_, _<_}
 use native.Mathlib.Nat.{le-trans}
 use native.Mathlib.Omega.{arith}
-use mathlib.Core.Path.{_≡_, refl, sym, _∙_, ap, subst}
+use mathlib.Core.Path.{_≡_, refl, _∙_, ap, subst}
 use mathlib.Core.Bool.{Bool, true, false, not, cond, Bool·not-not}
 use mathlib.Core.List.{List, [], _∷_, _++_, List·Memᴰ, List·Memᴰ·head, List·Memᴰ·tail}
-use lib.Dec.{T, ltb, ltb→lt, nltb→le}
+use lib.Dec.{ltb, ltb→lt, nltb→le}
 use Rattle.model.specs.Base.{find, run}
 use Rattle.model.specs.Graph.{Graph, node, placingOrder, varOf, negated, opposite}
 use Rattle.model.specs.Cuts.{cutsOf}
@@ -15,6 +15,7 @@ use Rattle.model.specs.declared.Cell.{Cell}
 use Rattle.model.specs.declared.Phase.{Phase}
 use Rattle.theory_graph.proofs.Literals.{opposite-var, opposite-neg}
 use Rattle.theory_graph.proofs.Runs.{no-twice-behind, run-stays, run-entry, run-split}
+use Rattle.theory_graph.proofs.Split.{by-bool}
 
 -- ---- the choice of the earliest
 
@@ -25,25 +26,15 @@ pub record Beats (w : Phase) (t : ℕ) : Type 0 where
 
 earlier-first : (a b : Phase) (t : ℕ) → Beats a t → Beats (earlier a b) t
 unfolding earlier
-earlier-first a b t h =
-    subst (λ (x : Bool). Beats (cond x b (cond (absent (b .source)) a (cond (ltb (b .arrival) (a .arrival)) b a))) t) (sym (h .present))
-    (go (absent (b .source)) refl (ltb (b .arrival) (a .arrival)) (ltb→lt (b .arrival) (a .arrival)))
-  where
-    go : (y : Bool) → absent (b .source) ≡ y → (z : Bool) → (T z → b .arrival < a .arrival) → Beats (cond y a (cond z b a)) t
-    go true e z k = h
-    go false e true k = let s : b .arrival < a .arrival = k tt in record { present = e; early = let q : a .arrival ≤ t = h .early in omega arith }
-    go false e false k = h
+earlier-first a b t h = rw (h .present) (by-bool (absent (b .source)) (λ e. rw e h) (λ q. rw q (by-bool (ltb (b .arrival) (a .arrival))
+    (λ p. rw p (let s : b .arrival < a .arrival = (rw p at (ltb→lt (b .arrival) (a .arrival))) tt in
+    record { present = q; early = let q : a .arrival ≤ t = h .early in omega (arith, rw p at (ltb→lt (b .arrival) (a .arrival))) }))
+    (λ r. rw r h))))
 
 earlier-second : (a b : Phase) (t : ℕ) → Beats b t → Beats (earlier a b) t
 unfolding earlier
-earlier-second a b t h =
-    subst (λ (y : Bool). Beats (cond (absent (a .source)) b (cond y a (cond (ltb (b .arrival) (a .arrival)) b a))) t) (sym (h .present))
-    (go (absent (a .source)) refl (ltb (b .arrival) (a .arrival)) (nltb→le (b .arrival) (a .arrival)))
-  where
-    go : (x : Bool) → absent (a .source) ≡ x → (z : Bool) → (T (not z) → a .arrival ≤ b .arrival) → Beats (cond x b (cond z b a)) t
-    go true e z k = h
-    go false e true k = h
-    go false e false k = record { present = e; early = le-trans (k tt) (h .early) }
+earlier-second a b t h = rw (h .present) (by-bool (absent (a .source)) (λ e. rw e h) (λ q. rw q (by-bool (ltb (b .arrival) (a .arrival))
+    (λ p. rw p h) (λ r. rw r (record { present = q; early = le-trans ((rw r at (nltb→le (b .arrival) (a .arrival))) tt) (h .early) })))))
 
 -- the chosen one is as good as any
 pub choose-beats : (w : Phase) (t : ℕ) (ws : List Phase) → List·Memᴰ w ws → Beats w t → Beats (choose ws) t
@@ -63,9 +54,7 @@ joined-phase cells own false = refl
 module _ (cells : List Cell) (g : Graph) where
   -- the step of `choices`
   abbrev pub phaseStep : List (ℕ × Phases) → ℕ → Phases
-  phaseStep known v =
-      joined cells
-      (direct cells g (λ u. find noPhases u known) v (cutsOf g v) false (node g v))
+  phaseStep known v = joined cells (direct cells g (λ u. find noPhases u known) v (cutsOf g v) false (node g v))
       (direct cells g (λ u. find noPhases u known) v (cutsOf g v) true (node g v))
 
   abbrev pub phasesKnown : List ℕ → ℕ → Phases
@@ -75,8 +64,7 @@ module _ (cells : List Cell) (g : Graph) where
   pub chosen-known : (pre : List ℕ) (v : ℕ) (post : List ℕ) → placingOrder g ≡ pre ++ (v ∷ post) → (x : ℕ) → ¬ List·Memᴰ (varOf x) (v ∷ post)
       → chosen cells g x ≡ phaseOf (phasesKnown pre) x
   unfolding chosen choices cutsOf phaseOf
-  chosen-known pre v post e x h =
-      ap (λ (p : Phases). cond (negated x) (p .negative) (p .positive))
+  chosen-known pre v post e x h = ap (λ (p : Phases). cond (negated x) (p .negative) (p .positive))
       (ap (λ (vs : List ℕ). find noPhases (varOf x) (run phaseStep vs [])) e
       ∙ ap (find noPhases (varOf x)) (run-split noPhases phaseStep pre (v ∷ post) [])
       ∙ run-stays noPhases phaseStep (v ∷ post) (run phaseStep pre []) (varOf x) h)
@@ -89,28 +77,22 @@ module _ (cells : List Cell) (g : Graph) where
   pub chosen-entry : (pre : List ℕ) (v : ℕ) (post : List ℕ) → placingOrder g ≡ pre ++ (v ∷ post) → Distinct (placingOrder g) → (l : ℕ) → varOf l ≡ v
       → chosen cells g l ≡ choose (own pre v (negated l) ∷ inverterPhases cells 0 (own pre v (not (negated l))))
   unfolding chosen choices cutsOf phaseOf
-  chosen-entry pre v post e once l p =
-      ap (λ (u : ℕ). cond (negated l) (find noPhases u (run phaseStep (placingOrder g) []) .negative) (find noPhases u (run phaseStep (placingOrder g) []) .positive)) p
-      ∙ ap (λ (x : Phases). cond (negated l) (x .negative) (x .positive))
-      (ap (λ (vs : List ℕ). find noPhases v (run phaseStep vs [])) e
-      ∙ ap (find noPhases v) (run-split noPhases phaseStep pre (v ∷ post) [])
-      ∙ run-entry noPhases phaseStep v post (run phaseStep pre []) (no-twice-behind pre (v ∷ post) (subst Distinct e once) .0))
-      ∙ joined-phase cells (own pre v) (negated l)
+  chosen-entry pre v post e once l p = ap (λ (u : ℕ). cond (negated l) (find noPhases u (run phaseStep (placingOrder g) []) .negative)
+      (find noPhases u (run phaseStep (placingOrder g) []) .positive)) p ∙ ap (λ (x : Phases). cond (negated l) (x .negative) (x .positive))
+      (cc (
+        run-split noPhases phaseStep pre (v ∷ post) [],
+        run-entry noPhases phaseStep v post (run phaseStep pre [])
+            (no-twice-behind pre (v ∷ post) (rw (← e) once) .0),
+      )) ∙ joined-phase cells (own pre v) (negated l)
 
   -- and that of the opposite phase
   pub opposite-entry : (pre : List ℕ) (v : ℕ) (post : List ℕ) → placingOrder g ≡ pre ++ (v ∷ post) → Distinct (placingOrder g) → (l : ℕ) → varOf l ≡ v
       → chosen cells g (opposite l) ≡ choose (own pre v (not (negated l)) ∷ inverterPhases cells 0 (own pre v (negated l)))
   opposite-entry pre v post e once l p =
-      chosen-entry pre v post e once (opposite l) (opposite-var l ∙ p)
-      ∙ ap (λ (b : Bool). choose (own pre v b ∷ inverterPhases cells 0 (own pre v (not b)))) (opposite-neg l)
-      ∙ ap (λ (b : Bool). choose (own pre v (not (negated l)) ∷ inverterPhases cells 0 (own pre v b))) (Bool·not-not (negated l))
+      cc (chosen-entry pre v post e once (opposite l) (opposite-var l ∙ p), opposite-neg l, Bool·not-not (negated l))
 
   -- what is never placed is chosen nothing
   pub chosen-none : (l : ℕ) → ¬ List·Memᴰ (varOf l) (placingOrder g) → absent (chosen cells g l .source) ≡ true
   unfolding chosen choices cutsOf phaseOf absent noPhase noPhases find
-  chosen-none l h =
-      ap (λ (x : Phases). absent (cond (negated l) (x .negative) (x .positive) .source)) (run-stays noPhases phaseStep (placingOrder g) [] (varOf l) h) ∙ either (negated l)
-    where
-      either : (b : Bool) → absent (cond b noPhase noPhase .source) ≡ true
-      either true = refl
-      either false = refl
+  chosen-none l h = ap (λ (x : Phases). absent (cond (negated l) (x .negative) (x .positive) .source))
+      (run-stays noPhases phaseStep (placingOrder g) [] (varOf l) h) ∙ by-bool (negated l) (λ e. cc) (λ q. cc)

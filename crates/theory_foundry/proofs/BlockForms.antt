@@ -5,7 +5,7 @@ use native.Mathlib.Nat.{le-refl}
 use native.Mathlib.Omega.{arith}
 use mathlib.Core.Path.{_≡_, refl, sym, _∙_, ap, subst}
 use mathlib.Core.Logic.{_⊎_, inl, inr, _↔_}
-use mathlib.Core.Bool.{Bool, not, cond}
+use mathlib.Core.Bool.{not}
 use mathlib.Core.List.{List, [], _∷_, _++_, append-assoc, cons≢nil, head-eq-of-cons-eq}
 use lib.Dec.{T, lit<, T-not, not-T}
 use lib.ListN.{length, length-append}
@@ -22,22 +22,17 @@ use Rattle.theory_foundry.proofs.GroupForms.{FormedLines}
 use Rattle.theory_foundry.proofs.OpenForms.{opens-exactly}
 use Rattle.theory_foundry.proofs.EndForms.{gate-free, pin-free, gate-opens, pin-shuts}
 use Rattle.theory_foundry.proofs.RowForms.{first-line, Row, line-row, opens-line, opens-text, row-line, line-kept}
+use Rattle.theory_graph.proofs.Split.{by-list}
 
 -- ---- groups, line by line
 
-shut-line : (l : Line) → (¬ Opens (l .bytes)) → T (not (startsGate l))
-shut-line l n = not-T (startsGate l) (λ t. n (opens-exactly l .0 t))
-
 grouped-open : (l : Line) (ls : List Line) → T (startsGate l) → grouped (l ∷ ls) ≡ ([], groups (l ∷ ls))
 unfolding grouped groups
-grouped-open l ls t =
-    ap (λ (b : Bool). cond {A = List Line × List Group} b ([], record { head = l; lines = grouped ls .0 } ∷ grouped ls .1) (l ∷ grouped ls .0, grouped ls .1)) (is-true (startsGate l) t)
+grouped-open l ls t = cc (is-true (startsGate l) t)
 
 grouped-shut : (l : Line) (ls ms : List Line) (gs : List Group) → T (not (startsGate l)) → grouped ls ≡ (ms, gs) → grouped (l ∷ ls) ≡ (l ∷ ms, gs)
 unfolding grouped
-grouped-shut l ls ms gs t e =
-    ap (λ (b : Bool). cond {A = List Line × List Group} b ([], record { head = l; lines = grouped ls .0 } ∷ grouped ls .1) (l ∷ grouped ls .0, grouped ls .1)) (is-false (startsGate l) t)
-    ∙ ap (λ (p : List Line × List Group). (l ∷ p .0, p .1)) e
+grouped-shut l ls ms gs t e = cc (is-false (startsGate l) t)
 
 -- the first group, by the lines behind its first
 group-first : (l : Line) (ls ms : List Line) (gs : List Group) → grouped ls ≡ (ms, gs) → groups (l ∷ ls) ≡ record { head = l; lines = ms } ∷ gs
@@ -58,9 +53,7 @@ border-groups at (b ∷ t) (inl e) = absurd (cons≢nil e)
 border-groups at (b ∷ t) (inr o) =
     let f = first-line b t in
     let r = line-row at (f .3) in
-    let e : linesFrom at [] (b ∷ t) ≡ r .0 ∷ linesFrom (at + length (f .0)) [] (f .1) = ap (linesFrom at []) (f .2) ∙ r .1 .lines in
-    ap grouped e ∙ grouped-open (r .0) (linesFrom (at + length (f .0)) [] (f .1)) (opens-exactly (r .0) .1 (opens-text (r .1) .1 (subst Opens (f .2) o)))
-    ∙ ap (λ (ls : List Line). ([], groups ls)) (sym e)
+    cc (grouped-open (r .0) (linesFrom (at + length (f .0)) [] (f .1)) (opens-exactly (r .0) .1 (opens-text (r .1) .1 (rw (← f .2) o))))
 
 -- ---- the lines below a gate's first
 
@@ -75,11 +68,13 @@ start at rest b = border-groups at rest b ∙ ap (λ (n : ℕ). ([], groups (lin
 step : (at : ℕ) (w below rest : List ℕ) (l : Line) (ls : List Line) → linesFrom at [] (w ++ (below ++ rest)) ≡ l ∷ linesFrom (at + length w) [] (below ++ rest) → (¬ Opens (l .bytes))
     → grouped (linesFrom (at + length w) [] (below ++ rest)) ≡ (ls, groups (linesFrom (at + length w + length below) [] rest))
     → grouped (linesFrom at [] ((w ++ below) ++ rest)) ≡ (l ∷ ls, groups (linesFrom (at + length (w ++ below)) [] rest))
-step at w below rest l ls e n k =
-    ap (λ (x : List ℕ). grouped (linesFrom at [] x)) (append-assoc w below rest)
-    ∙ ap grouped e
-    ∙ grouped-shut l (linesFrom (at + length w) [] (below ++ rest)) ls (groups (linesFrom (at + length w + length below) [] rest)) (shut-line l n) k
-    ∙ ap (λ (i : ℕ). (l ∷ ls, groups (linesFrom i [] rest))) (let q : at + length w + length below ≡ at + length (w ++ below) = omega (arith, length-append w below) in q)
+step at w below rest l ls e n k = cc (
+  append-assoc w below rest,
+  grouped-shut l (linesFrom (at + length w) [] (below ++ rest)) ls
+      (groups (linesFrom (at + length w + length below) [] rest)) (not-T (startsGate l) (λ t. n (opens-exactly l .0 t))) k,
+  let q : at + length w + length below ≡ at + length
+      (w ++ below) = omega (arith, length-append w below) in q,
+)
 
 below-groups : {below rest : List ℕ} → Below below rest → (at : ℕ)
     → (ls : List Line) × Lay below ls × (grouped (linesFrom at [] (below ++ rest)) ≡ (ls, groups (linesFrom (at + length below) [] rest)))
@@ -117,25 +112,14 @@ pins-groups (aLine {l = w} {s = below} {p} {ps} h r) rest b at =
 
 line-long : {w s : List ℕ} → ALine w s → 0 < length w
 line-long (full {w} p) = omega (arith, length-append w (10 ∷ []))
-line-long (last {w} n p) = go w n
-  where
-    go : (v : List ℕ) → (¬ (v ≡ [])) → 0 < length v
-    go [] m = absurd (m refl)
-    go (b ∷ v) m = omega arith
-
-opens-decided : (s : List ℕ) → Opens s ⊎ (¬ Opens s)
-opens-decided s = let l : Line = record { offset = 0; bytes = s; ending = 0 } in on (startsGate l) (λ t. inl (opens-exactly l .0 t)) (λ t. inr (λ o. T-not (startsGate l) t (opens-exactly l .1 o)))
+line-long (last {w} n p) = by-list w (λ e. rw e (absurd ((rw e at n) refl))) (λ b v q. rw q (omega (arith, rw q at n)))
 
 abbrev Parted : List ℕ → Type 0
 Parted t = (below : List ℕ) × (rest : List ℕ) × (t ≡ below ++ rest) × Below below rest
 
 -- every text begins with lines that open no gate, none perhaps
 parted : (n : ℕ) (t : List ℕ) → length t ≤ n → Parted t
-parted zero t h = empty t h
-  where
-    empty : (t : List ℕ) → length t ≤ 0 → Parted t
-    empty [] h = ([], [], refl, atEnd)
-    empty (b ∷ t) h = absurd (omega arith)
+parted zero t h = by-list t (λ e. rw e ([], [], refl, atEnd)) (λ b q p. rw p (absurd (omega (arith, rw p at h))))
 parted (suc n) t h = go t h (parted n)
   where
     further-on : (t w s : List ℕ) → t ≡ w ++ s → ALine w s → Opens w ⊎ (¬ Opens w) → Parted s → Parted t
@@ -145,10 +129,10 @@ parted (suc n) t h = go t h (parted n)
 
     go : (t : List ℕ) → length t ≤ suc n → ((s : List ℕ) → length s ≤ n → Parted s) → Parted t
     go [] h later = ([], [], refl, atEnd)
-    go (b ∷ t) h later =
-        let f = first-line b t in
-        let l : suc (length t) ≡ length (f .0) + length (f .1) = ap length (f .2) ∙ length-append (f .0) (f .1) in
-        further-on (b ∷ t) (f .0) (f .1) (f .2) (f .3) (opens-decided (f .0)) (later (f .1) (omega (arith, line-long (f .3), l, h)))
+    go (b ∷ t) h later = further-on (b ∷ t) (first-line b t .0) (first-line b t .1) (first-line b t .2) (first-line b t .3)
+        (let l : Line = record { offset = 0; bytes = (first-line b t .0); ending = 0 } in on (startsGate l)
+        (λ t. inl (opens-exactly l .0 t)) (λ t. inr (λ o. T-not (startsGate l) t (opens-exactly l .1 o)))) (later (first-line b t .1) (omega
+        (arith, line-long (first-line b t .3), (ap length (first-line b t .2) ∙ length-append (first-line b t .0) (first-line b t .1)), h)))
 
 pub a-block : (b : ℕ) (t : List ℕ) → Block (b ∷ t)
 a-block b t =
@@ -160,10 +144,12 @@ a-block b t =
 all-groups : (at : ℕ) (head below rest : List ℕ) (l : Line) (ls : List Line) → linesFrom at [] (head ++ (below ++ rest)) ≡ l ∷ linesFrom (at + length head) [] (below ++ rest)
     → grouped (linesFrom (at + length head) [] (below ++ rest)) ≡ (ls, groups (linesFrom (at + length head + length below) [] rest))
     → groups (linesFrom at [] (head ++ (below ++ rest))) ≡ record { head = l; lines = ls } ∷ groups (linesFrom (at + length (head ++ below)) [] rest)
-all-groups at head below rest l ls e k =
-    ap groups e
-    ∙ group-first l (linesFrom (at + length head) [] (below ++ rest)) ls (groups (linesFrom (at + length head + length below) [] rest)) k
-    ∙ ap (λ (i : ℕ). record { head = l; lines = ls } ∷ groups (linesFrom i [] rest)) (let q : at + length head + length below ≡ at + length (head ++ below) = omega (arith, length-append head below) in q)
+all-groups at head below rest l ls e k = cc (
+  group-first l (linesFrom (at + length head) [] (below ++ rest)) ls
+      (groups (linesFrom (at + length head + length below) [] rest)) k,
+  let q : at + length head + length below ≡ at + length
+      (head ++ below) = omega (arith, length-append head below) in q,
+)
 
 -- bytes that are a gate in form, in front of a text that goes on with another or ends
 pub formed-groups : {head below : List ℕ} {h : GateSays} {ps : List PinSays} → Formed head below h ps → (rest : List ℕ) → Border rest → (at : ℕ)
@@ -183,24 +169,27 @@ pub record Reads (at : ℕ) {t : List ℕ} (b : Block t) (g : Group) : Type 0 wh
   pub formed : (h : GateSays) (ps : List PinSays) → FormedLines g h ps ↔ Formed (b .head) (b .below) h ps
 
 pub block-reads : (at : ℕ) {t : List ℕ} (b : Block t) → (g : Group) × Reads at b g
-block-reads at {t} b = (group, record { areGroups = are; offset = r .1 .offset; formed = λ h ps. (there h ps, back h ps) })
-  where
-    r : (l : Line) × Row at (b .head) (b .below ++ b .rest) l
-    r = line-row at (b .isLine)
-
-    k : (ls : List Line) × Lay (b .below) ls × (grouped (linesFrom (at + length (b .head)) [] (b .below ++ b .rest)) ≡ (ls, groups (linesFrom (at + length (b .head) + length (b .below)) [] (b .rest))))
-    k = below-groups (b .upTo) (at + length (b .head))
-
-    group : Group
-    group = record { head = r .0; lines = k .0 }
-
-    are : groups (linesFrom at [] t) ≡ group ∷ groups (linesFrom (at + length (b .head ++ b .below)) [] (b .rest))
-    are = ap (λ (x : List ℕ). groups (linesFrom at [] x)) (b .isAll) ∙ all-groups at (b .head) (b .below) (b .rest) (r .0) (k .0) (r .1 .lines) (k .2)
-
-    there : (h : GateSays) (ps : List PinSays) → FormedLines group h ps → Formed (b .head) (b .below) h ps
-    there h ps f = record { gate = row-line (r .1) (f .endsHead) (f .isHead); lines = lay-pins (k .1) (f .endsLines) (f .areLines); listed = f .listed }
-
-    back : (h : GateSays) (ps : List PinSays) → Formed (b .head) (b .below) h ps → FormedLines group h ps
-    back h ps f =
-        let q = formed-groups f (b .rest) (below-border (b .upTo)) at in
-        subst (λ (g : Group). FormedLines g h ps) (head-eq-of-cons-eq (sym (q .2) ∙ ap (λ (x : List ℕ). groups (linesFrom at [] x)) (sym (b .isAll)) ∙ are)) (q .1)
+block-reads at {t} b =
+    let r : (l : Line) × Row at (b .head) (b .below ++ b .rest) l = line-row at (b .isLine) in
+    let k = below-groups (b .upTo) (at + length (b .head)) in
+    let group : Group = record { head = r .0; lines = k .0 } in
+    let are : groups (linesFrom at [] t) ≡ group ∷ groups (linesFrom (at + length (b .head ++ b .below)) [] (b .rest)) = ap
+    (λ (x : List ℕ). groups (linesFrom at [] x)) (b .isAll)
+    ∙ all-groups at (b .head) (b .below) (b .rest) (r .0) (k .0) (r .1 .lines) (k .2) in
+    let there : (h : GateSays) (ps : List PinSays) → FormedLines group h ps → Formed (b .head) (b .below) h ps = λ h ps f. record {
+      gate = row-line (r .1) (f .endsHead) (f .isHead);
+      lines = lay-pins (k .1) (f .endsLines) (f .areLines);
+      listed = f .listed;
+    } in (
+      group,
+      record {
+        areGroups = are;
+        offset = r .1 .offset;
+        formed = λ h ps. (
+          there h ps,
+          (λ x. let q = formed-groups x
+              (b .rest) (below-border (b .upTo)) at in subst (λ (g : Group). FormedLines g h ps)
+              (head-eq-of-cons-eq (sym (q .2) ∙ ap (λ (x : List ℕ). groups (linesFrom at [] x)) (sym (b .isAll)) ∙ are)) (q .1)),
+        );
+      },
+    )

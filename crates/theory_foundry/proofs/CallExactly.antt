@@ -3,8 +3,7 @@
 use Prim.Native.Nat.{ℕ, _≤_, _<_}
 use native.Mathlib.Omega.{arith}
 use mathlib.Core.Path.{_≡_, refl, sym, subst}
-use mathlib.Core.Logic.{_⊎_, inl, inr}
-use mathlib.Core.Bool.{not}
+use mathlib.Core.Logic.{_⊎_, inl, inr, ⊎-elim}
 use mathlib.Core.List.{List, []}
 use lib.Dec.{T, leb, T-not}
 use lib.ListN.{length}
@@ -47,13 +46,9 @@ module _ (t : List ℕ) (bytes : ℕ) (e : Gates t) where
 
       down : (n k : ℕ) → GenlibFault t n k ⊎ ((cs : List Gate) × (x : GatesIn t cs) × (((¬ (length (cellsText cs) ≤ bytes)) × (n ≡ 18) × (k ≡ length (cellsText cs))) ⊎ ((length (cellsText cs) ≤ bytes) × ⊥))) → CallFault t bytes n k
       down n k (inl f) = ofGates h f
-      down n k (inr p) = go (p .0) (p .1) (p .2)
-        where
-          go : (cs : List Gate) → GatesIn t cs → ((¬ (length (cellsText cs) ≤ bytes)) × (n ≡ 18) × (k ≡ length (cellsText cs))) ⊎ ((length (cellsText cs) ≤ bytes) × ⊥) → CallFault t bytes n k
-          go cs x (inl q) =
-              let b : bytes < length (cellsText cs) = leb-no (lib.Dec.not-T (leb (length (cellsText cs)) bytes) (λ z. q .0 (leb-yes z))) in
-              subst (λ (i : ℕ). CallFault t bytes i k) (sym (q .1)) (subst (λ (i : ℕ). CallFault t bytes 18 i) (sym (q .2)) (eighteen h x b))
-          go cs x (inr q) = absurd (q .1)
+      down n k (inr p) = ⊎-elim (λ q. let b : bytes < length (cellsText (p .0)) = leb-no
+          (lib.Dec.not-T (leb (length (cellsText (p .0))) bytes) (λ z. q .0 (leb-yes z))) in subst (λ (i : ℕ). CallFault t bytes i k)
+          (sym (q .1)) (subst (λ (i : ℕ). CallFault t bytes 18 i) (sym (q .2)) (eighteen h (p .1) b))) (λ e. absurd (e .1)) (p .2)
 
       up : (n k : ℕ) → CallFault t bytes n k → GenlibFault t n k ⊎ ((cs : List Gate) × (x : GatesIn t cs) × (((¬ (length (cellsText cs) ≤ bytes)) × (n ≡ 18) × (k ≡ length (cellsText cs))) ⊎ ((length (cellsText cs) ≤ bytes) × ⊥)))
       up n k (one l) = absurd (omega (arith, h, l))
@@ -61,22 +56,19 @@ module _ (t : List ℕ) (bytes : ℕ) (e : Gates t) where
       up n k (eighteen {cs} s x b) = inr (cs, x, inl ((λ z. absurd (omega (arith, z, b))), refl, refl))
 
   refused : (¬ (length t ≤ 65536)) → Exactly (CallHolds t bytes) (CallFault t bytes) (fault 1 0)
-  refused f = record { accepts = λ u. ((λ q. absurd (fault-never q)), λ p. absurd (f (p .short))); refuses = λ n k. ((λ q. down n k q), up n k) }
-    where
-      down : (n k : ℕ) → _≡_ {A = Read (List ℕ)} (fault 1 0) (fault n k) → CallFault t bytes n k
-      down n k q = in-fault {A = List ℕ} (CallFault t bytes) 1 0 (one (leb-no (lib.Dec.not-T (leb (length t) 65536) (λ z. f (leb-yes z))))) .has n k q
-
-      up : (n k : ℕ) → CallFault t bytes n k → _≡_ {A = Read (List ℕ)} (fault 1 0) (fault n k)
-      up n k (one l) = refl
-      up n k (ofGates s g) = absurd (f s)
-      up n k (eighteen s x b) = absurd (f s)
+  refused f = record {
+    accepts = λ u. ((λ q. absurd (fault-never q)), λ p. absurd (f (p .short)));
+    refuses = λ n k. (
+      (λ q. in-fault {A = List ℕ} (CallFault t bytes) 1 0
+          (one (leb-no (lib.Dec.not-T (leb (length t) 65536) (λ z. f (leb-yes z))))) .has n k q),
+      (λ x. elim x [ one l ↦ refl | ofGates s g ↦ absurd (f s) | eighteen e r b ↦ absurd (f e) ]),
+    );
+  }
 
   pub call-from : GenlibRefusals t bytes
   unfolding genlibText
-  call-from = on (leb (length t) 65536) yes no
+  call-from = on (leb (length t) 65536) yes (λ k. unfold genlibText in subst (Exactly (CallHolds t bytes) (CallFault t bytes))
+      (sym (unless-no (leb (length t) 65536) 1 0 (next (readGenlib t) rest) k)) (refused (λ l. T-not (leb (length t) 65536) k (yes-leb l))))
     where
       yes : T (leb (length t) 65536) → GenlibRefusals t bytes
       yes k = unfold genlibText in subst (Exactly (CallHolds t bytes) (CallFault t bytes)) (sym (unless-yes (leb (length t) 65536) 1 0 (next (readGenlib t) rest) k)) (read (leb-yes k))
-
-      no : T (not (leb (length t) 65536)) → GenlibRefusals t bytes
-      no k = unfold genlibText in subst (Exactly (CallHolds t bytes) (CallFault t bytes)) (sym (unless-no (leb (length t) 65536) 1 0 (next (readGenlib t) rest) k)) (refused (λ l. T-not (leb (length t) 65536) k (yes-leb l)))

@@ -34,17 +34,11 @@ use Rattle.theory_foundry.proofs.GroupForms.{FormedLines, formed-exactl
 -- ---- a number is its bits
 
 low-bit : (n m : ℕ) → eqb (n % 2) 1 ≡ eqb (m % 2) 1 → n % 2 ≡ m % 2
-low-bit n m e = on (eqb (n % 2) 1) yes no
+low-bit n m e = let yes : T (eqb (n % 2) 1) → n % 2 ≡ m % 2 = λ t. eqb-yes t ∙ sym (eqb-yes (subst T e t)) in on (eqb (n % 2) 1) yes no
   where
-    yes : T (eqb (n % 2) 1) → n % 2 ≡ m % 2
-    yes t = eqb-yes t ∙ sym (eqb-yes (subst T e t))
-
     no : T (not (eqb (n % 2) 1)) → n % 2 ≡ m % 2
-    no t =
-        let a : ¬ (n % 2 ≡ 1) = λ q. T-not (eqb (n % 2) 1) t (yes-eqb q) in
-        let b : ¬ (m % 2 ≡ 1) = λ q. T-not (eqb (n % 2) 1) t (subst T (sym e) (yes-eqb q)) in
-        let c : n % 2 ≡ 0 = zero-left (n % 2) (omega arith) a in
-        c ∙ sym (zero-left (m % 2) (omega arith) b)
+    no t = (zero-left (n % 2) (omega arith) (λ q. T-not (eqb (n % 2) 1) t (yes-eqb q)))
+        ∙ sym (zero-left (m % 2) (omega arith) (λ q. T-not (eqb (n % 2) 1) t (subst T (sym e) (yes-eqb q))))
       where
         zero-left : (x : ℕ) → x < 2 → ¬ (x ≡ 1) → x ≡ 0
         zero-left zero h f = refl
@@ -54,10 +48,7 @@ low-bit n m e = on (eqb (n % 2) 1) yes no
 pub bits-once : (k n m : ℕ) → n ≤ k → m ≤ k → ((i : ℕ) → bit n i ≡ bit m i) → n ≡ m
 unfolding bit
 bits-once zero n m h l f = omega arith
-bits-once (suc k) n m h l f =
-    let a : n % 2 ≡ m % 2 = low-bit n m (f 0) in
-    let b : n / 2 ≡ m / 2 = bits-once k (n / 2) (m / 2) (omega arith) (omega arith) (λ i. f (suc i)) in
-    omega arith
+bits-once (suc k) n m h l f = omega (arith, bits-once k (n / 2) (m / 2) (omega arith) (omega arith) (λ i. f (suc i)), low-bit n m (f 0))
 
 -- ---- names in a row
 
@@ -75,30 +66,18 @@ index-in t (x ∷ xs) m = go (same t x) refl m (index-in t xs)
 -- a name's value in a row is the one that `nameValue` gives it
 row-value : (ps : List (List ℕ)) (r : ℕ) (t : List ℕ) → Named t → (PinName t → List·Memᴰ t ps) → ((p : List ℕ) → List·Memᴰ p ps → PinName p) → RowValue ps r t (nameValue ps r t)
 unfolding nameValue const0 const1
-row-value ps r t n f g = on (same t const0) zeros (λ a. on (same t const1) (ones a) (pins a))
+row-value ps r t n f g = on (same t const0) zeros (λ a. on (same t const1) (λ y. unfold nameValue const1 in rw (is-false (same t const0) a)
+    (rw (is-true (same t const1) y) (rw (same-eq t (text "CONST1") y) oneValue))) (λ x. unfold nameValue const0 const1 in
+    let no0 : ¬ (t ≡ text "CONST0") = λ e. T-not (same t const0) a (subst (λ (x : List ℕ). T (same t x)) e (same-refl t)) in
+    let no1 : ¬ (t ≡ text "CONST1") = λ e. T-not (same t const1) x (subst (λ (x : List ℕ). T (same t x)) e (same-refl t)) in
+    let p : PinName t = record { isName = n; notZero = no0; notOne = no1 } in let i = index-in t ps (f p) in subst
+    (λ (c : Bool). RowValue ps r t (cond c false (cond (same t const1) true (bit r (indexOf t ps))))) (sym (is-false (same t const0) a))
+    (subst (λ (c : Bool). RowValue ps r t (cond c true (bit r (indexOf t ps)))) (sym (is-false (same t const1) x))
+    (subst (λ (x : List ℕ). RowValue ps r x (bit r (indexOf t ps))) (i .1)
+    (pinValue {j = indexOf t ps} (i .0) (subst PinName (sym (i .1)) p))))))
   where
     zeros : T (same t const0) → RowValue ps r t (nameValue ps r t)
-    zeros s =
-        unfold nameValue const0 in
-        subst (λ (b : Bool). RowValue ps r t (cond b false (cond (same t const1) true (bit r (indexOf t ps))))) (sym (is-true (same t const0) s))
-        (subst (λ (x : List ℕ). RowValue ps r x false) (sym (same-eq t (text "CONST0") s)) zeroValue)
-
-    ones : T (not (same t const0)) → T (same t const1) → RowValue ps r t (nameValue ps r t)
-    ones a s =
-        unfold nameValue const1 in
-        subst (λ (b : Bool). RowValue ps r t (cond b false (cond (same t const1) true (bit r (indexOf t ps))))) (sym (is-false (same t const0) a))
-        (subst (λ (b : Bool). RowValue ps r t (cond b true (bit r (indexOf t ps)))) (sym (is-true (same t const1) s)) (subst (λ (x : List ℕ). RowValue ps r x true) (sym (same-eq t (text "CONST1") s)) oneValue))
-
-    pins : T (not (same t const0)) → T (not (same t const1)) → RowValue ps r t (nameValue ps r t)
-    pins a b =
-        unfold nameValue const0 const1 in
-        let no0 : ¬ (t ≡ text "CONST0") = λ e. T-not (same t const0) a (subst (λ (x : List ℕ). T (same t x)) e (same-refl t)) in
-        let no1 : ¬ (t ≡ text "CONST1") = λ e. T-not (same t const1) b (subst (λ (x : List ℕ). T (same t x)) e (same-refl t)) in
-        let p : PinName t = record { isName = n; notZero = no0; notOne = no1 } in
-        let i = index-in t ps (f p) in
-        subst (λ (c : Bool). RowValue ps r t (cond c false (cond (same t const1) true (bit r (indexOf t ps))))) (sym (is-false (same t const0) a))
-        (subst (λ (c : Bool). RowValue ps r t (cond c true (bit r (indexOf t ps)))) (sym (is-false (same t const1) b))
-        (subst (λ (x : List ℕ). RowValue ps r x (bit r (indexOf t ps))) (i .1) (pinValue {j = indexOf t ps} (i .0) (subst PinName (sym (i .1)) p))))
+    zeros s = unfold nameValue const0 in rw (is-true (same t const0) s) (rw (same-eq t (text "CONST0") s) zeroValue)
 
 -- an expression's value depends on its names' alone
 worth-names : {value other : List ℕ → Bool} {k : ℕ} {p : Part} {ts : List (List ℕ)} {v : Bool} → ((t : List ℕ) → List·Memᴰ t ts → Named t → value t ≡ other t) → Worth value k p ts v → Worth other k p ts v
@@ -115,21 +94,24 @@ index-of : (xs : List (List ℕ)) (j : ℕ) → Distinct xs → j < length xs �
 unfolding indexOf
 index-of [] j d h = absurd (omega arith)
 index-of (x ∷ xs) zero d h = ap (λ (b : Bool). cond b 0 (suc (indexOf x xs))) (is-true (same x x) (same-refl x))
-index-of (x ∷ xs) (suc j) d h =
-    ap (λ (b : Bool). cond b 0 (suc (indexOf (getD xs j []) xs)))
-    (is-false (same (getD xs j []) x) (not-T (same (getD xs j []) x) (λ t. d .0 (subst (λ (y : List ℕ). List·Memᴰ y xs) (same-eq (getD xs j []) x t) (getD-in xs j [] (omega arith))))))
-    ∙ ap suc (index-of xs j (d .1) (omega arith))
+index-of (x ∷ xs) (suc j) d h = cc (
+  is-false (same (getD xs j []) x)
+      (not-T (same (getD xs j []) x) (λ t. d .0 (rw (← same-eq (getD xs j []) x t) (getD-in xs j [] (omega arith))))),
+  index-of xs j (d .1)
+      (omega arith),
+)
 
 value-row : (ps : List (List ℕ)) (r : ℕ) → Distinct ps → (t : List ℕ) (v : Bool) → RowValue ps r t v → nameValue ps r t ≡ v
 unfolding nameValue const0 const1 same
 value-row ps r d t v zeroValue = refl
 value-row ps r d t v oneValue = refl
-value-row ps r d t v (pinValue {j} h n) =
-    ap (λ (b : Bool). cond b false (cond (same (getD ps j []) const1) true (bit r (indexOf (getD ps j []) ps))))
-    (is-false (same (getD ps j []) const0) (not-T (same (getD ps j []) const0) (λ q. n .notZero (same-eq (getD ps j []) const0 q))))
-    ∙ ap (λ (b : Bool). cond b true (bit r (indexOf (getD ps j []) ps)))
-    (is-false (same (getD ps j []) const1) (not-T (same (getD ps j []) const1) (λ q. n .notOne (same-eq (getD ps j []) const1 q))))
-    ∙ ap (bit r) (index-of ps j d h)
+value-row ps r d t v (pinValue {j} h n) = cc (
+  is-false (same (getD ps j []) const0)
+      (not-T (same (getD ps j []) const0) (λ q. n .notZero (same-eq (getD ps j []) const0 q))),
+  is-false (same (getD ps j []) const1)
+      (not-T (same (getD ps j []) const1) (λ q. n .notOne (same-eq (getD ps j []) const1 q))),
+  index-of ps j d h,
+)
 
 -- ---- four delays
 
@@ -158,11 +140,7 @@ module _ (lines : List (List (List ℕ))) (names : List (List ℕ)) where
   delays-in (a ∷ []) l f = absurd (omega arith)
   delays-in (a ∷ b ∷ []) l f = absurd (omega arith)
   delays-in (a ∷ b ∷ c ∷ []) l f = absurd (omega arith)
-  delays-in (a ∷ b ∷ c ∷ d ∷ []) l f =
-      ap (λ (o : Option ℕ). andThen o (λ d0. andThen (pinDelay lines names 1) (λ d1. andThen (pinDelay lines names 2) (λ d2. andThen (pinDelay lines names 3) (λ d3. some (d0 ∷ d1 ∷ d2 ∷ d3 ∷ [])))))) (f 0 (lit< tt))
-      ∙ ap (λ (o : Option ℕ). andThen o (λ d1. andThen (pinDelay lines names 2) (λ d2. andThen (pinDelay lines names 3) (λ d3. some (a ∷ d1 ∷ d2 ∷ d3 ∷ []))))) (f 1 (lit< tt))
-      ∙ ap (λ (o : Option ℕ). andThen o (λ d2. andThen (pinDelay lines names 3) (λ d3. some (a ∷ b ∷ d2 ∷ d3 ∷ [])))) (f 2 (lit< tt))
-      ∙ ap (λ (o : Option ℕ). andThen o (λ d3. some (a ∷ b ∷ c ∷ d3 ∷ []))) (f 3 (lit< tt))
+  delays-in (a ∷ b ∷ c ∷ d ∷ []) l f = cc (f 0 (lit< tt), f 1 (lit< tt), f 2 (lit< tt), f 3 (lit< tt))
   delays-in (a ∷ b ∷ c ∷ d ∷ e ∷ ds) l f = absurd (omega arith)
 
   here : (j : ℕ) → j < length names → pinDelay lines names j ≡ andThen (pinLine (getD names j []) lines) delayOf
@@ -199,10 +177,8 @@ module _ (g : Group) (h : GateSays) (ps : List PinSays) (pins : List (List ℕ))
 
   -- the value that is written in a row, by the grammar
   read-value : (value : List ℕ → Bool) → HasValue value (drop 5 (tokens (g .head .bytes))) (valueOf value (drop 5 (tokens (g .head .bytes))))
-  read-value value =
-      unfold formulaOf lineTokens in
-      group-value g short (formed-exactly g .1 (h, ps, f))
-      (subst (λ (x : List (List ℕ)). T (shallow 0 x)) (sym (is .formula)) (shallow-exactly 16 (h .formula) (s .shallow) .1 (s .shallow))) value
+  read-value value = unfold formulaOf lineTokens in group-value g short (formed-exactly g .1 (h, ps, f))
+      (rw (is .formula) (shallow-exactly 16 (h .formula) (s .shallow) .1 (s .shallow))) value
 
   one-value : (value : List ℕ → Bool) (v : Bool) → Worth value 16 sum (h .formula) v → v ≡ valueOf value (drop 5 (tokens (g .head .bytes)))
   one-value value v w =
@@ -215,9 +191,7 @@ module _ (g : Group) (h : GateSays) (ps : List PinSays) (pins : List (List ℕ))
       (subst (λ (b : Bool). Worth (nameValue pins r) 16 sum (h .formula) b) (one-value (nameValue pins r) (d .0) (d .1)) (d .1))
 
   table-row : (r : ℕ) → r < 2 ^ length pins → bit (tableOf (drop 5 (tokens (g .head .bytes)))) r ≡ valueOf (nameValue pins r) (drop 5 (tokens (g .head .bytes)))
-  table-row r k =
-      table-value (drop 5 (tokens (g .head .bytes))) r (subst (λ (x : List (List ℕ)). r < 2 ^ length x) (sym are-pins) k)
-      ∙ ap (λ (x : List (List ℕ)). valueOf (nameValue x r) (drop 5 (tokens (g .head .bytes)))) are-pins
+  table-row r k = cc (table-value (drop 5 (tokens (g .head .bytes))) r (rw are-pins k), are-pins)
 
   table-none : (r : ℕ) → 2 ^ length pins ≤ r → bit (tableOf (drop 5 (tokens (g .head .bytes)))) r ≡ false
   table-none r k = table-above (drop 5 (tokens (g .head .bytes))) r (subst (λ (x : List (List ℕ)). 2 ^ length x ≤ r) (sym are-pins) k)
@@ -225,75 +199,58 @@ module _ (g : Group) (h : GateSays) (ps : List PinSays) (pins : List (List ℕ))
   -- d0 to d3, by the pins in order
   delay-there : (ds : List ℕ) → delaysOf lines pins ≡ some ds → (length ds ≡ 4) × ((j : ℕ) → j < length pins → Delay (getD pins j []) ps (getD ds j 0)) × ((j : ℕ) → length pins ≤ j → getD ds j 0 ≡ 0)
   delay-there ds e =
-      let o = delays-out lines pins ds e in
-      let l : length ds ≡ 4 = o .0 in
-      let few : length pins ≤ 4 = s .few in (
+      let o = delays-out lines pins ds e in (
         o .0,
-        (λ j k. delay-form (getD pins j []) (f .areLines) (getD ds j 0) (sym (here lines pins j k) ∙ o .1 j (let z : j < 4 = omega arith in z))),
-        λ j k. absents j k (o .1) l,
+        (λ j k. delay-form (getD pins j []) (f .areLines) (getD ds j 0)
+            (sym (here lines pins j k) ∙ o .1 j (let z : j < 4 = omega (arith, s .few) in z))),
+        λ j k.
+            (on (ltb j 4) (λ t. sym (some-once (sym (away lines pins j k) ∙ (o .1) j (ltb→lt j 4 t)))) (λ t. past ds (o .0) j (nltb→le j 4 t))),
       )
-    where
-      absents : (j : ℕ) → length pins ≤ j → ((i : ℕ) → i < 4 → pinDelay lines pins i ≡ some (getD ds i 0)) → length ds ≡ 4 → getD ds j 0 ≡ 0
-      absents j k x l = on (ltb j 4) (λ t. sym (some-once (sym (away lines pins j k) ∙ x j (ltb→lt j 4 t)))) (λ t. past ds l j (nltb→le j 4 t))
-
-  delay-here : (ds : List ℕ) → length ds ≡ 4 → ((j : ℕ) → j < length pins → Delay (getD pins j []) ps (getD ds j 0)) → ((j : ℕ) → length pins ≤ j → getD ds j 0 ≡ 0) → delaysOf lines pins ≡ some ds
-  delay-here ds l x y = delays-in lines pins ds l (λ j k. on (ltb j (length pins)) (λ t. inside j (ltb→lt j (length pins) t)) (λ t. outside j (nltb→le j (length pins) t)))
-    where
-      inside : (j : ℕ) → j < length pins → pinDelay lines pins j ≡ some (getD ds j 0)
-      inside j k = here lines pins j k ∙ delay-back (getD pins j []) (f .areLines) (getD ds j 0) (x j k)
-
-      outside : (j : ℕ) → length pins ≤ j → pinDelay lines pins j ≡ some (getD ds j 0)
-      outside j k = away lines pins j k ∙ ap some (sym (y j k))
 
   -- the gate of an area and delays
   gateWith : ℕ → List ℕ → Gate
   gateWith area delays =
       record { name = getD (tokens (g .head .bytes)) 1 []; pins = length (pinsOf (drop 5 (tokens (g .head .bytes)))); table = tableOf (drop 5 (tokens (g .head .bytes))); area = area; delays = delays }
 
-  made-gate : (area : ℕ) (ds : List ℕ) → thousandths (getD (tokens (g .head .bytes)) 2 []) ≡ some area → delaysOf lines (pinsOf (drop 5 (tokens (g .head .bytes)))) ≡ some ds → IsGate h ps pins (gateWith area ds)
-  unfolding gateWith
-  made-gate area ds a d =
-      let n : length (pinsOf (drop 5 (tokens (g .head .bytes)))) ≡ length pins = ap length are-pins in
-      let w = delay-there ds (subst (λ (x : List (List ℕ)). delaysOf lines x ≡ some ds) are-pins d) in
-      record {
-        name = is .name;
-        area = thousandths-form (h .area) area (subst (λ (x : List ℕ). thousandths x ≡ some area) (is .area) a);
-        number = n;
-        rows = λ r k value c. subst (λ (b : Bool). Worth value 16 sum (h .formula) b) (sym (table-row r (subst (λ (x : ℕ). r < 2 ^ x) n k))) (row-worth r value c);
-        above = λ r k. table-none r (subst (λ (x : ℕ). 2 ^ x ≤ r) n k);
-        four = w .0;
-        delays = λ j k. w .1 j (subst (λ (x : ℕ). j < x) n k);
-        absent = λ j k. w .2 j (subst (λ (x : ℕ). x ≤ j) n k);
-      }
-
   pub cell-form : (c : Gate) → gateOf g ≡ some c → IsGate h ps pins c
   unfolding gateOf gateFrom lineTokens gateWith
   cell-form c e =
       let a = then-out (thousandths (getD (tokens (g .head .bytes)) 2 [])) (λ area. andThen (delaysOf lines (pinsOf (drop 5 (tokens (g .head .bytes))))) (λ delays. some (gateWith area delays))) c e in
       let b = then-out (delaysOf lines (pinsOf (drop 5 (tokens (g .head .bytes))))) (λ delays. some (gateWith (a .0) delays)) c (a .2) in
-      subst (IsGate h ps pins) (some-once (b .2)) (made-gate (a .0) (b .0) (a .1) (b .1))
+      subst (IsGate h ps pins) (some-once (b .2)) (
+      let n : length (pinsOf (drop 5 (tokens (g .head .bytes)))) ≡ length pins = ap length are-pins in let w = delay-there (b .0)
+      (subst (λ (x : List (List ℕ)). delaysOf lines x ≡ some (b .0)) are-pins (b .1)) in record {
+        name = is .name;
+        area = thousandths-form (h .area) (a .0) (subst (λ (x : List ℕ). thousandths x ≡ some (a .0)) (is .area) (a .1));
+        number = n;
+        rows = λ r k value c. subst (λ (b : Bool). Worth value 16 sum (h .formula) b) (sym (table-row r (subst (λ (x : ℕ). r < 2 ^ x) n k)))
+            (row-worth r value c);
+        above = λ r k. table-none r (subst (λ (x : ℕ). 2 ^ x ≤ r) n k);
+        four = w .0;
+        delays = λ j k. w .1 j (subst (λ (x : ℕ). j < x) n k);
+        absent = λ j k. w .2 j (subst (λ (x : ℕ). x ≤ j) n k);
+      })
 
   -- a table with these rows is the one that is written
   one-table : (c : Gate) → IsGate h ps pins c → tableOf (drop 5 (tokens (g .head .bytes))) ≡ c .table
   one-table c i = bits-once (tableOf (drop 5 (tokens (g .head .bytes))) + c .table) (tableOf (drop 5 (tokens (g .head .bytes)))) (c .table) (omega arith) (omega arith) same-bit
     where
       same-bit : (r : ℕ) → bit (tableOf (drop 5 (tokens (g .head .bytes)))) r ≡ bit (c .table) r
-      same-bit r = on (ltb r (2 ^ length pins)) (λ t. inside (ltb→lt r (2 ^ length pins) t)) (λ t. outside (nltb→le r (2 ^ length pins) t))
-        where
-          inside : r < 2 ^ length pins → bit (tableOf (drop 5 (tokens (g .head .bytes)))) r ≡ bit (c .table) r
-          inside k =
-              table-row r k
-              ∙ sym (one-value (nameValue pins r) (bit (c .table) r) (i .rows r (subst (λ (x : ℕ). r < 2 ^ x) (sym (i .number)) k) (nameValue pins r) (value-row pins r (s .areOrdered .once))))
-
-          outside : 2 ^ length pins ≤ r → bit (tableOf (drop 5 (tokens (g .head .bytes)))) r ≡ bit (c .table) r
-          outside k = table-none r k ∙ sym (i .above r (subst (λ (x : ℕ). 2 ^ x ≤ r) (sym (i .number)) k))
+      same-bit r = on (ltb r (2 ^ length pins)) (λ t. table-row r (ltb→lt r (2 ^ length pins) t) ∙ sym (one-value (nameValue pins r)
+          (bit (c .table) r) (i .rows r (subst (λ (x : ℕ). r < 2 ^ x) (sym (i .number)) (ltb→lt r (2 ^ length pins) t)) (nameValue pins r)
+          (value-row pins r (s .areOrdered .once))))) (λ t. table-none r (nltb→le r (2 ^ length pins) t)
+          ∙ sym (i .above r (subst (λ (x : ℕ). 2 ^ x ≤ r) (sym (i .number)) (nltb→le r (2 ^ length pins) t))))
 
   pub cell-back : (c : Gate) → IsGate h ps pins c → gateOf g ≡ some c
   unfolding gateOf gateFrom lineTokens gateWith andThen
   cell-back c i =
       ap (λ (o : Option ℕ). andThen o (λ area. andThen (delaysOf lines (pinsOf (drop 5 (tokens (g .head .bytes))))) (λ delays. some (gateWith area delays)))) (ap thousandths (is .area) ∙ thousandths-back (i .area))
       ∙ ap (λ (o : Option (List ℕ)). andThen o (λ delays. some (gateWith (c .area) delays)))
-      (ap (delaysOf lines) are-pins ∙ delay-here (c .delays) (i .four) (λ j k. i .delays j (subst (λ (x : ℕ). j < x) (sym (i .number)) k)) (λ j k. i .absent j (subst (λ (x : ℕ). x ≤ j) (sym (i .number)) k)))
+      (ap (delaysOf lines) are-pins ∙ delays-in lines pins (c .delays) (i .four) (λ j k. on (ltb j (length pins)) (λ t.
+      here lines pins j (ltb→lt j (length pins) t) ∙ delay-back (getD pins j []) (f .areLines) (getD (c .delays) j 0)
+      (i .delays j (subst (λ (x : ℕ). j < x) (sym (i .number)) (ltb→lt j (length pins) t)))) (λ t.
+      away lines pins j (nltb→le j (length pins) t)
+      ∙ ap some (sym (i .absent j (subst (λ (x : ℕ). x ≤ j) (sym (i .number)) (nltb→le j (length pins) t)))))))
       ∙ ap some (parts (is .name ∙ sym (i .name)) (ap length are-pins ∙ sym (i .number)) (one-table c i))
     where
       parts : getD (tokens (g .head .bytes)) 1 [] ≡ c .name → length (pinsOf (drop 5 (tokens (g .head .bytes)))) ≡ c .pins → tableOf (drop 5 (tokens (g .head .bytes))) ≡ c .table → gateWith (c .area) (c .delays) ≡ c

@@ -18,6 +18,7 @@ use Rattle.promises.specs.Forms.{NameByte}
 use Rattle.theory_foundry.specs.GateForms.{Blank, space, tab, WordByte, Stops, Spelled, none, blank, sign, word, Named, Digits, digit, more, Figure, whole, pointed, Worth, named, bracketed, turned, primed, one, times, alone, plus, GateSays, GateContents, PinSays, PinContents}
 use Rattle.theory_foundry.specs.GateRefusals.{Opens}
 use Rattle.theory_foundry.proofs.WordForms.{word-name}
+use Rattle.theory_graph.proofs.Split.{by-member}
 
 -- ---- a byte below the space, the tab apart, is in no line in form
 module _ (s : ℕ) (low : s < 32) (noTab : eqb 9 s ≡ false) where
@@ -94,11 +95,13 @@ unfolding text
 opens-first none ts e = absurd (nil≢cons e)
 opens-first (blank {b} h r) ts e =
     let o = opens-first r ts e in
-    record { blanks = b ∷ o .blanks; behind = o .behind; isAll = ap (λ (x : List ℕ). b ∷ x) (o .isAll); areBlanks = are (o .blanks) (o .areBlanks); ends = o .ends }
-  where
-    are : (bs : List ℕ) → ((x : ℕ) → List·Memᴰ x bs → Blank x) → (x : ℕ) → List·Memᴰ x (b ∷ bs) → Blank x
-    are bs f x (List·Memᴰ·head q) = subst Blank (sym q) h
-    are bs f x (List·Memᴰ·tail m) = f x m
+    record {
+      blanks = b ∷ o .blanks;
+      behind = o .behind;
+      isAll = ap (λ (x : List ℕ). b ∷ x) (o .isAll);
+      areBlanks = (λ y z. by-member z (λ q. rw q h) ((o .areBlanks) y));
+      ends = o .ends;
+    }
 opens-first (sign {b} h k r) ts e = absurd (let q : _≡_ {A = ℕ} 1 4 = ap length (head-eq-of-cons-eq e) in omega arith)
 opens-first (word {w} {s} h k r) ts e =
     record { blanks = []; behind = s; isAll = ap (λ (x : List ℕ). x ++ s) (head-eq-of-cons-eq e); areBlanks = λ b m. absurd (List·Memᴰ·not-nil m); ends = stops-name s k }
@@ -119,9 +122,8 @@ shuts-first (blank {b} h r) ts e (c ∷ bs) behind q f = shuts-first r ts e bs b
 shuts-first (sign {b} h k r) ts e bs behind q f = let z : _≡_ {A = ℕ} 1 3 = ap length (head-eq-of-cons-eq e) in omega arith
 shuts-first (word {w} {s} h k r) ts e [] behind q f =
     let z : _≡_ {A = ℕ} 80 71 = head-eq-of-cons-eq (ap (λ (x : List ℕ). x ++ s) (sym (head-eq-of-cons-eq e)) ∙ q) in omega arith
-shuts-first (word {w} {s} h k r) ts e (c ∷ bs) behind q f =
-    let z : 80 ≡ c = head-eq-of-cons-eq (ap (λ (x : List ℕ). x ++ s) (sym (head-eq-of-cons-eq e)) ∙ q) in
-    no-blank c 80 (f c (List·Memᴰ·head refl)) (sym z) (omega arith)
+shuts-first (word {w} {s} h k r) ts e (c ∷ bs) behind q f = no-blank c 80 (f c (List·Memᴰ·head refl))
+    (sym (head-eq-of-cons-eq (ap (λ (x : List ℕ). x ++ s) (sym (head-eq-of-cons-eq e)) ∙ q))) (omega arith)
 
 pub pin-shuts : {w : List ℕ} {p : PinSays} → PinContents w p → ¬ Opens w
 pin-shuts c o = shuts-first (c .isAll) _ refl (o .blanks) (o .behind) (o .isAll) (o .areBlanks)

@@ -4,19 +4,21 @@ use Prim.Native.Nat.{ℕ, suc, _+_, _-_, _*_, _^_, _≤_}
 use native.Mathlib.Omega.{arith}
 use mathlib.Core.Path.{_≡_, refl, sym, _∙_, ap, ap₂, subst}
 use mathlib.Core.Logic.{_↔_}
-use mathlib.Core.Bool.{Bool, true, false, not, cond, _&&_}
+use mathlib.Core.Bool.{true, not, _&&_}
 use mathlib.Core.Option.{some}
 use mathlib.Core.List.{List, [], _∷_, _++_, append-assoc, append-nil}
 use lib.Dec.{T, eqb, leb}
 use lib.ListN.{length, take, drop, replicate}
 use mir.Facts.{and-yes, yes-and, eqb-yes, leb-yes, yes-leb}
-use Rattle.model.specs.Base.{all, only}
+use Rattle.model.specs.Base.{all}
 use Rattle.model.specs.Text.{asDigits, between}
 use Rattle.model.specs.GenlibWords.{isEmpty, isDigit, isDigits, span, isFraction, wholes, decimals, isFigure, inThousandths, thousandths}
 use Rattle.theory_graph.proofs.Lists.{is-true}
-use Rattle.theory_text.proofs.Steps.{only-out}
+use Rattle.theory_text.proofs.Steps.{only-out, only-yes}
 use Rattle.theory_refusals.proofs.FieldForms.{within-form, within-back}
 use Rattle.theory_foundry.specs.GateForms.{Digits, digit, more, Figure, whole, pointed, Thousandths, wholly, partly, Usable}
+use lib.Seq.{drop-append-seam}
+use Rattle.theory_graph.proofs.Split.{by-bool}
 
 -- ---- digits
 
@@ -31,13 +33,9 @@ unfolding asDigits all isDigit
 digits-on v n [] d t = subst (λ (x : List ℕ). Digits x n) (sym (append-nil v)) d
 digits-on v n (b ∷ bs) d t =
     let p = and-yes (isDigit b) (all isDigit bs) t in
-    let q = within-form 48 57 b (p .0) in
-    let l : 48 ≤ b = q .0 in
-    let h : b ≤ 57 = q .1 in
-    let e : 48 + (b - 48) ≡ b = omega arith in
-    let m : Digits (v ++ ((48 + (b - 48)) ∷ [])) (n * 10 + (b - 48)) = more {d = b - 48} d (omega arith) in
-    subst (λ (x : List ℕ). Digits x (asDigits (n * 10 + (b - 48)) bs)) (append-assoc v (b ∷ []) bs)
-    (digits-on (v ++ (b ∷ [])) (n * 10 + (b - 48)) bs (subst (λ (x : ℕ). Digits (v ++ (x ∷ [])) (n * 10 + (b - 48))) e m) (p .1))
+    subst (λ (x : List ℕ). Digits x (asDigits (n * 10 + (b - 48)) bs)) (append-assoc v (b ∷ []) bs) (digits-on (v ++ (b ∷ []))
+    (n * 10 + (b - 48)) bs (subst (λ (x : ℕ). Digits (v ++ (x ∷ [])) (n * 10 + (b - 48))) (omega (arith, within-form 48 57 b (p .0)))
+    (more {d = b - 48} d (omega (arith, within-form 48 57 b (p .0))))) (p .1))
 
 pub digits-form : (w : List ℕ) → T (isDigits w) → Digits w (asDigits 0 w)
 unfolding isDigits isEmpty all asDigits isDigit
@@ -45,12 +43,8 @@ digits-form [] t = absurd t
 digits-form (b ∷ w) t =
     let p = and-yes (isDigit b) (all isDigit w) t in
     let q = within-form 48 57 b (p .0) in
-    let l : 48 ≤ b = q .0 in
-    let h : b ≤ 57 = q .1 in
-    let e : 48 + (b - 48) ≡ b = omega arith in
-    let m : Digits ((48 + (b - 48)) ∷ []) (b - 48) = digit {d = b - 48} (omega arith) in
-    let k : b - 48 ≡ 0 * 10 + (b - 48) = omega arith in
-    digits-on (b ∷ []) (0 * 10 + (b - 48)) w (subst (λ (x : ℕ). Digits (b ∷ []) x) k (subst (λ (x : ℕ). Digits (x ∷ []) (b - 48)) e m)) (p .1)
+    digits-on (b ∷ []) (0 * 10 + (b - 48)) w (subst (λ (x : ℕ). Digits (b ∷ []) x) (omega arith)
+    (subst (λ (x : ℕ). Digits (x ∷ []) (b - 48)) (omega arith) (digit {d = b - 48} (omega arith)))) (p .1)
 
 all-append : (u v : List ℕ) → T (all isDigit u) → T (all isDigit v) → T (all isDigit (u ++ v))
 unfolding all
@@ -85,23 +79,14 @@ digits-back {w} d = let p = digits-first d in yes-and (not (isEmpty w)) (all isD
 span-parts : (w : List ℕ) → T (all isDigit (span isDigit w)) × (w ≡ span isDigit w ++ drop (length (span isDigit w)) w)
 unfolding span all
 span-parts [] = (tt, refl)
-span-parts (b ∷ w) = go (isDigit b) refl (span-parts w)
-  where
-    go : (x : Bool) → isDigit b ≡ x → T (all isDigit (span isDigit w)) × (w ≡ span isDigit w ++ drop (length (span isDigit w)) w)
-        → T (all isDigit (cond x (b ∷ span isDigit w) [])) × (b ∷ w ≡ cond x (b ∷ span isDigit w) [] ++ drop (length (cond x (b ∷ span isDigit w) [])) (b ∷ w))
-    go true e r = unfold all in (yes-and (isDigit b) (all isDigit (span isDigit w)) (subst T (sym e) tt) (r .0), ap (λ (y : List ℕ). b ∷ y) (r .1))
-    go false e r = unfold all in (tt, refl)
+span-parts (b ∷ w) = by-bool (isDigit b) (λ e. rw e (unfold all in
+    (yes-and (isDigit b) (all isDigit (span isDigit w)) (rw e tt) (span-parts w .0), ap (λ (y : List ℕ). b ∷ y) (span-parts w .1))))
+    (λ q. rw q (unfold all in (tt, refl)))
 
 span-on : (a r : List ℕ) → T (all isDigit a) → span isDigit r ≡ [] → span isDigit (a ++ r) ≡ a
 unfolding span all
 span-on [] r t e = e
-span-on (b ∷ a) r t e =
-    let p = and-yes (isDigit b) (all isDigit a) t in
-    ap (λ (x : Bool). cond x (b ∷ span isDigit (a ++ r)) []) (is-true (isDigit b) (p .0)) ∙ ap (λ (x : List ℕ). b ∷ x) (span-on a r (p .1) e)
-
-drop-on : (a r : List ℕ) → drop (length a) (a ++ r) ≡ r
-drop-on [] r = refl
-drop-on (b ∷ a) r = drop-on a r
+span-on (b ∷ a) r t e = let p = and-yes (isDigit b) (all isDigit a) t in cc (is-true (isDigit b) (p .0), span-on a r (p .1) e)
 
 drop-more : (a : List ℕ) (b : ℕ) (r : List ℕ) → drop (suc (length a)) (a ++ (b ∷ r)) ≡ r
 drop-more [] b r = refl
@@ -138,59 +123,52 @@ pub figure-form : (w : List ℕ) → T (isFigure w) → Figure w
 unfolding isFigure wholes
 figure-form w t =
     let p = and-yes (not (isEmpty (wholes w))) (isFraction (drop (length (wholes w)) w)) t in
-    let q = span-parts w in
-    go (wholes w) (drop (length (wholes w)) w) (p .0) (p .1) (q .0) (q .1)
+    go (wholes w) (drop (length (wholes w)) w) (p .0) (p .1) (span-parts w .0) (span-parts w .1)
   where
     front : (a : List ℕ) → T (not (isEmpty a)) → T (all isDigit a) → Digits a (asDigits 0 a)
     front a e d = unfold isDigits in digits-form a (yes-and (not (isEmpty a)) (all isDigit a) e d)
 
     go : (a r : List ℕ) → T (not (isEmpty a)) → T (isFraction r) → T (all isDigit a) → w ≡ a ++ r → Figure w
     go a [] e f d k = subst Figure (sym (k ∙ append-nil a)) (whole (front a e d))
-    go a (b ∷ f) e h d k =
-        unfold isFraction in
-        let p = and-yes (eqb b 46) (isDigits f) h in
-        subst Figure (sym (k ∙ ap (λ (x : ℕ). a ++ (x ∷ f)) (eqb-yes (p .0)))) (pointed (front a e d) (digits-form f (p .1)))
+    go a (b ∷ f) e h d k = unfold isFraction in let p = and-yes (eqb b 46) (isDigits f) h in rw
+        (k ∙ ap (λ (x : ℕ). a ++ (x ∷ f)) (eqb-yes (p .0))) (pointed (front a e d) (digits-form f (p .1)))
 
 pub figure-back : {w : List ℕ} → Figure w → T (isFigure w)
 unfolding isFigure isFraction
 figure-back {w} (whole d) =
     yes-and (not (isEmpty (wholes w))) (isFraction (drop (length (wholes w)) w)) (subst (λ (x : List ℕ). T (not (isEmpty x))) (sym (wholes-whole d)) (not-empty d))
-    (subst (λ (x : List ℕ). T (isFraction (drop (length x) w))) (sym (wholes-whole d)) (subst (λ (x : List ℕ). T (isFraction (drop (length w) x))) (append-nil w) (subst (λ (x : List ℕ). T (isFraction x)) (sym (drop-on w [])) tt)))
+    (subst (λ (x : List ℕ). T (isFraction (drop (length x) w))) (sym (wholes-whole d)) (subst (λ (x : List ℕ). T (isFraction (drop (length w) x))) (append-nil w) (subst (λ (x : List ℕ). T (isFraction x)) (sym (drop-append-seam w [])) tt)))
 figure-back (pointed {w} {f} d e) =
     yes-and (not (isEmpty (wholes (w ++ (46 ∷ f))))) (isFraction (drop (length (wholes (w ++ (46 ∷ f)))) (w ++ (46 ∷ f))))
-    (subst (λ (x : List ℕ). T (not (isEmpty x))) (sym (wholes-point f d)) (not-empty d))
-    (subst (λ (x : List ℕ). T (isFraction (drop (length x) (w ++ (46 ∷ f))))) (sym (wholes-point f d)) (subst (λ (x : List ℕ). T (isFraction x)) (sym (drop-on w (46 ∷ f))) (digits-back e)))
+    (rw (wholes-point f d) (not-empty d)) (rw (wholes-point f d) (rw (drop-append-seam w (46 ∷ f)) (digits-back e)))
 
 -- ---- thousandths
 
 value-whole : {w : List ℕ} {n : ℕ} → Digits w n → inThousandths w ≡ n * 1000
 unfolding inThousandths
-value-whole {w} {n} d =
-    ap₂ (λ (x y : List ℕ). asDigits 0 (x ++ take 3 (y ++ replicate 3 48))) (wholes-whole d) (decimals-whole d)
-    ∙ after-digits 0 w (48 ∷ 48 ∷ 48 ∷ [])
-    ∙ ap (λ (x : ℕ). asDigits x (48 ∷ 48 ∷ 48 ∷ [])) (digits-value d)
-    ∙ three n
-  where
-    three : (k : ℕ) → asDigits k (48 ∷ 48 ∷ 48 ∷ []) ≡ k * 1000
-    three k = unfold asDigits in let e : ((k * 10 + 0) * 10 + 0) * 10 + 0 ≡ k * 1000 = omega arith in e
+value-whole {w} {n} d = ap₂ (λ (x y : List ℕ). asDigits 0 (x ++ take 3 (y ++ replicate 3 48))) (wholes-whole d) (decimals-whole d)
+    ∙ after-digits 0 w (48 ∷ 48 ∷ 48 ∷ []) ∙ ap (λ (x : ℕ). asDigits x (48 ∷ 48 ∷ 48 ∷ [])) (digits-value d)
+    ∙ (unfold asDigits in let e : ((n * 10 + 0) * 10 + 0) * 10 + 0 ≡ n * 1000 = omega arith in e)
 
 padded : (k : ℕ) (f : List ℕ) → T (not (isEmpty f)) → length f ≤ 3 → asDigits k (take 3 (f ++ replicate 3 48)) ≡ k * 1000 + asDigits 0 f * 10 ^ (3 - length f)
 unfolding asDigits isEmpty
 padded k [] t h = absurd t
 padded k (x ∷ []) t h = let e : ((k * 10 + (x - 48)) * 10 + 0) * 10 + 0 ≡ k * 1000 + (0 * 10 + (x - 48)) * 100 = omega arith in e
 padded k (x ∷ y ∷ []) t h = let e : ((k * 10 + (x - 48)) * 10 + (y - 48)) * 10 + 0 ≡ k * 1000 + ((0 * 10 + (x - 48)) * 10 + (y - 48)) * 10 = omega arith in e
-padded k (x ∷ y ∷ z ∷ []) t h =
-    let e : ((k * 10 + (x - 48)) * 10 + (y - 48)) * 10 + (z - 48) ≡ k * 1000 + (((0 * 10 + (x - 48)) * 10 + (y - 48)) * 10 + (z - 48)) * 1 = omega arith in e
+padded k (x ∷ y ∷ z ∷ []) t h = omega arith
 padded k (x ∷ y ∷ z ∷ u ∷ f) t h = absurd (omega arith)
 
 value-point : {w f : List ℕ} {n m : ℕ} → Digits w n → Digits f m → length f ≤ 3 → inThousandths (w ++ (46 ∷ f)) ≡ n * 1000 + m * 10 ^ (3 - length f)
 unfolding inThousandths
-value-point {w} {f} {n} {m} d e h =
-    ap₂ (λ (x y : List ℕ). asDigits 0 (x ++ take 3 (y ++ replicate 3 48))) (wholes-point f d) (decimals-point f d)
-    ∙ after-digits 0 w (take 3 (f ++ replicate 3 48))
-    ∙ ap (λ (x : ℕ). asDigits x (take 3 (f ++ replicate 3 48))) (digits-value d)
-    ∙ padded n f (not-empty e) h
-    ∙ ap (λ (x : ℕ). n * 1000 + x * 10 ^ (3 - length f)) (digits-value e)
+value-point {w} {f} {n} {m} d e h = cc (
+  wholes-point f d,
+  decimals-point f d,
+  after-digits 0 w
+      (take 3 (f ++ replicate 3 48)),
+  digits-value d,
+  padded n f (not-empty e) h,
+  digits-value e,
+)
 
 pub thousandths-form : (w : List ℕ) (n : ℕ) → thousandths w ≡ some n → Usable w n
 unfolding thousandths
@@ -206,22 +184,15 @@ thousandths-form w n e =
         let l : length f ≤ 3 = subst (λ (x : List ℕ). length x ≤ 3) (decimals-point f d) h in
         subst (Thousandths (a ++ (46 ∷ f))) (sym (value-point d c l) ∙ k) (partly d c l)
 
-only-yes : {A : Type 0} (b : Bool) (a : A) → T b → only b a ≡ some a
-unfolding only
-only-yes true a t = refl
-only-yes false a t = absurd t
-
 pub thousandths-back : {w : List ℕ} {n : ℕ} → Usable w n → thousandths w ≡ some n
 unfolding thousandths
 thousandths-back {w} {n} u = go (u .0) (u .1)
   where
     made : (v : List ℕ) (m : ℕ) → Figure v → length (decimals v) ≤ 3 → inThousandths v ≡ m → m ≤ 65535 → thousandths v ≡ some m
-    made v m f h e k =
-        unfold thousandths in
-        only-yes (isFigure v && (leb (length (decimals v)) 3 && leb (inThousandths v) 65535)) (inThousandths v)
-        (yes-and (isFigure v) (leb (length (decimals v)) 3 && leb (inThousandths v) 65535) (figure-back f)
-        (yes-and (leb (length (decimals v)) 3) (leb (inThousandths v) 65535) (yes-leb h) (yes-leb (subst (λ (x : ℕ). x ≤ 65535) (sym e) k))))
-        ∙ ap some e
+    made v m f h e k = unfold thousandths in only-yes (isFigure v && (leb (length (decimals v)) 3 && leb (inThousandths v) 65535))
+        (inThousandths v) (yes-and (isFigure v) (leb (length (decimals v)) 3 && leb (inThousandths v) 65535) (figure-back f)
+        (yes-and (leb (length (decimals v)) 3) (leb (inThousandths v) 65535) (yes-leb h)
+        (yes-leb (subst (λ (x : ℕ). x ≤ 65535) (sym e) k)))) ∙ ap some e
 
     go : {v : List ℕ} {m : ℕ} → Thousandths v m → m ≤ 65535 → thousandths v ≡ some m
     go (wholly {w = v} {n = m} d) k = made v (m * 1000) (whole d) (subst (λ (x : List ℕ). length x ≤ 3) (sym (decimals-whole d)) (omega arith)) (value-whole d) k

@@ -1,9 +1,9 @@
 -- Expressions: the form at any depth, brackets at most 16 deep, and the pins before the `;`. Assumes nothing.
 use Prim.Native.Nat.{ℕ, zero, suc, _+_, _-_, _≤_}
 use native.Mathlib.Omega.{arith}
-use mathlib.Core.Path.{_≡_, refl, sym, _∙_, ap, ap₂, subst}
+use mathlib.Core.Path.{_≡_, refl, sym, _∙_, ap, subst}
 use mathlib.Core.Logic.{_↔_}
-use mathlib.Core.Bool.{Bool, true, false, not, cond, _&&_, _||_}
+use mathlib.Core.Bool.{Bool, true, false, not, _&&_, _||_}
 use mathlib.Core.List.{List, [], _∷_, _++_, append-assoc, List·Memᴰ, List·Memᴰ·head, List·Memᴰ·tail, Memᴰ·append-left, Memᴰ·append-right}
 use lib.Dec.{T, leb}
 use lib.ListN.{length, drop, length-append}
@@ -11,13 +11,13 @@ use mir.Facts.{and-yes, yes-and, leb-yes, yes-leb}
 use Rattle.model.specs.Text.{isNameByte}
 use Rattle.model.specs.GenlibWords.{tokens, isWordByte, isSign, lead, isWord}
 use Rattle.model.specs.GenlibFormula.{formed, shallow, opened, pinsOf}
-use Rattle.model.specs.GenlibDemands.{Part, sum, product, factor, Means, HasValue, named as m-named, bracketed as m-bracketed, turned as m-turned, primed as m-primed, one as m-one, times as m-times, alone as m-alone, plus as m-plus}
+use Rattle.model.specs.GenlibDemands.{Part, sum, product, factor, Means, named as m-named, bracketed as m-bracketed, turned as m-turned, primed as m-primed, one as m-one, times as m-times, alone as m-alone, plus as m-plus}
 use Rattle.theory_graph.proofs.Lists.{is-true}
 use Rattle.theory_genlib.proofs.Forms.{word-sign}
 use Rattle.theory_genlib.proofs.Tokens.{sign-alone, drop-in}
 use Rattle.theory_genlib.proofs.Once.{value-formed}
 use Rattle.theory_genlib.proofs.Demanded.{formed-value}
-use Rattle.theory_foundry.specs.GateForms.{Named, Worth, named, bracketed, turned, primed, one, times, alone, plus, Deep, PinName}
+use Rattle.theory_foundry.specs.GateForms.{Named, Worth, named, bracketed, turned, primed, one, times, alone, plus, Deep}
 use Rattle.theory_foundry.proofs.WordForms.{name-word, word-name}
 use Rattle.theory_foundry.proofs.PinOrder.{pins-order, order-once, kept}
 
@@ -54,37 +54,32 @@ means-worth : {value : List ℕ → Bool} {p : Part} {ts : List (List ℕ)} {v :
 unfolding isWordByte
 means-worth a (m-named t e) = named (name-word t (subst T (sym e) tt))
 means-worth {value} a (m-bracketed {ts} {v} t u e m f) =
-    let w = means-worth (λ x k. a x (List·Memᴰ·tail (Memᴰ·append-left (u ∷ []) k))) m in
-    let x : t ≡ 40 ∷ [] = a t (List·Memᴰ·head refl) 40 refl e in
-    let y : u ≡ 41 ∷ [] = a u (List·Memᴰ·tail (Memᴰ·append-right ts (List·Memᴰ·head refl))) 41 refl f in
-    let l : length (ts ++ (u ∷ [])) ≡ length ts + 1 = length-append ts (u ∷ []) in
-    let z : Worth value (suc (length (ts ++ (u ∷ [])))) factor ((40 ∷ []) ∷ ts ++ ((41 ∷ []) ∷ [])) v = worth-more (suc (length (ts ++ (u ∷ [])))) (omega arith) (bracketed w) in
-    subst (λ (i : List ℕ). Worth value (suc (length (ts ++ (u ∷ [])))) factor (i ∷ ts ++ (u ∷ [])) v) (sym x)
-    (subst (λ (i : List ℕ). Worth value (suc (length (ts ++ (u ∷ [])))) factor ((40 ∷ []) ∷ ts ++ (i ∷ [])) v) (sym y) z)
+    subst (λ (i : List ℕ). Worth value (suc (length (ts ++ (u ∷ [])))) factor (i ∷ ts ++ (u ∷ [])) v)
+    (sym (a t (List·Memᴰ·head refl) 40 refl e)) (subst
+    (λ (i : List ℕ). Worth value (suc (length (ts ++ (u ∷ [])))) factor ((40 ∷ []) ∷ ts ++ (i ∷ [])) v)
+    (sym (a u (List·Memᴰ·tail (Memᴰ·append-right ts (List·Memᴰ·head refl))) 41 refl f)) (worth-more (suc (length (ts ++ (u ∷ []))))
+    (omega (arith, length-append ts (u ∷ []))) (bracketed (means-worth (λ x k. a x (List·Memᴰ·tail (Memᴰ·append-left (u ∷ []) k))) m))))
 means-worth {value} a (m-turned {ts} {v} t e m) =
     let w = means-worth (λ x k. a x (List·Memᴰ·tail k)) m in
     subst (λ (i : List ℕ). Worth value (suc (length ts)) factor (i ∷ ts) (not v)) (sym (a t (List·Memᴰ·head refl) 33 refl e)) (turned (worth-more (suc (length ts)) (omega arith) w))
 means-worth {value} a (m-primed {ts} {v} t m e) =
-    let w = means-worth (λ x k. a x (Memᴰ·append-left (t ∷ []) k)) m in
-    let l : length (ts ++ (t ∷ [])) ≡ length ts + 1 = length-append ts (t ∷ []) in
-    let z : Worth value (length (ts ++ (t ∷ []))) factor ts v = worth-more (length (ts ++ (t ∷ []))) (omega arith) w in
-    subst (λ (i : List ℕ). Worth value (length (ts ++ (t ∷ []))) factor (ts ++ (i ∷ [])) (not v)) (sym (a t (Memᴰ·append-right ts (List·Memᴰ·head refl)) 39 refl e)) (primed z)
+    subst (λ (i : List ℕ). Worth value (length (ts ++ (t ∷ []))) factor (ts ++ (i ∷ [])) (not v))
+    (sym (a t (Memᴰ·append-right ts (List·Memᴰ·head refl)) 39 refl e)) (primed (worth-more (length (ts ++ (t ∷ [])))
+    (omega (arith, length-append ts (t ∷ []))) (means-worth (λ x k. a x (Memᴰ·append-left (t ∷ []) k)) m)))
 means-worth a (m-one m) = one (means-worth a m)
 means-worth {value} a (m-times {ts} {us} {v} {w = u} t m e n) =
-    let w = means-worth (λ x k. a x (Memᴰ·append-left (t ∷ us) k)) m in
-    let x = means-worth (λ x k. a x (Memᴰ·append-right ts (List·Memᴰ·tail k))) n in
-    let l : length (ts ++ (t ∷ us)) ≡ length ts + suc (length us) = length-append ts (t ∷ us) in
-    let y : Worth value (length (ts ++ (t ∷ us))) product ts v = worth-more (length (ts ++ (t ∷ us))) (omega arith) w in
-    let z : Worth value (length (ts ++ (t ∷ us))) factor us u = worth-more (length (ts ++ (t ∷ us))) (omega arith) x in
-    subst (λ (i : List ℕ). Worth value (length (ts ++ (t ∷ us))) product (ts ++ (i ∷ us)) (v && u)) (sym (a t (Memᴰ·append-right ts (List·Memᴰ·head refl)) 42 refl e)) (times y z)
+    subst (λ (i : List ℕ). Worth value (length (ts ++ (t ∷ us))) product (ts ++ (i ∷ us)) (v && u))
+    (sym (a t (Memᴰ·append-right ts (List·Memᴰ·head refl)) 42 refl e)) (times (worth-more (length (ts ++ (t ∷ us)))
+    (omega (arith, length-append ts (t ∷ us))) (means-worth (λ x k. a x (Memᴰ·append-left (t ∷ us) k)) m))
+    (worth-more (length (ts ++ (t ∷ us))) (omega (arith, length-append ts (t ∷ us)))
+    (means-worth (λ x k. a x (Memᴰ·append-right ts (List·Memᴰ·tail k))) n)))
 means-worth a (m-alone m) = alone (means-worth a m)
 means-worth {value} a (m-plus {ts} {us} {v} {w = u} t m e n) =
-    let w = means-worth (λ x k. a x (Memᴰ·append-left (t ∷ us) k)) m in
-    let x = means-worth (λ x k. a x (Memᴰ·append-right ts (List·Memᴰ·tail k))) n in
-    let l : length (ts ++ (t ∷ us)) ≡ length ts + suc (length us) = length-append ts (t ∷ us) in
-    let y : Worth value (length (ts ++ (t ∷ us))) sum ts v = worth-more (length (ts ++ (t ∷ us))) (omega arith) w in
-    let z : Worth value (length (ts ++ (t ∷ us))) product us u = worth-more (length (ts ++ (t ∷ us))) (omega arith) x in
-    subst (λ (i : List ℕ). Worth value (length (ts ++ (t ∷ us))) sum (ts ++ (i ∷ us)) (v || u)) (sym (a t (Memᴰ·append-right ts (List·Memᴰ·head refl)) 43 refl e)) (plus y z)
+    subst (λ (i : List ℕ). Worth value (length (ts ++ (t ∷ us))) sum (ts ++ (i ∷ us)) (v || u))
+    (sym (a t (Memᴰ·append-right ts (List·Memᴰ·head refl)) 43 refl e)) (plus (worth-more (length (ts ++ (t ∷ us)))
+    (omega (arith, length-append ts (t ∷ us))) (means-worth (λ x k. a x (Memᴰ·append-left (t ∷ us) k)) m))
+    (worth-more (length (ts ++ (t ∷ us))) (omega (arith, length-append ts (t ∷ us)))
+    (means-worth (λ x k. a x (Memᴰ·append-right ts (List·Memᴰ·tail k))) n)))
 
 -- ---- the form
 
@@ -92,25 +87,20 @@ snoc-once : (f g : List (List ℕ)) (t : List ℕ) → f ++ (t ∷ []) ≡ g ++ 
 snoc-once [] [] t e = refl
 snoc-once [] (y ∷ g) t e = absurd (let n : 1 ≡ suc (length (g ++ (t ∷ []))) = ap length e in let l : length (g ++ (t ∷ [])) ≡ length g + 1 = length-append g (t ∷ []) in omega arith)
 snoc-once (x ∷ f) [] t e = absurd (let n : suc (length (f ++ (t ∷ []))) ≡ 1 = ap length e in let l : length (f ++ (t ∷ [])) ≡ length f + 1 = length-append f (t ∷ []) in omega arith)
-snoc-once (x ∷ f) (y ∷ g) t e =
-    let h : x ≡ y = Rattle.theory_order.proofs.Splits.cons-head e in
-    ap₂ (λ (a : List ℕ) (b : List (List ℕ)). a ∷ b) h (snoc-once f g t (Rattle.theory_order.proofs.Splits.cons-tail e))
+snoc-once (x ∷ f) (y ∷ g) t e = cc (snoc-once f g t (Rattle.theory_order.proofs.Splits.cons-tail e))
 
 -- the tokens before the `;` are an expression, whatever its names are worth
 pub formula-form : (s : List ℕ) → formed (drop 5 (tokens s)) ≡ true → (f : List (List ℕ)) × (drop 5 (tokens s) ≡ f ++ ((59 ∷ []) ∷ [])) × Deep (length f) f
-formula-form s e = (first .1 .expression, first .1 .isAll, deep)
-  where
-    first : (v : Bool) × HasValue (λ (t : List ℕ). false) (drop 5 (tokens s)) v
-    first = formed-value s e (λ (t : List ℕ). false)
-
-    alones : Alone (first .1 .expression)
-    alones t m b w i = sign-alone b w s t (drop-in 5 (tokens s) t (subst (λ (x : List (List ℕ)). List·Memᴰ t x) (sym (first .1 .isAll)) (Memᴰ·append-left ((59 ∷ []) ∷ []) m))) i
-
-    deep : Deep (length (first .1 .expression)) (first .1 .expression)
-    deep value =
-        let h = formed-value s e value in
-        let q : h .1 .expression ≡ first .1 .expression = snoc-once (h .1 .expression) (first .1 .expression) (59 ∷ []) (sym (h .1 .isAll) ∙ first .1 .isAll) in
-        (h .0, means-worth alones (subst (λ (x : List (List ℕ)). Means value sum x (h .0)) q (h .1 .means)))
+formula-form s e =
+    let first = formed-value s e (λ (t : List ℕ). false) in
+    let alones : Alone (first .1 .expression) = λ t m b w i. sign-alone b w s t (drop-in 5 (tokens s) t
+    (subst (λ (x : List (List ℕ)). List·Memᴰ t x) (sym (first .1 .isAll)) (Memᴰ·append-left ((59 ∷ []) ∷ []) m))) i in (
+      first .1 .expression,
+      first .1 .isAll,
+      (λ value. let h = formed-value s e value in
+          let q : h .1 .expression ≡ first .1 .expression = snoc-once (h .1 .expression) (first .1 .expression) (59 ∷ [])
+          (sym (h .1 .isAll) ∙ first .1 .isAll) in (h .0, means-worth alones (rw q at (h .1 .means)))),
+    )
 
 pub formula-back : (k : ℕ) (f : List (List ℕ)) → Deep k f → formed (f ++ ((59 ∷ []) ∷ [])) ≡ true
 formula-back k f d =
@@ -121,16 +111,13 @@ formula-back k f d =
 
 opened-name : (d : ℕ) (t : List ℕ) → Named t → opened d t ≡ d
 unfolding opened isNameByte
-opened-name d t n =
-    let w = is-true (isWord t) (word-name t n) in
-    ap₂ (λ (x y : Bool). cond x (d + 1) (cond y (d - 1) d)) (word-sign 40 refl t w) (word-sign 41 refl t w)
+opened-name d t n = let w = is-true (isWord t) (word-name t n) in cc (word-sign 40 refl t w, word-sign 41 refl t w)
 
 -- from the scan of the brackets to the bound ..
 lower : {value : List ℕ → Bool} {k : ℕ} {p : Part} {ts : List (List ℕ)} {v : Bool} → Worth value k p ts v → (d : ℕ) (rest : List (List ℕ)) → T (shallow d (ts ++ rest))
     → Worth value (16 - d) p ts v × T (shallow d rest)
 unfolding shallow opened isSign lead
-lower (named {t = t} n) d rest h =
-    (named n, subst (λ (x : ℕ). T (shallow x rest)) (opened-name d t n) (and-yes (leb d 16) (shallow (opened d t) rest) h .1))
+lower (named {t = t} n) d rest h = (named n, rw (← opened-name d t n) (and-yes (leb d 16) (shallow (opened d t) rest) h .1))
 lower {value} (bracketed {ts = ts} {v} w) d rest h =
     let a = and-yes (leb d 16) (shallow (d + 1) ((ts ++ ((41 ∷ []) ∷ [])) ++ rest)) h in
     let b = lower w (d + 1) ((41 ∷ []) ∷ rest) (subst (λ (x : List (List ℕ)). T (shallow (d + 1) x)) (append-assoc ts ((41 ∷ []) ∷ []) rest) (a .1)) in
@@ -158,23 +145,19 @@ lower (plus {ts = ts} {us} w x) d rest h =
 raise : {value : List ℕ → Bool} {k : ℕ} {p : Part} {ts : List (List ℕ)} {v : Bool} → Worth value k p ts v → (d : ℕ) (rest : List (List ℕ)) → d + k ≤ 16 → T (shallow d rest) → T (shallow d (ts ++ rest))
 unfolding shallow opened isSign lead
 raise (named {k} {t} n) d rest l h = yes-and (leb d 16) (shallow (opened d t) rest) (yes-leb {a = d} {b = 16} (omega arith)) (subst (λ (x : ℕ). T (shallow x rest)) (sym (opened-name d t n)) h)
-raise (bracketed {k} {ts} w) d rest l h =
-    let f : d ≡ d + 1 - 1 = omega arith in
-    let c : T (shallow (d + 1) ((41 ∷ []) ∷ rest)) = yes-and (leb (d + 1) 16) (shallow (d + 1 - 1) rest) (yes-leb {a = d + 1} {b = 16} (omega arith)) (subst (λ (x : ℕ). T (shallow x rest)) f h) in
-    yes-and (leb d 16) (shallow (d + 1) ((ts ++ ((41 ∷ []) ∷ [])) ++ rest)) (yes-leb {a = d} {b = 16} (omega arith))
-    (subst (λ (x : List (List ℕ)). T (shallow (d + 1) x)) (sym (append-assoc ts ((41 ∷ []) ∷ []) rest)) (raise w (d + 1) ((41 ∷ []) ∷ rest) (omega arith) c))
+raise (bracketed {k} {ts} w) d rest l h = yes-and (leb d 16) (shallow (d + 1) ((ts ++ ((41 ∷ []) ∷ [])) ++ rest))
+    (yes-leb {a = d} {b = 16} (omega arith)) (subst (λ (x : List (List ℕ)). T (shallow (d + 1) x))
+    (sym (append-assoc ts ((41 ∷ []) ∷ []) rest)) (raise w (d + 1) ((41 ∷ []) ∷ rest) (omega arith) (yes-and (leb (d + 1) 16)
+    (shallow (d + 1 - 1) rest) (yes-leb {a = d + 1} {b = 16} (omega arith)) (subst (λ (x : ℕ). T (shallow x rest)) (omega arith) h))))
 raise (turned {k} {ts} w) d rest l h = yes-and (leb d 16) (shallow d (ts ++ rest)) (yes-leb {a = d} {b = 16} (omega arith)) (raise w d rest l h)
-raise (primed {k} {ts} w) d rest l h =
-    subst (λ (x : List (List ℕ)). T (shallow d x)) (sym (append-assoc ts ((39 ∷ []) ∷ []) rest))
+raise (primed {k} {ts} w) d rest l h = rw (append-assoc ts ((39 ∷ []) ∷ []) rest)
     (raise w d ((39 ∷ []) ∷ rest) l (yes-and (leb d 16) (shallow d rest) (yes-leb {a = d} {b = 16} (omega arith)) h))
 raise (one w) d rest l h = raise w d rest l h
-raise (times {k} {ts} {us} w x) d rest l h =
-    subst (λ (y : List (List ℕ)). T (shallow d y)) (sym (append-assoc ts ((42 ∷ []) ∷ us) rest))
-    (raise w d ((42 ∷ []) ∷ us ++ rest) l (yes-and (leb d 16) (shallow d (us ++ rest)) (yes-leb {a = d} {b = 16} (omega arith)) (raise x d rest l h)))
+raise (times {k} {ts} {us} w x) d rest l h = rw (append-assoc ts ((42 ∷ []) ∷ us) rest) (raise w d ((42 ∷ []) ∷ us ++ rest) l
+    (yes-and (leb d 16) (shallow d (us ++ rest)) (yes-leb {a = d} {b = 16} (omega arith)) (raise x d rest l h)))
 raise (alone w) d rest l h = raise w d rest l h
-raise (plus {k} {ts} {us} w x) d rest l h =
-    subst (λ (y : List (List ℕ)). T (shallow d y)) (sym (append-assoc ts ((43 ∷ []) ∷ us) rest))
-    (raise w d ((43 ∷ []) ∷ us ++ rest) l (yes-and (leb d 16) (shallow d (us ++ rest)) (yes-leb {a = d} {b = 16} (omega arith)) (raise x d rest l h)))
+raise (plus {k} {ts} {us} w x) d rest l h = rw (append-assoc ts ((43 ∷ []) ∷ us) rest) (raise w d ((43 ∷ []) ∷ us ++ rest) l
+    (yes-and (leb d 16) (shallow d (us ++ rest)) (yes-leb {a = d} {b = 16} (omega arith)) (raise x d rest l h)))
 
 pub shallow-exactly : (k : ℕ) (f : List (List ℕ)) → Deep k f → T (shallow 0 (f ++ ((59 ∷ []) ∷ []))) ↔ Deep 16 f
 unfolding shallow opened isSign lead
@@ -184,10 +167,5 @@ shallow-exactly k f d = ((λ t value. (d value .0, lower (d value .1) 0 ((59 ∷
 
 pub pins-before : (f : List (List ℕ)) → pinsOf (f ++ ((59 ∷ []) ∷ [])) ≡ pinsOf f
 unfolding isNameByte
-pins-before f = order-once (f ++ ((59 ∷ []) ∷ [])) (pinsOf (f ++ ((59 ∷ []) ∷ []))) (pinsOf f) (pins-order (f ++ ((59 ∷ []) ∷ []))) (kept f (pinsOf f) (59 ∷ []) (pins-order f) none)
-  where
-    none : (p : List ℕ) → p ≡ 59 ∷ [] → PinName p → List·Memᴰ p (pinsOf f)
-    none p e n = absurd (no (subst (λ (x : List ℕ). T (isWord x)) e (word-name p (n .isName))))
-      where
-        no : T (isWord (59 ∷ [])) → ⊥
-        no t = unfold isWord in t
+pins-before f = order-once (f ++ ((59 ∷ []) ∷ [])) (pinsOf (f ++ ((59 ∷ []) ∷ []))) (pinsOf f) (pins-order (f ++ ((59 ∷ []) ∷ []))) (kept f (pinsOf f) (59 ∷ []) (pins-order f)
+    (λ p e n. absurd (unfold isWord in (subst (λ (x : List ℕ). T (isWord x)) e (word-name p (n .isName))))))

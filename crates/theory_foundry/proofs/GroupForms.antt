@@ -15,7 +15,7 @@ use Rattle.model.specs.GenlibWords.{tokens}
 use Rattle.model.specs.GenlibFormula.{isPin, pinsOf, shallow}
 use Rattle.model.specs.Genlib.{Group, lineIs, isGateLine, isPinLine, hasLine, isThere, pinLine, lineTokens, formulaOf, groupFormed, groupSmall}
 use Rattle.theory_graph.proofs.Lists.{keep-in, keep-out, all-of, all-in}
-use Rattle.theory_foundry.specs.GateForms.{GateSays, PinSays, GateContents, Fits, PinName}
+use Rattle.theory_foundry.specs.GateForms.{GateSays, PinSays, GateContents, Fits}
 use Rattle.theory_foundry.specs.GateRefusals.{AllListed, Small}
 use Rattle.theory_foundry.proofs.WordForms.{pin-form as pin-name, pin-back as name-pin}
 use Rattle.theory_foundry.proofs.PinOrder.{pins-order, order-once}
@@ -71,11 +71,6 @@ first-fit pin (oneMore {l} {ls} {p = q} {ps} c r) p m f = go (Rattle.model.spec
     go false e (List·Memᴰ·head y) h = absurd (subst T e (Rattle.theory_foundry.proofs.PinForms.fits-exactly pin c .1 (subst (Fits pin) y f)))
     go false e (List·Memᴰ·tail k) h = unfold hasLine isThere in h k
 
-in-formula : (f : List (List ℕ)) (pin : List ℕ) → PinName pin → List·Memᴰ pin (f ++ ((59 ∷ []) ∷ [])) → List·Memᴰ pin f
-in-formula f pin n m =
-    let o = pins-order (f ++ ((59 ∷ []) ∷ [])) in
-    pins-order f .pins pin .0 (subst (λ (x : List (List ℕ)). List·Memᴰ pin x) (pins-before f) (o .pins pin .1 (m, n))) .0
-
 pub formed-exactly : (g : Group) → T (groupFormed g) ↔ ((h : GateSays) × (ps : List PinSays) × FormedLines g h ps)
 unfolding groupFormed lineIs formulaOf lineTokens
 formed-exactly g = (there, back)
@@ -99,28 +94,27 @@ formed-exactly g = (there, back)
             (pinSays (o .0), subst (λ (x : List PinSays). List·Memᴰ (pinSays (o .0)) x) (sym (d .isAll)) (Memᴰ·append-right (d .before) (List·Memᴰ·head refl)), d .fitting)
 
     back : ((h : GateSays) × (ps : List PinSays) × FormedLines g h ps) → T (groupFormed g)
-    back p =
-        unfold groupFormed lineIs formulaOf lineTokens in
-        let f = p .2 in
-        yes-and (lineIs isGateLine (g .head)) (all (lineIs isPinLine) (g .lines) && all (hasLine (map lineTokens (g .lines))) (keep isPin (formulaOf g)))
+    back p = unfold groupFormed lineIs formulaOf lineTokens in let f = p .2 in yes-and (lineIs isGateLine (g .head))
+        (all (lineIs isPinLine) (g .lines) && all (hasLine (map lineTokens (g .lines))) (keep isPin (formulaOf g)))
         (yes-and (ended (g .head)) (isGateLine (tokens (g .head .bytes))) (f .endsHead) (gate-back (f .isHead)))
-        (yes-and (all (lineIs isPinLine) (g .lines)) (all (hasLine (map lineTokens (g .lines))) (keep isPin (formulaOf g))) (lines-back (f .endsLines) (f .areLines))
-        (all-in (hasLine (map lineTokens (g .lines))) (keep isPin (formulaOf g)) has))
-      where
-        has : (pin : List ℕ) → List·Memᴰ pin (keep isPin (formulaOf g)) → T (hasLine (map lineTokens (g .lines)) pin)
-        has pin m =
-            unfold formulaOf lineTokens in
-            let k = keep-out isPin (formulaOf g) m in
-            let n = pin-name pin (k .1) in
-            let i = in-formula (p .0 .formula) pin n (subst (λ (x : List (List ℕ)). List·Memᴰ pin x) (head-is (p .2 .isHead) .formula) (k .0)) in
-            let q = p .2 .listed pin i n in
-            first-fit pin (p .2 .areLines) (q .0) (q .1) (q .2)
+        (yes-and (all (lineIs isPinLine) (g .lines)) (all (hasLine (map lineTokens (g .lines))) (keep isPin (formulaOf g)))
+        (lines-back (f .endsLines) (f .areLines)) (all-in (hasLine (map lineTokens (g .lines))) (keep isPin (formulaOf g)) (λ pin m.
+        unfold formulaOf lineTokens in let k = keep-out isPin (formulaOf g) m in let n = pin-name pin (k .1) in let i =
+        (pins-order (p .0 .formula) .pins pin .0 (rw (← pins-before (p .0 .formula))
+        (pins-order ((p .0 .formula) ++ ((59 ∷ []) ∷ [])) .pins pin .1 ((rw (← head-is (p .2 .isHead) .formula) (k .0)), n))) .0) in
+        let q = p .2 .listed pin i n in first-fit pin (p .2 .areLines) (q .0) (q .1) (q .2))))
 
 -- ---- 23
 
 pub small-exactly : (g : Group) (h : GateSays) → GateContents (g .head .bytes) h → T (groupSmall g) ↔ ((pins : List (List ℕ)) × Small h pins)
 unfolding groupSmall formulaOf lineTokens
-small-exactly g h c = (there, back)
+small-exactly g h c = (
+  there,
+  (λ p. unfold groupSmall formulaOf lineTokens in yes-and
+      (leb (length (pinsOf (drop 5 (tokens (g .head .bytes))))) 4) (shallow 0 (drop 5 (tokens (g .head .bytes)))) (yes-leb
+      (rw (order-once (h .formula) (p .0) (pinsOf (h .formula)) (p .1 .areOrdered) (pins-order (h .formula)) ∙ sym pins) at (p .1 .few)))
+      (rw e (shallow-exactly (c .depth) (h .formula) (c .isFormula) .1 (p .1 .shallow)))),
+)
   where
     e : drop 5 (tokens (g .head .bytes)) ≡ h .formula ++ ((59 ∷ []) ∷ [])
     e = head-is c .formula
@@ -139,10 +133,3 @@ small-exactly g h c = (there, back)
             shallow = shallow-exactly (c .depth) (h .formula) (c .isFormula) .0 (subst (λ (x : List (List ℕ)). T (shallow 0 x)) e (a .1));
           },
         )
-
-    back : ((ps : List (List ℕ)) × Small h ps) → T (groupSmall g)
-    back p =
-        unfold groupSmall formulaOf lineTokens in
-        yes-and (leb (length (pinsOf (drop 5 (tokens (g .head .bytes))))) 4) (shallow 0 (drop 5 (tokens (g .head .bytes))))
-        (yes-leb (subst (λ (x : List (List ℕ)). length x ≤ 4) (order-once (h .formula) (p .0) (pinsOf (h .formula)) (p .1 .areOrdered) (pins-order (h .formula)) ∙ sym pins) (p .1 .few)))
-        (subst (λ (x : List (List ℕ)). T (shallow 0 x)) (sym e) (shallow-exactly (c .depth) (h .formula) (c .isFormula) .1 (p .1 .shallow)))

@@ -1,7 +1,7 @@
 -- Groups one after the other: "gate by gate", the first that is refused refuses the text. Assumes nothing.
 use Prim.Native.Nat.{ℕ, _≤_}
 use mathlib.Core.Path.{_≡_, refl, subst}
-use mathlib.Core.Logic.{_⊎_, inl, inr}
+use mathlib.Core.Logic.{_⊎_, inl, inr, ⊎-elim}
 use mathlib.Core.List.{List, [], _∷_, cons≢nil, List·Memᴰ, List·Memᴰ·head, List·Memᴰ·tail}
 use lib.ListN.{length}
 use Rattle.model.specs.Reading.{holds, next}
@@ -36,25 +36,19 @@ groups-exactly [] short = exactly-map (holds []) (λ cs. (empty cs, back cs)) (�
 
     none : (n k : ℕ) → GroupsFault [] n k → ⊥
     none n k f = fault-some f refl
-groups-exactly (g ∷ gs) short =
-    exactly-map (next (readGroup g) (λ c. next (readGroups gs) (λ cs. holds (c ∷ cs)))) (λ cs. (there cs, back cs)) (λ n k. (down n k, up n k))
-    (exactly-next (λ c x ds. (cs : List Gate) × GroupsHold gs cs × (c ∷ cs ≡ ds)) (λ c x n k. GroupsFault gs n k ⊎ ((cs : List Gate) × GroupsHold gs cs × ⊥)) (readGroup g)
-    (λ c. next (readGroups gs) (λ cs. holds (c ∷ cs))) (group-exactly g (short g (List·Memᴰ·head refl)))
-    (λ c x. exactly-next (λ cs y ds. c ∷ cs ≡ ds) (λ cs y n k. ⊥) (readGroups gs) (λ cs. holds (c ∷ cs)) (groups-exactly gs (λ q m. short q (List·Memᴰ·tail m))) (λ cs y. exactly-holds (c ∷ cs))))
+groups-exactly (g ∷ gs) short = exactly-map (next (readGroup g) (λ c. next (readGroups gs) (λ cs. holds (c ∷ cs))))
+    (λ cs. (there cs, back cs)) (λ n k. ((λ z. ⊎-elim thisOne (λ p. ⊎-elim (laterOne (p .1)) (λ q. absurd (q .2)) (p .2)) z), up n k))
+    (exactly-next (λ c x ds. (cs : List Gate) × GroupsHold gs cs × (c ∷ cs ≡ ds))
+    (λ c x n k. GroupsFault gs n k ⊎ ((cs : List Gate) × GroupsHold gs cs × ⊥)) (readGroup g)
+    (λ c. next (readGroups gs) (λ cs. holds (c ∷ cs))) (group-exactly g (short g (List·Memᴰ·head refl))) (λ c x.
+    exactly-next (λ cs y ds. c ∷ cs ≡ ds) (λ cs y n k. ⊥) (readGroups gs) (λ cs. holds (c ∷ cs))
+    (groups-exactly gs (λ q m. short q (List·Memᴰ·tail m))) (λ cs y. exactly-holds (c ∷ cs))))
   where
     there : (ds : List Gate) → ((c : Gate) × (x : GroupHolds g c) × ((cs : List Gate) × GroupsHold gs cs × (c ∷ cs ≡ ds))) → GroupsHold (g ∷ gs) ds
     there ds p = subst (GroupsHold (g ∷ gs)) (p .2 .2) (aGroup (p .1) (p .2 .1))
 
     back : (ds : List Gate) → GroupsHold (g ∷ gs) ds → (c : Gate) × (x : GroupHolds g c) × ((cs : List Gate) × GroupsHold gs cs × (c ∷ cs ≡ ds))
     back ds (aGroup {c = c} {cs} x y) = (c, x, (cs, y, refl))
-
-    down : (n k : ℕ) → GroupFault g n k ⊎ ((c : Gate) × (x : GroupHolds g c) × (GroupsFault gs n k ⊎ ((cs : List Gate) × GroupsHold gs cs × ⊥))) → GroupsFault (g ∷ gs) n k
-    down n k (inl f) = thisOne f
-    down n k (inr p) = go (p .0) (p .1) (p .2)
-      where
-        go : (c : Gate) → GroupHolds g c → GroupsFault gs n k ⊎ ((cs : List Gate) × GroupsHold gs cs × ⊥) → GroupsFault (g ∷ gs) n k
-        go c x (inl f) = laterOne x f
-        go c x (inr q) = absurd (q .2)
 
     up : (n k : ℕ) → GroupsFault (g ∷ gs) n k → GroupFault g n k ⊎ ((c : Gate) × (x : GroupHolds g c) × (GroupsFault gs n k ⊎ ((cs : List Gate) × GroupsHold gs cs × ⊥)))
     up n k (thisOne f) = inl f

@@ -2,7 +2,7 @@
 use Prim.Native.Nat.{ℕ}
 use mathlib.Core.Path.{_≡_, refl, sym, _∙_, ap, subst}
 use mathlib.Core.Logic.{_↔_}
-use mathlib.Core.Bool.{Bool, true, false, not, cond}
+use mathlib.Core.Bool.{Bool, not, cond}
 use mathlib.Core.List.{List, [], _∷_, _++_}
 use lib.Dec.{T, T-not, not-T}
 use lib.ListN.{length, drop}
@@ -17,6 +17,8 @@ use Rattle.theory_refusals.proofs.FieldForms.{byte-form, byte-back}
 use Rattle.theory_foundry.specs.GateForms.{Stops}
 use Rattle.theory_foundry.specs.GateRefusals.{Opens}
 use Rattle.theory_foundry.proofs.WordForms.{blank-form, blank-back}
+use lib.Seq.{drop-append-seam}
+use Rattle.theory_graph.proofs.Split.{by-bool}
 
 module _ (p : ℕ → Bool) where
   -- the bytes do not begin with one that passes
@@ -27,12 +29,9 @@ module _ (p : ℕ → Bool) where
   span-parts : (w : List ℕ) → T (all p (span p w)) × (w ≡ span p w ++ drop (length (span p w)) w) × Halts (drop (length (span p w)) w)
   unfolding span all
   span-parts [] = (tt, refl, tt)
-  span-parts (b ∷ w) = go (p b) refl (span-parts w)
-    where
-      go : (x : Bool) → p b ≡ x → T (all p (span p w)) × (w ≡ span p w ++ drop (length (span p w)) w) × Halts (drop (length (span p w)) w)
-          → T (all p (cond x (b ∷ span p w) [])) × (b ∷ w ≡ cond x (b ∷ span p w) [] ++ drop (length (cond x (b ∷ span p w) [])) (b ∷ w)) × Halts (drop (length (cond x (b ∷ span p w) [])) (b ∷ w))
-      go true e r = unfold all in (yes-and (p b) (all p (span p w)) (subst T (sym e) tt) (r .0), ap (λ (y : List ℕ). b ∷ y) (r .1), r .2)
-      go false e r = unfold all in (tt, refl, subst (λ (x : Bool). T (not x)) (sym e) tt)
+  span-parts (b ∷ w) = by-bool (p b) (λ e. rw e (unfold all in
+      (yes-and (p b) (all p (span p w)) (rw e tt) (span-parts w .0), ap (λ (y : List ℕ). b ∷ y) (span-parts w .1), (span-parts w) .2)))
+      (λ q. rw q (unfold all in (tt, refl, rw q tt)))
 
   span-none : (r : List ℕ) → Halts r → span p r ≡ []
   unfolding span
@@ -42,13 +41,7 @@ module _ (p : ℕ → Bool) where
   span-on : (a r : List ℕ) → T (all p a) → Halts r → span p (a ++ r) ≡ a
   unfolding span all
   span-on [] r t h = span-none r h
-  span-on (b ∷ a) r t h =
-      let q = and-yes (p b) (all p a) t in
-      ap (λ (x : Bool). cond x (b ∷ span p (a ++ r)) []) (is-true (p b) (q .0)) ∙ ap (λ (x : List ℕ). b ∷ x) (span-on a r (q .1) h)
-
-drop-on : (a r : List ℕ) → drop (length a) (a ++ r) ≡ r
-drop-on [] r = refl
-drop-on (b ∷ a) r = drop-on a r
+  span-on (b ∷ a) r t h = let q = and-yes (p b) (all p a) t in cc (is-true (p b) (q .0), span-on a r (q .1) h)
 
 stops-form : (s : List ℕ) → Halts isNameByte s → Stops NameByte s
 stops-form [] h = tt
@@ -60,29 +53,24 @@ stops-back (b ∷ s) h = not-T (isNameByte b) (λ t. h (byte-form b t))
 
 pub opens-exactly : (l : Line) → T (startsGate l) ↔ Opens (l .bytes)
 unfolding startsGate firstName
-opens-exactly l = (there, back)
-  where
-    there : T (startsGate l) → Opens (l .bytes)
-    there t =
-        unfold startsGate firstName in
-        let a = span-parts isBlank (l .bytes) in
-        let b = span-parts isNameByte (drop (length (span isBlank (l .bytes))) (l .bytes)) in
-        let e = same-eq (firstName (l .bytes)) (text "GATE") t in
-        record {
-          blanks = span isBlank (l .bytes);
-          behind = drop (length (span isNameByte (drop (length (span isBlank (l .bytes))) (l .bytes)))) (drop (length (span isBlank (l .bytes))) (l .bytes));
-          isAll = a .1 ∙ ap (λ (x : List ℕ). span isBlank (l .bytes) ++ x)
-              (b .1 ∙ ap (λ (x : List ℕ). x ++ drop (length (span isNameByte (drop (length (span isBlank (l .bytes))) (l .bytes)))) (drop (length (span isBlank (l .bytes))) (l .bytes))) e);
-          areBlanks = λ x m. blank-form x (all-of isBlank (span isBlank (l .bytes)) (a .0) x m);
-          ends = stops-form (drop (length (span isNameByte (drop (length (span isBlank (l .bytes))) (l .bytes)))) (drop (length (span isBlank (l .bytes))) (l .bytes))) (b .2);
-        }
-
-    back : Opens (l .bytes) → T (startsGate l)
-    back o =
-        unfold startsGate firstName in
-        let x : span isBlank (l .bytes) ≡ o .blanks =
-        ap (span isBlank) (o .isAll) ∙ span-on isBlank (o .blanks) (text "GATE" ++ o .behind) (all-in isBlank (o .blanks) (λ y m. blank-back y (o .areBlanks y m))) (unfold isBlank in tt) in
-        let y : drop (length (span isBlank (l .bytes))) (l .bytes) ≡ text "GATE" ++ o .behind =
-        ap (λ (z : List ℕ). drop (length z) (l .bytes)) x ∙ ap (drop (length (o .blanks))) (o .isAll) ∙ drop-on (o .blanks) (text "GATE" ++ o .behind) in
-        let z : firstName (l .bytes) ≡ text "GATE" = ap (span isNameByte) y ∙ span-on isNameByte (text "GATE") (o .behind) (unfold all isNameByte in tt) (stops-back (o .behind) (o .ends)) in
-        subst (λ (v : List ℕ). T (same v (text "GATE"))) (sym z) (same-refl (text "GATE"))
+opens-exactly l = (
+  (λ t. unfold startsGate firstName in let a = span-parts isBlank (l .bytes) in let b = span-parts isNameByte
+      (drop (length (span isBlank (l .bytes))) (l .bytes)) in let e = same-eq (firstName (l .bytes)) (text "GATE") t in record {
+        blanks = span isBlank (l .bytes);
+        behind = drop (length (span isNameByte (drop (length (span isBlank (l .bytes))) (l .bytes))))
+            (drop (length (span isBlank (l .bytes))) (l .bytes));
+        isAll = a .1 ∙ ap (λ (x : List ℕ). span isBlank (l .bytes) ++ x) (b .1 ∙ ap (λ (x : List ℕ).
+            x ++ drop (length (span isNameByte (drop (length (span isBlank (l .bytes))) (l .bytes))))
+            (drop (length (span isBlank (l .bytes))) (l .bytes))) e);
+        areBlanks = λ x m. blank-form x (all-of isBlank (span isBlank (l .bytes)) (a .0) x m);
+        ends = stops-form (drop (length (span isNameByte (drop (length (span isBlank (l .bytes))) (l .bytes))))
+            (drop (length (span isBlank (l .bytes))) (l .bytes))) (b .2);
+      }),
+  (λ o. unfold startsGate firstName in let x : span isBlank (l .bytes) ≡ o .blanks = ap (span isBlank) (o .isAll)
+      ∙ span-on isBlank (o .blanks) (text "GATE" ++ o .behind) (all-in isBlank (o .blanks) (λ y m. blank-back y (o .areBlanks y m)))
+      (unfold isBlank in tt) in let y : drop (length (span isBlank (l .bytes))) (l .bytes) ≡ text "GATE" ++ o .behind = ap
+      (λ (z : List ℕ). drop (length z) (l .bytes)) x ∙ ap (drop (length (o .blanks))) (o .isAll)
+      ∙ drop-append-seam (o .blanks) (text "GATE" ++ o .behind) in let z : firstName (l .bytes) ≡ text "GATE" = ap (span isNameByte) y
+      ∙ span-on isNameByte (text "GATE") (o .behind) (unfold all isNameByte in tt) (stops-back (o .behind) (o .ends)) in subst
+      (λ (v : List ℕ). T (same v (text "GATE"))) (sym z) (same-refl (text "GATE"))),
+)

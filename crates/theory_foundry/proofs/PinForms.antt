@@ -3,7 +3,7 @@
 use Prim.Native.Nat.{ℕ, max}
 use native.Mathlib.Omega.{arith}
 use mathlib.Core.Path.{_≡_, refl, sym, _∙_, ap, subst}
-use mathlib.Core.Logic.{_⊎_, inl, inr, _↔_}
+use mathlib.Core.Logic.{_⊎_, inl, inr, _↔_, ⊎-elim}
 use mathlib.Core.Bool.{Bool, true, false, not, cond, false≢true, _&&_, _||_}
 use mathlib.Core.Option.{Option, some}
 use mathlib.Core.List.{List, [], _∷_, _++_, map, nil≢cons, List·Memᴰ, List·Memᴰ·head, List·Memᴰ·tail, List·Memᴰ·not-nil}
@@ -25,6 +25,7 @@ use Rattle.theory_foundry.specs.GateForms.{Named, Spelled, Figure, PinSa
 use Rattle.theory_foundry.proofs.WordForms.{name-word, word-name}
 use Rattle.theory_foundry.proofs.TokenForms.{spells, spelled-back}
 use Rattle.theory_foundry.proofs.FigureForms.{figure-form, figure-back, thousandths-form, thousandths-back}
+use Rattle.theory_graph.proofs.Split.{by-list}
 
 -- ---- the contents
 
@@ -52,28 +53,25 @@ pin-tokens s (a ∷ b ∷ c ∷ d ∷ e ∷ f ∷ g ∷ h ∷ i ∷ []) q t =
     let y2 = and-yes (isFigure f) (all isFigure (g ∷ h ∷ i ∷ [])) (y1 .1) in
     let y3 = and-yes (isFigure g) (all isFigure (h ∷ i ∷ [])) (y2 .1) in
     let y4 = and-yes (isFigure h) (all isFigure (i ∷ [])) (y3 .1) in
-    let y5 = and-yes (isFigure i) true (y4 .1) in
-    let z : tokens s ≡ text "PIN" ∷ b ∷ c ∷ d ∷ e ∷ f ∷ g ∷ h ∷ i ∷ [] = q ∙ ap (λ (x : List ℕ). x ∷ b ∷ c ∷ d ∷ e ∷ f ∷ g ∷ h ∷ i ∷ []) (same-eq a (text "PIN") (x1 .0)) in
     record {
       phase = c;
       load = d;
       most = e;
       riseFanout = g;
       fallFanout = i;
-      isAll = subst (Spelled s) z (spells s);
-      isName = named (or-yes (isSign 42 b) (isWord b) (x2 .1));
+      isAll = subst (Spelled s) (q ∙ ap (λ (x : List ℕ). x ∷ b ∷ c ∷ d ∷ e ∷ f ∷ g ∷ h ∷ i ∷ []) (same-eq a (text "PIN") (x1 .0)))
+          (spells s);
+      isName = (⊎-elim (λ k. inl (sign-alone 42 refl s b
+          (subst (λ (x : List (List ℕ)). List·Memᴰ b x) (sym q) (List·Memᴰ·tail (List·Memᴰ·head refl))) (is-true (isSign 42 b) k)))
+          (λ p. inr (name-word b p)) (or-yes (isSign 42 b) (isWord b) (x2 .1)));
       isPhase = name-word c (x2 .0);
       isLoad = figure-form d (y0 .0);
       isMost = figure-form e (y1 .0);
       isRise = figure-form f (y2 .0);
       isRiseFanout = figure-form g (y3 .0);
       isFall = figure-form h (y4 .0);
-      isFallFanout = figure-form i (y5 .0);
+      isFallFanout = figure-form i (and-yes (isFigure i) true (y4 .1) .0);
     }
-  where
-    named : T (isSign 42 b) ⊎ T (isWord b) → (b ≡ 42 ∷ []) ⊎ Named b
-    named (inl k) = inl (sign-alone 42 refl s b (subst (λ (x : List (List ℕ)). List·Memᴰ b x) (sym q) (List·Memᴰ·tail (List·Memᴰ·head refl))) (is-true (isSign 42 b) k))
-    named (inr k) = inr (name-word b k)
 pin-tokens s (a ∷ b ∷ c ∷ d ∷ e ∷ f ∷ g ∷ h ∷ i ∷ j ∷ ts) q t =
     let n : length (a ∷ b ∷ c ∷ d ∷ e ∷ f ∷ g ∷ h ∷ i ∷ j ∷ ts) ≡ 9 = eqb-yes (and-yes (eqb (length (a ∷ b ∷ c ∷ d ∷ e ∷ f ∷ g ∷ h ∷ i ∷ j ∷ ts)) 9) _ t .0) in
     absurd (omega arith)
@@ -92,48 +90,37 @@ pin-says c = ap pinSays (spelled-back (c .isAll))
 pub pin-back : {s : List ℕ} {p : PinSays} → PinContents s p → T (isPinLine (tokens s))
 unfolding isPinLine pinHead all
 pin-back {s} {p} c =
-    subst (λ (x : List (List ℕ)). T (isPinLine x)) (sym (spelled-back (c .isAll)))
-    (yes-and (same (text "PIN") (text "PIN") && (isWord (c .phase) && (isSign 42 (p .name) || isWord (p .name)))) figures
+    let figures = all isFigure (c .load ∷ c .most ∷ p .rise ∷ c .riseFanout ∷ p .fall ∷ c .fallFanout ∷ []) in
+    let and-figure : (w : List ℕ) (b : Bool) → Figure w → T b → T (isFigure w && b) = λ w b f t. yes-and (isFigure w) b (figure-back f) t in
+    rw (spelled-back (c .isAll)) (yes-and
+    (same (text "PIN") (text "PIN") && (isWord (c .phase) && (isSign 42 (p .name) || isWord (p .name)))) figures
     (yes-and (same (text "PIN") (text "PIN")) (isWord (c .phase) && (isSign 42 (p .name) || isWord (p .name))) (same-refl (text "PIN"))
-    (yes-and (isWord (c .phase)) (isSign 42 (p .name) || isWord (p .name)) (word-name (c .phase) (c .isPhase)) (star-or-name (p .name) (c .isName))))
-    six)
-  where
-    figures : Bool
-    figures = all isFigure (c .load ∷ c .most ∷ p .rise ∷ c .riseFanout ∷ p .fall ∷ c .fallFanout ∷ [])
-
-    and-figure : (w : List ℕ) (b : Bool) → Figure w → T b → T (isFigure w && b)
-    and-figure w b f t = yes-and (isFigure w) b (figure-back f) t
-
-    six : T (all isFigure (c .load ∷ c .most ∷ p .rise ∷ c .riseFanout ∷ p .fall ∷ c .fallFanout ∷ []))
-    six =
-        unfold all in
-        and-figure (c .load) _ (c .isLoad) (and-figure (c .most) _ (c .isMost) (and-figure (p .rise) _ (c .isRise)
-        (and-figure (c .riseFanout) _ (c .isRiseFanout) (and-figure (p .fall) _ (c .isFall) (and-figure (c .fallFanout) true (c .isFallFanout) tt)))))
+    (yes-and (isWord (c .phase)) (isSign 42 (p .name) || isWord (p .name)) (word-name (c .phase) (c .isPhase))
+    (star-or-name (p .name) (c .isName)))) (unfold all in and-figure (c .load) _ (c .isLoad) (and-figure (c .most) _ (c .isMost)
+    (and-figure (p .rise) _ (c .isRise) (and-figure (c .riseFanout) _ (c .isRiseFanout)
+    (and-figure (p .fall) _ (c .isFall) (and-figure (c .fallFanout) true (c .isFallFanout) tt)))))))
 
 -- ---- a line that fits
 
 fits-token : (pin b : List ℕ) → (b ≡ 42 ∷ []) ⊎ Named b → T (isSign 42 b || same pin b) ↔ ((b ≡ 42 ∷ []) ⊎ (b ≡ pin))
 unfolding isNameByte
-fits-token pin b n = ((λ t. there n (or-yes (isSign 42 b) (same pin b) t)), back)
+fits-token pin b n = (
+  (λ t. ⊎-elim inl (λ w. ⊎-elim
+      (λ q. absurd (false≢true (sym (word-sign 42 refl b (is-true (isWord b) (word-name b w))) ∙ is-true (isSign 42 b) q)))
+      (λ p. inr (sym (same-eq pin b p))) (or-yes (isSign 42 b) (same pin b) t)) n),
+  back,
+)
   where
-    there : (b ≡ 42 ∷ []) ⊎ Named b → T (isSign 42 b) ⊎ T (same pin b) → (b ≡ 42 ∷ []) ⊎ (b ≡ pin)
-    there (inl e) t = inl e
-    there (inr w) (inl t) = absurd (false≢true (sym (word-sign 42 refl b (is-true (isWord b) (word-name b w))) ∙ is-true (isSign 42 b) t))
-    there (inr w) (inr t) = inr (sym (same-eq pin b t))
-
     back : (b ≡ 42 ∷ []) ⊎ (b ≡ pin) → T (isSign 42 b || same pin b)
     back (inl e) = unfold isSign lead in yes-or (isSign 42 b) (same pin b) (inl (subst (λ (x : List ℕ). T (isSign 42 x)) (sym e) tt))
     back (inr e) = yes-or (isSign 42 b) (same pin b) (inr (subst (λ (x : List ℕ). T (same pin x)) (sym e) (same-refl pin)))
 
 pub fits-exactly : (pin : List ℕ) {s : List ℕ} {p : PinSays} → PinContents s p → T (fits pin (tokens s)) ↔ Fits pin p
 unfolding fits
-fits-exactly pin {s} {p} c = ((λ t. f .0 (subst (λ (x : List ℕ). T (isSign 42 x || same pin x)) e t)), λ t. subst (λ (x : List ℕ). T (isSign 42 x || same pin x)) (sym e) (f .1 t))
-  where
-    e : getD (tokens s) 1 [] ≡ p .name
-    e = ap (λ (x : PinSays). x .name) (pin-says c)
-
-    f : T (isSign 42 (p .name) || same pin (p .name)) ↔ ((p .name ≡ 42 ∷ []) ⊎ (p .name ≡ pin))
-    f = fits-token pin (p .name) (c .isName)
+fits-exactly pin {s} {p} c =
+    let e = ap (λ (x : PinSays). x .name) (pin-says c) in
+    let f = fits-token pin (p .name) (c .isName) in
+    ((λ t. f .0 (subst (λ (x : List ℕ). T (isSign 42 x || same pin x)) e t)), λ t. subst (λ (x : List ℕ). T (isSign 42 x || same pin x)) (sym e) (f .1 t))
 
 -- ---- the line that counts
 
@@ -164,11 +151,7 @@ abbrev Found : List ℕ → List Line → PinSays → Type 0
 Found pin ls p = (ts : List (List ℕ)) × (pinLine pin (map lineTokens ls) ≡ some ts) × (pinSays ts ≡ p)
 
 pub counts-back : (pin : List ℕ) {ls : List Line} {ps : List PinSays} → Says ls ps → (p : PinSays) → Counts pin ps p → Found pin ls p
-counts-back pin noMore p k = absurd (empty (k .before) (k .isAll))
-  where
-    empty : (before : List PinSays) → [] ≡ before ++ (p ∷ k .after) → ⊥
-    empty [] e = nil≢cons e
-    empty (x ∷ before) e = nil≢cons e
+counts-back pin noMore p k = absurd (by-list (k .before) (λ e. nil≢cons (rw e at (k .isAll))) (λ x before q. nil≢cons (rw q at (k .isAll))))
 counts-back pin (oneMore {l} {ls} {p = q} {ps} c r) p k = on (fits pin (tokens (l .bytes))) yes (λ n. no n (counts-back pin r p))
   where
     yes : T (fits pin (tokens (l .bytes))) → Found pin (l ∷ ls) p

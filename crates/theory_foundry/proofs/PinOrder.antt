@@ -3,8 +3,8 @@
 use Prim.Native.Nat.{ℕ, zero, suc, _+_, _<_}
 use native.Mathlib.Omega.{arith}
 use mathlib.Core.Path.{_≡_, refl, sym, _∙_, ap, ap₂, subst}
-use mathlib.Core.Logic.{_⊎_, inl, inr, _↔_}
-use mathlib.Core.Bool.{Bool, not, cond}
+use mathlib.Core.Logic.{_⊎_, inl, inr, _↔_, ⊎-elim}
+use mathlib.Core.Bool.{Bool, cond}
 use mathlib.Core.List.{List, [], _∷_, _++_, append-assoc, append-nil, List·Memᴰ, List·Memᴰ·head, List·Memᴰ·tail, List·Memᴰ·not-nil, List·Memᴰ·append-cases, Memᴰ·append-left, Memᴰ·append-right}
 use lib.Dec.{T, T-not}
 use lib.ListN.{length, length-append}
@@ -19,17 +19,15 @@ use Rattle.theory_refusals.proofs.Results.{on}
 use Rattle.theory_refusals.proofs.FieldForms.{yes-or}
 use Rattle.theory_foundry.specs.GateForms.{PinName, Earlier, Ascending, InOrder}
 use Rattle.theory_foundry.proofs.WordForms.{pin-form, pin-back}
+use Rattle.theory_graph.proofs.Split.{by-member}
 
 -- ---- the test of a name in a list
 
 any-in : (t : List ℕ) (xs : List (List ℕ)) → T (any (same t) xs) → List·Memᴰ t xs
 unfolding any
 any-in t [] h = absurd h
-any-in t (x ∷ xs) h = go (or-yes (same t x) (any (same t) xs) h) (any-in t xs)
-  where
-    go : T (same t x) ⊎ T (any (same t) xs) → (T (any (same t) xs) → List·Memᴰ t xs) → List·Memᴰ t (x ∷ xs)
-    go (inl e) r = List·Memᴰ·head (same-eq t x e)
-    go (inr m) r = List·Memᴰ·tail (r m)
+any-in t (x ∷ xs) h = ⊎-elim (λ e. List·Memᴰ·head (same-eq t x e)) (λ m. List·Memᴰ·tail (any-in t xs m))
+    (or-yes (same t x) (any (same t) xs) h)
 
 in-any : (t : List ℕ) (xs : List (List ℕ)) → List·Memᴰ t xs → T (any (same t) xs)
 unfolding any
@@ -43,22 +41,15 @@ module _ {A : Type 0} where
   snoc-split [] t [] q u e = inl (refl, sym (cons-head e))
   snoc-split [] t (y ∷ s) q u e = absurd (nil-split s q u (cons-tail e))
   snoc-split (x ∷ xs) t [] q u e = inr (xs, ap (λ (z : A). z ∷ xs) (cons-head e))
-  snoc-split (x ∷ xs) t (y ∷ s) q u e = go (snoc-split xs t s q u (cons-tail e))
-    where
-      go : ((xs ≡ s) × (q ≡ t)) ⊎ ((v : List A) × (xs ≡ s ++ (q ∷ v))) → ((x ∷ xs ≡ y ∷ s) × (q ≡ t)) ⊎ ((v : List A) × (x ∷ xs ≡ y ∷ s ++ (q ∷ v)))
-      go (inl p) = inl (ap₂ (λ (a : A) (b : List A). a ∷ b) (cons-head e) (p .0), p .1)
-      go (inr p) = inr (p .0, ap₂ (λ (a : A) (b : List A). a ∷ b) (cons-head e) (p .1))
+  snoc-split (x ∷ xs) t (y ∷ s) q u e = ⊎-elim (λ p. inl (ap₂ (λ (a : A) (b : List A). a ∷ b) (cons-head e) (p .0), p .1))
+      (λ r. inr (r .0, ap₂ (λ (a : A) (b : List A). a ∷ b) (cons-head e) (r .1))) (snoc-split xs t s q u (cons-tail e))
 
   only-one : {a t : A} → List·Memᴰ a (t ∷ []) → a ≡ t
   only-one (List·Memᴰ·head e) = e
   only-one (List·Memᴰ·tail m) = absurd (List·Memᴰ·not-nil m)
 
 earlier-more : (ts : List (List ℕ)) (t p q : List ℕ) → Earlier ts p q → List·Memᴰ p ts → Earlier (ts ++ (t ∷ [])) p q
-earlier-more ts t p q f m s u e = go (snoc-split ts t s q u e)
-  where
-    go : ((ts ≡ s) × (q ≡ t)) ⊎ ((v : List (List ℕ)) × (ts ≡ s ++ (q ∷ v))) → List·Memᴰ p s
-    go (inl x) = subst (λ (y : List (List ℕ)). List·Memᴰ p y) (x .0) m
-    go (inr x) = f s (x .0) (x .1)
+earlier-more ts t p q f m s u e = ⊎-elim (λ x. rw (← x .0) m) (λ r. f s (r .0) (r .1)) (snoc-split ts t s q u e)
 
 ascending-more : (ts : List (List ℕ)) (t : List ℕ) (ps : List (List ℕ)) → ((p : List ℕ) → List·Memᴰ p ps → List·Memᴰ p ts) → Ascending ts ps → Ascending (ts ++ (t ∷ [])) ps
 ascending-more ts t [] h f = tt
@@ -67,14 +58,10 @@ ascending-more ts t (p ∷ ps) h f =
 
 ascending-last : (ts : List (List ℕ)) (t : List ℕ) (ps : List (List ℕ)) → ((p : List ℕ) → List·Memᴰ p ps → Earlier ts p t) → Ascending ts ps → Ascending ts (ps ++ (t ∷ []))
 ascending-last ts t [] h f = ((λ q m. absurd (List·Memᴰ·not-nil m)), tt)
-ascending-last ts t (p ∷ ps) h f = (first, ascending-last ts t ps (λ q m. h q (List·Memᴰ·tail m)) (f .1))
-  where
-    first : (q : List ℕ) → List·Memᴰ q (ps ++ (t ∷ [])) → Earlier ts p q
-    first q m = go (List·Memᴰ·append-cases ps m)
-      where
-        go : List·Memᴰ q ps ⊎ List·Memᴰ q (t ∷ []) → Earlier ts p q
-        go (inl n) = f .0 q n
-        go (inr n) = subst (λ (x : List ℕ). Earlier ts p x) (sym (only-one n)) (h p (List·Memᴰ·head refl))
+ascending-last ts t (p ∷ ps) h f =
+    let first : (q : List ℕ) → List·Memᴰ q (ps ++ (t ∷ [])) → Earlier ts p q = λ q m. ⊎-elim (λ n. f .0 q n)
+    (λ e. subst (λ (x : List ℕ). Earlier ts p x) (sym (only-one e)) (h p (List·Memᴰ·head refl))) (List·Memᴰ·append-cases ps m) in
+    (first, ascending-last ts t ps (λ q m. h q (List·Memᴰ·tail m)) (f .1))
 
 module _ (done seen : List (List ℕ)) (t : List ℕ) (o : InOrder done seen) where
   among : (p : List ℕ) → List·Memᴰ p seen → List·Memᴰ p done
@@ -82,17 +69,12 @@ module _ (done seen : List (List ℕ)) (t : List ℕ) (o : InOrder done seen) wh
 
   -- the token is no pin, or one that was seen
   pub kept : ((p : List ℕ) → p ≡ t → PinName p → List·Memᴰ p seen) → InOrder (done ++ (t ∷ [])) seen
-  kept h = record { pins = λ p. (there p, back p); once = o .once; order = ascending-more done t seen among (o .order) }
-    where
-      there : (p : List ℕ) → List·Memᴰ p seen → List·Memᴰ p (done ++ (t ∷ [])) × PinName p
-      there p m = (Memᴰ·append-left (t ∷ []) (o .pins p .0 m .0), o .pins p .0 m .1)
-
-      back : (p : List ℕ) → List·Memᴰ p (done ++ (t ∷ [])) × PinName p → List·Memᴰ p seen
-      back p x = go (List·Memᴰ·append-cases done (x .0))
-        where
-          go : List·Memᴰ p done ⊎ List·Memᴰ p (t ∷ []) → List·Memᴰ p seen
-          go (inl m) = o .pins p .1 (m, x .1)
-          go (inr m) = h p (only-one m) (x .1)
+  kept h =
+      let there : (p : List ℕ) → List·Memᴰ p seen → List·Memᴰ p (done ++ (t ∷ [])) × PinName p = λ p m.
+      (Memᴰ·append-left (t ∷ []) (o .pins p .0 m .0), o .pins p .0 m .1) in
+      let back : (p : List ℕ) → List·Memᴰ p (done ++ (t ∷ [])) × PinName p → List·Memᴰ p seen = λ p x. ⊎-elim (λ m. o .pins p .1 (m, x .1))
+      (λ q. h p (only-one q) (x .1)) (List·Memᴰ·append-cases done (x .0)) in
+      record { pins = λ p. (there p, back p); once = o .once; order = ascending-more done t seen among (o .order) }
 
   added : PinName t → (¬ List·Memᴰ t seen) → InOrder (done ++ (t ∷ [])) (seen ++ (t ∷ []))
   added n new = record {
@@ -102,18 +84,12 @@ module _ (done seen : List (List ℕ)) (t : List ℕ) (o : InOrder done seen) wh
   }
     where
       there : (p : List ℕ) → List·Memᴰ p (seen ++ (t ∷ [])) → List·Memᴰ p (done ++ (t ∷ [])) × PinName p
-      there p m = go (List·Memᴰ·append-cases seen m)
-        where
-          go : List·Memᴰ p seen ⊎ List·Memᴰ p (t ∷ []) → List·Memᴰ p (done ++ (t ∷ [])) × PinName p
-          go (inl k) = (Memᴰ·append-left (t ∷ []) (o .pins p .0 k .0), o .pins p .0 k .1)
-          go (inr k) = (Memᴰ·append-right done k, subst PinName (sym (only-one k)) n)
+      there p m = ⊎-elim (λ k. (Memᴰ·append-left (t ∷ []) (o .pins p .0 k .0), o .pins p .0 k .1))
+          (λ q. (Memᴰ·append-right done q, subst PinName (sym (only-one q)) n)) (List·Memᴰ·append-cases seen m)
 
       back : (p : List ℕ) → List·Memᴰ p (done ++ (t ∷ [])) × PinName p → List·Memᴰ p (seen ++ (t ∷ []))
-      back p x = go (List·Memᴰ·append-cases done (x .0))
-        where
-          go : List·Memᴰ p done ⊎ List·Memᴰ p (t ∷ []) → List·Memᴰ p (seen ++ (t ∷ []))
-          go (inl m) = Memᴰ·append-left (t ∷ []) (o .pins p .1 (m, x .1))
-          go (inr m) = Memᴰ·append-right seen m
+      back p x = ⊎-elim (λ m. Memᴰ·append-left (t ∷ []) (o .pins p .1 (m, x .1))) (Memᴰ·append-right seen)
+          (List·Memᴰ·append-cases done (x .0))
 
       last : (p : List ℕ) → List·Memᴰ p seen → Earlier (done ++ (t ∷ [])) p t
       last p m s u e = go (snoc-split done t s t u e)
@@ -124,32 +100,23 @@ module _ (done seen : List (List ℕ)) (t : List ℕ) (o : InOrder done seen) wh
 
   step : InOrder (done ++ (t ∷ [])) (cond (isPin t) (withName seen t) seen)
   unfolding withName
-  step = on (isPin t) pin none
+  step = on (isPin t) pin (λ y. rw (is-false (isPin t) y) (kept (λ p e n. absurd (T-not (isPin t) y (pin-back t (rw e at n))))))
     where
       pin : T (isPin t) → InOrder (done ++ (t ∷ [])) (cond (isPin t) (withName seen t) seen)
-      pin y = unfold withName in subst (λ (b : Bool). InOrder (done ++ (t ∷ [])) (cond b (withName seen t) seen)) (sym (is-true (isPin t) y)) (on (any (same t) seen) old new)
+      pin y = unfold withName in subst (λ (b : Bool). InOrder (done ++ (t ∷ [])) (cond b (withName seen t) seen)) (sym (is-true (isPin t) y)) (on (any (same t) seen) old
+          (λ k. subst (λ (b : Bool). InOrder (done ++ (t ∷ [])) (cond b seen (seen ++ (t ∷ [])))) (sym (is-false (any (same t) seen) k))
+          (added (pin-form t y) (λ m. T-not (any (same t) seen) k (in-any t seen m)))))
         where
           old : T (any (same t) seen) → InOrder (done ++ (t ∷ [])) (cond (any (same t) seen) seen (seen ++ (t ∷ [])))
           old k =
               subst (λ (b : Bool). InOrder (done ++ (t ∷ [])) (cond b seen (seen ++ (t ∷ [])))) (sym (is-true (any (same t) seen) k))
               (kept (λ p e n. subst (λ (x : List ℕ). List·Memᴰ x seen) (sym e) (any-in t seen k)))
 
-          new : T (not (any (same t) seen)) → InOrder (done ++ (t ∷ [])) (cond (any (same t) seen) seen (seen ++ (t ∷ [])))
-          new k =
-              subst (λ (b : Bool). InOrder (done ++ (t ∷ [])) (cond b seen (seen ++ (t ∷ [])))) (sym (is-false (any (same t) seen) k))
-              (added (pin-form t y) (λ m. T-not (any (same t) seen) k (in-any t seen m)))
-
-      none : T (not (isPin t)) → InOrder (done ++ (t ∷ [])) (cond (isPin t) (withName seen t) seen)
-      none y =
-          subst (λ (b : Bool). InOrder (done ++ (t ∷ [])) (cond b (withName seen t) seen)) (sym (is-false (isPin t) y))
-          (kept (λ p e n. absurd (T-not (isPin t) y (pin-back t (subst PinName e n)))))
-
 adds : (done seen ts : List (List ℕ)) → InOrder done seen → InOrder (done ++ ts) (addPins seen ts)
 unfolding addPins
 adds done seen [] o = subst (λ (x : List (List ℕ)). InOrder x seen) (sym (append-nil done)) o
 adds done seen (t ∷ ts) o =
-    subst (λ (x : List (List ℕ)). InOrder x (addPins (cond (isPin t) (withName seen t) seen) ts)) (append-assoc done (t ∷ []) ts)
-    (adds (done ++ (t ∷ [])) (cond (isPin t) (withName seen t) seen) ts (step done seen t o))
+    rw (← append-assoc done (t ∷ []) ts) (adds (done ++ (t ∷ [])) (cond (isPin t) (withName seen t) seen) ts (step done seen t o))
 
 pub pins-order : (ts : List (List ℕ)) → InOrder ts (pinsOf ts)
 unfolding pinsOf
@@ -177,21 +144,12 @@ one-order ts (p ∷ ps) [] h f g d k a b = absurd (List·Memᴰ·not-nil (f p (L
 one-order ts (p ∷ ps) (q ∷ qs) h f g d k a b = ap₂ (λ (x : List ℕ) (y : List (List ℕ)). x ∷ y) first (one-order ts ps qs (λ x m. h x (List·Memᴰ·tail m)) forth back (d .1) (k .1) (a .1) (b .1))
   where
     first : p ≡ q
-    first = go (f p (List·Memᴰ·head refl)) (g q (List·Memᴰ·head refl))
-      where
-        go : List·Memᴰ p (q ∷ qs) → List·Memᴰ q (p ∷ ps) → p ≡ q
-        go (List·Memᴰ·head e) n = e
-        go (List·Memᴰ·tail m) (List·Memᴰ·head e) = sym e
-        go (List·Memᴰ·tail m) (List·Memᴰ·tail n) =
-            let s = split-at ts (h p (List·Memᴰ·head refl)) in
-            absurd (no-circle ts p q (a .0 q n) (b .0 p m) (suc (length (s .0))) (s .0) (s .1) (omega arith) (s .2))
+    first = by-member (f p (List·Memᴰ·head refl)) (λ e. e) (λ m. by-member (g q (List·Memᴰ·head refl)) sym (λ n. let s = split-at ts
+        (h p (List·Memᴰ·head refl)) in absurd
+        (no-circle ts p q (a .0 q n) (b .0 p m) (suc (length (s .0))) (s .0) (s .1) (omega arith) (s .2))))
 
     forth : (x : List ℕ) → List·Memᴰ x ps → List·Memᴰ x qs
-    forth x m = go (f x (List·Memᴰ·tail m))
-      where
-        go : List·Memᴰ x (q ∷ qs) → List·Memᴰ x qs
-        go (List·Memᴰ·head e) = absurd (d .0 (subst (λ (y : List ℕ). List·Memᴰ y ps) (e ∙ sym first) m))
-        go (List·Memᴰ·tail n) = n
+    forth x m = elim (f x (List·Memᴰ·tail m)) [ List·Memᴰ·head e ↦ absurd (d .0 (rw (← e ∙ sym first) m)) | List·Memᴰ·tail n ↦ n ]
 
     back : (x : List ℕ) → List·Memᴰ x qs → List·Memᴰ x ps
     back x m = go (g x (List·Memᴰ·tail m))

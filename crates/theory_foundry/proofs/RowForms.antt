@@ -3,7 +3,7 @@
 use Prim.Native.Nat.{ℕ, suc, _+_}
 use native.Mathlib.Omega.{arith}
 use mathlib.Core.Path.{_≡_, refl, sym, _∙_, ap, ap₂, subst}
-use mathlib.Core.Logic.{_⊎_, inl, inr, _↔_}
+use mathlib.Core.Logic.{_⊎_, inl, inr, _↔_, ⊎-elim}
 use mathlib.Core.Bool.{Bool, true, false, cond}
 use mathlib.Core.List.{List, [], _∷_, _++_, reverse, reverse-cons, append-assoc, append-nil, cons≢nil, nil≢cons, head-eq-of-cons-eq, tail-eq-of-cons-eq, List·Memᴰ, List·Memᴰ·head, List·Memᴰ·tail, List·Memᴰ·not-nil, List·Memᴰ·append-cases}
 use lib.Dec.{T, eqb, T-not, not-T}
@@ -12,11 +12,11 @@ use mir.Facts.{eqb-yes, yes-eqb}
 use Rattle.model.specs.Text.{Line, text, ended, closing, linesFrom, isNameByte}
 use Rattle.theory_graph.proofs.Lists.{is-false}
 use Rattle.theory_text.proofs.Plain.{Free}
-use Rattle.theory_text.proofs.LineLaws.{lines-step}
+use Rattle.theory_text.proofs.LineLaws.{lines-step, held-back, held-length, heldWith}
 use Rattle.promises.specs.Forms.{NameByte, End, ten, both, LineOf}
 use Rattle.theory_refusals.proofs.FieldForms.{byte-back}
 use Rattle.theory_refusals.proofs.Results.{on}
-use Rattle.theory_refusals.proofs.LineForms.{heldWith, held-back, held-length, held-lines, first-split, ended-lines}
+use Rattle.theory_refusals.proofs.LineForms.{held-lines, first-split, ended-lines}
 use Rattle.theory_foundry.specs.GateForms.{Blank, space, tab, Stops}
 use Rattle.theory_foundry.specs.GateRefusals.{Plain, Opens, ALine, full, last}
 
@@ -46,9 +46,8 @@ first-line b [] = beside b [] [] [] refl (on (eqb b 10) (λ h. inr (eqb-yes h)) 
     alone : (¬ (b ≡ 10)) → Plain (b ∷ [])
     alone n x (List·Memᴰ·head e) q = n (sym e ∙ q)
     alone n x (List·Memᴰ·tail m) q = absurd (List·Memᴰ·not-nil m)
-first-line b (c ∷ t) =
-    let r = first-line c t in
-    beside b (c ∷ t) (r .0) (r .1) (r .2) (on (eqb b 10) (λ h. inr (eqb-yes h)) (λ h. inl (longer b (λ e. T-not (eqb b 10) h (yes-eqb e)) (r .3))))
+first-line b (c ∷ t) = beside b (c ∷ t) (first-line c t .0) (first-line c t .1) (first-line c t .2)
+    (on (eqb b 10) (λ h. inr (eqb-yes h)) (λ h. inl (longer b (λ e. T-not (eqb b 10) h (yes-eqb e)) (first-line c t .3))))
 
 plain-free : (w : List ℕ) → Plain w → Free 10 w
 plain-free [] p = tt
@@ -116,6 +115,8 @@ gate-within b (List·Memᴰ·tail (List·Memᴰ·tail (List·Memᴰ·tail (List�
 
 opens-off : (s e : List ℕ) → Ender e → Opens (s ++ e) → Opens s
 opens-off s e f o =
+    let within : (b : ℕ) → List·Memᴰ b (o .blanks ++ text "GATE") → ¬ ((b ≡ 10) ⊎ (b ≡ 13)) = λ b m. ⊎-elim
+    (λ k. blank-within b (o .areBlanks b k)) (gate-within b) (List·Memᴰ·append-cases (o .blanks) m) in
     let r = front (o .blanks ++ text "GATE") s e (o .behind) f within (o .isAll ∙ sym (append-assoc (o .blanks) (text "GATE") (o .behind))) in
     record {
       blanks = o .blanks;
@@ -124,13 +125,6 @@ opens-off s e f o =
       areBlanks = o .areBlanks;
       ends = stops-off (r .0) e (subst (Stops NameByte) (sym (r .2)) (o .ends));
     }
-  where
-    within : (b : ℕ) → List·Memᴰ b (o .blanks ++ text "GATE") → ¬ ((b ≡ 10) ⊎ (b ≡ 13))
-    within b m = go (List·Memᴰ·append-cases (o .blanks) m)
-      where
-        go : List·Memᴰ b (o .blanks) ⊎ List·Memᴰ b (text "GATE") → ¬ ((b ≡ 10) ⊎ (b ≡ 13))
-        go (inl k) = blank-within b (o .areBlanks b k)
-        go (inr k) = gate-within b k
 
 -- ---- the line that `linesFrom` finds
 
@@ -174,25 +168,21 @@ unfolding linesFrom
 no-lines at = refl
 
 pub line-row : {w rest : List ℕ} (at : ℕ) → ALine w rest → (l : Line) × Row at w rest l
-line-row {rest = rest} at (full {w} p) = (
-  closing at held,
-  record {
-    lines = ap (linesFrom at []) (append-assoc w (10 ∷ []) rest) ∙ held-lines at [] w (10 ∷ rest) (plain-free w p) ∙ lines-step at held 10 rest
-        ∙ ap (λ (n : ℕ). closing at held ∷ linesFrom n [] rest) (let e : at + suc (length held) ≡ at + length (w ++ (10 ∷ [])) = omega (arith, held-length w [], length-append w (10 ∷ [])) in e);
-    offset = c .offset;
-    ending = c .ending;
-    whole = ap (λ (x : List ℕ). x ++ (10 ∷ [])) (sym (held-back w [])) ∙ c .whole;
-    ends = λ t. c .ends;
-    ender = subst Ender (append-nil (c .ending)) (end-ender (c .ending) [] (c .ends));
-    enders = end-ender (c .ending) rest (c .ends);
-  },
-)
-  where
-    held : List ℕ
-    held = heldWith w []
-
-    c : Closed at (reverse held ++ (10 ∷ [])) (closing at held)
-    c = closed-row at held
+line-row {rest = rest} at (full {w} p) =
+    let held = heldWith w [] in
+    let c : Closed at (reverse held ++ (10 ∷ [])) (closing at held) = closed-row at held in (
+      closing at held,
+      record {
+        lines = ap (linesFrom at []) (append-assoc w (10 ∷ []) rest) ∙ held-lines at [] w (10 ∷ rest) (plain-free w p) ∙ lines-step at held 10 rest
+            ∙ ap (λ (n : ℕ). closing at held ∷ linesFrom n [] rest) (let e : at + suc (length held) ≡ at + length (w ++ (10 ∷ [])) = omega (arith, held-length w [], length-append w (10 ∷ [])) in e);
+        offset = c .offset;
+        ending = c .ending;
+        whole = ap (λ (x : List ℕ). x ++ (10 ∷ [])) (sym (held-back w [])) ∙ c .whole;
+        ends = λ t. c .ends;
+        ender = subst Ender (append-nil (c .ending)) (end-ender (c .ending) [] (c .ends));
+        enders = end-ender (c .ending) rest (c .ends);
+      },
+    )
 line-row at (last {w} n p) = (
   record { offset = at; bytes = reverse (heldWith w []); ending = 0 },
   record {
@@ -210,8 +200,9 @@ line-row at (last {w} n p) = (
 module _ {at : ℕ} {w rest : List ℕ} {l : Line} (r : Row at w rest l) where
   pub opens-line : Opens (l .bytes) ↔ Opens w
   opens-line = (
-    (λ o. subst Opens (sym (r .whole)) (opens-on (l .bytes) (r .ending) (r .ender) o)),
-    λ o. opens-off (l .bytes) (r .ending) (r .ender) (subst Opens (r .whole) o),
+    (λ o. rw (r .whole) (opens-on (l .bytes) (r .ending) (r .ender) o)),
+    λ o. opens-off (l .bytes) (r .ending) (r .ender)
+        (rw (← r .whole) o),
   )
 
   all-bytes : w ++ rest ≡ l .bytes ++ (r .ending ++ rest)
@@ -219,8 +210,9 @@ module _ {at : ℕ} {w rest : List ℕ} {l : Line} (r : Row at w rest l) where
 
   pub opens-text : Opens (l .bytes) ↔ Opens (w ++ rest)
   opens-text = (
-    (λ o. subst Opens (sym all-bytes) (opens-on (l .bytes) (r .ending ++ rest) (r .enders) o)),
-    λ o. opens-off (l .bytes) (r .ending ++ rest) (r .enders) (subst Opens all-bytes o),
+    (λ o. rw all-bytes (opens-on (l .bytes) (r .ending ++ rest) (r .enders) o)),
+    λ o. opens-off (l .bytes) (r .ending ++ rest)
+        (r .enders) (rw all-bytes at o),
   )
 
   -- a line whose contents are so, by its bytes

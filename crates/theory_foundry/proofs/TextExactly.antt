@@ -7,13 +7,13 @@
 -- Assumes nothing.
 use Prim.Native.Nat.{ℕ, _+_}
 use mathlib.Core.Path.{_≡_, refl, sym, _∙_, ap, subst}
-use mathlib.Core.Logic.{_⊎_, inl, inr, _↔_}
+use mathlib.Core.Logic.{_⊎_, inl, inr, _↔_, ⊎-elim}
 use mathlib.Core.List.{List, [], _∷_, _++_, append-assoc, append-nil, cons≢nil, nil≢cons, head-eq-of-cons-eq, tail-eq-of-cons-eq}
 use lib.ListN.{length, length-append}
 use Rattle.model.specs.Text.{linesFrom}
 use Rattle.model.specs.Genlib.{Gate, Group, groups, readGenlib}
 use Rattle.theory_refusals.proofs.Results.{exactly-map}
-use Rattle.theory_foundry.specs.GateRefusals.{GatesIn, noGate, aGate, Opens, Block, BlockFault, twentyTwo, twentyThree, twentyFour, GenlibFault, atBlock, Gates, GenlibRefusals}
+use Rattle.theory_foundry.specs.GateRefusals.{GatesIn, noGate, aGate, Block, BlockFault, twentyTwo, twentyThree, twentyFour, GenlibFault, atBlock, Gates, GenlibRefusals}
 use Rattle.theory_foundry.proofs.GroupForms.{FormedLines}
 use Rattle.theory_foundry.proofs.GroupExactly.{GroupHolds, GroupFault, twentyTwo as group22, twentyThree as group23, twentyFour as group24}
 use Rattle.theory_foundry.proofs.GroupsExactly.{GroupsHold, noGroup, aGroup, GroupsFault, thisOne, laterOne}
@@ -49,31 +49,25 @@ record Onward (s t : List ℕ) (ds : List Gate) (gs : List Group) (c : Gate) : T
 
 onward : {s : List ℕ} {ds : List Gate} → GatesIn s ds → (t : List ℕ) {g : Group} {gs : List Group} {c : Gate} → GroupHolds g c → groups (linesFrom (length s) [] t) ≡ g ∷ gs → Onward s t ds gs c
 onward {s} d [] x e = absurd (nil≢cons (sym (groups-end (length s)) ∙ e))
-onward {s} d (b ∷ t) {g} {gs} {c} x e = record {
-  front = s ++ (k .head ++ k .below);
-  rest = k .rest;
-  isAll = append-assoc s (k .head ++ k .below) (k .rest) ∙ ap (λ (y : List ℕ). s ++ y) (append-assoc (k .head) (k .below) (k .rest) ∙ sym (k .isAll));
-  gates = aGate d (r .1 .formed (x .says) (x .lines) .0 (subst (λ (y : Group). FormedLines y (x .says) (x .lines)) (head-eq-of-cons-eq q) (x .formed))) (x .small) (x .cell);
-  border = below-border (k .upTo);
-  areGroups = ap (λ (i : ℕ). groups (linesFrom i [] (k .rest))) (length-append s (k .head ++ k .below)) ∙ sym (tail-eq-of-cons-eq q);
-}
-  where
-    k : Block (b ∷ t)
-    k = a-block b t
-
-    r : (y : Group) × Reads (length s) k y
-    r = block-reads (length s) k
-
-    q : g ∷ gs ≡ r .0 ∷ groups (linesFrom (length s + length (k .head ++ k .below)) [] (k .rest))
-    q = sym e ∙ r .1 .areGroups
+onward {s} d (b ∷ t) {g} {gs} {c} x e =
+    let k = a-block b t in
+    let r = block-reads (length s) k in
+    let q = sym e ∙ r .1 .areGroups in
+    record {
+      front = s ++ (k .head ++ k .below);
+      rest = k .rest;
+      isAll = append-assoc s (k .head ++ k .below) (k .rest) ∙ ap (λ (y : List ℕ). s ++ y) (append-assoc (k .head) (k .below) (k .rest) ∙ sym (k .isAll));
+      gates = aGate d (r .1 .formed (x .says) (x .lines) .0 (subst (λ (y : Group). FormedLines y (x .says) (x .lines)) (head-eq-of-cons-eq q) (x .formed))) (x .small) (x .cell);
+      border = below-border (k .upTo);
+      areGroups = ap (λ (i : ℕ). groups (linesFrom i [] (k .rest))) (length-append s (k .head ++ k .below)) ∙ sym (tail-eq-of-cons-eq q);
+    }
 
 groups-none : (at : ℕ) (t : List ℕ) → groups (linesFrom at [] t) ≡ [] → t ≡ []
 groups-none at [] e = refl
 groups-none at (b ∷ t) e = absurd (nil≢cons (sym e ∙ block-reads at (a-block b t) .1 .areGroups))
 
 held : {s : List ℕ} {ds : List Gate} (t : List ℕ) {gs : List Group} {cs : List Gate} → GroupsHold gs cs → GatesIn s ds → groups (linesFrom (length s) [] t) ≡ gs → GatesIn (s ++ t) (ds ++ cs)
-held {s} {ds} t noGroup d e =
-    subst (λ (x : List ℕ). GatesIn (s ++ x) (ds ++ [])) (sym (groups-none (length s) t e)) (subst (λ (x : List ℕ). GatesIn x (ds ++ [])) (sym (append-nil s)) (subst (GatesIn s) (sym (append-nil ds)) d))
+held {s} {ds} t noGroup d e = rw (groups-none (length s) t e) (rw (append-nil s) (rw (append-nil ds) d))
 held {s} {ds} t (aGroup {c = c} {cs} x y) d e =
     let o = onward d t x e in
     subst (λ (z : List ℕ). GatesIn z (ds ++ (c ∷ cs))) (o .isAll) (subst (GatesIn (o .front ++ o .rest)) (append-assoc ds (c ∷ []) cs) (held (o .rest) y (o .gates) (o .areGroups)))
@@ -86,13 +80,8 @@ refused : {s : List ℕ} {ds : List Gate} (t : List ℕ) {gs : List Group} {n k 
 refused {s} [] (thisOne f) d b e = absurd (nil≢cons (sym (groups-end (length s)) ∙ e))
 refused {s} {ds} (b ∷ t) {n = n} {k} (thisOne {g} f) d start e =
     let q = block-reads (length s) (a-block b t) in
-    let z = fault-block (a-block b t) (q .1) (subst (λ (x : Group). GroupFault x n k) (head-eq-of-cons-eq (sym e ∙ q .1 .areGroups)) f) in
-    subst (GenlibFault (s ++ (b ∷ t)) n) (sym (z .0)) (atBlock d (λ y. cons≢nil y) (opens start) (a-block b t) (z .1))
-  where
-    opens : Start s (b ∷ t) → (s ≡ []) ⊎ Opens (b ∷ t)
-    opens (inl y) = inl y
-    opens (inr (inl y)) = absurd (cons≢nil y)
-    opens (inr (inr y)) = inr y
+    let z = fault-block (a-block b t) (q .1) (rw (head-eq-of-cons-eq (sym e ∙ q .1 .areGroups)) at f) in
+    rw (z .0) (atBlock d (λ y. cons≢nil y) (⊎-elim inl (⊎-elim (λ q. absurd (cons≢nil q)) inr) start) (a-block b t) (z .1))
 refused {s} {ds} t {n = n} {k} (laterOne x f) d start e =
     let o = onward d t x e in subst (λ (y : List ℕ). GenlibFault y n k) (o .isAll) (refused (o .rest) f (o .gates) (inr (o .border)) (o .areGroups))
 
@@ -122,13 +111,12 @@ before (aGate {s} {head} {below} {c = c} d f m i) t b =
     )
 
 pub text-gates : (t : List ℕ) (cs : List Gate) → GroupsHold (groups (linesFrom 0 [] t)) cs ↔ GatesIn t cs
-text-gates t cs = ((λ h. held t h noGate refl), back)
-  where
-    back : GatesIn t cs → GroupsHold (groups (linesFrom 0 [] t)) cs
-    back d =
-        let y = before d [] (inl refl) in
-        let e : groups (linesFrom 0 [] t) ≡ y .0 = ap (λ (u : List ℕ). groups (linesFrom 0 [] u)) (sym (append-nil t)) ∙ y .2 ∙ ap (λ (u : List Group). y .0 ++ u) (groups-end (length t)) ∙ append-nil (y .0) in
-        subst (λ (gs : List Group). GroupsHold gs cs) (sym e) (y .1)
+text-gates t cs = (
+  (λ h. held t h noGate refl),
+  (λ d. let y = before d [] (inl refl) in let e : groups (linesFrom 0 [] t) ≡ y .0 = ap
+      (λ (u : List ℕ). groups (linesFrom 0 [] u)) (sym (append-nil t)) ∙ y .2 ∙ ap (λ (u : List Group). y .0 ++ u) (groups-end (length t))
+      ∙ append-nil (y .0) in subst (λ (gs : List Group). GroupsHold gs cs) (sym e) (y .1)),
+)
 
 -- the group of the block at which the text goes on behind s
 fault-at : (s t : List ℕ) (n : ℕ) (b : Block t) → BlockFault (b .head) (b .below) n → GroupsFault (groups (linesFrom (length s) [] t)) n (length s)
@@ -138,8 +126,7 @@ fault-at s t n b f =
 
 fault-groups : {t : List ℕ} {n k : ℕ} → GenlibFault t n k → GroupsFault (groups (linesFrom 0 [] t)) n k
 fault-groups (atBlock {s} {t} {cs} {n} d m (inl e) b f) = subst (λ (u : List ℕ). GroupsFault (groups (linesFrom 0 [] (u ++ t))) n (length u)) (sym e) (fault-at [] t n b f)
-fault-groups (atBlock {s} {t} {cs} {n} d m (inr o) b f) =
-    let y = before d t (inr o) in subst (λ (gs : List Group). GroupsFault gs n (length s)) (sym (y .2)) (fault-on (y .1) (fault-at s t n b f))
+fault-groups (atBlock {s} {t} {cs} {n} d m (inr o) b f) = let y = before d t (inr o) in rw (y .2) (fault-on (y .1) (fault-at s t n b f))
 
 pub text-faults : (t : List ℕ) (n k : ℕ) → GroupsFault (groups (linesFrom 0 [] t)) n k ↔ GenlibFault t n k
 text-faults t n k = ((λ f. refused t f noGate (inl refl) refl), fault-groups)

@@ -2,7 +2,7 @@
 use Prim.Native.Nat.{ℕ}
 use mathlib.Core.Path.{_≡_, refl, sym, _∙_, ap, subst}
 use mathlib.Core.Logic.{_↔_}
-use mathlib.Core.Bool.{Bool, false, not, _&&_}
+use mathlib.Core.Bool.{Bool, not, _&&_}
 use mathlib.Core.List.{List, [], _∷_, _++_, List·Memᴰ, List·Memᴰ·head, List·Memᴰ·tail, List·Memᴰ·not-nil}
 use lib.Dec.{T, T-not, not-T}
 use Rattle.model.specs.Text.{onto}
@@ -11,6 +11,7 @@ use Rattle.theory_graph.proofs.Lists.{is-true, is-false}
 use Rattle.theory_refusals.proofs.Results.{on}
 use Rattle.theory_foundry.specs.GateForms.{Blank, space, tab, WordByte, run, Stops, Spelled, none, blank, sign, word}
 use Rattle.theory_foundry.proofs.WordForms.{blank-form, blank-back, word-byte-form, word-byte-back}
+use Rattle.theory_graph.proofs.Split.{by-member}
 
 -- no blank is a byte of a word
 pub blank-apart : {b : ℕ} → Blank b → T (not (isWordByte b))
@@ -27,23 +28,15 @@ tokens-blank b s t = ap (λ (x : Bool). placed x (isWordByte b && startsWord s) 
 
 tokens-join : (b : ℕ) (s : List ℕ) → T (isWordByte b) → T (not (isBlank b)) → T (startsWord s) → tokens (b ∷ s) ≡ onto b (tokens s)
 unfolding tokens
-tokens-join b s w n t =
-    ap (λ (x : Bool). placed x (isWordByte b && startsWord s) b (tokens s)) (is-false (isBlank b) n)
-    ∙ ap (λ (x : Bool). placed false (x && startsWord s) b (tokens s)) (is-true (isWordByte b) w)
-    ∙ ap (λ (x : Bool). placed false x b (tokens s)) (is-true (startsWord s) t)
+tokens-join b s w n t = cc (is-false (isBlank b) n, is-true (isWordByte b) w, is-true (startsWord s) t)
 
 tokens-last : (b : ℕ) (s : List ℕ) → T (isWordByte b) → T (not (isBlank b)) → T (not (startsWord s)) → tokens (b ∷ s) ≡ (b ∷ []) ∷ tokens s
 unfolding tokens
-tokens-last b s w n t =
-    ap (λ (x : Bool). placed x (isWordByte b && startsWord s) b (tokens s)) (is-false (isBlank b) n)
-    ∙ ap (λ (x : Bool). placed false (x && startsWord s) b (tokens s)) (is-true (isWordByte b) w)
-    ∙ ap (λ (x : Bool). placed false x b (tokens s)) (is-false (startsWord s) t)
+tokens-last b s w n t = cc (is-false (isBlank b) n, is-true (isWordByte b) w, is-false (startsWord s) t)
 
 tokens-sign : (b : ℕ) (s : List ℕ) → T (not (isWordByte b)) → T (not (isBlank b)) → tokens (b ∷ s) ≡ (b ∷ []) ∷ tokens s
 unfolding tokens
-tokens-sign b s w n =
-    ap (λ (x : Bool). placed x (isWordByte b && startsWord s) b (tokens s)) (is-false (isBlank b) n)
-    ∙ ap (λ (x : Bool). placed false (x && startsWord s) b (tokens s)) (is-false (isWordByte b) w)
+tokens-sign b s w n = cc (is-false (isBlank b) n, is-false (isWordByte b) w)
 
 not-blank : (b : ℕ) → WordByte b → T (not (isBlank b))
 not-blank b w = not-T (isBlank b) (λ t. T-not (isWordByte b) (blank-apart (blank-form b t)) (word-byte-back b w))
@@ -60,9 +53,11 @@ starts b s w = word-byte-back b w
 tokens-word : (b : ℕ) (w s : List ℕ) → WordByte b → ((x : ℕ) → List·Memᴰ x w → WordByte x) → Stops WordByte s → tokens ((b ∷ w) ++ s) ≡ (b ∷ w) ∷ tokens s
 unfolding onto
 tokens-word b [] s h f k = tokens-last b s (word-byte-back b h) (not-blank b h) (stops-back s k)
-tokens-word b (c ∷ w) s h f k =
-    tokens-join b ((c ∷ w) ++ s) (word-byte-back b h) (not-blank b h) (starts c (w ++ s) (f c (List·Memᴰ·head refl)))
-    ∙ ap (onto b) (tokens-word c w s (f c (List·Memᴰ·head refl)) (λ x m. f x (List·Memᴰ·tail m)) k)
+tokens-word b (c ∷ w) s h f k = cc (
+  tokens-join b ((c ∷ w) ++ s) (word-byte-back b h) (not-blank b h)
+      (starts c (w ++ s) (f c (List·Memᴰ·head refl))),
+  tokens-word c w s (f c (List·Memᴰ·head refl)) (λ x m. f x (List·Memᴰ·tail m)) k,
+)
 
 pub spelled-back : {s : List ℕ} {ts : List (List ℕ)} → Spelled s ts → tokens s ≡ ts
 unfolding tokens
@@ -80,11 +75,8 @@ unfolding startsWord onto
 joins b w s ts t none = absurd t
 joins b w s ts t (blank {b = c} h r) = absurd (T-not (isWordByte c) (blank-apart h) t)
 joins b w s ts t (sign {b = c} h k r) = absurd (k (word-byte-form c t))
-joins b w s ts t (word {s = u} (run {b = c} {w = v} h f) k r) = word {w = b ∷ c ∷ v} {s = u} (run w more) k r
-  where
-    more : (x : ℕ) → List·Memᴰ x (c ∷ v) → WordByte x
-    more x (List·Memᴰ·head e) = subst WordByte (sym e) h
-    more x (List·Memᴰ·tail m) = f x m
+joins b w s ts t (word {s = u} (run {b = c} {w = v} h f) k r) = word {w = b ∷ c ∷ v} {s = u} (run w
+    (λ x y. by-member y (λ e. subst WordByte (sym e) h) (f x))) k r
 
 stops-form : (s : List ℕ) → T (not (startsWord s)) → Stops WordByte s
 unfolding startsWord
@@ -94,20 +86,15 @@ stops-form (b ∷ s) t = λ w. T-not (isWordByte b) t (word-byte-back b w)
 pub spells : (s : List ℕ) → Spelled s (tokens s)
 unfolding tokens
 spells [] = none
-spells (b ∷ s) = go (spells s)
+spells (b ∷ s) = on (isBlank b) (λ t. rw (tokens-blank b s t) (blank (blank-form b t) (spells s))) (λ n. on (isWordByte b)
+    (in-word n (spells s)) (λ x. rw (tokens-sign b s x n)
+    (sign (λ h. T-not (isBlank b) n (blank-back b h)) (λ h. T-not (isWordByte b) x (word-byte-back b h)) (spells s))))
   where
     in-word : T (not (isBlank b)) → Spelled s (tokens s) → T (isWordByte b) → Spelled (b ∷ s) (tokens (b ∷ s))
     in-word n r w = on (startsWord s) (λ t. subst (Spelled (b ∷ s)) (sym (tokens-join b s w n t)) (joins b (word-byte-form b w) s (tokens s) t r)) last
       where
         last : T (not (startsWord s)) → Spelled (b ∷ s) (tokens (b ∷ s))
         last t = subst (Spelled (b ∷ s)) (sym (tokens-last b s w n t)) (word {w = b ∷ []} {s = s} (run (word-byte-form b w) (λ x m. absurd (List·Memᴰ·not-nil m))) (stops-form s t) r)
-
-    alone : T (not (isBlank b)) → Spelled s (tokens s) → T (not (isWordByte b)) → Spelled (b ∷ s) (tokens (b ∷ s))
-    alone n r w =
-        subst (Spelled (b ∷ s)) (sym (tokens-sign b s w n)) (sign (λ h. T-not (isBlank b) n (blank-back b h)) (λ h. T-not (isWordByte b) w (word-byte-back b h)) r)
-
-    go : Spelled s (tokens s) → Spelled (b ∷ s) (tokens (b ∷ s))
-    go r = on (isBlank b) (λ t. subst (Spelled (b ∷ s)) (sym (tokens-blank b s t)) (blank (blank-form b t) r)) (λ n. on (isWordByte b) (in-word n r) (alone n r))
 
 pub tokens-exactly : (s : List ℕ) (ts : List (List ℕ)) → (tokens s ≡ ts) ↔ Spelled s ts
 tokens-exactly s ts = ((λ e. subst (Spelled s) e (spells s)), spelled-back)

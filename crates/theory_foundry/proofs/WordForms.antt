@@ -1,7 +1,7 @@
 -- Names, pins' names, blanks and the bytes of words: each test passes exactly where the bytes are so. Assumes nothing.
 use Prim.Native.Nat.{ℕ}
 use mathlib.Core.Path.{_≡_, sym, subst}
-use mathlib.Core.Logic.{_⊎_, inl, inr}
+use mathlib.Core.Logic.{inl, inr, ⊎-elim}
 use mathlib.Core.Bool.{not, _&&_}
 use mathlib.Core.List.{List, [], _∷_}
 use lib.Dec.{T, eqb, T-not, not-T}
@@ -18,11 +18,7 @@ use Rattle.theory_foundry.specs.GateForms.{Blank, space, tab, WordByte, 
 
 pub blank-form : (b : ℕ) → T (isBlank b) → Blank b
 unfolding isBlank
-blank-form b t = go (or-yes (eqb b 32) (eqb b 9) t)
-  where
-    go : T (eqb b 32) ⊎ T (eqb b 9) → Blank b
-    go (inl h) = subst Blank (sym (eqb-yes h)) space
-    go (inr h) = subst Blank (sym (eqb-yes h)) tab
+blank-form b t = ⊎-elim (λ h. subst Blank (sym (eqb-yes h)) space) (λ q. subst Blank (sym (eqb-yes q)) tab) (or-yes (eqb b 32) (eqb b 9) t)
 
 pub blank-back : (b : ℕ) → Blank b → T (isBlank b)
 unfolding isBlank
@@ -31,11 +27,7 @@ blank-back b tab = tt
 
 pub word-byte-form : (b : ℕ) → T (isWordByte b) → WordByte b
 unfolding isWordByte
-word-byte-form b t = go (or-yes (isNameByte b) (eqb b 46) t)
-  where
-    go : T (isNameByte b) ⊎ T (eqb b 46) → WordByte b
-    go (inl h) = inl (byte-form b h)
-    go (inr h) = inr (eqb-yes h)
+word-byte-form b t = ⊎-elim (λ h. inl (byte-form b h)) (λ q. inr (eqb-yes q)) (or-yes (isNameByte b) (eqb b 46) t)
 
 pub word-byte-back : (b : ℕ) → WordByte b → T (isWordByte b)
 unfolding isWordByte
@@ -70,6 +62,5 @@ pin-form p t =
 
 pub pin-back : (p : List ℕ) → PinName p → T (isPin p)
 unfolding isPin const0 const1
-pin-back p n =
-    yes-and (isWord p) (not (same p const0) && not (same p const1)) (word-name p (n .isName))
+pin-back p n = yes-and (isWord p) (not (same p const0) && not (same p const1)) (word-name p (n .isName))
     (yes-and (not (same p const0)) (not (same p const1)) (other-back p const0 (n .notZero)) (other-back p const1 (n .notOne)))

@@ -2,7 +2,7 @@
 use Prim.Native.Nat.{ℕ, suc, _+_, _-_, _*_, _/_, _%_, _^_, _≤_, _<_}
 use native.Mathlib.Omega.{arith}
 use mathlib.Core.Path.{_≡_, refl, sym, _∙_, ap, ap₂, subst}
-use mathlib.Core.Bool.{Bool, true, false, not, cond, _&&_, _||_}
+use mathlib.Core.Bool.{Bool, true, false, not, cond, _&&_}
 use mathlib.Core.Option.{Option, none, some}
 use mathlib.Core.List.{List, [], _∷_, _++_, map, append-assoc, List·Memᴰ, List·Memᴰ·head, List·Memᴰ·tail, List·Memᴰ·not-nil}
 use lib.Dec.{T, eqb, leb, le→leb, ltb, ltb→lt, lt→ltb, nltb→le, lit<, not-T}
@@ -25,6 +25,7 @@ use Rattle.theory_text.proofs.Plain.{Free, above, free-append, decimal-free, by
 use Rattle.theory_text.proofs.LineLaws.{lineOfBytes, line-first, fields-word}
 use Rattle.theory_text.proofs.DueBack.{numbers-back, fields-numbers}
 use Rattle.theory_text.proofs.Former.{none-lower}
+use Rattle.theory_graph.proofs.Split.{by-bool}
 
 -- a gate as `readGenlib` gives it
 pub record GateFits (g : Gate) : Type 0 where
@@ -46,11 +47,10 @@ unfolding hexDigit hexByte between
 hex-digit d h = go (ltb d 10) (ltb→lt d 10) (nltb→le d 10)
   where
     go : (b : Bool) → (T b → d < 10) → (T (not b) → 10 ≤ d) → hexDigit (cond b (48 + d) (87 + d)) ≡ some d
-    go true y n =
-        let k : d < 10 = y tt in
-        ap₂ (λ (p q : Bool). cond (p && q) (some (48 + d - 48)) (cond (between 97 102 (48 + d)) (some (48 + d - 87)) none))
-        (is-true (leb 48 (48 + d)) (le→leb 48 (48 + d) (omega arith))) (is-true (leb (48 + d) 57) (le→leb (48 + d) 57 (omega arith)))
-        ∙ ap some (let q : 48 + d - 48 ≡ d = omega arith in q)
+    go true y n = ap₂ (λ (p q : Bool). cond (p && q) (some (48 + d - 48)) (cond (between 97 102 (48 + d)) (some (48 + d - 87)) none))
+        (is-true (leb 48 (48 + d)) (le→leb 48 (48 + d) (omega (arith, y tt))))
+        (is-true (leb (48 + d) 57) (le→leb (48 + d) 57 (omega (arith, y tt))))
+        ∙ ap some (let q : 48 + d - 48 ≡ d = omega (arith, y tt) in q)
     go false y n =
         let k : 10 ≤ d = n tt in
         ap₂ (λ (p q : Bool). cond (p && q) (some (87 + d - 48)) (cond (between 97 102 (87 + d)) (some (87 + d - 87)) none))
@@ -82,11 +82,7 @@ hex-back n h =
 
 digit-free : (s d : ℕ) → s < 48 → eqb (hexByte d) s ≡ false
 unfolding hexByte
-digit-free s d h = go (ltb d 10)
-  where
-    go : (b : Bool) → eqb (cond b (48 + d) (87 + d)) s ≡ false
-    go true = above s (48 + d) (omega arith)
-    go false = above s (87 + d) (omega arith)
+digit-free s d h = by-bool (ltb d 10) (λ e. cc (above s (48 + d) (omega arith))) (λ q. cc (above s (87 + d) (omega arith)))
 
 hex-free : (s n : ℕ) → s < 48 → Free s (hexText n)
 unfolding hexText
@@ -115,11 +111,8 @@ gate-ends g rest =
 name-bytes : (w : List ℕ) → T (isName w) → T (all isNameByte w)
 unfolding isName all isNameByte
 name-bytes [] t = absurd t
-name-bytes (b ∷ bs) t = let p = and-yes (isLetter b) (all isNameByte bs && leb (length bs) 7) t in go (isLetter b) (p .0) (and-yes (all isNameByte bs) (leb (length bs) 7) (p .1) .0)
-  where
-    go : (c : Bool) → T c → T (all isNameByte bs) → T ((c || (between 48 57 b || eqb b 95)) && all isNameByte bs)
-    go true y r = r
-    go false y r = absurd y
+name-bytes (b ∷ bs) t = let p = and-yes (isLetter b) (all isNameByte bs && leb (length bs) 7) t in by-bool (isLetter b)
+    (λ e. rw e (and-yes (all isNameByte bs) (leb (length bs) 7) (p .1) .0)) (λ q. rw q (absurd (rw q at (p .0))))
 
 name-free : (s : ℕ) (w : List ℕ) → s < 48 → T (isName w) → Free s w
 name-free s w h t = bytes-free s w h (name-bytes w t)
@@ -142,21 +135,22 @@ body-free s g h t =
 
 body-fields : (g : Gate) → T (isName (g .name)) → fields (gateBody g) ≡ g .name ∷ decimal (g .pins) ∷ hexText (g .table) ∷ map decimal (g .area ∷ g .delays)
 unfolding gateBody numberText
-body-fields g t =
-    fields-word (g .name) _ (name-free 32 (g .name) (lit< tt) t)
-    ∙ ap (λ (ws : List (List ℕ)). g .name ∷ ws)
-    (fields-word (decimal (g .pins)) _ (decimal-free 32 (g .pins) (lit< tt))
-    ∙ ap (λ (ws : List (List ℕ)). decimal (g .pins) ∷ ws)
-    (fields-word (hexText (g .table)) _ (hex-free 32 (g .table) (lit< tt))
-    ∙ ap (λ (ws : List (List ℕ)). hexText (g .table) ∷ ws) (fields-numbers (decimal (g .area)) (decimal-free 32 (g .area) (lit< tt)) (g .delays))))
+body-fields g t = fields-word (g .name) _ (name-free 32 (g .name) (lit< tt) t) ∙ ap (λ (ws : List (List ℕ)). g .name ∷ ws)
+    (fields-word (decimal (g .pins)) _ (decimal-free 32 (g .pins) (lit< tt)) ∙ ap (λ (ws : List (List ℕ)). decimal (g .pins) ∷ ws)
+    (fields-word (hexText (g .table)) _ (hex-free 32 (g .table) (lit< tt)) ∙ ap (λ (ws : List (List ℕ)). hexText (g .table) ∷ ws)
+    (fields-numbers (decimal (g .area)) (decimal-free 32 (g .area) (lit< tt)) (g .delays))))
 
 cell-four : (g : Gate) → T (isName (g .name)) → GateFits g → (d0 d1 d2 d3 : ℕ) → g .delays ≡ d0 ∷ d1 ∷ d2 ∷ d3 ∷ [] → cellOfFields false (g .name ∷ decimal (g .pins) ∷ hexText (g .table) ∷ map decimal (g .area ∷ d0 ∷ d1 ∷ d2 ∷ d3 ∷ []))
     ≡ some (record { name = nameBytes (g .name); len = length (g .name); pins = g .pins; table = g .table; area = g .area; delays = d0 ∷ d1 ∷ d2 ∷ d3 ∷ []; lows = d0 ∷ d1 ∷ d2 ∷ d3 ∷ [] })
 unfolding cellOfFields andThen only all
 cell-four g t f d0 d1 d2 d3 e =
-    ap (λ (b : Bool). andThen (only b ws) (λ _. read)) (is-true (isName (g .name)) t)
+    ap (λ (b : Bool). andThen (only b ws) (λ _. andThen (numbers (map decimal (g .pins ∷ g .area ∷ d0 ∷ d1 ∷ d2 ∷ d3 ∷ [])))
+    (λ ns. andThen (hexTable (hexText (g .table))) (λ table. only (leb (getD ns 0 0) 4) (made ns table))))) (is-true (isName (g .name)) t)
     ∙ ap (λ (o : Option (List ℕ)). andThen o (λ ns. andThen (hexTable (hexText (g .table))) (λ table. only (leb (getD ns 0 0) 4) (made ns table))))
-    (numbers-back (g .pins ∷ g .area ∷ d0 ∷ d1 ∷ d2 ∷ d3 ∷ []) small)
+    (numbers-back (g .pins ∷ g .area ∷ d0 ∷ d1 ∷ d2 ∷ d3 ∷ []) (unfold all in yes-and (leb (g .pins) 65535)
+    (leb (g .area) 65535 && all (λ (n : ℕ). leb n 65535) (d0 ∷ d1 ∷ d2 ∷ d3 ∷ [])) (le→leb (g .pins) 65535 (omega (arith, f .pins)))
+    (yes-and (leb (g .area) 65535) (all (λ (n : ℕ). leb n 65535) (d0 ∷ d1 ∷ d2 ∷ d3 ∷ [])) (yes-leb (f .area))
+    (subst (λ (ds : List ℕ). T (all (λ (n : ℕ). leb n 65535) ds)) e (f .delays)))))
     ∙ ap (λ (o : Option ℕ). andThen o (λ table. only (leb (g .pins) 4) (made (g .pins ∷ g .area ∷ d0 ∷ d1 ∷ d2 ∷ d3 ∷ []) table))) (hex-back (g .table) (omega (arith, f .table, two-most (g .pins) (f .pins))))
     ∙ ap (λ (b : Bool). only b (made (g .pins ∷ g .area ∷ d0 ∷ d1 ∷ d2 ∷ d3 ∷ []) (g .table))) (is-true (leb (g .pins) 4) (yes-leb (f .pins)))
   where
@@ -166,16 +160,6 @@ cell-four g t f d0 d1 d2 d3 e =
     made : List ℕ → ℕ → Cell
     made ns table =
         record { name = nameBytes (g .name); len = length (g .name); pins = getD ns 0 0; table = table; area = getD ns 1 0; delays = take 4 (drop 2 ns); lows = drop 2 ns }
-
-    read : Option Cell
-    read = andThen (numbers (map decimal (g .pins ∷ g .area ∷ d0 ∷ d1 ∷ d2 ∷ d3 ∷ []))) (λ ns. andThen (hexTable (hexText (g .table))) (λ table. only (leb (getD ns 0 0) 4) (made ns table)))
-
-    small : T (all (λ (n : ℕ). leb n 65535) (g .pins ∷ g .area ∷ d0 ∷ d1 ∷ d2 ∷ d3 ∷ []))
-    small =
-        unfold all in
-        yes-and (leb (g .pins) 65535) (leb (g .area) 65535 && all (λ (n : ℕ). leb n 65535) (d0 ∷ d1 ∷ d2 ∷ d3 ∷ [])) (le→leb (g .pins) 65535 (omega (arith, f .pins)))
-        (yes-and (leb (g .area) 65535) (all (λ (n : ℕ). leb n 65535) (d0 ∷ d1 ∷ d2 ∷ d3 ∷ [])) (yes-leb (f .area))
-        (subst (λ (ds : List ℕ). T (all (λ (n : ℕ). leb n 65535) ds)) e (f .delays)))
 
 four-are : (ds : List ℕ) → length ds ≡ 4 → (d0 : ℕ) × (d1 : ℕ) × (d2 : ℕ) × (d3 : ℕ) × (ds ≡ d0 ∷ d1 ∷ d2 ∷ d3 ∷ [])
 four-are [] e = absurd (omega arith)
@@ -190,9 +174,7 @@ cell-back : (at : ℕ) (g : Gate) → T (isName (g .name)) → GateFits g → ce
 unfolding cellOfLine andThen only cellOfGate
 cell-back at g t f =
     let r = four-are (g .delays) (f .four) in
-    ap (cellOfFields false) (body-fields g t ∙ ap (λ (ds : List ℕ). g .name ∷ decimal (g .pins) ∷ hexText (g .table) ∷ map decimal (g .area ∷ ds)) (r .4))
-    ∙ cell-four g t f (r .0) (r .1) (r .2) (r .3) (r .4)
-    ∙ ap (λ (ds : List ℕ). some (record { name = nameBytes (g .name); len = length (g .name); pins = g .pins; table = g .table; area = g .area; delays = ds; lows = ds })) (sym (r .4))
+    cc (body-fields g t, r .4, cell-four g t f (r .0) (r .1) (r .2) (r .3) (r .4))
 
 cell-clean : (g : Gate) → GateFits g → isClean (cellOfGate g) ≡ true
 unfolding isClean cellOfGate
@@ -226,33 +208,22 @@ lines-back : (k at : ℕ) (before : List Cell) (gs : List Gate) → k + length g
 unfolding readCells each next unless from? linesFrom
 lines-back k at before [] few fit named once new = refl
 lines-back k at before (g ∷ gs) few fit named once new =
+    let t = named g (List·Memᴰ·head refl) in
+    let f = fit g (List·Memᴰ·head refl) in
+    let onward : Cell → Read (List Cell) = λ c. next
+    (readCells false (suc k) (c ∷ before) (linesFrom (at + suc (length (gateBody g))) [] (each gateText gs))) (λ cs. holds (c ∷ cs)) in
+    let range : Cell → Read (List Cell) = λ c. unless (noLower (c .lows) (c .delays)) 27 at (onward c) in
+    let rest : Cell → Read (List Cell) = λ c. unless (not (any (λ (d : Cell). same (nameOf c) (nameOf d)) before)) 5 at
+    (unless (isClean c) 6 at (range c)) in
     ap (readCells false k before) (gate-first at g (each gateText gs) t)
     ∙ ap (λ (b : Bool). unless b 3 at (next (from? (cellOfLine false (lineOfBytes at (gateBody g))) 4 at) rest)) (is-true (ltb k 32) (lt→ltb k 32 (omega arith)))
     ∙ ap (λ (o : Option Cell). next (from? o 4 at) rest) (cell-back at g t f)
     ∙ ap (λ (b : Bool). unless b 5 at (unless (isClean (cellOfGate g)) 6 at (range (cellOfGate g)))) (is-new g before (new g (List·Memᴰ·head refl)))
     ∙ ap (λ (b : Bool). unless b 6 at (range (cellOfGate g))) (cell-clean g f)
-    ∙ ap (λ (b : Bool). unless b 27 at more) (cell-range g)
+    ∙ ap (λ (b : Bool). unless b 27 at (onward (cellOfGate g))) (cell-range g)
     ∙ ap (λ (r : Read (List Cell)). next r (λ cs. holds (cellOfGate g ∷ cs)))
     (lines-back (suc k) (at + suc (length (gateBody g))) (cellOfGate g ∷ before) gs (omega arith) (λ h m. fit h (List·Memᴰ·tail m)) (λ h m. named h (List·Memᴰ·tail m)) (once .1) later)
   where
-    t : T (isName (g .name))
-    t = named g (List·Memᴰ·head refl)
-
-    f : GateFits g
-    f = fit g (List·Memᴰ·head refl)
-
-    onward : Cell → Read (List Cell)
-    onward c = next (readCells false (suc k) (c ∷ before) (linesFrom (at + suc (length (gateBody g))) [] (each gateText gs))) (λ cs. holds (c ∷ cs))
-
-    range : Cell → Read (List Cell)
-    range c = unless (noLower (c .lows) (c .delays)) 27 at (onward c)
-
-    more : Read (List Cell)
-    more = onward (cellOfGate g)
-
-    rest : Cell → Read (List Cell)
-    rest c = unless (not (any (λ (d : Cell). same (nameOf c) (nameOf d)) before)) 5 at (unless (isClean c) 6 at (range c))
-
     later : (h : Gate) → List·Memᴰ h gs → (d : Cell) → List·Memᴰ d (cellOfGate g ∷ before) → ¬ (h .name ≡ nameOf d)
     later h m d (List·Memᴰ·head e) q =
         once .0 (subst (λ (w : List ℕ). List·Memᴰ w (map (λ (x : Gate). x .name) gs)) (q ∙ ap nameOf e ∙ cell-name g) (map-in (λ (x : Gate). x .name) m))

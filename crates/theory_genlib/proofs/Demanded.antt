@@ -6,7 +6,7 @@
 --     genlib-back         what is written for them is read as their cells, where 3 to 6 accept names and counts
 --     demand-genlib       the promise, for every genlib text and every number of lent bytes
 -- Assumes nothing.
-use Prim.Native.Nat.{ℕ, zero, suc, _+_, _-_, _^_, _≤_, _<_}
+use Prim.Native.Nat.{ℕ, zero, suc, _-_, _≤_}
 use native.Mathlib.Omega.{arith}
 use mathlib.Core.Path.{_≡_, refl, sym, _∙_, ap, subst}
 use mathlib.Core.Bool.{Bool, true, false, cond, _&&_}
@@ -32,6 +32,7 @@ use Rattle.theory_genlib.proofs.Grammar.{sum-means}
 use Rattle.theory_genlib.proofs.Tokens.{sign-alone, tokens-length, drop-in}
 use Rattle.theory_genlib.proofs.CellsBack.{GateFits, cells-back}
 use Rattle.theory_genlib.proofs.Gates.{Passed, group-parts, group-fits, delays-are}
+use Rattle.theory_graph.proofs.Split.{by-member}
 
 -- ---- the lines of a group stand in the text
 
@@ -53,17 +54,9 @@ group-head (l ∷ ls) g (List·Memᴰ·head e) = List·Memᴰ·head (ap (λ (x :
 group-head (l ∷ ls) g (List·Memᴰ·tail n) = List·Memᴰ·tail (grouped-heads ls g n)
 
 pub group-short : (genlib : List ℕ) (g : Group) → List·Memᴰ g (groups (linesFrom 0 [] genlib)) → length (g .head .bytes) ≤ length genlib
-group-short genlib g m =
-    let q : g .head .offset + (length (g .head .bytes) + g .head .ending) ≤ 0 + (0 + length genlib) = lines-inside 0 [] genlib (g .head) (group-head (linesFrom 0 [] genlib) g m) in omega arith
+group-short genlib g m = omega (arith, lines-inside 0 [] genlib (g .head) (group-head (linesFrom 0 [] genlib) g m))
 
 -- ---- its expression
-
-group-formed : (g : Group) → T (groupFormed g) → T (formed (formulaOf g))
-unfolding groupFormed lineIs isGateLine formulaOf lineTokens
-group-formed g t =
-    let a = and-yes (lineIs isGateLine (g .head)) (all (lineIs isPinLine) (g .lines) && all (hasLine (map lineTokens (g .lines))) (keep isPin (formulaOf g))) t in
-    let b = and-yes (ended (g .head)) (isGateLine (tokens (g .head .bytes))) (a .0) in
-    and-yes (gateHead (tokens (g .head .bytes))) (formed (drop 5 (tokens (g .head .bytes)))) (b .1) .1
 
 -- the tokens behind `=` that 22 accepts, at any depth of brackets, are an expression of the request's grammar and its `;`
 pub formed-value : (bs : List ℕ) → formed (drop 5 (tokens bs)) ≡ true → (value : List ℕ → Bool) → (v : Bool) × HasValue value (drop 5 (tokens bs)) v
@@ -88,7 +81,10 @@ group-parses g h f s value =
     let ts = drop 5 (tokens (g .head .bytes)) in
     let n : length ts ≡ length (tokens (g .head .bytes)) - 5 = length-drop 5 (tokens (g .head .bytes)) in
     let k : length (tokens (g .head .bytes)) ≤ length (g .head .bytes) = tokens-length (g .head .bytes) in
-    let r = formed-taken value 65537 ts (omega arith) (is-true (formed ts) (group-formed g f)) (is-true (shallow 0 ts) s) in
+    let r = formed-taken value 65537 ts (omega arith) (is-true (formed ts) (unfold groupFormed lineIs isGateLine in and-yes
+    (gateHead (tokens (g .head .bytes))) (formed (drop 5 (tokens (g .head .bytes)))) (and-yes (ended (g .head))
+    (isGateLine (tokens (g .head .bytes))) (and-yes (lineIs isGateLine (g .head)) (all (lineIs isPinLine) (g .lines) && all
+    (hasLine (map lineTokens (g .lines))) (keep isPin (formulaOf g))) f .0) .1) .1)) (is-true (shallow 0 ts) s) in
     (r .0, r .4 ∙ ap (λ (t : List ℕ). some (r .0, t ∷ [])) (sign-alone 59 refl (g .head .bytes) (r .1) (drop-in 5 (tokens (g .head .bytes)) (r .1) (r .3)) (r .2)))
 
 -- its value is that of the sum before the `;`
@@ -118,13 +114,12 @@ group-means g c h p = record {
   name = p .made .name;
   area = p .made .area;
   pins = p .made .pins;
-  rows = λ r k.
-      subst (λ (b : Bool). HasValue (nameValue (pinsOf (formulaOf g)) r) (formulaOf g) b)
-      (sym (ap (λ (n : ℕ). bit n r) (p .made .table) ∙ table-value (formulaOf g) r (subst (λ (n : ℕ). r < 2 ^ n) (p .made .pins) k)))
+  rows = λ r k. rw (ap (λ (n : ℕ). bit n r) (p .made .table) ∙ table-value (formulaOf g) r (rw (← p .made .pins) k))
       (group-value g h (p .formed) (p .low) (nameValue (pinsOf (formulaOf g)) r));
-  above = λ r k. ap (λ (n : ℕ). bit n r) (p .made .table) ∙ table-above (formulaOf g) r (subst (λ (n : ℕ). 2 ^ n ≤ r) (p .made .pins) k);
+  above = λ r k. ap (λ (n : ℕ). bit n r) (p .made .table) ∙ table-above (formulaOf g) r (rw (← p .made .pins) k);
   four = group-fits g c p .four;
-  delays = λ j k. delays-are (map lineTokens (g .lines)) (pinsOf (formulaOf g)) (c .delays) (p .few) (p .made .delays) j (subst (λ (n : ℕ). j < n) (p .made .pins) k);
+  delays = λ j k. delays-are (map lineTokens (g .lines)) (pinsOf (formulaOf g)) (c .delays) (p .few) (p .made .delays) j
+      (rw (← p .made .pins) k);
   absent = λ j k. zero-at (c .pins) j (c .delays) k (group-fits g c p .absent);
 }
 
@@ -136,11 +131,7 @@ groups-fit [] cs e c m = absurd (List·Memᴰ·not-nil (subst (λ (xs : List Gat
 groups-fit (g ∷ gs) cs e c m =
     let a = next-out (readGroup g) (λ x. next (readGroups gs) (λ xs. holds (x ∷ xs))) cs e in
     let b = next-out (readGroups gs) (λ xs. holds (a .0 ∷ xs)) cs (a .2) in
-    go (a .0) (b .0) (group-fits g (a .0) (group-parts g (a .0) (a .1))) (groups-fit gs (b .0) (b .1) c) (subst (λ (xs : List Gate). List·Memᴰ c xs) (sym (holds-once (b .2))) m)
-  where
-    go : (x : Gate) (xs : List Gate) → GateFits x → (List·Memᴰ c xs → GateFits c) → List·Memᴰ c (x ∷ xs) → GateFits c
-    go x xs f later (List·Memᴰ·head q) = subst GateFits (sym q) f
-    go x xs f later (List·Memᴰ·tail n) = later n
+    by-member (rw (holds-once (b .2)) m) (λ q. rw q (group-fits g (a .0) (group-parts g (a .0) (a .1)))) (groups-fit gs (b .0) (b .1) c)
 
 pub genlib-fits : (genlib : List ℕ) (gs : List Gate) → readGenlib genlib ≡ holds gs → (c : Gate) → List·Memᴰ c gs → GateFits c
 unfolding readGenlib

@@ -23,6 +23,7 @@ use Rattle.model.specs.GenlibWords.{lead, isSign, isWord, isEmpty}
 use Rattle.model.specs.GenlibFormula.{scanDue, scanAfter, scanToken, scan, isDone, formed, opened, shallow, Taken, turns, begins, chain, quoted, closeBracket, named, atom, factorOf, productOf, sumOf, within}
 use Rattle.model.specs.declared.Scan.{Scan}
 use Rattle.model.specs.declared.Scan.the-variants.{Due, After, Done, Broken}
+use Rattle.theory_graph.proofs.Split.{by-bool, by-option}
 
 -- ---- one token
 
@@ -50,9 +51,7 @@ after-plus d t e = after-byte d 43 t e
 after-close : (d : ℕ) (t : List ℕ) → isSign 41 t ≡ true → scanAfter (suc d) t ≡ After d
 unfolding scanAfter isSign lead
 after-close d t e =
-    after-byte (suc d) 41 t e
-    ∙ ap (λ (b : Bool). cond b (After (suc d - 1)) Broken) (is-true (ltb 0 (suc d)) (lt→ltb 0 (suc d) (omega arith)))
-    ∙ ap After (let q : suc d - 1 ≡ d = omega arith in q)
+    cc (after-byte (suc d) 41 t e, is-true (ltb 0 (suc d)) (lt→ltb 0 (suc d) (omega arith)), let q : suc d - 1 ≡ d = omega arith in q)
 
 -- where a factor is due
 abbrev dueByte : ℕ → ℕ → Bool → Scan
@@ -61,9 +60,6 @@ dueByte d n word = cond (eqb n 33) (Due d) (cond (eqb n 40) (Due (d + 1)) (cond 
 due-byte : (d b : ℕ) (t : List ℕ) → isSign b t ≡ true → scanDue d t ≡ dueByte d b (isWord t)
 unfolding scanDue isSign
 due-byte d b t e = ap (λ (n : ℕ). dueByte d n (isWord t)) (sign-lead b t e)
-
-due-bang : (d : ℕ) (t : List ℕ) → isSign 33 t ≡ true → scanDue d t ≡ Due d
-due-bang d t e = due-byte d 33 t e
 
 due-open : (d : ℕ) (t : List ℕ) → isSign 40 t ≡ true → scanDue d t ≡ Due (suc d)
 due-open d t e = due-byte d 40 t e ∙ ap Due (let q : d + 1 ≡ suc d = omega arith in q)
@@ -97,40 +93,24 @@ done-ends (t ∷ ts) e = absurd (false≢true (sym (ap isDone (broken-stays ts))
 turns-due : (d : ℕ) (v : Bool) (ts : List (List ℕ)) → scan (Due d) ts ≡ scan (Due d) (turns 33 v ts .1)
 unfolding turns
 turns-due d v [] = refl
-turns-due d v (t ∷ ts) = go (isSign 33 t) refl (turns-due d (not v) ts)
-  where
-    go : (b : Bool) → isSign 33 t ≡ b → scan (Due d) ts ≡ scan (Due d) (turns 33 (not v) ts .1)
-        → scan (Due d) (t ∷ ts) ≡ scan (Due d) (cond b (turns 33 (not v) ts) (v, t ∷ ts) .1)
-    go true e r = due-on d t ts (Due d) (due-bang d t e) ∙ r
-    go false e r = refl
+turns-due d v (t ∷ ts) = by-bool (isSign 33 t) (λ e. cc (due-on d t ts (Due d) (due-byte d 33 t e), (turns-due d (not v) ts))) (λ q. cc)
 
 turns-after : (d : ℕ) (v : Bool) (ts : List (List ℕ)) → scan (After d) ts ≡ scan (After d) (turns 39 v ts .1)
 unfolding turns
 turns-after d v [] = refl
-turns-after d v (t ∷ ts) = go (isSign 39 t) refl (turns-after d (not v) ts)
-  where
-    go : (b : Bool) → isSign 39 t ≡ b → scan (After d) ts ≡ scan (After d) (turns 39 (not v) ts .1)
-        → scan (After d) (t ∷ ts) ≡ scan (After d) (cond b (turns 39 (not v) ts) (v, t ∷ ts) .1)
-    go true e r = after-on d t ts (After d) (after-quote d t e) ∙ r
-    go false e r = refl
+turns-after d v (t ∷ ts) = by-bool (isSign 39 t) (λ e. cc (after-on d t ts (After d) (after-quote d t e), (turns-after d (not v) ts)))
+    (λ q. cc)
 
 turns-stop : (b : ℕ) (v : Bool) (ts : List (List ℕ)) → begins b (turns b v ts .1) ≡ false
 unfolding turns begins
 turns-stop b v [] = refl
-turns-stop b v (t ∷ ts) = go (isSign b t) refl (turns-stop b (not v) ts)
-  where
-    go : (c : Bool) → isSign b t ≡ c → begins b (turns b (not v) ts .1) ≡ false → begins b (cond c (turns b (not v) ts) (v, t ∷ ts) .1) ≡ false
-    go true e r = r
-    go false e r = e
+turns-stop b v (t ∷ ts) = by-bool (isSign b t) (λ e. cc (turns-stop b (not v) ts)) (λ q. cc)
 
 turns-short : (b : ℕ) (v : Bool) (ts : List (List ℕ)) → length (turns b v ts .1) ≤ length ts
 unfolding turns
 turns-short b v [] = omega arith
-turns-short b v (t ∷ ts) = go (isSign b t) (turns-short b (not v) ts)
-  where
-    go : (c : Bool) → length (turns b (not v) ts .1) ≤ length ts → length (cond c (turns b (not v) ts) (v, t ∷ ts) .1) ≤ length (t ∷ ts)
-    go true r = omega arith
-    go false r = omega arith
+turns-short b v (t ∷ ts) = by-bool (isSign b t) (λ e. rw e (omega (arith, turns-short b (not v) ts)))
+    (λ q. rw q (omega (arith, turns-short b (not v) ts)))
 
 -- a list that begins with a sign
 pub begins-is : (b : ℕ) (ts : List (List ℕ)) → begins b ts ≡ true → (t : List ℕ) × (isSign b t ≡ true) × (ts ≡ t ∷ drop 1 ts)
@@ -162,61 +142,38 @@ module _ (b : ℕ) (op : (d : ℕ) (t : List ℕ) → isSign b t ≡ true → sc
   chain-passes zero v ts r e d = none-some e
   chain-passes (suc fuel) v ts r e d = first (λ w us x. chain-passes fuel w us r x d) (part ts) refl e
     where
-      on : Later fuel r d → (q : Bool × List (List ℕ)) → scan (Due d) ts ≡ rest d q → (c : Bool) → begins b (q .1) ≡ c
-          → cond c (chain b join part fuel (join v (q .0)) (drop 1 (q .1))) (some (join v (q .0), q .1)) ≡ some r → scan (Due d) ts ≡ rest d r
-      on later q k true g x =
-          let w = begins-is b (q .1) g in
-          k ∙ ap (scan (After d)) (w .2) ∙ after-on d (w .0) (drop 1 (q .1)) (Due d) (op d (w .0) (w .1)) ∙ later (join v (q .0)) (drop 1 (q .1)) x
-      on later q k false g x = let y : _≡_ {A = Bool × List (List ℕ)} (join v (q .0), q .1) r = some-once x in k ∙ ap (rest d) y
-
       first : Later fuel r d → (o : Taken) → part ts ≡ o
           → andThen o (λ q. cond (begins b (q .1)) (chain b join part fuel (join v (q .0)) (drop 1 (q .1))) (some (join v (q .0), q .1))) ≡ some r → scan (Due d) ts ≡ rest d r
       first later none g x = unfold andThen in none-some x
-      first later (some q) g x = unfold andThen in on later q (passes ts q g d) (begins b (q .1)) refl x
+      first later (some q) g x = unfold andThen in by-bool (begins b (q .1)) (λ p. let w = begins-is b (q .1) p in (passes ts q g d) ∙ ap
+          (scan (After d)) (w .2) ∙ after-on d (w .0) (drop 1 (q .1)) (Due d) (op d (w .0) (w .1)) ∙ later (join v (q .0)) (drop 1 (q .1))
+          (rw p at x))
+          (λ z. let y : _≡_ {A = Bool × List (List ℕ)} (join v (q .0), q .1) r = some-once (rw z at x) in (passes ts q g d) ∙ ap (rest d) y)
 
 module _ (value : List ℕ → Bool) (inside : List (List ℕ) → Taken) (passes : Passes inside) where
-  close-passes : (d : ℕ) (v : Bool) (ts : List (List ℕ)) (r : Bool × List (List ℕ)) → closeBracket v ts ≡ some r → scan (After (suc d)) ts ≡ rest d r
-  unfolding closeBracket quoted
-  close-passes d v ts r e = go (begins 41 ts) refl e
-    where
-      go : (c : Bool) → begins 41 ts ≡ c → cond c (some (turns 39 v (drop 1 ts))) none ≡ some r → scan (After (suc d)) ts ≡ rest d r
-      go true g x =
-          let w = begins-is 41 ts g in
-          ap (scan (After (suc d))) (w .2) ∙ after-on (suc d) (w .0) (drop 1 ts) (After d) (after-close d (w .0) (w .1)) ∙ turns-after d v (drop 1 ts) ∙ ap (rest d) (some-once x)
-      go false g x = none-some x
-
   bracket-passes : (d : ℕ) (odd : Bool) (ts : List (List ℕ)) (r : Bool × List (List ℕ)) → andThen (inside ts) (λ q. closeBracket (flip odd (q .0)) (q .1)) ≡ some r
       → scan (Due (suc d)) ts ≡ rest d r
   unfolding andThen
-  bracket-passes d odd ts r e = go (inside ts) refl e
-    where
-      go : (o : Taken) → inside ts ≡ o → andThen o (λ q. closeBracket (flip odd (q .0)) (q .1)) ≡ some r → scan (Due (suc d)) ts ≡ rest d r
-      go none g x = none-some x
-      go (some q) g x = passes ts q g (suc d) ∙ close-passes d (flip odd (q .0)) (q .1) r x
+  bracket-passes d odd ts r e = by-option (inside ts) (λ g. none-some (rw g at e))
+      (λ p z. passes ts p z (suc d) ∙ (unfold closeBracket quoted in by-bool (begins 41 (p .1)) (λ g.
+      let w = begins-is 41 (p .1) g in ap (scan (After (suc d))) (w .2)
+      ∙ after-on (suc d) (w .0) (drop 1 (p .1)) (After d) (after-close d (w .0) (w .1)) ∙ turns-after d (flip odd (p .0)) (drop 1 (p .1))
+      ∙ ap (rest d) (some-once (rw g at (rw z at e)))) (λ q. none-some (rw q at (rw z at e)))))
 
   named-passes : (d : ℕ) (odd : Bool) (ts : List (List ℕ)) (r : Bool × List (List ℕ)) → begins 33 ts ≡ false → begins 40 ts ≡ false → named value odd ts ≡ some r → scan (Due d) ts ≡ rest d r
   unfolding named quoted begins
   named-passes d odd [] r a b e = none-some e
-  named-passes d odd (t ∷ ts) r a b e = go (isWord t) refl e
-    where
-      go : (c : Bool) → isWord t ≡ c → cond c (some (turns 39 (flip odd (value t)) ts)) none ≡ some r → scan (Due d) (t ∷ ts) ≡ rest d r
-      go true g x =
-          due-on d t ts (After d) (due-else d t a b ∙ ap (λ (c : Bool). cond c (After d) Broken) g) ∙ turns-after d (flip odd (value t)) ts ∙ ap (rest d) (some-once x)
-      go false g x = none-some x
-
-  atom-passes : (d : ℕ) (odd : Bool) (ts : List (List ℕ)) (r : Bool × List (List ℕ)) → begins 33 ts ≡ false → atom value inside odd ts ≡ some r → scan (Due d) ts ≡ rest d r
-  unfolding atom
-  atom-passes d odd ts r a e = go (begins 40 ts) refl e
-    where
-      go : (c : Bool) → begins 40 ts ≡ c → cond c (andThen (inside (drop 1 ts)) (λ q. closeBracket (flip odd (q .0)) (q .1))) (named value odd ts) ≡ some r → scan (Due d) ts ≡ rest d r
-      go true g x =
-          let w = begins-is 40 ts g in
-          ap (scan (Due d)) (w .2) ∙ due-on d (w .0) (drop 1 ts) (Due (suc d)) (due-open d (w .0) (w .1)) ∙ bracket-passes d odd (drop 1 ts) r x
-      go false g x = named-passes d odd ts r a g x
+  named-passes d odd (t ∷ ts) r a b e = by-bool (isWord t) (λ g. due-on d t ts (After d)
+      (due-else d t a b ∙ ap (λ (c : Bool). cond c (After d) Broken) g) ∙ turns-after d (flip odd (value t)) ts ∙ ap (rest d)
+      (some-once (rw g at e))) (λ q. none-some (rw q at e))
 
   factor-passes : Passes (factorOf value inside)
   unfolding factorOf
-  factor-passes ts r e d = turns-due d false ts ∙ atom-passes d (turns 33 false ts .0) (turns 33 false ts .1) r (turns-stop 33 false ts) e
+  factor-passes ts r e d = turns-due d false ts ∙ (unfold atom in by-bool (begins 40 (turns 33 false ts .1)) (λ g.
+      let w = begins-is 40 (turns 33 false ts .1) g in ap (scan (Due d)) (w .2)
+      ∙ due-on d (w .0) (drop 1 (turns 33 false ts .1)) (Due (suc d)) (due-open d (w .0) (w .1))
+      ∙ bracket-passes d (turns 33 false ts .0) (drop 1 (turns 33 false ts .1)) r (rw g at e))
+      (λ q. named-passes d (turns 33 false ts .0) (turns 33 false ts .1) r (turns-stop 33 false ts) q (rw q at e)))
 
   -- a sum, where what may stand inside brackets passes
   form-passes : (fuel : ℕ) → Passes (sumOf value fuel inside)
@@ -242,33 +199,13 @@ taken-formed value fuel k ts v t s e = ap isDone (sum-passes value fuel k ts (v,
 -- the brackets open behind a token
 opened-same : (d b : ℕ) (t : List ℕ) → isSign b t ≡ true → eqb b 40 ≡ false → eqb b 41 ≡ false → opened d t ≡ d
 unfolding opened isSign
-opened-same d b t e p q =
-    ap (λ (n : ℕ). cond (eqb n 40) (d + 1) (cond (eqb n 41) (d - 1) d)) (sign-lead b t e)
-    ∙ ap (λ (c : Bool). cond c (d + 1) (cond (eqb b 41) (d - 1) d)) p ∙ ap (λ (c : Bool). cond c (d - 1) d) q
-
-opened-open : (d : ℕ) (t : List ℕ) → isSign 40 t ≡ true → opened d t ≡ suc d
-unfolding opened
-opened-open d t e = ap (λ (c : Bool). cond c (d + 1) (cond (isSign 41 t) (d - 1) d)) e ∙ (let q : d + 1 ≡ suc d = omega arith in q)
-
-opened-close : (d : ℕ) (t : List ℕ) → isSign 41 t ≡ true → opened (suc d) t ≡ d
-unfolding opened isSign
-opened-close d t e =
-    ap (λ (n : ℕ). cond (eqb n 40) (suc d + 1) (cond (eqb n 41) (suc d - 1) (suc d))) (sign-lead 41 t e) ∙ (let q : suc d - 1 ≡ d = omega arith in q)
+opened-same d b t e p q = cc (sign-lead b t e)
 
 -- no name begins with a sign
 pub word-sign : (n : ℕ) → isNameByte n ≡ false → (t : List ℕ) → isWord t ≡ true → isSign n t ≡ false
 unfolding isWord isEmpty all isSign lead
 word-sign n h [] e = absurd (false≢true e)
-word-sign n h (b ∷ bs) e = go (eqb b n) refl
-  where
-    go : (c : Bool) → eqb b n ≡ c → c ≡ false
-    go true q = absurd (false≢true (sym (ap (λ (x : Bool). x && all isNameByte bs) (ap isNameByte (eqb-true b n q) ∙ h)) ∙ e))
-    go false q = refl
-
-opened-word : (d : ℕ) (t : List ℕ) → isWord t ≡ true → isSign 40 t ≡ false → opened d t ≡ d
-unfolding opened
-opened-word d t w e =
-    ap (λ (c : Bool). cond c (d + 1) (cond (isSign 41 t) (d - 1) d)) e ∙ ap (λ (c : Bool). cond c (d - 1) d) (word-sign 41 (unfold isNameByte isLetter between in refl) t w)
+word-sign n h (b ∷ bs) e = by-bool (eqb b n) (λ q. rw q (absurd (false≢true (cc (eqb-true b n q))))) (λ p. rw p)
 
 -- at every token at most so many brackets are open, where d are open before the first
 abbrev Low : ℕ → ℕ → List (List ℕ) → Type 0
@@ -285,31 +222,21 @@ low-on top d e t ts q h = subst (λ (n : ℕ). Low top n ts) q (h .1)
 turns-low : (top b d : ℕ) (v : Bool) (ts : List (List ℕ)) → eqb b 40 ≡ false → eqb b 41 ≡ false → Low top d ts → Low top d (turns b v ts .1)
 unfolding turns
 turns-low top b d v [] p q h = h
-turns-low top b d v (t ∷ ts) p q h = go (isSign b t) refl (turns-low top b d (not v) ts p q)
-  where
-    go : (c : Bool) → isSign b t ≡ c → (Low top d ts → Low top d (turns b (not v) ts .1)) → Low top d (cond c (turns b (not v) ts) (v, t ∷ ts) .1)
-    go true e r = r (low-on top d d t ts (opened-same d b t e p q) h)
-    go false e r = h
+turns-low top b d v (t ∷ ts) p q h = by-bool (isSign b t)
+    (λ e. rw e (turns-low top b d (not v) ts p q (low-on top d d t ts (opened-same d b t e p q) h))) (λ r. rw r h)
 
 -- not "brackets over 16 deep"
 shallow-low : (d : ℕ) (ts : List (List ℕ)) → shallow d ts ≡ true → Low 16 d ts
 unfolding shallow
 shallow-low d [] h = leb→le d 16 (subst T (sym h) tt)
-shallow-low d (t ∷ ts) h = go (leb d 16) (leb→le d 16) h (shallow-low (opened d t) ts)
-  where
-    go : (a : Bool) → (T a → d ≤ 16) → (a && shallow (opened d t) ts) ≡ true → (shallow (opened d t) ts ≡ true → Low 16 (opened d t) ts) → (d ≤ 16) × Low 16 (opened d t) ts
-    go true y x r = (y tt, r x)
-    go false y x r = absurd (false≢true x)
+shallow-low d (t ∷ ts) h = by-bool (leb d 16) (λ e. ((rw e at (leb→le d 16)) tt, (shallow-low (opened d t) ts) (rw e at h)))
+    (λ q. absurd (false≢true (rw q at h)))
 
 -- no token opens more than one
 opened-most : (d : ℕ) (t : List ℕ) → opened d t ≤ suc d
 unfolding opened
-opened-most d t = go (isSign 40 t) (isSign 41 t)
-  where
-    go : (a b : Bool) → cond a (d + 1) (cond b (d - 1) d) ≤ suc d
-    go true b = omega arith
-    go false true = omega arith
-    go false false = omega arith
+opened-most d t = by-bool (isSign 40 t) (λ e. rw e (omega arith))
+    (λ q. rw q (by-bool (isSign 41 t) (λ p. rw p (omega arith)) (λ r. rw r (omega arith))))
 
 any-low : (top d : ℕ) (ts : List (List ℕ)) → d + length ts ≤ top → Low top d ts
 any-low top d [] h = omega arith
@@ -318,11 +245,7 @@ any-low top d (t ∷ ts) h = (omega arith, any-low top (opened d t) ts (omega (a
 turns-in : (b : ℕ) (v : Bool) (ts : List (List ℕ)) (t : List ℕ) → List·Memᴰ t (turns b v ts .1) → List·Memᴰ t ts
 unfolding turns
 turns-in b v [] t m = m
-turns-in b v (u ∷ us) t m = go (isSign b u) m (turns-in b (not v) us t)
-  where
-    go : (c : Bool) → List·Memᴰ t (cond c (turns b (not v) us) (v, u ∷ us) .1) → (List·Memᴰ t (turns b (not v) us .1) → List·Memᴰ t us) → List·Memᴰ t (u ∷ us)
-    go true n r = List·Memᴰ·tail (r n)
-    go false n r = n
+turns-in b v (u ∷ us) t m = by-bool (isSign b u) (λ e. List·Memᴰ·tail (turns-in b (not v) us t (rw e at m))) (λ q. rw q at m)
 
 rest-in : (ts : List (List ℕ)) (u t : List ℕ) → ts ≡ u ∷ drop 1 ts → List·Memᴰ t (drop 1 ts) → List·Memᴰ t ts
 rest-in ts u t e m = subst (λ (us : List (List ℕ)). List·Memᴰ t us) (sym e) (List·Memᴰ·tail m)
@@ -391,16 +314,15 @@ module _ (top b : ℕ) (op : (d : ℕ) (t : List ℕ) → isSign b t ≡ true �
             stops = r .stops;
             among = λ u i. p .among u (rest-in (p .got .1) (w .0) u (w .2) (r .among u i));
           }
-      go false g later =
-          record {
-            got = (join v (p .got .0), p .got .1);
-            is = first (some (join v (p .got .0), p .got .1)) (ap (λ (c : Bool). cond c (chain b join part fuel (join v (p .got .0)) (drop 1 (p .got .1))) (some (join v (p .got .0), p .got .1))) g);
-            shorter = p .shorter;
-            accepted = p .accepted;
-            low = p .low;
-            stops = (p .stops, g);
-            among = p .among;
-          }
+      go false g later = record {
+        got = (join v (p .got .0), p .got .1);
+        is = first (some (join v (p .got .0), p .got .1)) (cc);
+        shorter = p .shorter;
+        accepted = p .accepted;
+        low = p .low;
+        stops = (p .stops, g);
+        among = p .among;
+      }
 
 -- where a sum stops inside brackets, one closes
 stops-close : (d : ℕ) (ts : List (List ℕ)) → isDone (scan (After (suc d)) ts) ≡ true → StopsSum ts → begins 41 ts ≡ true
@@ -440,19 +362,16 @@ module _ (top : ℕ) (value : List ℕ → Bool) (fuel : ℕ) where
 
   -- what stands behind a name or a bracket that closes, without its `'`
   quoted-took : (part : List (List ℕ) → Taken) (d : ℕ) (ts : List (List ℕ)) (v : Bool) (us : List (List ℕ)) → part ts ≡ some (turns 39 v us) → length us < length ts
-      → isDone (scan (After d) us) ≡ true → Low top d us → ((t : List ℕ) → List·Memᴰ t us → List·Memᴰ t ts)
-      → Took top part StopsFactor d ts
-  quoted-took part d ts v us e h a s i =
-      let k : length (turns 39 v us .1) ≤ length us = turns-short 39 v us in
-      record {
-        got = turns 39 v us;
-        is = e;
-        shorter = omega arith;
-        accepted = ap isDone (sym (turns-after d v us)) ∙ a;
-        low = turns-low top 39 d v us refl refl s;
-        stops = turns-stop 39 v us;
-        among = λ t m. i t (turns-in 39 v us t m);
-      }
+      → isDone (scan (After d) us) ≡ true → Low top d us → ((t : List ℕ) → List·Memᴰ t us → List·Memᴰ t ts) → Took top part StopsFactor d ts
+  quoted-took part d ts v us e h a s i = record {
+    got = turns 39 v us;
+    is = e;
+    shorter = omega (arith, turns-short 39 v us);
+    accepted = ap isDone (sym (turns-after d v us)) ∙ a;
+    low = turns-low top 39 d v us refl refl s;
+    stops = turns-stop 39 v us;
+    among = λ t m. i t (turns-in 39 v us t m);
+  }
 
   module _ (m : ℕ) (ih : (d k : ℕ) → k + d ≡ top → Takes top (sumAt k) StopsSum d m) where
     bracket-takes : (d k : ℕ) → k + d ≡ top → (odd : Bool) (t : List ℕ) (ts : List (List ℕ)) → length ts ≤ m → isSign 40 t ≡ true → isDone (scan (Due (suc d)) ts) ≡ true → Low top (suc d) ts
@@ -485,7 +404,9 @@ module _ (top : ℕ) (value : List ℕ → Bool) (fuel : ℕ) where
         accepted = ap isDone (sym (after-on (suc d) (here .0) us (After d) (after-close d (here .0) (here .1))) ∙ ap (scan (After (suc d))) (sym (here .2))) ∙ r .accepted
 
         low : Low top d us
-        low = low-on top (suc d) d (here .0) us (opened-close d (here .0) (here .1)) (subst (λ (vs : List (List ℕ)). Low top (suc d) vs) (here .2) (r .low))
+        low = low-on top (suc d) d (here .0) us (unfold opened isSign in cc
+            (sign-lead 41 (here .0) (here .1), let q : suc d - 1 ≡ d = omega arith in q)) (subst
+            (λ (vs : List (List ℕ)). Low top (suc d) vs) (here .2) (r .low))
 
         short : length us < length (t ∷ ts)
         short = let x : suc (length us) ≡ length (r .got .1) = drop-short (r .got .1) (here .0) (here .2) in let y : length (r .got .1) < length ts = r .shorter in omega arith
@@ -493,28 +414,23 @@ module _ (top : ℕ) (value : List ℕ → Bool) (fuel : ℕ) where
     name-takes : (inside : List (List ℕ) → Taken) (d : ℕ) (odd : Bool) (t : List ℕ) (ts : List (List ℕ)) → isSign 33 t ≡ false → isSign 40 t ≡ false
         → isDone (scan (Due d) (t ∷ ts)) ≡ true → Low top d (t ∷ ts) → Took top (atom value inside odd) StopsFactor d (t ∷ ts)
     unfolding isDone
-    name-takes inside d odd t ts p q a s = go (isWord t) refl
-      where
-        go : (c : Bool) → isWord t ≡ c → Took top (atom value inside odd) StopsFactor d (t ∷ ts)
-        go true w =
-            quoted-took (atom value inside odd) d (t ∷ ts) (flip odd (value t)) ts
-            (unfold atom begins named quoted in
-            ap (λ (c : Bool). cond c (andThen (inside ts) (λ x. closeBracket (flip odd (x .0)) (x .1))) (cond (isWord t) (some (turns 39 (flip odd (value t)) ts)) none)) q
-            ∙ ap (λ (c : Bool). cond c (some (turns 39 (flip odd (value t)) ts)) none) w)
-            (omega arith)
-            (ap isDone (sym (due-on d t ts (After d) (due-else d t p q ∙ ap (λ (c : Bool). cond c (After d) Broken) w))) ∙ a)
-            (low-on top d d t ts (opened-word d t w q) s) (λ u m. List·Memᴰ·tail m)
-        go false w = absurd (false≢true (sym (ap isDone (due-on d t ts Broken (due-else d t p q ∙ ap (λ (c : Bool). cond c (After d) Broken) w) ∙ broken-stays ts)) ∙ a))
+    name-takes inside d odd t ts p q a s = by-bool (isWord t) (λ w. quoted-took (atom value inside odd) d (t ∷ ts) (flip odd (value t)) ts
+        (unfold atom begins named quoted in ap (λ (c : Bool). cond c (andThen (inside ts) (λ x. closeBracket (flip odd (x .0)) (x .1)))
+        (cond (isWord t) (some (turns 39 (flip odd (value t)) ts)) none)) q ∙ ap
+        (λ (c : Bool). cond c (some (turns 39 (flip odd (value t)) ts)) none) w) (omega arith)
+        (ap isDone (sym (due-on d t ts (After d) (due-else d t p q ∙ ap (λ (c : Bool). cond c (After d) Broken) w))) ∙ a)
+        (low-on top d d t ts (unfold opened in cc
+        (word-sign 41 (unfold isNameByte isLetter between in refl) t w)) s) (λ u m. List·Memᴰ·tail m)) (λ e. absurd (false≢true
+        (sym (ap isDone (due-on d t ts Broken (due-else d t p q ∙ ap (λ (c : Bool). cond c (After d) Broken) e) ∙ broken-stays ts)) ∙ a)))
 
     atom-takes : (d k : ℕ) → k + d ≡ top → (odd : Bool) (ts : List (List ℕ)) → length ts ≤ suc m → begins 33 ts ≡ false → isDone (scan (Due d) ts) ≡ true → Low top d ts
         → Took top (atom value (within value fuel k) odd) StopsFactor d ts
     unfolding begins scan isDone
     atom-takes d k e odd [] h p a s = absurd (false≢true a)
-    atom-takes d k e odd (t ∷ ts) h p a s = go (isSign 40 t) refl
-      where
-        go : (c : Bool) → isSign 40 t ≡ c → Took top (atom value (within value fuel k) odd) StopsFactor d (t ∷ ts)
-        go true g = bracket-takes d k e odd t ts (omega arith) g (ap isDone (sym (due-on d t ts (Due (suc d)) (due-open d t g))) ∙ a) (low-on top d (suc d) t ts (opened-open d t g) s)
-        go false g = name-takes (within value fuel k) d odd t ts p g a s
+    atom-takes d k e odd (t ∷ ts) h p a s = by-bool (isSign 40 t) (λ g. bracket-takes d k e odd t ts (omega arith) g
+        (ap isDone (sym (due-on d t ts (Due (suc d)) (due-open d t g))) ∙ a) (low-on top d (suc d) t ts (unfold opened in cc
+        (g, let q : d + 1 ≡ suc d = omega arith in q)) s))
+        (λ q. name-takes (within value fuel k) d odd t ts p q a s)
 
     factor-takes : (d k : ℕ) → k + d ≡ top → Takes top (factorOf value (within value fuel k)) StopsFactor d (suc m)
     unfolding factorOf
@@ -526,10 +442,9 @@ module _ (top : ℕ) (value : List ℕ → Bool) (fuel : ℕ) where
 
     form-takes : suc m < fuel → (d k : ℕ) → k + d ≡ top → Takes top (sumAt k) StopsSum d (suc m)
     unfolding sumOf productOf
-    form-takes l d k e ts h a s =
-        chain-takes top 43 after-plus refl refl _||_ (productOf value fuel (within value fuel k)) StopsProduct d (suc m)
-        (λ us i b c. chain-takes top 42 after-times refl refl _&&_ (factorOf value (within value fuel k)) StopsFactor d (suc m) (factor-takes d k e) fuel true us (omega arith) i b c)
-        fuel false ts (omega arith) h a s
+    form-takes l d k e ts h a s = chain-takes top 43 after-plus refl refl _||_ (productOf value fuel (within value fuel k)) StopsProduct d
+        (suc m) (λ us i b c. chain-takes top 42 after-times refl refl _&&_ (factorOf value (within value fuel k)) StopsFactor d (suc m)
+        (factor-takes d k e) fuel true us (omega arith) i b c) fuel false ts (omega arith) h a s
 
   pub sum-takes : (n : ℕ) → n < fuel → (d k : ℕ) → k + d ≡ top → Takes top (sumAt k) StopsSum d n
   unfolding scan isDone

@@ -5,7 +5,7 @@
 use Prim.Native.Nat.{ℕ, zero, suc, _^_, _≤_, _<_}
 use native.Mathlib.Omega.{arith}
 use mathlib.Core.Path.{_≡_, refl, sym, _∙_, ap, subst}
-use mathlib.Core.Logic.{_⊎_, inl, inr}
+use mathlib.Core.Logic.{_⊎_, inl, inr, ⊎-elim}
 use mathlib.Core.Bool.{Bool, true, false, not, cond, _&&_}
 use mathlib.Core.Option.{some}
 use mathlib.Core.List.{List, [], _∷_, _++_, map}
@@ -22,6 +22,7 @@ use Rattle.model.proofs.GenlibTables.{rows-less}
 use Rattle.theory_text.proofs.Steps.{unless-out, from-out, then-out, only-out}
 use Rattle.theory_genlib.proofs.Forms.{none-some, some-once}
 use Rattle.theory_genlib.proofs.CellsBack.{GateFits}
+use Rattle.theory_graph.proofs.Split.{by-bool}
 
 -- ---- figures
 
@@ -49,16 +50,13 @@ pin-first name (us ∷ lines) ts e = go (fits name us) refl e (pin-first name li
     go true q x r =
         let y : us ≡ ts = some-once x in
         record { before = []; after = lines; isAll = ap (λ (vs : List (List ℕ)). vs ∷ lines) y; others = tt; fitting = subst (λ (vs : List (List ℕ)). T (fits name vs)) y (subst T (sym q) tt) }
-    go false q x r =
-        unfold all in
-        let f = r x in
-        record {
-          before = us ∷ f .before;
-          after = f .after;
-          isAll = ap (λ (vs : List (List (List ℕ))). us ∷ vs) (f .isAll);
-          others = yes-and (not (fits name us)) (all (λ (vs : List (List ℕ)). not (fits name vs)) (f .before)) (subst (λ (b : Bool). T (not b)) (sym q) tt) (f .others);
-          fitting = f .fitting;
-        }
+    go false q x r = unfold all in let f = r x in record {
+      before = us ∷ f .before;
+      after = f .after;
+      isAll = ap (λ (vs : List (List (List ℕ))). us ∷ vs) (f .isAll);
+      others = yes-and (not (fits name us)) (all (λ (vs : List (List ℕ)). not (fits name vs)) (f .before)) (rw q tt) (f .others);
+      fitting = f .fitting;
+    }
 
 -- "the larger of its rise and fall block delays"
 line-delay : (lines : List (List (List ℕ))) (name : List ℕ) (d : ℕ) → andThen (pinLine name lines) delayOf ≡ some d → HasDelay lines name d
@@ -70,12 +68,6 @@ line-delay lines name d e =
     let c = then-out (thousandths (getD (a .0) 7 [])) _ d (b .2) in
     record { before = f .before; line = a .0; after = f .after; isAll = f .isAll; others = f .others; fitting = f .fitting; rise = b .0; fall = c .0; isRise = b .1; isFall = c .1; larger = sym (some-once (c .2)) }
 
-delay-small : (lines : List (List (List ℕ))) (name : List ℕ) (d : ℕ) → HasDelay lines name d → d ≤ 65535
-delay-small lines name d h =
-    let x : h .rise ≤ 65535 = thousandths-small (getD (h .line) 5 []) (h .rise) (h .isRise) in
-    let y : h .fall ≤ 65535 = thousandths-small (getD (h .line) 7 []) (h .fall) (h .isFall) in
-    omega (arith, h .larger)
-
 module _ (lines : List (List (List ℕ))) (names : List (List ℕ)) where
   -- the delay of a pin that is there, or "0 .. like absent pins' delays"
   abbrev Either : ℕ → ℕ → Type 0
@@ -83,32 +75,17 @@ module _ (lines : List (List (List ℕ))) (names : List (List ℕ)) where
 
   pin-either : (j d : ℕ) → pinDelay lines names j ≡ some d → Either j d
   unfolding pinDelay
-  pin-either j d e = go (ltb j (length names)) (ltb→lt j (length names)) (nltb→le j (length names)) e
-    where
-      go : (b : Bool) → (T b → j < length names) → (T (not b) → length names ≤ j) → cond b (andThen (pinLine (getD names j []) lines) delayOf) (some 0) ≡ some d → Either j d
-      go true y n x = inl (y tt, line-delay lines (getD names j []) d x)
-      go false y n x = inr (n tt, sym (some-once x))
+  pin-either j d e = by-bool (ltb j (length names))
+      (λ q. inl ((rw q at (ltb→lt j (length names))) tt, line-delay lines (getD names j []) d (rw q at e)))
+      (λ p. inr ((rw p at (nltb→le j (length names))) tt, sym (some-once (rw p at e))))
 
   pin-small : (j d : ℕ) → pinDelay lines names j ≡ some d → d ≤ 65535
-  pin-small j d e = go (pin-either j d e)
-    where
-      go : Either j d → d ≤ 65535
-      go (inl p) = delay-small lines (getD names j []) d (p .1)
-      go (inr p) = omega (arith, p .1)
+  pin-small j d e = ⊎-elim (λ p. (let y : (p .1) .fall ≤ 65535 = thousandths-small (getD ((p .1) .line) 7 []) ((p .1) .fall)
+      ((p .1) .isFall) in omega (arith, thousandths-small (getD ((p .1) .line) 5 []) ((p .1) .rise) ((p .1) .isRise), (p .1) .larger)))
+      (λ q. omega (arith, q .1)) (pin-either j d e)
 
   pin-absent : (j d : ℕ) → pinDelay lines names j ≡ some d → length names ≤ j → d ≡ 0
-  pin-absent j d e h = go (pin-either j d e)
-    where
-      go : Either j d → d ≡ 0
-      go (inl p) = absurd (omega (arith, p .0))
-      go (inr p) = p .1
-
-  pin-delay : (j d : ℕ) → j < length names → pinDelay lines names j ≡ some d → HasDelay lines (getD names j []) d
-  pin-delay j d h e = go (pin-either j d e)
-    where
-      go : Either j d → HasDelay lines (getD names j []) d
-      go (inl p) = p .1
-      go (inr p) = absurd (omega (arith, p .0))
+  pin-absent j d e h = ⊎-elim (λ p. absurd (omega (arith, p .0))) (λ q. q .1) (pin-either j d e)
 
   record Four (ds : List ℕ) : Type 0 where
     d0 : ℕ
@@ -131,7 +108,8 @@ module _ (lines : List (List (List ℕ))) (names : List (List ℕ)) where
       record { d0 = a .0; d1 = b .0; d2 = c .0; d3 = d .0; is0 = a .1; is1 = b .1; is2 = c .1; is3 = d .1; are = some-once (d .2) }
 
   pub delays-are : (ds : List ℕ) → length names ≤ 4 → delaysOf lines names ≡ some ds → (j : ℕ) → j < length names → HasDelay lines (getD names j []) (getD ds j 0)
-  delays-are ds few e j h = pin-delay j (getD ds j 0) h (subst (λ (xs : List ℕ). pinDelay lines names j ≡ some (getD xs j 0)) (f .are) (go j (omega arith)))
+  delays-are ds few e j h = (⊎-elim (λ p. p .1) (λ q. absurd (omega (arith, q .0)))
+      (pin-either j (getD ds j 0) (subst (λ (xs : List ℕ). pinDelay lines names j ≡ some (getD xs j 0)) (f .are) (go j (omega arith)))))
     where
       f : Four ds
       f = delays-four ds e
@@ -152,9 +130,7 @@ zeros-from p a b c d h ha hb hc hd = go p h ha hb hc hd
     is n e r t = yes-and (eqb 0 n) r (yes-eqb (sym e)) t
 
     go : (q : ℕ) → q ≤ 4 → (q ≤ 0 → a ≡ 0) → (q ≤ 1 → b ≡ 0) → (q ≤ 2 → c ≡ 0) → (q ≤ 3 → d ≡ 0) → T (all (eqb 0) (drop q (a ∷ b ∷ c ∷ d ∷ [])))
-    go zero k x y z w =
-        unfold all in
-        is a (x (omega arith)) (eqb 0 b && (eqb 0 c && (eqb 0 d && true)))
+    go zero k x y z w = unfold all in is a (x (omega arith)) (eqb 0 b && (eqb 0 c && (eqb 0 d && true)))
         (is b (y (omega arith)) (eqb 0 c && (eqb 0 d && true)) (is c (z (omega arith)) (eqb 0 d && true) (is d (w (omega arith)) true tt)))
     go (suc zero) k x y z w = unfold all in is b (y (omega arith)) (eqb 0 c && (eqb 0 d && true)) (is c (z (omega arith)) (eqb 0 d && true) (is d (w (omega arith)) true tt))
     go (suc (suc zero)) k x y z w = unfold all in is c (z (omega arith)) (eqb 0 d && true) (is d (w (omega arith)) true tt)
@@ -212,39 +188,26 @@ table-less formula = rows-less (λ r. valueOf (nameValue (pinsOf formula) r) for
 
 pub group-fits : (g : Group) (c : Gate) → Passed g c → GateFits c
 unfolding formulaOf all
-group-fits g c p = record {
-  pins = subst (λ (n : ℕ). n ≤ 4) (sym (m .pins)) (p .few);
-  table = subst (λ (n : ℕ). n < 2 ^ 2 ^ c .pins) (sym (m .table)) (subst (λ (k : ℕ). tableOf formula < 2 ^ 2 ^ k) (sym (m .pins)) (table-less formula));
-  area = thousandths-small (getD (lineTokens (g .head)) 2 []) (c .area) (m .area);
-  four = ap length (sym (f .are));
-  delays = subst (λ (ds : List ℕ). T (all (λ (d : ℕ). leb d 65535) ds)) (f .are) small;
-  absent = subst (λ (n : ℕ). T (all (eqb 0) (drop n (c .delays)))) (sym (m .pins))
-      (subst (λ (ds : List ℕ). T (all (eqb 0) (drop (length names) ds))) (f .are)
-      (zeros-from (length names) (f .d0) (f .d1) (f .d2) (f .d3) (p .few)
-      (pin-absent lines names 0 (f .d0) (f .is0)) (pin-absent lines names 1 (f .d1) (f .is1)) (pin-absent lines names 2 (f .d2) (f .is2)) (pin-absent lines names 3 (f .d3) (f .is3))));
-}
-  where
-    lines : List (List (List ℕ))
-    lines = map lineTokens (g .lines)
-
-    formula : List (List ℕ)
-    formula = drop 5 (lineTokens (g .head))
-
-    names : List (List ℕ)
-    names = pinsOf formula
-
-    m : Made lines (lineTokens (g .head)) c
-    m = p .made
-
-    f : Four lines names (c .delays)
-    f = delays-four lines names (c .delays) (m .delays)
-
-    low : (n : ℕ) → n ≤ 65535 → (r : Bool) → T r → T (leb n 65535 && r)
-    low n h r t = yes-and (leb n 65535) r (le→leb n 65535 h) t
-
-    small : T (all (λ (d : ℕ). leb d 65535) (f .d0 ∷ f .d1 ∷ f .d2 ∷ f .d3 ∷ []))
-    small =
-        unfold all in
-        low (f .d0) (pin-small lines names 0 (f .d0) (f .is0)) (leb (f .d1) 65535 && (leb (f .d2) 65535 && (leb (f .d3) 65535 && true)))
-        (low (f .d1) (pin-small lines names 1 (f .d1) (f .is1)) (leb (f .d2) 65535 && (leb (f .d3) 65535 && true))
-        (low (f .d2) (pin-small lines names 2 (f .d2) (f .is2)) (leb (f .d3) 65535 && true) (low (f .d3) (pin-small lines names 3 (f .d3) (f .is3)) true tt)))
+group-fits g c p =
+    let lines = map lineTokens (g .lines) in
+    let formula = drop 5 (lineTokens (g .head)) in
+    let names = pinsOf formula in
+    let m = p .made in
+    let f = delays-four lines names (c .delays) (m .delays) in
+    let low : (n : ℕ) → n ≤ 65535 → (r : Bool) → T r → T (leb n 65535 && r) = λ n h r t. yes-and (leb n 65535) r (le→leb n 65535 h) t in
+    let small : T (all (λ (d : ℕ). leb d 65535) (f .d0 ∷ f .d1 ∷ f .d2 ∷ f .d3 ∷ [])) = unfold all in low (f .d0)
+    (pin-small lines names 0 (f .d0) (f .is0)) (leb (f .d1) 65535 && (leb (f .d2) 65535 && (leb (f .d3) 65535 && true))) (low (f .d1)
+    (pin-small lines names 1 (f .d1) (f .is1)) (leb (f .d2) 65535 && (leb (f .d3) 65535 && true)) (low (f .d2)
+    (pin-small lines names 2 (f .d2) (f .is2)) (leb (f .d3) 65535 && true)
+    (low (f .d3) (pin-small lines names 3 (f .d3) (f .is3)) true tt))) in
+    record {
+      pins = subst (λ (n : ℕ). n ≤ 4) (sym (m .pins)) (p .few);
+      table = subst (λ (n : ℕ). n < 2 ^ 2 ^ c .pins) (sym (m .table)) (subst (λ (k : ℕ). tableOf formula < 2 ^ 2 ^ k) (sym (m .pins)) (table-less formula));
+      area = thousandths-small (getD (lineTokens (g .head)) 2 []) (c .area) (m .area);
+      four = ap length (sym (f .are));
+      delays = subst (λ (ds : List ℕ). T (all (λ (d : ℕ). leb d 65535) ds)) (f .are) small;
+      absent = subst (λ (n : ℕ). T (all (eqb 0) (drop n (c .delays)))) (sym (m .pins))
+          (subst (λ (ds : List ℕ). T (all (eqb 0) (drop (length names) ds))) (f .are)
+          (zeros-from (length names) (f .d0) (f .d1) (f .d2) (f .d3) (p .few)
+          (pin-absent lines names 0 (f .d0) (f .is0)) (pin-absent lines names 1 (f .d1) (f .is1)) (pin-absent lines names 2 (f .d2) (f .is2)) (pin-absent lines names 3 (f .d3) (f .is3))));
+    }

@@ -13,6 +13,7 @@ use Rattle.model.specs.GenlibFormula.{Taken, turns, begins, chain, quoted, clos
 use Rattle.model.specs.GenlibDemands.{Part, sum, product, factor, Means}
 use Rattle.model.specs.GenlibDemands.Means.{bracketed, turned, primed, times, plus, alone, named as name, one}
 use Rattle.theory_genlib.proofs.Forms.{begins-is, none-some, some-once}
+use Rattle.theory_graph.proofs.Split.{by-bool}
 
 -- a part of this value stands before what is left
 pub record Before (value : List ℕ → Bool) (p : Part) (ts : List (List ℕ)) (r : Bool × List (List ℕ)) : Type 0 where
@@ -45,40 +46,29 @@ module _ (value : List ℕ → Bool) where
   bangs : (v : Bool) (ts : List (List ℕ)) → Turns v ts
   unfolding turns
   bangs v [] = record { signs = []; isAll = refl; means = λ us x m. subst (λ (y : Bool). Means value factor us y) (sym (flip-twice v x)) m }
-  bangs v (t ∷ ts) = go (isSign 33 t) refl (bangs (not v) ts)
-    where
-      go : (c : Bool) → isSign 33 t ≡ c → Turns (not v) ts → Turns v (t ∷ ts)
-      go true e r =
-          unfold turns in
-          let here : turns 33 v (t ∷ ts) ≡ turns 33 (not v) ts = ap (λ (b : Bool). cond b (turns 33 (not v) ts) (v, t ∷ ts)) e in
-          record {
-            signs = t ∷ r .signs;
-            isAll = ap (λ (us : List (List ℕ)). t ∷ us) (r .isAll) ∙ ap (λ (q : Bool × List (List ℕ)). t ∷ r .signs ++ q .1) (sym here);
-            means = λ us x m.
-                subst (λ (y : Bool). Means value factor (t ∷ r .signs ++ us) y)
-                (flip-not v (flip (turns 33 (not v) ts .0) x) ∙ ap (λ (q : Bool × List (List ℕ)). flip v (flip (q .0) x)) (sym here)) (turned t e (r .means us x m));
-          }
-      go false e r =
-          unfold turns in
-          let here : turns 33 v (t ∷ ts) ≡ (v, t ∷ ts) = ap (λ (b : Bool). cond b (turns 33 (not v) ts) (v, t ∷ ts)) e in
-          record {
-            signs = [];
-            isAll = ap (λ (q : Bool × List (List ℕ)). q .1) (sym here);
-            means = λ us x m. subst (λ (y : Bool). Means value factor us y) (sym (flip-twice v x) ∙ ap (λ (q : Bool × List (List ℕ)). flip v (flip (q .0) x)) (sym here)) m;
-          }
+  bangs v (t ∷ ts) = by-bool (isSign 33 t) (λ e. unfold turns in let here : turns 33 v (t ∷ ts) ≡ turns 33 (not v) ts = ap
+      (λ (b : Bool). cond b (turns 33 (not v) ts) (v, t ∷ ts)) e in record {
+        signs = t ∷ (bangs (not v) ts) .signs;
+        isAll = ap (λ (us : List (List ℕ)). t ∷ us) (bangs (not v) ts .isAll)
+            ∙ ap (λ (q : Bool × List (List ℕ)). t ∷ (bangs (not v) ts) .signs ++ q .1) (sym here);
+        means = λ us x m. subst (λ (y : Bool). Means value factor (t ∷ (bangs (not v) ts) .signs ++ us) y)
+            (flip-not v (flip (turns 33 (not v) ts .0) x) ∙ ap (λ (q : Bool × List (List ℕ)). flip v (flip (q .0) x)) (sym here))
+            (turned t e (bangs (not v) ts .means us x m));
+      }) (λ q. unfold turns in let here : turns 33 v (t ∷ ts) ≡ (v, t ∷ ts) = ap
+      (λ (b : Bool). cond b (turns 33 (not v) ts) (v, t ∷ ts)) q in record {
+        signs = [];
+        isAll = ap (λ (q : Bool × List (List ℕ)). q .1) (sym here);
+        means = λ us x m. subst (λ (y : Bool). Means value factor us y)
+            (sym (flip-twice v x) ∙ ap (λ (q : Bool × List (List ℕ)). flip v (flip (q .0) x)) (sym here)) m;
+      })
 
   -- the `'` behind one
   quotes : (us : List (List ℕ)) (v : Bool) (ts : List (List ℕ)) → Means value factor us v → Before value factor (us ++ ts) (turns 39 v ts)
   unfolding turns
   quotes us v [] m = record { tokens = us; isAll = refl; means = m }
-  quotes us v (t ∷ ts) m = go (isSign 39 t) refl (quotes (us ++ (t ∷ [])) (not v) ts)
-    where
-      go : (c : Bool) → isSign 39 t ≡ c → (Means value factor (us ++ (t ∷ [])) (not v) → Before value factor ((us ++ (t ∷ [])) ++ ts) (turns 39 (not v) ts))
-          → Before value factor (us ++ (t ∷ ts)) (cond c (turns 39 (not v) ts) (v, t ∷ ts))
-      go true e r =
-          let b = r (primed t m e) in
-          record { tokens = b .tokens; isAll = sym (append-assoc us (t ∷ []) ts) ∙ b .isAll; means = b .means }
-      go false e r = record { tokens = us; isAll = refl; means = m }
+  quotes us v (t ∷ ts) m = by-bool (isSign 39 t) (λ e. rw e (let b = (quotes (us ++ (t ∷ [])) (not v) ts) (primed t m e) in
+      record { tokens = b .tokens; isAll = sym (append-assoc us (t ∷ []) ts) ∙ b .isAll; means = b .means }))
+      (λ q. rw q (record { tokens = us; isAll = refl; means = m }))
 
   -- parts of level p with the sign b between them make one of level q
   module _ (b : ℕ) (join : Bool → Bool → Bool) (p q : Part) (part : List (List ℕ) → Taken) (sound : Sound value p part)
@@ -100,23 +90,19 @@ module _ (value : List ℕ → Bool) where
     chain-on (suc fuel) v us t ts r m s e =
         let a = then-some (part ts) (onward fuel v) r e in
         let h = sound ts (a .0) (a .1) in
-        go (a .0) h (begins b (a .0 .1)) refl (further us (h .tokens) v (a .0 .0) t m s (h .means)) (λ ws u xs. chain-on fuel (join v (a .0 .0)) ws u xs r) (a .2)
-      where
-        go : (x : Bool × List (List ℕ)) (h : Before value p ts x) (c : Bool) → begins b (x .1) ≡ c → Means value q (us ++ (t ∷ h .tokens)) (join v (x .0))
-            → ((ws : List (List ℕ)) (u : List ℕ) (xs : List (List ℕ)) → Means value q ws (join v (x .0)) → isSign b u ≡ true → chain b join part fuel (join v (x .0)) xs ≡ some r → Before value q (ws ++ (u ∷ xs)) r)
-            → cond c (chain b join part fuel (join v (x .0)) (drop 1 (x .1))) (some (join v (x .0), x .1)) ≡ some r → Before value q (us ++ (t ∷ ts)) r
-        go x h true g k later w =
-            let y = begins-is b (x .1) g in
-            let z = later (us ++ (t ∷ h .tokens)) (y .0) (drop 1 (x .1)) k (y .1) w in
-            record {
-              tokens = z .tokens;
-              isAll = ap (λ (vs : List (List ℕ)). us ++ (t ∷ vs)) (h .isAll) ∙ sym (append-assoc us (t ∷ h .tokens) (x .1)) ∙ ap (λ (vs : List (List ℕ)). (us ++ (t ∷ h .tokens)) ++ vs) (y .2) ∙ z .isAll;
-              means = z .means;
-            }
-        go x h false g k later w =
-            let y : _≡_ {A = Bool × List (List ℕ)} (join v (x .0), x .1) r = some-once w in
-            subst (λ (o : Bool × List (List ℕ)). Before value q (us ++ (t ∷ ts)) o) y
-            (record { tokens = us ++ (t ∷ h .tokens); isAll = ap (λ (vs : List (List ℕ)). us ++ (t ∷ vs)) (h .isAll) ∙ sym (append-assoc us (t ∷ h .tokens) (x .1)); means = k })
+        by-bool (begins b (a .0 .1)) (λ g. let y = begins-is b ((a .0) .1) g in let z =
+        (chain-on fuel (join v (a .0 .0)) (us ++ (t ∷ h .tokens)) (y .0) (drop 1 ((a .0) .1)) r)
+        (further us (h .tokens) v (a .0 .0) t m s (h .means)) (y .1) (rw g at (a .2)) in record {
+          tokens = z .tokens;
+          isAll = ap (λ (vs : List (List ℕ)). us ++ (t ∷ vs)) (h .isAll) ∙ sym (append-assoc us (t ∷ h .tokens) ((a .0) .1))
+              ∙ ap (λ (vs : List (List ℕ)). (us ++ (t ∷ h .tokens)) ++ vs) (y .2) ∙ z .isAll;
+          means = z .means;
+        }) (λ p. let y : _≡_ {A = Bool × List (List ℕ)} (join v ((a .0) .0), (a .0) .1) r = some-once (rw p at (a .2)) in subst
+        (λ (o : Bool × List (List ℕ)). Before value q (us ++ (t ∷ ts)) o) y (record {
+          tokens = us ++ (t ∷ h .tokens);
+          isAll = ap (λ (vs : List (List ℕ)). us ++ (t ∷ vs)) (h .isAll) ∙ sym (append-assoc us (t ∷ h .tokens) ((a .0) .1));
+          means = (further us (h .tokens) v (a .0 .0) t m s (h .means));
+        }))
 
     chain-sound : (fuel : ℕ) (v : Bool) → ((x : Bool) → join v x ≡ x) → Sound value q (chain b join part fuel v)
     unfolding chain
@@ -132,9 +118,8 @@ module _ (value : List ℕ → Bool) where
             let y = begins-is b (x .1) g in
             let z = chain-on fuel (join v (x .0)) (h .tokens) (y .0) (drop 1 (x .1)) r k (y .1) w in
             record { tokens = z .tokens; isAll = h .isAll ∙ ap (λ (vs : List (List ℕ)). h .tokens ++ vs) (y .2) ∙ z .isAll; means = z .means }
-        go x h false g k w =
-            let y : _≡_ {A = Bool × List (List ℕ)} (join v (x .0), x .1) r = some-once w in
-            subst (λ (o : Bool × List (List ℕ)). Before value q ts o) y (record { tokens = h .tokens; isAll = h .isAll; means = k })
+        go x h false g k w = subst (λ (o : Bool × List (List ℕ)). Before value q ts o) (some-once w)
+            (record { tokens = h .tokens; isAll = h .isAll; means = k })
 
   module _ (inside : List (List ℕ) → Taken) (sound : Sound value sum inside) where
     -- a factor, with its `!` before it
@@ -174,11 +159,8 @@ module _ (value : List ℕ → Bool) where
 
         word : (xs : List (List ℕ)) → us ≡ xs → named value odd xs ≡ some r → Before value factor ts r
         word [] a k = unfold named in none-some k
-        word (t ∷ xs) a k = unfold named quoted in is (isWord t) refl k
-          where
-            is : (c : Bool) → isWord t ≡ c → cond c (some (turns 39 (flip odd (value t)) xs)) none ≡ some r → Before value factor ts r
-            is true g l = whole (t ∷ []) (value t) xs a (name t g) l
-            is false g l = none-some l
+        word (t ∷ xs) a k = unfold named quoted in by-bool (isWord t) (λ g. whole (t ∷ []) (value t) xs a (name t g) (rw g at k))
+            (λ e. none-some (rw e at k))
 
         go : (c : Bool) → begins 40 us ≡ c → cond c (andThen (inside (drop 1 us)) (λ q. closeBracket (flip odd (q .0)) (q .1))) (named value odd us) ≡ some r → Before value factor ts r
         go true g k = let y = begins-is 40 us g in inner (inside (drop 1 us)) refl (y .0) (y .1) (y .2) k

@@ -18,6 +18,7 @@ use Rattle.model.specs.GenlibFormula.{formed, Taken, turns, begins, chain, quot
 use Rattle.model.specs.GenlibDemands.{Part, sum, product, factor, Means, HasValue}
 use Rattle.model.specs.GenlibDemands.Means.{bracketed, turned, primed, times, plus, alone, named as name, one}
 use Rattle.theory_genlib.proofs.Forms.{sign-lead, word-sign, some-once, taken-formed}
+use Rattle.theory_graph.proofs.Split.{by-bool}
 
 -- a token is one sign only
 sign-other : (b c : ℕ) (t : List ℕ) → isSign b t ≡ true → eqb b c ≡ false → isSign c t ≡ false
@@ -42,11 +43,7 @@ other q = (not (q .0), q .1)
 turns-not : (b : ℕ) (v : Bool) (ts : List (List ℕ)) → turns b (not v) ts ≡ other (turns b v ts)
 unfolding turns
 turns-not b v [] = refl
-turns-not b v (t ∷ ts) = go (isSign b t) (turns-not b (not v) ts)
-  where
-    go : (c : Bool) → turns b (not (not v)) ts ≡ other (turns b (not v) ts) → cond c (turns b (not (not v)) ts) (not v, t ∷ ts) ≡ other (cond c (turns b (not v) ts) (v, t ∷ ts))
-    go true r = r
-    go false r = refl
+turns-not b v (t ∷ ts) = by-bool (isSign b t) (λ e. cc (turns-not b (not v) ts)) (λ q. cc)
 
 abbrev others : Taken → Taken
 others o = andThen o (λ q. some (other q))
@@ -58,41 +55,25 @@ flip-other true false = refl
 flip-other false x = refl
 
 module _ (value : List ℕ → Bool) (inside : List (List ℕ) → Taken) where
-  close-not : (v : Bool) (ts : List (List ℕ)) → closeBracket (not v) ts ≡ others (closeBracket v ts)
-  unfolding closeBracket quoted andThen
-  close-not v ts = go (begins 41 ts)
-    where
-      go : (c : Bool) → cond c (some (turns 39 (not v) (drop 1 ts))) none ≡ others (cond c (some (turns 39 v (drop 1 ts))) none)
-      go true = unfold andThen in ap some (turns-not 39 v (drop 1 ts))
-      go false = unfold andThen in refl
-
   named-not : (odd : Bool) (ts : List (List ℕ)) → named value (not odd) ts ≡ others (named value odd ts)
   unfolding named quoted andThen
   named-not odd [] = refl
-  named-not odd (t ∷ ts) = go (isWord t)
-    where
-      go : (c : Bool) → cond c (some (turns 39 (flip (not odd) (value t)) ts)) none ≡ others (cond c (some (turns 39 (flip odd (value t)) ts)) none)
-      go true = unfold andThen in ap (λ (x : Bool). some (turns 39 x ts)) (flip-other odd (value t)) ∙ ap some (turns-not 39 (flip odd (value t)) ts)
-      go false = unfold andThen in refl
+  named-not odd (t ∷ ts) = by-bool (isWord t) (λ e. rw e (unfold andThen in ap (λ (x : Bool). some (turns 39 x ts))
+      (flip-other odd (value t)) ∙ ap some (turns-not 39 (flip odd (value t)) ts))) (λ q. rw q (unfold andThen in refl))
 
   atom-not : (odd : Bool) (ts : List (List ℕ)) → atom value inside (not odd) ts ≡ others (atom value inside odd ts)
   unfolding atom
-  atom-not odd ts = go (begins 40 ts)
+  atom-not odd ts = by-bool (begins 40 ts) (λ e. cc (inner (inside (drop 1 ts)))) (λ q. cc (named-not odd ts))
     where
       inner : (o : Taken) → andThen o (λ q. closeBracket (flip (not odd) (q .0)) (q .1)) ≡ others (andThen o (λ q. closeBracket (flip odd (q .0)) (q .1)))
       inner none = unfold andThen in refl
-      inner (some q) = unfold andThen in ap (λ (x : Bool). closeBracket x (q .1)) (flip-other odd (q .0)) ∙ close-not (flip odd (q .0)) (q .1)
-
-      go : (c : Bool) → cond c (andThen (inside (drop 1 ts)) (λ q. closeBracket (flip (not odd) (q .0)) (q .1))) (named value (not odd) ts)
-          ≡ others (cond c (andThen (inside (drop 1 ts)) (λ q. closeBracket (flip odd (q .0)) (q .1))) (named value odd ts))
-      go true = inner (inside (drop 1 ts))
-      go false = named-not odd ts
+      inner (some q) = unfold andThen in ap (λ (x : Bool). closeBracket x (q .1)) (flip-other odd (q .0)) ∙ by-bool (begins 41 (q .1))
+          (λ e. rw e (unfold andThen in ap some (turns-not 39 (flip odd (q .0)) (drop 1 (q .1))))) (λ q. rw q (unfold andThen in refl))
 
   -- a `!` more before a factor
   factor-not : (t : List ℕ) (ts : List (List ℕ)) → isSign 33 t ≡ true → factorOf value inside (t ∷ ts) ≡ others (factorOf value inside ts)
   unfolding factorOf
-  factor-not t ts e =
-      ap (λ (q : Bool × List (List ℕ)). atom value inside (q .0) (q .1)) (turns-more 33 false t ts e ∙ turns-not 33 false ts) ∙ atom-not (turns 33 false ts .0) (turns 33 false ts .1)
+  factor-not t ts e = cc (turns-more 33 false t ts e, turns-not 33 false ts, atom-not (turns 33 false ts .0) (turns 33 false ts .1))
 
   -- a factor that no `!` stands before
   factor-plain : (ts : List (List ℕ)) → begins 33 ts ≡ false → factorOf value inside ts ≡ atom value inside false ts
@@ -117,8 +98,7 @@ module _ (b : ℕ) (join : Bool → Bool → Bool) (assoc : (x y z : Bool) → j
 
   part-step : (ts : List (List ℕ)) (v : Bool) → PartAt ts v → (f : ℕ) (v0 : Bool) (rest : List (List ℕ)) → Ends rest → chain b join part (suc f) v0 (ts ++ rest) ≡ onward f (join v0 v) rest
   unfolding chain andThen
-  part-step ts v p f v0 rest e =
-      ap (λ (o : Taken). andThen o (λ q. cond (begins b (q .1)) (chain b join part f (join v0 (q .0)) (drop 1 (q .1))) (some (join v0 (q .0), q .1)))) (p rest e)
+  part-step ts v p f v0 rest e = cc (p rest e)
 
   chain-one : (ts : List (List ℕ)) (v : Bool) → PartAt ts v → ChainAt 1 ts v
   chain-one ts v p f v0 rest e = ap (λ (n : ℕ). chain b join part n v0 (ts ++ rest)) (let q : 1 + f ≡ suc f = omega arith in q) ∙ part-step ts v p f v0 rest e
@@ -127,18 +107,13 @@ module _ (b : ℕ) (join : Bool → Bool → Bool) (assoc : (x y z : Bool) → j
   unfolding begins
   chain-more n ts v t us w c s p f v0 rest e =
       ap (λ (k : ℕ). chain b join part k v0 ((ts ++ (t ∷ us)) ++ rest)) (let q : n + 1 + f ≡ n + suc f = omega arith in q)
-      ∙ ap (chain b join part (n + suc f) v0) (append-assoc ts (t ∷ us) rest)
-      ∙ c (suc f) v0 (t ∷ us ++ rest) (sign t (us ++ rest) s)
+      ∙ ap (chain b join part (n + suc f) v0) (append-assoc ts (t ∷ us) rest) ∙ c (suc f) v0 (t ∷ us ++ rest) (sign t (us ++ rest) s)
       ∙ ap (λ (x : Bool). cond x (chain b join part (suc f) (join v0 v) (us ++ rest)) (some (join v0 v, t ∷ us ++ rest))) s
-      ∙ part-step us w p f (join v0 v) rest e
-      ∙ ap (λ (x : Bool). onward f x rest) (assoc v0 v w)
+      ∙ part-step us w p f (join v0 v) rest e ∙ ap (λ (x : Bool). onward f x rest) (assoc v0 v w)
 
   chain-whole : (n : ℕ) (ts : List (List ℕ)) (v : Bool) → ChainAt n ts v → (fuel : ℕ) → n ≤ fuel → (v0 : Bool) (rest : List (List ℕ)) → Ends rest → begins b rest ≡ false
       → chain b join part fuel v0 (ts ++ rest) ≡ some (join v0 v, rest)
-  chain-whole n ts v c fuel h v0 rest e g =
-      ap (λ (k : ℕ). chain b join part k v0 (ts ++ rest)) (let q : fuel ≡ n + (fuel - n) = omega arith in q)
-      ∙ c (fuel - n) v0 rest e
-      ∙ ap (λ (x : Bool). cond x (chain b join part (fuel - n) (join v0 v) (drop 1 rest)) (some (join v0 v, rest))) g
+  chain-whole n ts v c fuel h v0 rest e g = cc (let q : fuel ≡ n + (fuel - n) = omega arith in q, c (fuel - n) v0 rest e)
 
 and-assoc : (x y z : Bool) → ((x && y) && z) ≡ (x && (y && z))
 and-assoc true y z = refl
@@ -204,17 +179,6 @@ module _ (value : List ℕ → Bool) where
       ∙ ap (λ (c : Bool). cond c (andThen (within value fuel k rest) (λ q. closeBracket (flip false (q .0)) (q .1))) (named value false (t ∷ rest))) (word-sign 40 (unfold isNameByte isLetter between in refl) t w)
       ∙ ap (λ (c : Bool). cond c (some (turns 39 (value t) rest)) none) w
 
-  bracket-read : (ts : List (List ℕ)) (v : Bool) (t u : List ℕ) → isSign 40 t ≡ true → isSign 41 u ≡ true → (k fuel n : ℕ) → n ≤ fuel → Read sum k fuel n ts v
-      → Read factor (suc k) fuel 0 (t ∷ ts ++ (u ∷ [])) v
-  unfolding atom begins within andThen closeBracket quoted flip
-  bracket-read ts v t u e g k fuel n h r rest =
-      factor-plain value (within value fuel (suc k)) (t ∷ (ts ++ (u ∷ [])) ++ rest) (sign-other 40 33 t e refl)
-      ∙ ap (λ (c : Bool). cond c (andThen (sumOf value fuel (within value fuel k) ((ts ++ (u ∷ [])) ++ rest)) (λ q. closeBracket (flip false (q .0)) (q .1))) (named value false (t ∷ (ts ++ (u ∷ [])) ++ rest))) e
-      ∙ ap (λ (o : Taken). andThen o (λ q. closeBracket (flip false (q .0)) (q .1)))
-      (ap (sumOf value fuel (within value fuel k)) (append-assoc ts (u ∷ []) rest)
-      ∙ sum-whole k fuel n ts v h r (u ∷ rest) (begins-other 41 39 u rest refl g, begins-other 41 42 u rest refl g) (begins-other 41 43 u rest refl g))
-      ∙ ap (λ (c : Bool). cond c (some (turns 39 v rest)) none) g
-
   turned-read : (ts : List (List ℕ)) (v : Bool) (t : List ℕ) → isSign 33 t ≡ true → (k fuel n : ℕ) → Read factor k fuel n ts v → Read factor k fuel n (t ∷ ts) (not v)
   unfolding andThen
   turned-read ts v t e k fuel n r rest = factor-not value (within value fuel k) t (ts ++ rest) e ∙ ap others (r rest) ∙ ap some (sym (turns-not 39 v rest))
@@ -227,16 +191,15 @@ module _ (value : List ℕ → Bool) where
     where
       inner : (k fuel : ℕ) → suc (r .depth) ≤ k → r .least ≤ fuel → Read factor k fuel 0 (t ∷ ts ++ (u ∷ [])) v
       inner zero fuel a b = absurd (omega arith)
-      inner (suc k) fuel a b = bracket-read ts v t u e g k fuel (r .members) (omega (arith, r .few)) (r .read k fuel (omega arith) b)
-
-  one-enough : (ts : List (List ℕ)) (v : Bool) → Enough factor ts v → Enough product ts v
-  one-enough ts v r = record {
-    depth = r .depth;
-    least = r .least + 1;
-    members = 1;
-    few = omega arith;
-    read = λ k fuel a b. chain-one 42 _&&_ and-assoc (factorAt k fuel) EndsFactor times-ends ts v (factor-part k fuel (r .members) ts v (r .read k fuel a (omega arith)));
-  }
+      inner (suc k) fuel a b = unfold atom begins within andThen closeBracket quoted flip in λ rest. factor-plain value
+          (within value fuel (suc k)) (t ∷ (ts ++ (u ∷ [])) ++ rest) (sign-other 40 33 t e refl) ∙ ap (λ (c : Bool). cond c
+          (andThen (sumOf value fuel (within value fuel k) ((ts ++ (u ∷ [])) ++ rest)) (λ q. closeBracket (flip false (q .0)) (q .1)))
+          (named value false (t ∷ (ts ++ (u ∷ [])) ++ rest))) e
+          ∙ ap (λ (o : Taken). andThen o (λ q. closeBracket (flip false (q .0)) (q .1)))
+          (ap (sumOf value fuel (within value fuel k)) (append-assoc ts (u ∷ []) rest) ∙ sum-whole k fuel (r .members) ts v
+          (omega (arith, r .few)) (r .read k fuel (omega arith) b) (u ∷ rest)
+          (begins-other 41 39 u rest refl g, begins-other 41 42 u rest refl g) (begins-other 41 43 u rest refl g))
+          ∙ ap (λ (c : Bool). cond c (some (turns 39 v rest)) none) g
 
   times-enough : (ts us : List (List ℕ)) (v w : Bool) (t : List ℕ) → isSign 42 t ≡ true → Enough product ts v → Enough factor us w → Enough product (ts ++ (t ∷ us)) (v && w)
   times-enough ts us v w t e r s = record {
@@ -278,7 +241,14 @@ module _ (value : List ℕ → Bool) where
   means-read p ts v (primed {ts = us} {v = w} t m e) =
       let r = means-read factor us w m in
       record { depth = r .depth; least = r .least; members = r .members; few = r .few; read = λ k fuel a b. primed-read us w t e k fuel (r .members) (r .read k fuel a b) }
-  means-read p ts v (one {ts = us} {v = w} m) = one-enough us w (means-read factor us w m)
+  means-read p ts v (one {ts = us} {v = w} m) = (record {
+    depth = (means-read factor us w m) .depth;
+    least = (means-read factor us w m) .least + 1;
+    members = 1;
+    few = omega arith;
+    read = λ k fuel a b. chain-one 42 _&&_ and-assoc (factorAt k fuel) EndsFactor times-ends us w
+        (factor-part k fuel (means-read factor us w m .members) us w (means-read factor us w m .read k fuel a (omega arith)));
+  })
   means-read p ts v (times {ts = us} {us = xs} {v = w} {w = x} t m e n) = times-enough us xs w x t e (means-read product us w m) (means-read factor xs x n)
   means-read p ts v (alone {ts = us} {v = w} m) = alone-enough us w (means-read product us w m)
   means-read p ts v (plus {ts = us} {us = xs} {v = w} {w = x} t m e n) = plus-enough us xs w x t e (means-read sum us w m) (means-read product xs x n)

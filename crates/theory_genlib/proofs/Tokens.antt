@@ -2,13 +2,14 @@
 use Prim.Native.Nat.{ℕ, zero, suc, _≤_}
 use native.Mathlib.Omega.{arith}
 use mathlib.Core.Path.{_≡_, refl, sym, _∙_, ap}
-use mathlib.Core.Logic.{_⊎_, inl, inr}
+use mathlib.Core.Logic.{_⊎_, inl, inr, ⊎-elim}
 use mathlib.Core.Bool.{Bool, true, false, _&&_, true≢false}
 use mathlib.Core.List.{List, [], _∷_, List·Memᴰ, List·Memᴰ·head, List·Memᴰ·tail, List·Memᴰ·not-nil}
 use lib.ListN.{length, drop}
 use borrow.Author.Tests.{eqb-true}
 use Rattle.model.specs.Text.{onto}
 use Rattle.model.specs.GenlibWords.{isBlank, isWordByte, startsWord, placed, tokens, lead, isSign}
+use Rattle.theory_graph.proofs.Split.{by-bool}
 
 -- a token is a word, by its first byte, or one byte
 abbrev Token : List ℕ → Type 0
@@ -39,11 +40,8 @@ tokens-are (b ∷ bs) t m = go (isBlank b) (isWordByte b && startsWord bs) refl 
 -- a token that begins with a byte of no word is that byte
 pub sign-alone : (b : ℕ) → isWordByte b ≡ false → (bs t : List ℕ) → List·Memᴰ t (tokens bs) → isSign b t ≡ true → t ≡ b ∷ []
 unfolding isSign
-sign-alone b w bs t m s = go (tokens-are bs t m)
-  where
-    go : Token t → t ≡ b ∷ []
-    go (inl e) = absurd (true≢false (sym e ∙ ap isWordByte (eqb-true (lead t) b s) ∙ w))
-    go (inr e) = e ∙ ap (λ (x : ℕ). x ∷ []) (eqb-true (lead t) b s)
+sign-alone b w bs t m s = ⊎-elim (λ e. absurd (true≢false (sym e ∙ ap isWordByte (eqb-true (lead t) b s) ∙ w)))
+    (λ q. q ∙ ap (λ (x : ℕ). x ∷ []) (eqb-true (lead t) b s)) (tokens-are bs t m)
 
 onto-length : (b : ℕ) (ts : List (List ℕ)) → length (onto b ts) ≤ suc (length ts)
 unfolding onto
@@ -53,12 +51,9 @@ onto-length b (t ∷ ts) = omega arith
 pub tokens-length : (bs : List ℕ) → length (tokens bs) ≤ length bs
 unfolding tokens
 tokens-length [] = omega arith
-tokens-length (b ∷ bs) = go (isBlank b) (isWordByte b && startsWord bs) (tokens-length bs)
-  where
-    go : (p q : Bool) → length (tokens bs) ≤ length bs → length (placed p q b (tokens bs)) ≤ suc (length bs)
-    go true q h = omega arith
-    go false true h = omega (arith, onto-length b (tokens bs))
-    go false false h = omega arith
+tokens-length (b ∷ bs) = by-bool (isBlank b) (λ e. rw e (omega (arith, tokens-length bs))) (λ q. rw q (by-bool
+    (isWordByte b && startsWord bs) (λ p. rw p (omega (arith, tokens-length bs, onto-length b (tokens bs))))
+    (λ r. rw r (omega (arith, tokens-length bs)))))
 
 -- what stands behind the first tokens stands among them
 pub drop-in : {A : Type 0} (n : ℕ) (xs : List A) (x : A) → List·Memᴰ x (drop n xs) → List·Memᴰ x xs

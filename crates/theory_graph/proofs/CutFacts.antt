@@ -2,10 +2,9 @@
 use Prim.Native.Nat.{ℕ, zero, suc, _+_, _≤_, compare}
 use native.Mathlib.Nat.{le-refl, le-of-suc-le-suc, not-suc-le-zero, suc-add, add-suc}
 use native.Mathlib.Omega.{arith}
-use mathlib.Core.Path.{_≡_, refl, sym, _∙_, ap, subst}
-use mathlib.Core.Logic.{_⊎_, inl, inr}
+use mathlib.Core.Path.{_≡_, refl, sym, _∙_, subst}
+use mathlib.Core.Logic.{_⊎_, inl, inr, ⊎-elim}
 use mathlib.Core.Bool.{Bool}
-use mathlib.Core.Option.{Option, none, some}
 use mathlib.Core.List.{List, [], _∷_, _++_, map, append-nil, List·Memᴰ, List·Memᴰ·head, List·Memᴰ·tail, List·Memᴰ·not-nil, List·Memᴰ·cases-cons, List·Memᴰ·eq-of-singleton}
 use lib.Dec.{leb}
 use lib.ListN.{length, length-append}
@@ -17,6 +16,7 @@ use Rattle.theory_graph.proofs.Sets.{union-left, union-right, union-onl
 use Rattle.theory_graph.proofs.Lists.{map-out, each-out, keep-out}
 use Rattle.theory_graph.proofs.Runs.{no-twice-behind, run-stays, run-entry, run-split, run-keeps, find-cons}
 use Rattle.theory_graph.proofs.Walk.{Valuation, Carry, Under, leaf, nought, and, walk-value}
+use Rattle.theory_graph.proofs.Split.{by-option}
 
 -- where the native comparison finds no difference there is none
 pub compare-found : (x y : ℕ) → compare x y ≡ Prim.Native.Nat.Ordering·eq → x ≡ y
@@ -30,25 +30,14 @@ pub record Joined (look : ℕ → List (List ℕ)) (l r : ℕ) (c : List ℕ) : 
   pub isRight : List·Memᴰ right (look (varOf r))
   pub isUnion : c ≡ union compare left right
 
-unions-out : (look : ℕ → List (List ℕ)) (l r : ℕ) (c : List ℕ) → List·Memᴰ c (unions (look (varOf l)) (look (varOf r))) → Joined look l r c
-unfolding unions
-unions-out look l r c m =
-    let kept = keep-out (λ (d : List ℕ). leb (length d) 4) (each (λ (a : List ℕ). map (union compare a) (look (varOf r))) (look (varOf l))) m in
-    let at = each-out (λ (a : List ℕ). map (union compare a) (look (varOf r))) (look (varOf l)) (kept .0) in
-    let back = map-out (union compare (at .0)) (look (varOf r)) (at .2) in
-    record { left = at .0; right = back .0; isLeft = at .1; isRight = back .1; isUnion = back .2 }
-
 pub both-cuts : (look : ℕ → List (List ℕ)) (v l r : ℕ) (c : List ℕ) → List·Memᴰ c (nodeCuts look v (both l r)) → (c ≡ v ∷ []) ⊎ Joined look l r c
 unfolding nodeCuts
-both-cuts look v l r c m = outer (union-only compareCuts c ((v ∷ []) ∷ unions (look (varOf l)) (look (varOf r))) [] m)
-  where
-    inner : (c ≡ v ∷ []) ⊎ List·Memᴰ c (unions (look (varOf l)) (look (varOf r))) → (c ≡ v ∷ []) ⊎ Joined look l r c
-    inner (inl e) = inl e
-    inner (inr n) = inr (unions-out look l r c n)
-
-    outer : List·Memᴰ c ((v ∷ []) ∷ unions (look (varOf l)) (look (varOf r))) ⊎ List·Memᴰ c [] → (c ≡ v ∷ []) ⊎ Joined look l r c
-    outer (inl n) = inner (List·Memᴰ·cases-cons n)
-    outer (inr n) = absurd (List·Memᴰ·not-nil n)
+both-cuts look v l r c m = ⊎-elim (λ n. ⊎-elim inl (λ q. inr (unfold unions in let kept = keep-out (λ (d : List ℕ). leb (length d) 4)
+    (each (λ (a : List ℕ). map (union compare a) (look (varOf r))) (look (varOf l))) q in let at = each-out
+    (λ (a : List ℕ). map (union compare a) (look (varOf r))) (look (varOf l)) (kept .0) in let back = map-out (union compare (at .0))
+    (look (varOf r)) (at .2) in record { left = at .0; right = back .0; isLeft = at .1; isRight = back .1; isUnion = back .2 }))
+    (List·Memᴰ·cases-cons n)) (λ q. absurd (List·Memᴰ·not-nil q))
+    (union-only compareCuts c ((v ∷ []) ∷ unions (look (varOf l)) (look (varOf r))) [] m)
 
 -- x is a leaf of a cut that look gives of some variable
 pub record Known (look : ℕ → List (List ℕ)) (x : ℕ) : Type 0 where
@@ -63,15 +52,10 @@ unfolding nodeCuts
 leaf-known look v constant c x m n = absurd (List·Memᴰ·not-nil (subst (λ (d : List ℕ). List·Memᴰ x d) (List·Memᴰ·eq-of-singleton m) n))
 leaf-known look v input c x m n = inl (List·Memᴰ·eq-of-singleton m)
 leaf-known look v undefined c x m n = absurd (List·Memᴰ·not-nil m)
-leaf-known look v (both l r) c x m n = go (both-cuts look v l r c m)
-  where
-    side : (j : Joined look l r c) → List·Memᴰ x (j .left) ⊎ List·Memᴰ x (j .right) → Known look x
-    side j (inl h) = record { at = varOf l; cut = j .left; isCut = j .isLeft; isLeaf = h }
-    side j (inr h) = record { at = varOf r; cut = j .right; isCut = j .isRight; isLeaf = h }
-
-    go : (c ≡ v ∷ []) ⊎ Joined look l r c → (c ≡ v ∷ []) ⊎ Known look x
-    go (inl e) = inl e
-    go (inr j) = inr (side j (union-only compare x (j .left) (j .right) (subst (λ (d : List ℕ). List·Memᴰ x d) (j .isUnion) n)))
+leaf-known look v (both l r) c x m n = ⊎-elim inl (λ j. inr (⊎-elim
+    (λ h. record { at = varOf l; cut = j .left; isCut = j .isLeft; isLeaf = h })
+    (λ q. record { at = varOf r; cut = j .right; isCut = j .isRight; isLeaf = q })
+    (union-only compare x (j .left) (j .right) (subst (λ (d : List ℕ). List·Memᴰ x d) (j .isUnion) n)))) (both-cuts look v l r c m)
 
 abbrev Sub : List ℕ → List ℕ → Type 0
 Sub c leaves = (x : ℕ) → List·Memᴰ x c → List·Memᴰ x leaves
@@ -95,12 +79,10 @@ module _ (g : Graph) where
   unfolding Leaves
   leaves-next known v vs once j u =
       find-cons [] cutStep (λ cs. (c : List ℕ) (x : ℕ) → List·Memᴰ c cs → List·Memᴰ x c → ¬ List·Memᴰ x vs) v u (cutStep known v) known
-      (λ e c x m n. new c x n (leaf-known (λ w. find [] w known) v (node g v) c x m n))
-      (λ c x m n h. j u c x m n (List·Memᴰ·tail h))
+      (λ e c x m n. new c x n (leaf-known (λ w. find [] w known) v (node g v) c x m n)) (λ c x m n h. j u c x m n (List·Memᴰ·tail h))
     where
       new : (c : List ℕ) (x : ℕ) → List·Memᴰ x c → (c ≡ v ∷ []) ⊎ Known (λ w. find [] w known) x → ¬ List·Memᴰ x vs
-      new c x n (inl e) h =
-          once .0 (subst (λ (y : ℕ). List·Memᴰ y vs) (List·Memᴰ·eq-of-singleton (subst (λ (d : List ℕ). List·Memᴰ x d) e n)) h)
+      new c x n (inl e) h = once .0 (rw (List·Memᴰ·eq-of-singleton (rw e at n)) at h)
       new c x n (inr k) h = j (k .at) (k .cut) x (k .isCut) (k .isLeaf) (List·Memᴰ·tail h)
 
   -- what is known when a variable's turn comes
@@ -111,10 +93,11 @@ module _ (g : Graph) where
   pub cuts-entry : (pre : List ℕ) (v : ℕ) (post : List ℕ) → placingOrder g ≡ pre ++ (v ∷ post) → Distinct (placingOrder g)
       → cutsOf g v ≡ nodeCuts (λ u. find [] u (cutsKnown pre)) v (node g v)
   unfolding cutsOf cutLists
-  cuts-entry pre v post e once =
-      ap (λ (vs : List ℕ). find [] v (run cutStep vs [])) e
-      ∙ ap (find [] v) (run-split [] cutStep pre (v ∷ post) [])
-      ∙ run-entry [] cutStep v post (cutsKnown pre) (no-twice-behind pre (v ∷ post) (subst Distinct e once) .0)
+  cuts-entry pre v post e once = cc (
+    run-split [] cutStep pre (v ∷ post) [],
+    run-entry [] cutStep v post (cutsKnown pre)
+        (no-twice-behind pre (v ∷ post) (rw (← e) once) .0),
+  )
 
   -- what is never placed has no cuts
   pub cuts-none : (v : ℕ) → ¬ List·Memᴰ v (placingOrder g) → cutsOf g v ≡ []
@@ -129,21 +112,16 @@ module _ (g : Graph) where
   pub leaves-closed : (pre vs : List ℕ) → placingOrder g ≡ pre ++ vs → Distinct (placingOrder g) → (u : ℕ) → ¬ List·Memᴰ u vs
       → (c : List ℕ) → List·Memᴰ c (cutsOf g u) → (x : ℕ) → List·Memᴰ x c → ¬ List·Memᴰ x vs
   unfolding cutsOf cutLists Leaves
-  leaves-closed pre vs e once u h c m x n =
-      leaves-so-far pre vs e once u c x
-      (subst (λ (cs : List (List ℕ)). List·Memᴰ c cs)
-      (ap (λ (ws : List ℕ). find [] u (run cutStep ws [])) e ∙ ap (find [] u) (run-split [] cutStep pre vs []) ∙ run-stays [] cutStep vs (cutsKnown pre) u h) m) n
+  leaves-closed pre vs e once u h c m x n = leaves-so-far pre vs e once u c x (subst (λ (cs : List (List ℕ)). List·Memᴰ c cs)
+      (cc (run-split [] cutStep pre vs [], run-stays [] cutStep vs (cutsKnown pre) u h)) m) n
 
   -- "a cut other than the variable alone" has only leaves that are placed before the variable
   pub leaves-before : (pre : List ℕ) (v : ℕ) (post : List ℕ) → placingOrder g ≡ pre ++ (v ∷ post) → Distinct (placingOrder g)
       → (c : List ℕ) → List·Memᴰ c (cutsOf g v) → ¬ (c ≡ v ∷ []) → (x : ℕ) → List·Memᴰ x c → ¬ List·Memᴰ x (v ∷ post)
   unfolding Leaves
   leaves-before pre v post e once c m alone x n =
-      last (leaf-known (λ w. find [] w (cutsKnown pre)) v (node g v) c x (subst (λ (cs : List (List ℕ)). List·Memᴰ c cs) (cuts-entry pre v post e once) m) n)
-    where
-      last : (c ≡ v ∷ []) ⊎ Known (λ w. find [] w (cutsKnown pre)) x → ¬ List·Memᴰ x (v ∷ post)
-      last (inl s) = absurd (alone s)
-      last (inr k) = leaves-so-far pre (v ∷ post) e once (k .at) (k .cut) x (k .isCut) (k .isLeaf)
+      ⊎-elim (λ s. absurd (alone s)) (λ k. leaves-so-far pre (v ∷ post) e once (k .at) (k .cut) x (k .isCut) (k .isLeaf)) (leaf-known
+      (λ w. find [] w (cutsKnown pre)) v (node g v) c x (subst (λ (cs : List (List ℕ)). List·Memᴰ c cs) (cuts-entry pre v post e once) m) n)
 
   -- each known cut cuts its variable off
   Cutting : List (ℕ × List (List ℕ)) → List ℕ → Type 0
@@ -153,19 +131,12 @@ module _ (g : Graph) where
       → List·Memᴰ c (nodeCuts (λ u. find [] u known) v k) → (leaves : List ℕ) → Sub c leaves → Under g leaves (suc (length known)) v
   unfolding nodeCuts Cutting
   cutting-new known v j constant e c m leaves s = nought e
-  cutting-new known v j input e c m leaves s =
-      leaf (s v (subst (λ (d : List ℕ). List·Memᴰ v d) (sym (List·Memᴰ·eq-of-singleton m)) (List·Memᴰ·head refl)))
+  cutting-new known v j input e c m leaves s = leaf (s v (rw (List·Memᴰ·eq-of-singleton m) (List·Memᴰ·head refl)))
   cutting-new known v j undefined e c m leaves s = absurd (List·Memᴰ·not-nil m)
-  cutting-new known v j (both l r) e c m leaves s = go (both-cuts (λ u. find [] u known) v l r c m)
-    where
-      go : (c ≡ v ∷ []) ⊎ Joined (λ u. find [] u known) l r c → Under g leaves (suc (length known)) v
-      go (inl a) = leaf (s v (subst (λ (d : List ℕ). List·Memᴰ v d) (sym a) (List·Memᴰ·head refl)))
-      go (inr h) =
-          and e
-          (j (varOf l) (h .left) (h .isLeft) leaves
-          (λ x n. s x (subst (λ (d : List ℕ). List·Memᴰ x d) (sym (h .isUnion)) (union-left compare compare-found x (h .left) (h .right) n))))
-          (j (varOf r) (h .right) (h .isRight) leaves
-          (λ x n. s x (subst (λ (d : List ℕ). List·Memᴰ x d) (sym (h .isUnion)) (union-right compare x (h .left) (h .right) n))))
+  cutting-new known v j (both l r) e c m leaves s = ⊎-elim (λ a. leaf (s v (rw a (List·Memᴰ·head refl)))) (λ h. and e
+      (j (varOf l) (h .left) (h .isLeft) leaves (λ x n. s x (rw (h .isUnion) (union-left compare compare-found x (h .left) (h .right) n))))
+      (j (varOf r) (h .right) (h .isRight) leaves (λ x n. s x (rw (h .isUnion) (union-right compare x (h .left) (h .right) n)))))
+      (both-cuts (λ u. find [] u known) v l r c m)
 
   cutting-next : (known : List (ℕ × List (List ℕ))) (v : ℕ) (vs : List ℕ) → Distinct (v ∷ vs) → Cutting known (v ∷ vs) → Cutting ((v, cutStep known v) ∷ known) vs
   unfolding Cutting
@@ -182,11 +153,8 @@ length-run step (v ∷ vs) known = length-run step vs ((v, step known v) ∷ kno
 length-placeF : (fuel : ℕ) (ands : List And) (placed : List ℕ) → length (placeF fuel ands placed) ≤ fuel
 unfolding placeF andOn
 length-placeF zero ands placed = le-refl 0
-length-placeF (suc fuel) ands placed = go (lowest (map (λ (a : And). a .var) (keep (ready placed) ands))) (λ v. length-placeF fuel ands (v ∷ placed))
-  where
-    go : (o : Option ℕ) → ((v : ℕ) → length (placeF fuel ands (v ∷ placed)) ≤ fuel) → length (andOn o (λ v. placeF fuel ands (v ∷ placed))) ≤ suc fuel
-    go none h = omega arith
-    go (some v) h = Prim.Native.Nat.suc-le-suc (h v)
+length-placeF (suc fuel) ands placed = by-option (lowest (map (λ (a : And). a .var) (keep (ready placed) ands))) (λ e. rw e (omega arith))
+    (λ q p. rw p (Prim.Native.Nat.suc-le-suc (length-placeF fuel ands (q ∷ placed))))
 
 pub length-order : (g : Graph) → length (placingOrder g) ≤ span g
 unfolding placingOrder span
@@ -204,12 +172,9 @@ under-le (suc m) h (and e a b) = and e (under-le m (le-of-suc-le-suc h) a) (unde
 pub cut-under : (g : Graph) → Distinct (placingOrder g) → (v : ℕ) (c : List ℕ) → List·Memᴰ c (cutsOf g v) → Under g c (span g) v
 unfolding cutsOf cutLists Cutting
 cut-under g once v c m =
+    let all-cut = run-keeps [] (cutStep g) (Cutting g) (cutting-next g) (placingOrder g) [] []
+    (subst Distinct (sym (append-nil (placingOrder g))) once) (λ u d p. absurd (List·Memᴰ·not-nil p)) in
     under-le (span g) (omega (arith, length-order g, length-run (cutStep g) (placingOrder g) [])) (all-cut v c m c (λ x n. n))
-  where
-    all-cut : Cutting g (run (cutStep g) (placingOrder g) []) []
-    all-cut =
-        run-keeps [] (cutStep g) (Cutting g) (cutting-next g) (placingOrder g) [] []
-        (subst Distinct (sym (append-nil (placingOrder g))) once) (λ u d p. absurd (List·Memᴰ·not-nil p))
 
 -- "A cut's function" in the row that the leaves carry is the AIGER value of the variable
 pub cut-value : (g : Graph) → Distinct (placingOrder g) → (setting w : ℕ → Bool) → Valuation g setting w → (v : ℕ) (c : List ℕ) → List·Memᴰ c (cutsOf g v)

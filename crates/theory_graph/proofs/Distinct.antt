@@ -3,13 +3,14 @@ use Prim.Native.Nat.{ℕ, zero, suc, _≤_}
 use native.Mathlib.Nat.{le-refl, le-of-eq}
 use native.Mathlib.Omega.{arith}
 use mathlib.Core.Path.{_≡_, refl, sym, ap}
-use mathlib.Core.Logic.{_⊎_, inl, inr}
-use mathlib.Core.Bool.{Bool, true, false, cond}
+use mathlib.Core.Logic.{⊎-elim}
+use mathlib.Core.Bool.{Bool}
 use mathlib.Core.List.{List, [], _∷_, _++_, map, List·Memᴰ, List·Memᴰ·head, List·Memᴰ·tail, List·Memᴰ·not-nil, List·Memᴰ·append-cases, Memᴰ·append-left, Memᴰ·cast}
 use lib.ListN.{length}
 use Rattle.model.specs.Base.{keep, from, below}
 use Rattle.model.specs.Demands.{Distinct}
 use Rattle.theory_graph.proofs.Lists.{map-out, keep-out}
+use Rattle.theory_graph.proofs.Split.{by-bool}
 
 pub map-distinct : {A B : Type 0} (f : A → B) (xs : List A) → ((x y : A) → f x ≡ f y → x ≡ y) → Distinct xs → Distinct (map f xs)
 map-distinct f [] once d = tt
@@ -19,11 +20,8 @@ map-distinct f (x ∷ xs) once d =
 pub keep-distinct : (p : ℕ → Bool) (xs : List ℕ) → Distinct xs → Distinct (keep p xs)
 unfolding keep
 keep-distinct p [] d = tt
-keep-distinct p (x ∷ xs) d = go (p x) (keep-distinct p xs (d .1))
-  where
-    go : (b : Bool) → Distinct (keep p xs) → Distinct (cond b (x ∷ keep p xs) (keep p xs))
-    go true r = ((λ m. d .0 (keep-out p xs m .0)), r)
-    go false r = r
+keep-distinct p (x ∷ xs) d = by-bool (p x) (λ e. rw e ((λ m. d .0 (keep-out p xs m .0)), (keep-distinct p xs (d .1))))
+    (λ q. rw q (keep-distinct p xs (d .1)))
 
 pub from-low : (n i k : ℕ) → List·Memᴰ k (from i n) → i ≤ k
 unfolding from
@@ -42,12 +40,11 @@ below-distinct n = from-distinct n 0
 
 pub append-distinct : {A : Type 0} (xs ys : List A) → Distinct xs → Distinct ys → ((x : A) → List·Memᴰ x xs → ¬ List·Memᴰ x ys) → Distinct (xs ++ ys)
 append-distinct [] ys a b h = b
-append-distinct (x ∷ xs) ys a b h =
-    ((λ m. go (List·Memᴰ·append-cases xs m)), append-distinct xs ys (a .1) b (λ y m. h y (List·Memᴰ·tail m)))
-  where
-    go : List·Memᴰ x xs ⊎ List·Memᴰ x ys → ⊥
-    go (inl m) = a .0 m
-    go (inr m) = h x (List·Memᴰ·head refl) m
+append-distinct (x ∷ xs) ys a b h = (
+  (λ m. ⊎-elim (λ q. a .0 q) (h x (List·Memᴰ·head refl)) (List·Memᴰ·append-cases xs m)),
+  append-distinct xs ys (a .1) b (λ y m. h y
+      (List·Memᴰ·tail m)),
+)
 
 pub front-distinct : {A : Type 0} (xs ys : List A) → Distinct (xs ++ ys) → Distinct xs
 front-distinct [] ys d = tt
@@ -62,11 +59,7 @@ length-map h (x ∷ xs) = ap suc (length-map h xs)
 pub length-keep : (p : ℕ → Bool) (xs : List ℕ) → length (keep p xs) ≤ length xs
 unfolding keep
 length-keep p [] = le-refl 0
-length-keep p (x ∷ xs) = go (p x) (length-keep p xs)
-  where
-    go : (b : Bool) → length (keep p xs) ≤ length xs → length (cond b (x ∷ keep p xs) (keep p xs)) ≤ suc (length xs)
-    go true h = omega arith
-    go false h = omega arith
+length-keep p (x ∷ xs) = by-bool (p x) (λ e. rw e (omega (arith, length-keep p xs))) (λ q. rw q (omega (arith, length-keep p xs)))
 
 pub length-from : (n i : ℕ) → length (from i n) ≡ n
 unfolding from

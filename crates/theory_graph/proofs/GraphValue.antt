@@ -1,13 +1,13 @@
 -- AIGER's values as a relation: the graph has values under each setting, and any values that satisfy its ANDs are these. Assumes nothing.
 use Prim.Native.Nat.{ℕ}
 use mathlib.Core.Path.{_≡_, refl, sym, _∙_, ap, ap₂, subst}
-use mathlib.Core.Logic.{_⊎_, inl, inr}
-use mathlib.Core.Bool.{Bool, true, false, cond, _&&_}
+use mathlib.Core.Logic.{⊎-elim}
+use mathlib.Core.Bool.{Bool, _&&_}
 use mathlib.Core.List.{List, [], _∷_, _++_, map, append-nil, List·Memᴰ, List·Memᴰ·head, List·Memᴰ·tail, List·Memᴰ·not-nil, List·Memᴰ·append-cases, Memᴰ·append-right, Memᴰ·cast}
 use lib.Dec.{T, eqb, eqb→eq}
 use lib.ListN.{length}
 use Rattle.model.specs.Base.{elem, flip}
-use Rattle.model.specs.Graph.{And, Graph, constant, input, both, findAnd, node, placeF, placingOrder, varOf, negated, literalValue, nodeValue, valueOf, GraphValues, andVars}
+use Rattle.model.specs.Graph.{And, Graph, both, findAnd, node, placingOrder, varOf, negated, literalValue, nodeValue, valueOf, GraphValues, andVars}
 use Rattle.model.specs.Demands.{Distinct}
 use Rattle.theory_graph.proofs.Lists.{map-in, map-out, each-in, elem-out}
 use Rattle.theory_graph.proofs.Runs.{along, twice-apart}
@@ -15,19 +15,16 @@ use Rattle.theory_graph.specs.Accepted.{Accepted}
 use Rattle.theory_graph.proofs.Placing.{distinct-once, order-once, placed-and, defined-placed}
 use Rattle.theory_graph.proofs.Nodes.{node-input}
 use Rattle.theory_graph.proofs.Values.{ands-once, order-closed, operands-before, Closed, valueOf-valuation}
+use Rattle.theory_graph.proofs.Split.{by-bool, by-member}
 
 -- the first AND of a variable is its only one
 find-listed : (ands : List And) → Distinct (map (λ (a : And). a .var) ands) → (a : And) → List·Memᴰ a ands → findAnd (a .var) ands ≡ both (a .left) (a .right)
 unfolding findAnd
-find-listed (b ∷ bs) once a m = go (eqb (a .var) (b .var)) (eqb→eq (a .var) (b .var)) refl m (find-listed bs (once .1) a)
-  where
-    go : (t : Bool) → (T t → a .var ≡ b .var) → eqb (a .var) (b .var) ≡ t → List·Memᴰ a (b ∷ bs) → (List·Memᴰ a bs → findAnd (a .var) bs ≡ both (a .left) (a .right))
-        → cond t (both (b .left) (b .right)) (findAnd (a .var) bs) ≡ both (a .left) (a .right)
-    go true same e (List·Memᴰ·head q) later = ap (λ (c : And). both (c .left) (c .right)) (sym q)
-    go true same e (List·Memᴰ·tail n) later = absurd (once .0 (Memᴰ·cast (sym (same tt)) (map-in (λ (c : And). c .var) n)))
-    go false same e (List·Memᴰ·head q) later =
-        absurd (subst T (ap (λ (c : And). eqb (a .var) (c .var)) q ∙ e) (lib.Dec.eqb-refl (a .var)))
-    go false same e (List·Memᴰ·tail n) later = later n
+find-listed (b ∷ bs) once a m = by-bool (eqb (a .var) (b .var)) (λ e. cc (by-member m
+    (λ q. ap (λ (c : And). both (c .left) (c .right)) (sym q))
+    (λ n. absurd (once .0 (Memᴰ·cast (sym ((rw e at (eqb→eq (a .var) (b .var))) tt)) (map-in (λ (c : And). c .var) n)))))) (λ p. cc
+    (by-member m (λ r. absurd (rw (ap (λ (c : And). eqb (a .var) (c .var)) r ∙ p) at (lib.Dec.eqb-refl (a .var))))
+    (find-listed bs (once .1) a)))
 
 module _ (g : Graph) (ok : Accepted g) where
   defined-once : Distinct (0 ∷ g .inputs ++ andVars g)
@@ -36,19 +33,13 @@ module _ (g : Graph) (ok : Accepted g) where
   -- an AND's variable has its literals
   pub and-node : (a : And) → List·Memᴰ a (g .ands) → node g (a .var) ≡ both (a .left) (a .right)
   unfolding node
-  and-node a m = outer (eqb (a .var) 0) (eqb→eq (a .var) 0) (inner (elem (a .var) (g .inputs)) refl (find-listed (g .ands) (ands-once g ok) a m))
-    where
-      isVar : List·Memᴰ (a .var) (andVars g)
-      isVar = map-in (λ (b : And). b .var) m
-
-      inner : (t : Bool) → elem (a .var) (g .inputs) ≡ t → findAnd (a .var) (g .ands) ≡ both (a .left) (a .right) → cond t input (findAnd (a .var) (g .ands)) ≡ both (a .left) (a .right)
-      inner true e q = absurd (twice-apart (g .inputs) (andVars g) (a .var) (defined-once .1) (elem-out (a .var) (g .inputs) e) isVar)
-      inner false e q = q
-
-      outer : (t : Bool) → (T t → a .var ≡ 0) → cond (elem (a .var) (g .inputs)) input (findAnd (a .var) (g .ands)) ≡ both (a .left) (a .right)
-          → cond t constant (cond (elem (a .var) (g .inputs)) input (findAnd (a .var) (g .ands))) ≡ both (a .left) (a .right)
-      outer true e q = absurd (defined-once .0 (Memᴰ·cast (sym (e tt)) (Memᴰ·append-right (g .inputs) isVar)))
-      outer false e q = q
+  and-node a m =
+      let isVar = map-in (λ (b : And). b .var) m in
+      by-bool (eqb (a .var) 0)
+      (λ e. rw e (absurd (defined-once .0 (Memᴰ·cast (sym ((rw e at (eqb→eq (a .var) 0)) tt)) (Memᴰ·append-right (g .inputs) isVar)))))
+      (λ q. rw q (by-bool (elem (a .var) (g .inputs))
+      (λ e. rw e (absurd (twice-apart (g .inputs) (andVars g) (a .var) (defined-once .1) (elem-out (a .var) (g .inputs) e) isVar)))
+      (λ q. rw q (find-listed (g .ands) (ands-once g ok) a m))))
 
   -- the graph has values
   pub values-exist : (setting : ℕ → Bool) → GraphValues g setting (valueOf g setting)
@@ -65,9 +56,6 @@ module _ (g : Graph) (ok : Accepted g) where
   values-only setting w h =
       along (λ v. List·Memᴰ v (placingOrder g) → w v ≡ valueOf g setting v) (placingOrder g) (λ u n m. absurd (n m)) turn
     where
-      later : List ℕ
-      later = placeF (length (g .ands)) (g .ands) (0 ∷ g .inputs)
-
       known : GraphValues g setting (valueOf g setting)
       known = values-exist setting
 
@@ -77,20 +65,14 @@ module _ (g : Graph) (ok : Accepted g) where
       turn : (pre : List ℕ) (v : ℕ) (post : List ℕ) → placingOrder g ≡ pre ++ (v ∷ post)
           → ((u : ℕ) → ¬ List·Memᴰ u (v ∷ post) → List·Memᴰ u (placingOrder g) → w u ≡ valueOf g setting u) → List·Memᴰ v (placingOrder g) → w v ≡ valueOf g setting v
       turn pre v post e ih (List·Memᴰ·head q) = ap w q ∙ h .atConstant ∙ sym (known .atConstant) ∙ sym (ap (valueOf g setting) q)
-      turn pre v post e ih (List·Memᴰ·tail m) = go (List·Memᴰ·append-cases (g .inputs) m)
-        where
-          ofAnd : (a : And) → List·Memᴰ a (g .ands) → v ≡ a .var → w v ≡ valueOf g setting v
-          ofAnd a i q =
-              let o = operands-before g ok pre v post [] (subst (Closed g []) e (order-closed g ok)) (subst Distinct e (order-once g ok)) (λ x n. absurd (List·Memᴰ·not-nil n))
-              (a .left) (a .right) (ap (node g) q ∙ and-node a i) in
-              ap w q ∙ h .atAnds a i
-              ∙ ap₂ (λ (x y : Bool). flip (negated (a .left)) x && flip (negated (a .right)) y)
-              (ih (varOf (a .left)) (o .0) (operand a i (a .left) (List·Memᴰ·head refl)))
-              (ih (varOf (a .right)) (o .1) (operand a i (a .right) (List·Memᴰ·tail (List·Memᴰ·head refl))))
-              ∙ sym (known .atAnds a i) ∙ sym (ap (valueOf g setting) q)
-
-          go : List·Memᴰ v (g .inputs) ⊎ List·Memᴰ v later → w v ≡ valueOf g setting v
-          go (inl n) = h .atInputs v n ∙ sym (known .atInputs v n)
-          go (inr n) =
-              let o = map-out (λ (a : And). a .var) (g .ands) (placed-and (length (g .ands)) (g .ands) (0 ∷ g .inputs) v n) in
-              ofAnd (o .0) (o .1) (o .2)
+      turn pre v post e ih (List·Memᴰ·tail m) =
+          let ofAnd : (a : And) → List·Memᴰ a (g .ands) → v ≡ a .var
+          → w v ≡ valueOf g setting v = λ a i q. let o = operands-before g ok pre v post [] (subst (Closed g []) e (order-closed g ok))
+          (subst Distinct e (order-once g ok)) (λ x n. absurd (List·Memᴰ·not-nil n)) (a .left) (a .right) (ap (node g) q ∙ and-node a i) in
+          ap w q ∙ h .atAnds a i ∙ ap₂ (λ (x y : Bool). flip (negated (a .left)) x && flip (negated (a .right)) y)
+          (ih (varOf (a .left)) (o .0) (operand a i (a .left) (List·Memᴰ·head refl)))
+          (ih (varOf (a .right)) (o .1) (operand a i (a .right) (List·Memᴰ·tail (List·Memᴰ·head refl)))) ∙ sym (known .atAnds a i)
+          ∙ sym (ap (valueOf g setting) q) in
+          ⊎-elim (λ n. h .atInputs v n ∙ sym (known .atInputs v n)) (λ q. let o = map-out
+          (λ (a : And). a .var) (g .ands) (placed-and (length (g .ands)) (g .ands) (0 ∷ g .inputs) v q) in ofAnd (o .0) (o .1) (o .2))
+          (List·Memᴰ·append-cases (g .inputs) m)

@@ -1,3 +1,4 @@
+pub mod Split
 pub mod Lists
 pub mod Distinct
 pub mod Sets

@@ -3,7 +3,7 @@ use Prim.Native.Nat.{ℕ, zero, suc, _+_, _<_}
 use native.Mathlib.Nat.{le-of-suc-le-suc, not-suc-le-zero, add-zero, add-suc, suc-add, zero-add}
 use mathlib.Core.Path.{_≡_, refl, sym, _∙_, ap, ap₂, subst}
 use mathlib.Core.Option.{Option, none, some}
-use mathlib.Core.Logic.{_⊎_, inl, inr}
+use mathlib.Core.Logic.{⊎-elim}
 use native.Mathlib.Omega.{arith}
 use mathlib.Core.Bool.{or-true, Bool, true, false, not, cond, _||_, true≢false, false≢true}
 use mathlib.Core.List.{List, [], _∷_, _++_, map, List·Memᴰ, List·Memᴰ·head, List·Memᴰ·tail, List·Memᴰ·not-nil, List·Memᴰ·append-cases, Memᴰ·append-left, Memᴰ·append-right}
@@ -11,6 +11,7 @@ use lib.Dec.{T, eqb, eqb→eq, eqb-refl, leb}
 use lib.ListN.{length, getD}
 use mir.Facts.{eqb-no, and-yes, yes-and, yes-eqb}
 use Rattle.model.specs.Base.{all, any, keep, each, from, below, elem, same, lowest, smaller}
+use Rattle.theory_graph.proofs.Split.{by-bool}
 
 module _ {A B : Type 0} where
   pub map-in : (f : A → B) {a : A} {xs : List A} → List·Memᴰ a xs → List·Memᴰ (f a) (map f xs)
@@ -30,26 +31,14 @@ module _ {A B : Type 0} where
   pub each-out : (f : A → List B) {b : B} (xs : List A) → List·Memᴰ b (each f xs) → (a : A) × List·Memᴰ a xs × List·Memᴰ b (f a)
   unfolding each
   each-out f [] m = absurd (List·Memᴰ·not-nil m)
-  each-out f {b} (x ∷ xs) m = go (List·Memᴰ·append-cases (f x) m) (each-out f xs)
-    where
-      go : List·Memᴰ b (f x) ⊎ List·Memᴰ b (each f xs) → (List·Memᴰ b (each f xs) → (a : A) × List·Memᴰ a xs × List·Memᴰ b (f a))
-          → (a : A) × List·Memᴰ a (x ∷ xs) × List·Memᴰ b (f a)
-      go (inl n) back = (x, List·Memᴰ·head refl, n)
-      go (inr n) back = let r = back n in (r .0, List·Memᴰ·tail (r .1), r .2)
+  each-out f {b} (x ∷ xs) m = ⊎-elim (λ n. (x, List·Memᴰ·head refl, n))
+      (λ q. let r = (each-out f xs) q in (r .0, List·Memᴰ·tail (r .1), r .2)) (List·Memᴰ·append-cases (f x) m)
 
 module _ {A : Type 0} (p : A → Bool) where
   pub keep-in : {a : A} {xs : List A} → List·Memᴰ a xs → T (p a) → List·Memᴰ a (keep p xs)
   unfolding keep
-  keep-in {a} {xs = x ∷ xs} (List·Memᴰ·head e) t = go (p x) (subst (λ (y : A). T (p y)) e t)
-    where
-      go : (b : Bool) → T b → List·Memᴰ a (cond b (x ∷ keep p xs) (keep p xs))
-      go true u = List·Memᴰ·head e
-      go false u = absurd u
-  keep-in {a} {xs = x ∷ xs} (List·Memᴰ·tail m) t = go (p x) (keep-in m t)
-    where
-      go : (b : Bool) → List·Memᴰ a (keep p xs) → List·Memᴰ a (cond b (x ∷ keep p xs) (keep p xs))
-      go true n = List·Memᴰ·tail n
-      go false n = n
+  keep-in {a} {xs = x ∷ xs} (List·Memᴰ·head e) t = by-bool (p x) (λ q. rw q (List·Memᴰ·head e)) (λ r. rw r (absurd (rw r at (rw e at t))))
+  keep-in {a} {xs = x ∷ xs} (List·Memᴰ·tail m) t = by-bool (p x) (λ e. rw e (List·Memᴰ·tail (keep-in m t))) (λ q. rw q (keep-in m t))
 
   pub keep-out : {a : A} (xs : List A) → List·Memᴰ a (keep p xs) → List·Memᴰ a xs × T (p a)
   unfolding keep
@@ -75,12 +64,8 @@ module _ {A : Type 0} (p : A → Bool) where
   pub any-each : (xs : List A) → any p xs ≡ false → (a : A) → List·Memᴰ a xs → p a ≡ false
   unfolding any
   any-each [] h a m = absurd (List·Memᴰ·not-nil m)
-  any-each (x ∷ xs) h a m = go (p x) refl h m (λ k. any-each xs k a)
-    where
-      go : (b : Bool) → p x ≡ b → (b || any p xs) ≡ false → List·Memᴰ a (x ∷ xs) → (any p xs ≡ false → List·Memᴰ a xs → p a ≡ false) → p a ≡ false
-      go true e k n later = absurd (true≢false k)
-      go false e k (List·Memᴰ·head q) later = ap p q ∙ e
-      go false e k (List·Memᴰ·tail n) later = later k n
+  any-each (x ∷ xs) h a m = by-bool (p x) (λ e. absurd (true≢false (rw e at h)))
+      (λ q. elim m [ List·Memᴰ·head r ↦ ap p r ∙ q | List·Memᴰ·tail n ↦ (any-each xs (rw q at h) a) n ])
 
 -- i, i + 1 .. of which there are n
 pub from-in : (n i k : ℕ) → k < n → List·Memᴰ (i + k) (from i n)
@@ -126,16 +111,11 @@ unfolding same
 same-eq [] [] t = refl
 same-eq [] (y ∷ ys) t = absurd t
 same-eq (x ∷ xs) [] t = absurd t
-same-eq (x ∷ xs) (y ∷ ys) t =
-    let p = and-yes (eqb x y) (same xs ys) t in ap₂ (λ (a : ℕ) (b : List ℕ). a ∷ b) (eqb→eq x y (p .0)) (same-eq xs ys (p .1))
+same-eq (x ∷ xs) (y ∷ ys) t = let p = and-yes (eqb x y) (same xs ys) t in cc (eqb→eq x y (p .0), same-eq xs ys (p .1))
 
 pub elem-in : (v : ℕ) (xs : List ℕ) → List·Memᴰ v xs → elem v xs ≡ true
 unfolding elem any
-elem-in v (x ∷ xs) (List·Memᴰ·head e) = go (eqb v x) (yes-eqb e)
-  where
-    go : (t : Bool) → T t → _||_ t (any (eqb v) xs) ≡ true
-    go true h = refl
-    go false h = absurd h
+elem-in v (x ∷ xs) (List·Memᴰ·head e) = by-bool (eqb v x) (λ q. rw q) (λ p. rw p (absurd (rw p at (yes-eqb e))))
 elem-in v (x ∷ xs) (List·Memᴰ·tail m) = ap (_||_ (eqb v x)) (elem-in v xs m) ∙ or-true (eqb v x)
 
 pub same-refl : (xs : List ℕ) → T (same xs xs)
@@ -146,11 +126,8 @@ same-refl (x ∷ xs) = yes-and (eqb x x) (same xs xs) (eqb-refl x) (same-refl xs
 pub elem-out : (v : ℕ) (xs : List ℕ) → elem v xs ≡ true → List·Memᴰ v xs
 unfolding elem any
 elem-out v [] h = absurd (false≢true h)
-elem-out v (x ∷ xs) h = go (eqb v x) (eqb→eq v x) h (elem-out v xs)
-  where
-    go : (b : Bool) → (T b → v ≡ x) → _||_ b (any (eqb v) xs) ≡ true → (any (eqb v) xs ≡ true → List·Memᴰ v xs) → List·Memᴰ v (x ∷ xs)
-    go true e k back = List·Memᴰ·head (e tt)
-    go false e k back = List·Memᴰ·tail (back k)
+elem-out v (x ∷ xs) h = by-bool (eqb v x) (λ e. List·Memᴰ·head ((rw e at (eqb→eq v x)) tt))
+    (λ q. List·Memᴰ·tail ((elem-out v xs) (rw q at h)))
 
 pub map-same : {A B : Type 0} (f h : A → B) (xs : List A) → ((x : A) → List·Memᴰ x xs → f x ≡ h x) → map f xs ≡ map h xs
 map-same f h [] e = refl
@@ -162,11 +139,8 @@ elem-T v xs m = subst T (sym (elem-in v xs m)) tt
 smaller-in : (x v : ℕ) (o : Option ℕ) (xs : List ℕ) → ((u : ℕ) → o ≡ some u → List·Memᴰ u xs) → smaller x o ≡ some v → List·Memᴰ v (x ∷ xs)
 unfolding smaller
 smaller-in x v none xs h e = let q : v ≡ x = cc in List·Memᴰ·head q
-smaller-in x v (some y) xs h e = go (leb x y) e
-  where
-    go : (b : Bool) → _≡_ {A = Option ℕ} (some (cond b x y)) (some v) → List·Memᴰ v (x ∷ xs)
-    go true q = let r : v ≡ x = cc in List·Memᴰ·head r
-    go false q = let r : y ≡ v = cc in List·Memᴰ·tail (h v (ap some r))
+smaller-in x v (some y) xs h e = by-bool (leb x y) (λ q. let r : v ≡ x = cc in List·Memᴰ·head r)
+    (λ p. let r : y ≡ v = cc in List·Memᴰ·tail (h v (ap some r)))
 
 -- the lowest is one of them
 pub lowest-in : (xs : List ℕ) (v : ℕ) → lowest xs ≡ some v → List·Memᴰ v xs
@@ -198,8 +172,4 @@ all-in p (x ∷ xs) h = yes-and (p x) (all p xs) (h x (List·Memᴰ·head refl))
 pub keep-append : {A : Type 0} (p : A → Bool) (xs ys : List A) → keep p (xs ++ ys) ≡ keep p xs ++ keep p ys
 unfolding keep
 keep-append p [] ys = refl
-keep-append {A} p (x ∷ xs) ys = by (p x) (keep-append p xs ys)
-  where
-    by : (b : Bool) → keep p (xs ++ ys) ≡ keep p xs ++ keep p ys → cond b (x ∷ keep p (xs ++ ys)) (keep p (xs ++ ys)) ≡ cond b (x ∷ keep p xs) (keep p xs) ++ keep p ys
-    by true e = ap (λ (l : List A). x ∷ l) e
-    by false e = e
+keep-append {A} p (x ∷ xs) ys = by-bool (p x) (λ e. cc (keep-append p xs ys)) (λ q. cc (keep-append p xs ys))

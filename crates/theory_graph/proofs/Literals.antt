@@ -1,11 +1,16 @@
 -- Literals: a variable and a phase, and the opposite phase. Assumes nothing.
-use Prim.Native.Nat.{ℕ, _+_, _*_, _/_, _%_}
+use Prim.Native.Nat.{ℕ, _+_, _*_, _/_, _%_, zero, suc, _≤_, _<_}
 use native.Mathlib.Omega.{arith}
-use mathlib.Core.Path.{_≡_, _∙_, ap, ap₂}
+use mathlib.Core.Path.{_≡_, _∙_, ap}
 use mathlib.Core.Bool.{Bool, true, false, not, cond, Bool·not-not}
 use lib.Dec.{T, eqb, eqb→eq}
 use mir.Facts.{eqb-no}
 use Rattle.model.specs.Graph.{varOf, negated, literal, opposite}
+use native.Mathlib.Nat.{not-suc-le-zero, le-of-suc-le-suc}
+use Rattle.model.specs.Base.{bit, one}
+use Rattle.model.specs.Table.{rowOf}
+use mathlib.Core.List.{List, [], _∷_}
+use lib.ListN.{length, getD}
 
 pub lit-var : (b : Bool) (v : ℕ) → varOf (literal b v) ≡ v
 unfolding varOf literal
@@ -35,5 +40,27 @@ opposite-neg l = lit-neg (not (negated l)) (varOf l)
 
 pub opposite-back : (l : ℕ) → opposite (opposite l) ≡ l
 unfolding opposite
-opposite-back l =
-    ap₂ literal (ap not (opposite-neg l) ∙ Bool·not-not (negated l)) (opposite-var l) ∙ lit-whole l
+opposite-back l = cc (opposite-neg l, Bool·not-not (negated l), opposite-var l, lit-whole l)
+
+-- ---- bits
+
+pub bit-low : (b : Bool) (n : ℕ) → bit (one b + 2 * n) 0 ≡ b
+unfolding bit one
+bit-low true n = ap (λ (k : ℕ). eqb k 1) (let e : (1 + 2 * n) % 2 ≡ 1 = omega arith in e)
+bit-low false n = ap (λ (k : ℕ). eqb k 1) (let e : (0 + 2 * n) % 2 ≡ 0 = omega arith in e)
+
+pub bit-high : (b : Bool) (n i : ℕ) → bit (one b + 2 * n) (suc i) ≡ bit n i
+unfolding bit one
+bit-high true n i = ap (λ (k : ℕ). bit k i) (let e : (1 + 2 * n) / 2 ≡ n = omega arith in e)
+bit-high false n i = ap (λ (k : ℕ). bit k i) (let e : (0 + 2 * n) / 2 ≡ n = omega arith in e)
+
+pub one-le : (b : Bool) → one b ≤ 1
+unfolding one
+one-le true = omega arith
+one-le false = omega arith
+
+pub bit-row : (bs : List Bool) (i : ℕ) (d : Bool) → i < length bs → bit (rowOf bs) i ≡ getD bs i d
+unfolding rowOf
+bit-row [] i d h = absurd (not-suc-le-zero h)
+bit-row (b ∷ bs) zero d h = bit-low b (rowOf bs)
+bit-row (b ∷ bs) (suc i) d h = bit-high b (rowOf bs) i ∙ bit-row bs i d (le-of-suc-le-suc h)

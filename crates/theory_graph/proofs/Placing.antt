@@ -2,8 +2,8 @@
 use Prim.Native.Nat.{ℕ, zero, suc, _≤_}
 use native.Mathlib.Omega.{arith}
 use mathlib.Core.Path.{_≡_, refl, sym, _∙_, subst}
-use mathlib.Core.Logic.{_⊎_, inl, inr}
-use mathlib.Core.Bool.{Bool, true, false, not, _&&_}
+use mathlib.Core.Logic.{_⊎_, inl, inr, ⊎-elim}
+use mathlib.Core.Bool.{Bool, not, _&&_}
 use mathlib.Core.Option.{Option, none, some}
 use mathlib.Core.List.{List, [], _∷_, _++_, map, List·Memᴰ, List·Memᴰ·head, List·Memᴰ·tail, List·Memᴰ·not-nil, List·Memᴰ·append-cases, Memᴰ·append-left, Memᴰ·append-right, Memᴰ·cast}
 use lib.Dec.{T, leb, leb→le, T-not}
@@ -15,6 +15,7 @@ use Rattle.theory_graph.proofs.Distinct.{append-distinct}
 use Rattle.theory_graph.specs.Accepted.{Accepted, distinct}
 use Rattle.model.specs.Demands.{Distinct}
 use Rattle.theory_graph.proofs.Lists.{map-in, map-out, keep-in, keep-out, elem-T, elem-out, lowest-in, all-of}
+use Rattle.theory_graph.proofs.Split.{by-option, by-bool}
 
 -- the AND that is placed next is not placed yet
 pub next-new : (ands : List And) (placed : List ℕ) (v : ℕ) → lowest (map (λ (a : And). a .var) (keep (ready placed) ands)) ≡ some v → ¬ List·Memᴰ v placed
@@ -42,11 +43,8 @@ placed-new (suc fuel) ands placed x m =
 placed-once : (fuel : ℕ) (ands : List And) (placed : List ℕ) → Distinct (placeF fuel ands placed)
 unfolding placeF andOn
 placed-once zero ands placed = tt
-placed-once (suc fuel) ands placed = go (lowest (map (λ (a : And). a .var) (keep (ready placed) ands))) (λ v. placed-once fuel ands (v ∷ placed))
-  where
-    go : (o : Option ℕ) → ((v : ℕ) → Distinct (placeF fuel ands (v ∷ placed))) → Distinct (andOn o (λ v. placeF fuel ands (v ∷ placed)))
-    go none later = tt
-    go (some v) later = ((λ m. placed-new fuel ands (v ∷ placed) v m (List·Memᴰ·head refl)), later v)
+placed-once (suc fuel) ands placed = by-option (lowest (map (λ (a : And). a .var) (keep (ready placed) ands))) (λ e. rw e tt)
+    (λ q p. rw p ((λ m. placed-new fuel ands (q ∷ placed) q m (List·Memᴰ·head refl)), (placed-once fuel ands (q ∷ placed))))
 
 pub distinct-once : (xs ys : List ℕ) → T (distinct (xs ++ ys)) → Distinct xs
 unfolding distinct
@@ -58,11 +56,9 @@ distinct-once (x ∷ xs) ys t =
 -- an accepted graph's order has no number twice
 pub order-once : (g : Graph) → Accepted g → Distinct (placingOrder g)
 unfolding placingOrder
-order-once g h =
-    append-distinct (0 ∷ g .inputs) (placeF (length (g .ands)) (g .ands) (0 ∷ g .inputs))
+order-once g h = append-distinct (0 ∷ g .inputs) (placeF (length (g .ands)) (g .ands) (0 ∷ g .inputs))
     (distinct-once (0 ∷ g .inputs) (map (λ (a : And). a .var) (g .ands)) (h .defined))
-    (placed-once (length (g .ands)) (g .ands) (0 ∷ g .inputs))
-    (λ x a b. placed-new (length (g .ands)) (g .ands) (0 ∷ g .inputs) x b a)
+    (placed-once (length (g .ands)) (g .ands) (0 ∷ g .inputs)) (λ x a b. placed-new (length (g .ands)) (g .ands) (0 ∷ g .inputs) x b a)
 
 -- what is placed after the inputs is an AND
 pub placed-and : (fuel : ℕ) (ands : List And) (placed : List ℕ) (x : ℕ) → List·Memᴰ x (placeF fuel ands placed) → List·Memᴰ x (map (λ (a : And). a .var) ands)
@@ -83,17 +79,13 @@ placed-and (suc fuel) ands placed x m =
 pub order-small : (g : Graph) → Accepted g → (v : ℕ) → List·Memᴰ v (placingOrder g) → v ≤ g .size
 unfolding placingOrder
 order-small g ok v (List·Memᴰ·head e) = omega arith
-order-small g ok v (List·Memᴰ·tail m) = go (List·Memᴰ·append-cases (g .inputs) m)
-  where
-    vars : List ℕ
-    vars = andVars g
-
-    within : List·Memᴰ v (g .inputs ++ vars) → v ≤ g .size
-    within n = leb→le v (g .size) (all-of (λ (u : ℕ). leb u (g .size)) (g .inputs ++ vars) (ok .inRange) v n)
-
-    go : List·Memᴰ v (g .inputs) ⊎ List·Memᴰ v (placeF (length (g .ands)) (g .ands) (0 ∷ g .inputs)) → v ≤ g .size
-    go (inl n) = within (Memᴰ·append-left vars n)
-    go (inr n) = within (Memᴰ·append-right (g .inputs) (placed-and (length (g .ands)) (g .ands) (0 ∷ g .inputs) v n))
+order-small g ok v (List·Memᴰ·tail m) =
+    let vars = andVars g in
+    let within : List·Memᴰ v (g .inputs ++ vars) → v ≤ g .size = λ n. leb→le v (g .size)
+    (all-of (λ (u : ℕ). leb u (g .size)) (g .inputs ++ vars) (ok .inRange) v n) in
+    ⊎-elim (λ n. within (Memᴰ·append-left vars n))
+    (λ q. within (Memᴰ·append-right (g .inputs) (placed-and (length (g .ands)) (g .ands) (0 ∷ g .inputs) v q)))
+    (List·Memᴰ·append-cases (g .inputs) m)
 
 -- what is defined is placed
 pub defined-placed : (g : Graph) → Accepted g → (u : ℕ) → List·Memᴰ u (0 ∷ g .inputs ++ andVars g) → List·Memᴰ u (placingOrder g)
@@ -109,10 +101,5 @@ defined-placed g ok u (List·Memᴰ·tail m) = go (List·Memᴰ·append-cases (g
 
     go : List·Memᴰ u (g .inputs) ⊎ List·Memᴰ u (andVars g) → List·Memᴰ u all
     go (inl n) = List·Memᴰ·tail (Memᴰ·append-left later n)
-    go (inr n) = test (elem u all) refl
-      where
-        test : (b : Bool) → elem u all ≡ b → List·Memᴰ u all
-        test true e = elem-out u all e
-        test false e =
-            absurd (List·Memᴰ·not-nil (subst (λ (xs : List ℕ). List·Memᴰ u xs) (ok .placed)
-            (keep-in (λ (v : ℕ). not (elem v all)) n (subst (λ (b : Bool). T (not b)) (sym e) tt))))
+    go (inr n) = by-bool (elem u all) (λ e. elem-out u all e) (λ q. absurd (List·Memᴰ·not-nil (subst (λ (xs : List ℕ). List·Memᴰ u xs)
+        (ok .placed) (keep-in (λ (v : ℕ). not (elem v all)) n (subst (λ (b : Bool). T (not b)) (sym q) tt)))))

@@ -1,12 +1,12 @@
 -- What is known after a run along a list without repetition: each entry is its step's, and later steps leave it as it is. Assumes nothing.
 use Prim.Native.Nat.{ℕ}
-use mathlib.Core.Path.{_≡_, refl, sym, _∙_, ap, subst}
-use mathlib.Core.Bool.{Bool, true, false, cond}
+use mathlib.Core.Path.{_≡_, refl, sym, _∙_, subst}
 use mathlib.Core.List.{List, [], _∷_, _++_, append-assoc, List·Memᴰ, List·Memᴰ·head, List·Memᴰ·tail, List·Memᴰ·not-nil, Memᴰ·append-right, Memᴰ·cast}
-use lib.Dec.{T, eqb, eqb→eq, eqb-refl}
+use lib.Dec.{eqb, eqb→eq, eqb-refl}
 use Rattle.model.specs.Base.{find, run}
 use Rattle.model.specs.Demands.{Distinct}
 use Rattle.theory_graph.proofs.Lists.{by-eqb}
+use Rattle.theory_graph.proofs.Split.{by-bool}
 
 -- the part behind a split
 pub no-twice-behind : (pre vs : List ℕ) → Distinct (pre ++ vs) → Distinct vs
@@ -20,8 +20,7 @@ twice-apart (z ∷ xs) ys x h (List·Memᴰ·tail m) n = twice-apart xs ys x (h 
 
 -- Induction along a list: a number may use what holds of all that neither are it nor come after it.
 pub along : (Q : ℕ → Type 0) (vs : List ℕ) → ((u : ℕ) → ¬ List·Memᴰ u vs → Q u)
-    → ((pre : List ℕ) (v : ℕ) (post : List ℕ) → vs ≡ pre ++ (v ∷ post) → ((u : ℕ) → ¬ List·Memᴰ u (v ∷ post) → Q u) → Q v)
-    → (u : ℕ) → Q u
+    → ((pre : List ℕ) (v : ℕ) (post : List ℕ) → vs ≡ pre ++ (v ∷ post) → ((u : ℕ) → ¬ List·Memᴰ u (v ∷ post) → Q u) → Q v) → (u : ℕ) → Q u
 along Q vs base body = go [] vs refl base
   where
     not-in : {u v : ℕ} {post : List ℕ} → ¬ (u ≡ v) → ¬ List·Memᴰ u post → ¬ List·Memᴰ u (v ∷ post)
@@ -30,34 +29,27 @@ along Q vs base body = go [] vs refl base
 
     go : (pre post : List ℕ) → vs ≡ pre ++ post → ((u : ℕ) → ¬ List·Memᴰ u post → Q u) → (u : ℕ) → Q u
     go pre [] e known u = known u List·Memᴰ·not-nil
-    go pre (v ∷ post) e known u =
-        go (pre ++ (v ∷ [])) post (e ∙ sym (append-assoc pre (v ∷ []) post))
-        (λ x h. by-eqb x v (λ s. subst Q (sym s) (body pre v post e known)) (λ d. known x (not-in d h))) u
+    go pre (v ∷ post) e known u = go (pre ++ (v ∷ [])) post (e ∙ sym (append-assoc pre (v ∷ []) post))
+        (λ x h. by-eqb x v (λ s. rw s (body pre v post e known)) (λ d. known x (not-in d h))) u
 
 module _ {A : Type 0} (d : A) (step : List (ℕ × A) → ℕ → A) where
   find-here : (v : ℕ) (a : A) (es : List (ℕ × A)) → find d v ((v, a) ∷ es) ≡ a
   unfolding find
-  find-here v a es = go (eqb v v) (eqb-refl v)
-    where
-      go : (t : Bool) → T t → cond t a (find d v es) ≡ a
-      go true h = refl
-      go false h = absurd h
+  find-here v a es = by-bool (eqb v v) (λ e. rw e) (λ q. rw q (absurd (rw q at (eqb-refl v))))
 
   find-past : (v u : ℕ) (a : A) (es : List (ℕ × A)) → ¬ (u ≡ v) → find d u ((v, a) ∷ es) ≡ find d u es
   unfolding find
-  find-past v u a es h = go (eqb u v) (eqb→eq u v)
-    where
-      go : (t : Bool) → (T t → u ≡ v) → cond t a (find d u es) ≡ find d u es
-      go true s = absurd (h (s tt))
-      go false s = refl
+  find-past v u a es h = by-bool (eqb u v) (λ e. rw e (absurd (h ((rw e at (eqb→eq u v)) tt)))) (λ q. rw q)
 
   -- what is known stays
   pub run-stays : (vs : List ℕ) (known : List (ℕ × A)) (u : ℕ) → ¬ List·Memᴰ u vs → find d u (run step vs known) ≡ find d u known
   unfolding run
   run-stays [] known u h = refl
-  run-stays (v ∷ vs) known u h =
-      run-stays vs ((v, step known v) ∷ known) u (λ m. h (List·Memᴰ·tail m))
-      ∙ find-past v u (step known v) known (λ e. h (List·Memᴰ·head e))
+  run-stays (v ∷ vs) known u h = cc (
+    run-stays vs ((v, step known v) ∷ known) u (λ m. h (List·Memᴰ·tail m)),
+    find-past v u
+        (step known v) known (λ e. h (List·Memᴰ·head e)),
+  )
 
   -- a new entry is its step's
   pub run-entry : (v : ℕ) (post : List ℕ) (known : List (ℕ × A)) → ¬ List·Memᴰ v post → find d v (run step (v ∷ post) known) ≡ step known v
@@ -80,7 +72,4 @@ module _ {A : Type 0} (d : A) (step : List (ℕ × A) → ℕ → A) where
 
   -- a look-up in a longer record: the new entry, or an old one
   pub find-cons : (P : A → Type 0) (v u : ℕ) (a : A) (es : List (ℕ × A)) → (u ≡ v → P a) → P (find d u es) → P (find d u ((v, a) ∷ es))
-  find-cons P v u a es new old =
-      by-eqb u v
-      (λ e. subst P (sym (ap (λ (x : ℕ). find d x ((v, a) ∷ es)) e ∙ find-here v a es)) (new e))
-      (λ h. subst P (sym (find-past v u a es h)) old)
+  find-cons P v u a es new old = by-eqb u v (λ e. subst P (cc (find-here v a es)) (new e)) (λ h. subst P (sym (find-past v u a es h)) old)

@@ -1,7 +1,7 @@
 -- `insert` and `union` of `Base`: what they hold, and that they stay ascending. Assumes nothing.
 use Prim.Native.Nat.{Ordering, Ordering·lt, Ordering·eq, Ordering·gt}
 use mathlib.Core.Path.{_≡_, refl}
-use mathlib.Core.Logic.{_⊎_, inl, inr}
+use mathlib.Core.Logic.{_⊎_, inl, inr, ⊎-elim}
 use mathlib.Core.List.{List, [], _∷_, List·Memᴰ, List·Memᴰ·head, List·Memᴰ·tail, List·Memᴰ·cases-cons, Memᴰ·cast}
 use Rattle.model.specs.Base.{put, insert, union}
 
@@ -51,15 +51,8 @@ module _ {A : Type 0} (cmp : A → A → Ordering) where
   pub union-only : (a : A) (xs ys : List A) → List·Memᴰ a (union cmp xs ys) → List·Memᴰ a xs ⊎ List·Memᴰ a ys
   unfolding union
   union-only a [] ys m = inr m
-  union-only a (x ∷ xs) ys m = step (insert-only x a (union cmp xs ys) m) (union-only a xs ys)
-    where
-      next : List·Memᴰ a xs ⊎ List·Memᴰ a ys → List·Memᴰ a (x ∷ xs) ⊎ List·Memᴰ a ys
-      next (inl n) = inl (List·Memᴰ·tail n)
-      next (inr n) = inr n
-
-      step : (a ≡ x) ⊎ List·Memᴰ a (union cmp xs ys) → (List·Memᴰ a (union cmp xs ys) → List·Memᴰ a xs ⊎ List·Memᴰ a ys) → List·Memᴰ a (x ∷ xs) ⊎ List·Memᴰ a ys
-      step (inl e) back = inl (List·Memᴰ·head e)
-      step (inr n) back = next (back n)
+  union-only a (x ∷ xs) ys m = ⊎-elim (λ e. inl (List·Memᴰ·head e)) (λ n. ⊎-elim (λ q. inl (List·Memᴰ·tail q)) inr (union-only a xs ys n))
+      (insert-only x a (union cmp xs ys) m)
 
 -- where the comparison finds no difference the two are the same
 module _ {A : Type 0} (cmp : A → A → Ordering) (found : (x y : A) → cmp x y ≡ Ordering·eq → x ≡ y) where

@@ -57,11 +57,6 @@ place-once (x ∷ xs) d zero (suc j) h k e = absurd (d .0 (Memᴰ·cast e (getD-
 place-once (x ∷ xs) d (suc i) zero h k e = absurd (d .0 (Memᴰ·cast (sym e) (getD-in xs i 0 (le-of-suc-le-suc h))))
 place-once (x ∷ xs) d (suc i) (suc j) h k e = ap suc (place-once xs (d .1) i j (le-of-suc-le-suc h) (le-of-suc-le-suc k) e)
 
-late-here : (inputs : List ℕ) (e : Late) (es : List Late) → lateOf inputs (e ∷ es) (getD inputs (e .index) 0) ≡ e .arrival
-unfolding lateOf
-late-here inputs e es =
-    ap (λ (b : Bool). cond b (e .arrival) (lateOf inputs es (getD inputs (e .index) 0))) (is-true (eqb (getD inputs (e .index) 0) (getD inputs (e .index) 0)) (eqb-refl (getD inputs (e .index) 0)))
-
 late-past : (inputs : List ℕ) (e : Late) (es : List Late) (v : ℕ) → ¬ (v ≡ getD inputs (e .index) 0) → lateOf inputs (e ∷ es) v ≡ lateOf inputs es v
 unfolding lateOf
 late-past inputs e es v h = ap (λ (b : Bool). cond b (e .arrival) (lateOf inputs es v)) (is-false (eqb v (getD inputs (e .index) 0)) (no-eqb h))
@@ -70,7 +65,8 @@ module _ (inputs : List ℕ) (once : Distinct inputs) where
   -- the input at a listed index arrives as its line says
   pub late-listed : (es : List Late) → ((k : ℕ) → Lists es k → k < length inputs) → Distinct (map (λ (e : Late). e .index) es) → (e : Late) → List·Memᴰ e es
       → lateOf inputs es (getD inputs (e .index) 0) ≡ e .arrival
-  late-listed (x ∷ es) inside d e (List·Memᴰ·head q) = subst (λ (y : Late). lateOf inputs (x ∷ es) (getD inputs (y .index) 0) ≡ y .arrival) (sym q) (late-here inputs x es)
+  late-listed (x ∷ es) inside d e (List·Memᴰ·head q) = subst (λ (y : Late). lateOf inputs (x ∷ es) (getD inputs (y .index) 0) ≡ y .arrival) (sym q) (
+      unfold lateOf in cc (is-true (eqb (getD inputs (x .index) 0) (getD inputs (x .index) 0)) (eqb-refl (getD inputs (x .index) 0))))
   late-listed (x ∷ es) inside d e (List·Memᴰ·tail m) =
       let i : Lists es (e .index) = map-in (λ (y : Late). y .index) m in
       late-past inputs x es (getD inputs (e .index) 0)
@@ -88,9 +84,5 @@ module _ (inputs : List ℕ) (once : Distinct inputs) where
 pub listed-for : (g : Graph) → Distinct (g .inputs) → (es : List Late) → ((k : ℕ) → Lists es k → k < length (g .inputs)) → Distinct (map (λ (e : Late). e .index) es)
     → ListedFor (timedBy g es) es
 unfolding timedBy
-listed-for g once es inside d = record {
-  inside = inside;
-  once = d;
-  listed = late-listed (g .inputs) once es inside d;
-  others = late-others (g .inputs) once es inside;
-}
+listed-for g once es inside d =
+    record { inside = inside; once = d; listed = late-listed (g .inputs) once es inside d; others = late-others (g .inputs) once es inside }

@@ -1,8 +1,8 @@
 -- The values that `values` finds in placing order are those that AIGER's equations ask for, in an accepted graph. Assumes nothing.
 use Prim.Native.Nat.{ℕ, zero, suc}
 use mathlib.Core.Path.{_≡_, refl, sym, _∙_, ap, ap₂, subst}
-use mathlib.Core.Logic.{_⊎_, inl, inr}
-use mathlib.Core.Bool.{Bool, true, false, not, cond, _&&_, true≢false, false≢true}
+use mathlib.Core.Logic.{_⊎_, inl, inr, ⊎-elim}
+use mathlib.Core.Bool.{Bool, true, false, not, _&&_, true≢false, false≢true}
 use mathlib.Core.Option.{Option, none, some}
 use mathlib.Core.List.{List, [], _∷_, _++_, map, List·Memᴰ, List·Memᴰ·head, List·Memᴰ·tail, List·Memᴰ·not-nil, List·Memᴰ·cases-cons, Memᴰ·append-left, Memᴰ·cast}
 use lib.Dec.{T, eqb, eqb→eq, not-T}
@@ -17,6 +17,7 @@ use Rattle.theory_graph.proofs.Runs.{no-twice-behind, along, run-stays,
 use Rattle.theory_graph.proofs.Walk.{Valuation}
 use Rattle.theory_graph.proofs.Placing.{distinct-once, order-once}
 use Rattle.theory_graph.proofs.Nodes.{node-input, input-out}
+use Rattle.theory_graph.proofs.Split.{by-bool, by-member}
 
 -- an AND of the list, as its variable's node
 pub record Found (ands : List And) (v l r : ℕ) : Type 0 where
@@ -35,23 +36,17 @@ isBoth (both l r) = true
 find-and : (v : ℕ) (ands : List And) (l r : ℕ) → findAnd v ands ≡ both l r → Found ands v l r
 unfolding findAnd isBoth
 find-and v [] l r e = absurd (false≢true (ap isBoth e))
-find-and v (a ∷ as′) l r e = go (eqb v (a .var)) (eqb→eq v (a .var)) e (find-and v as′ l r)
+find-and v (a ∷ as′) l r e = by-bool (eqb v (a .var))
+    (λ q. record { line = a; isLine = List·Memᴰ·head refl; isVar = sym ((rw q at (eqb→eq v (a .var))) tt); isLeft = cc; isRight = cc })
+    (λ p. further ((find-and v as′ l r) (rw p at e)))
   where
     further : Found as′ v l r → Found (a ∷ as′) v l r
     further f = record { line = f .line; isLine = List·Memᴰ·tail (f .isLine); isVar = f .isVar; isLeft = f .isLeft; isRight = f .isRight }
 
-    go : (b : Bool) → (T b → v ≡ a .var) → cond b (both (a .left) (a .right)) (findAnd v as′) ≡ both l r → (findAnd v as′ ≡ both l r → Found as′ v l r) → Found (a ∷ as′) v l r
-    go true s q later = record { line = a; isLine = List·Memᴰ·head refl; isVar = sym (s tt); isLeft = cc; isRight = cc }
-    go false s q later = further (later q)
-
 pub node-and : (g : Graph) (v l r : ℕ) → node g v ≡ both l r → Found (g .ands) v l r
 unfolding node isBoth
-node-and g v l r e = go (eqb v 0) (elem v (g .inputs)) e
-  where
-    go : (a b : Bool) → cond a constant (cond b input (findAnd v (g .ands))) ≡ both l r → Found (g .ands) v l r
-    go true b q = absurd (false≢true (ap isBoth q))
-    go false true q = absurd (false≢true (ap isBoth q))
-    go false false q = find-and v (g .ands) l r q
+node-and g v l r e = by-bool (eqb v 0) (λ q. absurd (false≢true (ap isBoth (rw q at e)))) (λ p. by-bool (elem v (g .inputs))
+    (λ z. absurd (false≢true (ap isBoth (rw z at (rw p at e))))) (λ w. find-and v (g .ands) l r (rw w at (rw p at e))))
 
 -- two ANDs of one variable are one
 pub and-once : (ands : List And) → Distinct (map (λ (a : And). a .var) ands) → (a b : And) → List·Memᴰ a ands → List·Memᴰ b ands → a .var ≡ b .var → a ≡ b
@@ -75,8 +70,7 @@ module _ (g : Graph) (ok : Accepted g) where
 
   pub ands-once : Distinct (map (λ (a : And). a .var) (g .ands))
   ands-once =
-      distinct-once (map (λ (a : And). a .var) (g .ands)) []
-      (subst (λ (xs : List ℕ). T (distinct xs)) (sym (mathlib.Core.List.append-nil (map (λ (a : And). a .var) (g .ands))))
+      distinct-once (map (λ (a : And). a .var) (g .ands)) [] (rw (mathlib.Core.List.append-nil (map (λ (a : And). a .var) (g .ands)))
       (distinct-behind (0 ∷ g .inputs) (map (λ (a : And). a .var) (g .ands)) (ok .defined)))
 
   next-closed : (placed : List ℕ) (v : ℕ) → lowest (map (λ (a : And). a .var) (keep (ready placed) (g .ands))) ≡ some v → (l r : ℕ) → node g v ≡ both l r
@@ -96,14 +90,9 @@ module _ (g : Graph) (ok : Accepted g) where
   place-closed : (fuel : ℕ) (placed before : List ℕ) → ((x : ℕ) → List·Memᴰ x placed → List·Memᴰ x before) → Closed g before (placeF fuel (g .ands) placed)
   unfolding placeF andOn Closed
   place-closed zero placed before sub = tt
-  place-closed (suc fuel) placed before sub =
-      go (lowest (map (λ (a : And). a .var) (keep (ready placed) (g .ands)))) (next-closed placed)
-      (λ v. place-closed fuel (v ∷ placed) (v ∷ before) (more v))
+  place-closed (suc fuel) placed before sub = go (lowest (map (λ (a : And). a .var) (keep (ready placed) (g .ands)))) (next-closed placed)
+      (λ v. place-closed fuel (v ∷ placed) (v ∷ before) (λ y z. by-member z List·Memᴰ·head (λ m. List·Memᴰ·tail (sub y m))))
     where
-      more : (v x : ℕ) → List·Memᴰ x (v ∷ placed) → List·Memᴰ x (v ∷ before)
-      more v x (List·Memᴰ·head e) = List·Memᴰ·head e
-      more v x (List·Memᴰ·tail m) = List·Memᴰ·tail (sub x m)
-
       go : (o : Option ℕ) → ((v : ℕ) → o ≡ some v → (l r : ℕ) → node g v ≡ both l r → List·Memᴰ (varOf l) placed × List·Memᴰ (varOf r) placed)
           → ((v : ℕ) → Closed g (v ∷ before) (placeF fuel (g .ands) (v ∷ placed))) → Closed g before (andOn o (λ v. placeF fuel (g .ands) (v ∷ placed)))
       go none h later = tt
@@ -125,18 +114,13 @@ module _ (g : Graph) (ok : Accepted g) where
   closed-append (v ∷ xs) ys before h rest = (
     (λ l r q. absurd (h v (List·Memᴰ·head refl) l r q)),
     closed-append xs ys (v ∷ before) (λ x m. h x (List·Memᴰ·tail m))
-        (λ after a b. rest after (λ x m. either x after a b (List·Memᴰ·cases-cons m)) (λ x m. b x (List·Memᴰ·tail m))),
+        (λ after a b. rest after (λ x m. ⊎-elim (λ e. b x (List·Memᴰ·head e)) (a x) (List·Memᴰ·cases-cons m)) (λ x m. b x
+        (List·Memᴰ·tail m))),
   )
-    where
-      either : (x : ℕ) (after : List ℕ) → ((y : ℕ) → List·Memᴰ y xs → List·Memᴰ y after) → ((y : ℕ) → List·Memᴰ y (v ∷ before) → List·Memᴰ y after)
-          → (x ≡ v) ⊎ List·Memᴰ x xs → List·Memᴰ x after
-      either x after a b (inl e) = b x (List·Memᴰ·head e)
-      either x after a b (inr m) = a x m
 
   pub order-closed : Closed g [] (placingOrder g)
   unfolding placingOrder
-  order-closed =
-      closed-append (0 ∷ g .inputs) (placeF (length (g .ands)) (g .ands) (0 ∷ g .inputs)) [] first-not-both
+  order-closed = closed-append (0 ∷ g .inputs) (placeF (length (g .ands)) (g .ands) (0 ∷ g .inputs)) [] first-not-both
       (λ after a b. place-closed (length (g .ands)) (0 ∷ g .inputs) after a)
 
   -- the operands of a placed AND are placed before it
@@ -187,11 +171,8 @@ module _ (g : Graph) (ok : Accepted g) where
     -- the AIGER values
     pub valueOf-valuation : Valuation g setting (valueOf g setting)
     unfolding valueOf values find
-    valueOf-valuation =
-        along (λ v. valueOf g setting v ≡ nodeValue setting (valueOf g setting) v (node g v)) (placingOrder g)
-        (λ u h. run-stays false valueStep (placingOrder g) [] u h ∙ sym (all-placed u h (node g u) refl))
-        (λ pre v post e ih.
-        ap (λ (vs : List ℕ). find false v (run valueStep vs [])) e
-        ∙ ap (find false v) (run-split false valueStep pre (v ∷ post) [])
-        ∙ run-entry false valueStep v post (run valueStep pre []) (no-twice-behind pre (v ∷ post) (subst Distinct e (order-once g ok)) .0)
+    valueOf-valuation = along (λ v. valueOf g setting v ≡ nodeValue setting (valueOf g setting) v (node g v)) (placingOrder g)
+        (λ u h. run-stays false valueStep (placingOrder g) [] u h ∙ sym (all-placed u h (node g u) refl)) (λ pre v post e ih.
+        ap (λ (vs : List ℕ). find false v (run valueStep vs [])) e ∙ ap (find false v) (run-split false valueStep pre (v ∷ post) [])
+        ∙ run-entry false valueStep v post (run valueStep pre []) (no-twice-behind pre (v ∷ post) (rw (← e) (order-once g ok)) .0)
         ∙ values-turn pre v post e (node g v) refl)

@@ -30,8 +30,7 @@ leaf-walk : (w : ℕ → Bool) (r i v : ℕ) (leaves : List ℕ) (rest : Bool) �
     → orElse (leafBit leaves i r v) rest ≡ w v
 unfolding orElse leafBit
 leaf-walk w r i v [] rest c other = other List·Memᴰ·not-nil
-leaf-walk w r i v (x ∷ xs) rest c other =
-    go (eqb v x) (eqb→eq v x) eqb-no (leaf-walk w r (suc i) v xs rest (c .1))
+leaf-walk w r i v (x ∷ xs) rest c other = go (eqb v x) (eqb→eq v x) eqb-no (leaf-walk w r (suc i) v xs rest (c .1))
   where
     neither : ¬ (v ≡ x) → ¬ List·Memᴰ v xs → ¬ List·Memᴰ v (x ∷ xs)
     neither a b (List·Memᴰ·head e) = a e
@@ -51,11 +50,8 @@ module _ (g : Graph) (setting w : ℕ → Bool) (isValue : Valuation g setting w
   pub walk-value : (n v : ℕ) → Under g leaves n v → walk n g leaves r v ≡ w v
   unfolding walk nodeValue
   walk-value (suc n) v (leaf m) = leaf-walk w r 0 v leaves _ carry (λ h. absurd (h m))
-  walk-value (suc n) v (nought e) =
-      leaf-walk w r 0 v leaves _ carry
+  walk-value (suc n) v (nought e) = leaf-walk w r 0 v leaves _ carry
       (λ h. ap (nodeValue (λ u. false) (walk n g leaves r) v) e ∙ sym (isValue v ∙ ap (nodeValue setting w v) e))
-  walk-value (suc n) v (and {l = l} {r = q} e a b) =
-      leaf-walk w r 0 v leaves _ carry
-      (λ h. ap (nodeValue (λ u. false) (walk n g leaves r) v) e
-      ∙ ap₂ _&&_ (literal-cong (walk n g leaves r) l (walk-value n (varOf l) a)) (literal-cong (walk n g leaves r) q (walk-value n (varOf q) b))
-      ∙ sym (isValue v ∙ ap (nodeValue setting w v) e))
+  walk-value (suc n) v (and {l = l} {r = q} e a b) = leaf-walk w r 0 v leaves _ carry (λ h.
+      ap (nodeValue (λ u. false) (walk n g leaves r) v) e ∙ ap₂ _&&_ (literal-cong (walk n g leaves r) l (walk-value n (varOf l) a))
+      (literal-cong (walk n g leaves r) q (walk-value n (varOf q) b)) ∙ sym (isValue v ∙ ap (nodeValue setting w v) e))

@@ -7,9 +7,9 @@
 -- Assumes nothing.
 use Prim.Native.Nat.{ℕ, _<_, compare, Ordering, Ordering·lt, Ordering·eq, Ordering·gt}
 use native.Mathlib.Omega.{arith}
-use mathlib.Core.Path.{_≡_, refl, sym, _∙_, ap, ap₂, subst}
+use mathlib.Core.Path.{_≡_, refl, sym, _∙_, ap, subst}
 use mathlib.Core.Bool.{true, false, true≢false, false≢true}
-use mathlib.Core.Logic.{_⊎_, inl, inr}
+use mathlib.Core.Logic.{_⊎_, inl, inr, ⊎-elim}
 use mathlib.Core.List.{List, [], _∷_, List·Memᴰ, List·Memᴰ·head, List·Memᴰ·tail, List·Memᴰ·not-nil, List·Memᴰ·cases-cons}
 use lib.Dec.{isLe, isEq}
 use lib.ListN.{length}
@@ -30,17 +30,10 @@ module _ {A : Type 0} (cmp : A → A → Ordering) (less : A → A → Type 0) (
   put-ascends : (o : Ordering) (x y : A) (ys r : List A) → cmp x y ≡ o → Ascending less (y ∷ ys) → ((a : A) → List·Memᴰ a r → (a ≡ x) ⊎ List·Memᴰ a ys)
       → Ascending less r → Ascending less (put o x y ys r)
   unfolding put
-  put-ascends Ordering·lt x y ys r e h only k = ((λ z m. go z (List·Memᴰ·cases-cons m)), h)
-    where
-      go : (z : A) → (z ≡ y) ⊎ List·Memᴰ z ys → less x z
-      go z (inl q) = subst (less x) (sym q) (below x y e)
-      go z (inr m) = on x y z (below x y e) (h .0 z m)
+  put-ascends Ordering·lt x y ys r e h only k =
+      ((λ z m. ⊎-elim (λ q. rw q (below x y e)) (λ p. on x y z (below x y e) (h .0 z p)) (List·Memᴰ·cases-cons m)), h)
   put-ascends Ordering·eq x y ys r e h only k = h
-  put-ascends Ordering·gt x y ys r e h only k = ((λ z m. go z (only z m)), k)
-    where
-      go : (z : A) → (z ≡ x) ⊎ List·Memᴰ z ys → less y z
-      go z (inl q) = subst (less y) (sym q) (above x y e)
-      go z (inr m) = h .0 z m
+  put-ascends Ordering·gt x y ys r e h only k = ((λ z m. ⊎-elim (λ q. subst (less y) (sym q) (above x y e)) (λ p. h .0 z p) (only z m)), k)
 
   insert-ascends : (x : A) (ys : List A) → Ascending less ys → Ascending less (insert cmp x ys)
   unfolding insert
@@ -55,10 +48,7 @@ module _ {A : Type 0} (cmp : A → A → Ordering) (less : A → A → Type 0) (
 -- ---- numbers
 
 pub compare-less : (x y : ℕ) → compare x y ≡ Ordering·lt → x < y
-compare-less x y e =
-    let l = leb-true x y (ap isLe e) in
-    let n = eqb-false x y (ap isEq e) in
-    omega (arith, n)
+compare-less x y e = omega (arith, leb-true x y (ap isLe e), (eqb-false x y (ap isEq e)))
 
 pub compare-more : (x y : ℕ) → compare x y ≡ Ordering·gt → y < x
 compare-more x y e = leb-false x y (ap isLe e)
@@ -89,19 +79,16 @@ ascending-unique [] [] a b sub back = refl
 ascending-unique [] (y ∷ ys) a b sub back = absurd (List·Memᴰ·not-nil (back y (List·Memᴰ·head refl)))
 ascending-unique (x ∷ xs) [] a b sub back = absurd (List·Memᴰ·not-nil (sub x (List·Memᴰ·head refl)))
 ascending-unique (x ∷ xs) (y ∷ ys) a b sub back =
-    ap₂ (λ (z : ℕ) (zs : List ℕ). z ∷ zs) heads
-    (ascending-unique xs ys (a .1) (b .1)
-    (λ z m. rest z ys y (sub z (List·Memᴰ·tail m)) (λ e. let l = a .0 z m in omega (arith, heads)))
-    (λ z m. rest z xs x (back z (List·Memᴰ·tail m)) (λ e. let l = b .0 z m in omega (arith, heads))))
+    let heads = ⊎-elim (λ e. e)
+    (λ m. ⊎-elim sym (λ n. absurd (omega (arith, b .0 x m, a .0 y n))) (List·Memᴰ·cases-cons (back y (List·Memᴰ·head refl))))
+    (List·Memᴰ·cases-cons (sub x (List·Memᴰ·head refl))) in
+    cc (
+      heads,
+      ascending-unique xs ys (a .1) (b .1)
+          (λ z m. rest z ys y (sub z (List·Memᴰ·tail m)) (λ e. let l = a .0 z m in omega (arith, heads)))
+          (λ z m. rest z xs x (back z (List·Memᴰ·tail m)) (λ e. let l = b .0 z m in omega (arith, heads))),
+    )
   where
-    first : (x ≡ y) ⊎ List·Memᴰ x ys → (y ≡ x) ⊎ List·Memᴰ y xs → x ≡ y
-    first (inl e) q = e
-    first (inr m) (inl e) = sym e
-    first (inr m) (inr n) = absurd (omega (arith, b .0 x m, a .0 y n))
-
-    heads : x ≡ y
-    heads = first (List·Memᴰ·cases-cons (sub x (List·Memᴰ·head refl))) (List·Memᴰ·cases-cons (back y (List·Memᴰ·head refl)))
-
     rest : (z : ℕ) (zs : List ℕ) (w : ℕ) → List·Memᴰ z (w ∷ zs) → ¬ (z ≡ w) → List·Memᴰ z zs
     rest z zs w (List·Memᴰ·head e) h = absurd (h e)
     rest z zs w (List·Memᴰ·tail m) h = m
@@ -142,20 +129,12 @@ after-back a b o p back = go (compare a b) refl
 
 after-on : (a b c : ℕ) (o p q : Ordering) → (o ≡ Ordering·lt → p ≡ Ordering·lt → q ≡ Ordering·lt)
     → after (compare a b) o ≡ Ordering·lt → after (compare b c) p ≡ Ordering·lt → after (compare a c) q ≡ Ordering·lt
-after-on a b c o p q on h k = less-after a c q (go (after-less a b o h) (after-less b c p k))
-  where
-    go : (a < b) ⊎ ((a ≡ b) × (o ≡ Ordering·lt)) → (b < c) ⊎ ((b ≡ c) × (p ≡ Ordering·lt)) → (a < c) ⊎ ((a ≡ c) × (q ≡ Ordering·lt))
-    go (inl x) (inl y) = inl (omega arith)
-    go (inl x) (inr y) = inl (omega (arith, y .0))
-    go (inr x) (inl y) = inl (omega (arith, x .0))
-    go (inr x) (inr y) = inr (x .0 ∙ y .0, on (x .1) (y .1))
+after-on a b c o p q on h k = less-after a c q (⊎-elim
+    (λ x. ⊎-elim (λ y. inl (omega arith)) (λ e. inl (omega (arith, e .0))) (after-less b c p k))
+    (λ r. ⊎-elim (λ z. inl (omega (arith, r .0))) (λ w. inr (r .0 ∙ w .0, on (r .1) (w .1))) (after-less b c p k)) (after-less a b o h))
 
 after-never : (a : ℕ) (o : Ordering) → after (compare a a) o ≡ Ordering·lt → o ≡ Ordering·lt
-after-never a o h = go (after-less a a o h)
-  where
-    go : (a < a) ⊎ ((a ≡ a) × (o ≡ Ordering·lt)) → o ≡ Ordering·lt
-    go (inl x) = absurd (omega arith)
-    go (inr x) = x .1
+after-never a o h = ⊎-elim (λ x. absurd (omega arith)) (λ q. q .1) (after-less a a o h)
 
 -- ---- "by ascending leaves compared left to right"
 
@@ -164,9 +143,7 @@ unfolding compareLeaves
 leaves-found [] [] e = refl
 leaves-found [] (y ∷ ys) e = absurd (false≢true (ap isEq e))
 leaves-found (x ∷ xs) [] e = absurd (false≢true (ap isEq e))
-leaves-found (x ∷ xs) (y ∷ ys) e =
-    let f = after-found x y (compareLeaves xs ys) e in
-    ap₂ (λ (z : ℕ) (zs : List ℕ). z ∷ zs) (f .0) (leaves-found xs ys (f .1))
+leaves-found (x ∷ xs) (y ∷ ys) e = let f = after-found x y (compareLeaves xs ys) e in cc (f .0, leaves-found xs ys (f .1))
 
 leaves-back : (c d : List ℕ) → compareLeaves c d ≡ Ordering·gt → compareLeaves d c ≡ Ordering·lt
 unfolding compareLeaves

@@ -6,7 +6,7 @@
 use Prim.Native.Nat.{ℕ, _≤_}
 use native.Mathlib.Omega.{arith}
 use mathlib.Core.Path.{_≡_, refl, sym, _∙_, ap, subst}
-use mathlib.Core.Logic.{_⊎_, inl, inr, _↔_}
+use mathlib.Core.Logic.{_↔_, ⊎-elim}
 use mathlib.Core.Bool.{Bool, true, false, not, cond}
 use mathlib.Core.Option.{some}
 use mathlib.Core.List.{List, [], _∷_, _++_, List·Memᴰ, List·Memᴰ·head, List·Memᴰ·tail, List·Memᴰ·not-nil, List·Memᴰ·cases-cons}
@@ -22,6 +22,7 @@ use Rattle.theory_graph.specs.Accepted.{Accepted}
 use Rattle.theory_graph.proofs.Lists.{keep-in, keep-out, is-true, is-false}
 use Rattle.theory_order.proofs.Splits.{none-in, no-more}
 use Rattle.theory_order.proofs.Recursion.{cuts-exactly, cuts-once}
+use Rattle.theory_graph.proofs.Split.{by-bool}
 
 -- ---- the first that passes a test
 
@@ -36,32 +37,25 @@ pub record First (p : ℕ → Bool) (vs : List ℕ) (v : ℕ) : Type 0 where
 first-in : (p : ℕ → Bool) (vs : List ℕ) (v : ℕ) → firstOf (keep p vs) ≡ some v → First p vs v
 unfolding firstOf keep
 first-in p [] v e = absurd (let z : _≡_ {A = ℕ} 0 1 = cc in omega arith)
-first-in p (x ∷ xs) v e = go (p x) refl e (first-in p xs v)
-  where
-    go : (b : Bool) → p x ≡ b → firstOf (cond b (x ∷ keep p xs) (keep p xs)) ≡ some v → (firstOf (keep p xs) ≡ some v → First p xs v) → First p (x ∷ xs) v
-    go true q h later =
-        let s : x ≡ v = cc in
-        record { before = []; behind = xs; isSplit = ap (λ (y : ℕ). y ∷ xs) s; passes = subst T (sym q ∙ ap p s) tt; noneBefore = λ u m. absurd (List·Memᴰ·not-nil m) }
-    go false q h later =
-        let f = later h in
-        record {
-          before = x ∷ f .before;
-          behind = f .behind;
-          isSplit = ap (λ (ys : List ℕ). x ∷ ys) (f .isSplit);
-          passes = f .passes;
-          noneBefore = λ u m. either u (List·Memᴰ·cases-cons m) (f .noneBefore u);
-        }
-      where
-        either : (u : ℕ) → (u ≡ x) ⊎ List·Memᴰ u (later h .before) → (List·Memᴰ u (later h .before) → T (not (p u))) → T (not (p u))
-        either u (inl s) back = subst (λ (b : Bool). T (not b)) (sym (ap p s ∙ q)) tt
-        either u (inr m) back = back m
+first-in p (x ∷ xs) v e = by-bool (p x) (λ q. let s : x ≡ v = cc in record {
+  before = [];
+  behind = xs;
+  isSplit = ap (λ (y : ℕ). y ∷ xs) s;
+  passes = subst T (sym q ∙ ap p s) tt;
+  noneBefore = λ u m. absurd (List·Memᴰ·not-nil m);
+}) (λ r. let f = (first-in p xs v) (rw r at e) in record {
+  before = x ∷ f .before;
+  behind = f .behind;
+  isSplit = ap (λ (ys : List ℕ). x ∷ ys) (f .isSplit);
+  passes = f .passes;
+  noneBefore = λ u m. (⊎-elim (λ s. subst (λ (b : Bool). T (not b)) (sym (ap p s ∙ r)) tt) (f .noneBefore u) (List·Memᴰ·cases-cons m));
+})
 
 first-out : (p : ℕ → Bool) (before : List ℕ) (v : ℕ) (behind : List ℕ) → T (p v) → ((u : ℕ) → List·Memᴰ u before → T (not (p u))) → firstOf (keep p (before ++ (v ∷ behind))) ≡ some v
 unfolding firstOf keep
 first-out p [] v behind t h = ap (λ (b : Bool). firstOf (cond b (v ∷ keep p behind) (keep p behind))) (is-true (p v) t)
 first-out p (x ∷ before) v behind t h =
-    ap (λ (b : Bool). firstOf (cond b (x ∷ keep p (before ++ (v ∷ behind))) (keep p (before ++ (v ∷ behind))))) (is-false (p x) (h x (List·Memᴰ·head refl)))
-    ∙ first-out p before v behind t (λ u m. h u (List·Memᴰ·tail m))
+    cc (is-false (p x) (h x (List·Memᴰ·head refl)), first-out p before v behind t (λ u m. h u (List·Memᴰ·tail m)))
 
 -- ---- refusal 16
 
@@ -77,11 +71,7 @@ module _ (g : Graph) (ok : Accepted g) where
       lt→ltb cutLimit (length (cutsOf g v)) (let h : length (m .cuts) ≤ length (cutsOf g v) = no-more (m .cuts) (cutsOf g v) (m .once) (λ c i. cuts-exactly g ok v c .1 (m .areCuts c i)) in omega (arith, m .over))
 
   not-many : (v : ℕ) → T (not (test v)) → ¬ Many g v
-  not-many v t m = go (test v) t (many-test v m)
-    where
-      go : (b : Bool) → T (not b) → T b → ⊥
-      go true a b = a
-      go false a b = b
+  not-many v t m = by-bool (test v) (λ e. rw e at t) (λ q. rw q at (many-test v m))
 
   few-test : (v : ℕ) → ¬ Many g v → T (not (test v))
   few-test v h = go (test v) (λ t. h (test-many v t))
@@ -103,6 +93,6 @@ module _ (g : Graph) (ok : Accepted g) where
   pub crowded-none-iff : (crowded g ≡ []) ↔ ((v : ℕ) → List·Memᴰ v (placingOrder g) → ¬ Many g v)
   unfolding crowded cutsOf
   crowded-none-iff = (
-    (λ e v m k. List·Memᴰ·not-nil (subst (λ (vs : List ℕ). List·Memᴰ v vs) e (keep-in test m (many-test v k)))),
+    (λ e v m k. List·Memᴰ·not-nil (rw e at (keep-in test m (many-test v k)))),
     (λ h. none-in (keep test (placingOrder g)) (λ v m. let o = keep-out test (placingOrder g) m in h v (o .0) (test-many v (o .1)))),
   )

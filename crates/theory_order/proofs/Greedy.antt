@@ -8,7 +8,6 @@ use native.Mathlib.Omega.{arith}
 use mathlib.Core.Path.{_≡_, refl, sym, ap, ap₂, subst}
 use mathlib.Core.Logic.{_↔_}
 use mathlib.Core.Bool.{not, _&&_}
-use mathlib.Core.Option.{Option, none, some}
 use mathlib.Core.List.{List, [], _∷_, _++_, map, List·Memᴰ, Memᴰ·cast}
 use lib.ListN.{length}
 use mir.Facts.{yes-and}
@@ -17,7 +16,8 @@ use Rattle.model.specs.Graph.{And, Graph, varOf, ready, andOn, placeF, placingO
 use Rattle.model.specs.OrderDemands.{Follows}
 use Rattle.theory_graph.proofs.Lists.{map-in, keep-in, elem-T}
 use Rattle.theory_order.proofs.Splits.{cons-tail, keep-length, lowest-none, lowest-least}
-use Rattle.theory_order.proofs.Orders.{Turn, placedAnds, waiting, in-not, next-turn, fewer-wait}
+use Rattle.theory_order.proofs.Orders.{waiting, in-not, next-turn, fewer-wait}
+use Rattle.theory_graph.proofs.Split.{by-option}
 
 -- behind those placed already: nothing, where no AND is left whose operands are placed; else the lowest such AND, and so on behind it
 pub data Greedy (g : Graph) : List ℕ → List ℕ → Type 0 where
@@ -34,26 +34,21 @@ module _ (g : Graph) where
 
   ready-in : (placed : List ℕ) (w : ℕ) → Follows g placed w → ¬ List·Memᴰ w placed → List·Memᴰ w (map (λ (a : And). a .var) (keep (ready placed) (g .ands)))
   unfolding ready
-  ready-in placed w f n =
-      Memᴰ·cast (sym (f .isVar))
-      (map-in (λ (a : And). a .var)
-      (keep-in (ready placed) (f .isLine)
-      (yes-and (not (elem (f .line .var) placed)) (elem (varOf (f .line .left)) placed && elem (varOf (f .line .right)) placed) (in-not (f .line .var) placed (waits placed w f n))
-      (yes-and (elem (varOf (f .line .left)) placed) (elem (varOf (f .line .right)) placed) (elem-T (varOf (f .line .left)) placed (f .left)) (elem-T (varOf (f .line .right)) placed (f .right))))))
+  ready-in placed w f n = Memᴰ·cast (sym (f .isVar)) (map-in (λ (a : And). a .var) (keep-in (ready placed) (f .isLine)
+      (yes-and (not (elem (f .line .var) placed)) (elem (varOf (f .line .left)) placed && elem (varOf (f .line .right)) placed)
+      (in-not (f .line .var) placed (waits placed w f n)) (yes-and (elem (varOf (f .line .left)) placed)
+      (elem (varOf (f .line .right)) placed) (elem-T (varOf (f .line .left)) placed (f .left))
+      (elem-T (varOf (f .line .right)) placed (f .right))))))
 
   -- the definition does what the sentence says
   place-greedy : (fuel : ℕ) (placed : List ℕ) → length (keep (waiting placed) (g .ands)) ≤ fuel → Greedy g placed (placeF fuel (g .ands) placed)
   unfolding placeF andOn
   place-greedy zero placed h = ends (λ w f n. some-length (keep (waiting placed) (g .ands)) (keep-in (waiting placed) (f .isLine) (in-not (f .line .var) placed (waits placed w f n))) h)
-  place-greedy (suc fuel) placed h =
-      go (lowest (map (λ (a : And). a .var) (keep (ready placed) (g .ands)))) refl (next-turn g placed) (λ v t. place-greedy fuel (v ∷ placed) (omega (arith, fewer-wait g placed v t)))
-    where
-      go : (o : Option ℕ) → lowest (map (λ (a : And). a .var) (keep (ready placed) (g .ands))) ≡ o → ((v : ℕ) → o ≡ some v → Turn g placed v)
-          → ((v : ℕ) → Turn g placed v → Greedy g (v ∷ placed) (placeF fuel (g .ands) (v ∷ placed))) → Greedy g placed (andOn o (λ v. placeF fuel (g .ands) (v ∷ placed)))
-      go none e next later = ends (λ w f n. lowest-none (map (λ (a : And). a .var) (keep (ready placed) (g .ands))) e w (ready-in placed w f n))
-      go (some v) e next later =
-          let t = next v refl in
-          goes (t .follows) (t .new) (λ w f n. lowest-least (map (λ (a : And). a .var) (keep (ready placed) (g .ands))) v e w (ready-in placed w f n)) (later v t)
+  place-greedy (suc fuel) placed h = by-option (lowest (map (λ (a : And). a .var) (keep (ready placed) (g .ands))))
+      (λ e. rw e (ends (λ w f n. lowest-none (map (λ (a : And). a .var) (keep (ready placed) (g .ands))) e w (ready-in placed w f n))))
+      (λ q p. rw p (let t = (rw p at (next-turn g placed)) q refl in goes (t .follows) (t .new)
+      (λ w f n. lowest-least (map (λ (a : And). a .var) (keep (ready placed) (g .ands))) q p w (ready-in placed w f n))
+      (place-greedy fuel (q ∷ placed) (omega (arith, fewer-wait g placed q t)))))
 
   -- and only one list does
   greedy-once : {placed vs us : List ℕ} → Greedy g placed vs → Greedy g placed us → vs ≡ us
@@ -66,14 +61,10 @@ module _ (g : Graph) where
 
   pub placing-iff : (vs : List ℕ) → Greedy g (0 ∷ g .inputs) vs ↔ (0 ∷ g .inputs ++ vs ≡ placingOrder g)
   unfolding placingOrder
-  placing-iff vs = (
-    (λ m. ap (λ (xs : List ℕ). 0 ∷ g .inputs ++ xs) (greedy-once m all-greedy)),
-    (λ e. subst (Greedy g (0 ∷ g .inputs)) (sym (same-behind (0 ∷ g .inputs) e)) all-greedy),
-  )
+  placing-iff vs =
+      let all-greedy = place-greedy (length (g .ands)) (0 ∷ g .inputs) (keep-length (waiting (0 ∷ g .inputs)) (g .ands)) in
+      ((λ m. ap (λ (xs : List ℕ). 0 ∷ g .inputs ++ xs) (greedy-once m all-greedy)), (λ e. rw (same-behind (0 ∷ g .inputs) e) all-greedy))
     where
-      all-greedy : Greedy g (0 ∷ g .inputs) (placedAnds g)
-      all-greedy = place-greedy (length (g .ands)) (0 ∷ g .inputs) (keep-length (waiting (0 ∷ g .inputs)) (g .ands))
-
       same-behind : {ys zs : List ℕ} (xs : List ℕ) → xs ++ ys ≡ xs ++ zs → ys ≡ zs
       same-behind [] e = e
       same-behind (x ∷ xs) e = same-behind xs (cons-tail e)

@@ -9,7 +9,7 @@
 use Prim.Native.Nat.{ℕ, zero, suc, _≤_, _<_}
 use native.Mathlib.Omega.{arith}
 use mathlib.Core.Path.{_≡_, refl, sym, _∙_, ap, subst}
-use mathlib.Core.Logic.{_⊎_, inl, inr, _↔_}
+use mathlib.Core.Logic.{_⊎_, inl, inr, _↔_, ⊎-elim}
 use mathlib.Core.Bool.{Bool, not, _&&_}
 use mathlib.Core.Option.{Option, none, some}
 use mathlib.Core.List.{List, [], _∷_, _++_, map, append-nil, append-assoc, List·Memᴰ, List·Memᴰ·head, List·Memᴰ·tail, List·Memᴰ·not-nil, List·Memᴰ·eq-of-singleton, List·Memᴰ·append-cases, Memᴰ·append-left, Memᴰ·append-right, Memᴰ·cast}
@@ -24,6 +24,7 @@ use Rattle.theory_graph.proofs.Lists.{map-in, map-out, keep-in, keep-out, elem-
 use Rattle.theory_graph.proofs.Runs.{twice-apart}
 use Rattle.theory_graph.proofs.Placing.{next-new}
 use Rattle.theory_order.proofs.Splits.{by-elem, distinct-yes, none-in, nil-split, cons-head, cons-tail, split-append, between-first, first-between, split-once, keep-length, keep-less, lowest-none, lowest-least, lowest-some}
+use Rattle.theory_graph.proofs.Split.{by-option, by-member}
 
 follows-more : {g : Graph} {v : ℕ} (xs ys : List ℕ) → ((x : ℕ) → List·Memᴰ x xs → List·Memᴰ x ys) → Follows g xs v → Follows g ys v
 follows-more xs ys sub f =
@@ -83,9 +84,8 @@ module _ (g : Graph) where
           → (q : List ℕ) → andOn o (λ w. placeF fuel (g .ands) (w ∷ placed)) ≡ q ++ (v ∷ post) → Turn g (placed ++ q) v
       go none next later q d = absurd (nil-split q v post d)
       go (some w) next later [] d = subst (Turn g (placed ++ [])) (cons-head d) (subst (λ (xs : List ℕ). Turn g xs w) (sym (append-nil placed)) (next w refl))
-      go (some w) next later (x ∷ q) d =
-          subst (λ (y : ℕ). Turn g (placed ++ (y ∷ q)) v) (cons-head d)
-          (turn-more (w ∷ placed ++ q) (placed ++ (w ∷ q)) (λ y. first-between placed q) (λ y. between-first placed q) (later w q (cons-tail d)))
+      go (some w) next later (x ∷ q) d = rw (← cons-head d) (turn-more (w ∷ placed ++ q) (placed ++ (w ∷ q)) (λ y. first-between placed q)
+          (λ y. between-first placed q) (later w q (cons-tail d)))
 
   -- the ANDs of the placing order are an order
   place-order : Order g (placedAnds g)
@@ -108,36 +108,23 @@ module _ (g : Graph) where
       → List·Memᴰ (varOf (a .left)) (placed ++ placeF fuel (g .ands) placed) → List·Memᴰ (varOf (a .right)) (placed ++ placeF fuel (g .ands) placed)
       → List·Memᴰ (a .var) (placed ++ placeF fuel (g .ands) placed)
   unfolding placeF andOn ready
-  place-ends zero placed h a m l r =
-      by-elem (a .var) placed (λ n. Memᴰ·append-left [] n)
+  place-ends zero placed h a m l r = by-elem (a .var) placed (λ n. Memᴰ·append-left [] n)
       (λ n. absurd (some-length (keep (waiting placed) (g .ands)) (keep-in (waiting placed) m (in-not (a .var) placed n)) h))
     where
       some-length : (xs : List And) → List·Memᴰ a xs → ¬ (length xs ≤ 0)
       some-length (x ∷ xs) n k = omega arith
   place-ends (suc fuel) placed h a m l r =
-      go (lowest (map (λ (b : And). b .var) (keep (ready placed) (g .ands)))) refl (next-turn placed)
-      (λ v t. place-ends fuel (v ∷ placed) (omega (arith, fewer-wait placed v t)) a m) l r
-    where
-      here : (u : ℕ) → List·Memᴰ u (placed ++ []) → List·Memᴰ u placed
-      here u = subst (λ (xs : List ℕ). List·Memᴰ u xs) (append-nil placed)
-
-      go : (o : Option ℕ) → lowest (map (λ (b : And). b .var) (keep (ready placed) (g .ands))) ≡ o → ((v : ℕ) → o ≡ some v → Turn g placed v)
-          → ((v : ℕ) → Turn g placed v → List·Memᴰ (varOf (a .left)) (v ∷ placed ++ placeF fuel (g .ands) (v ∷ placed))
-          → List·Memᴰ (varOf (a .right)) (v ∷ placed ++ placeF fuel (g .ands) (v ∷ placed)) → List·Memᴰ (a .var) (v ∷ placed ++ placeF fuel (g .ands) (v ∷ placed)))
-          → List·Memᴰ (varOf (a .left)) (placed ++ andOn o (λ v. placeF fuel (g .ands) (v ∷ placed)))
-          → List·Memᴰ (varOf (a .right)) (placed ++ andOn o (λ v. placeF fuel (g .ands) (v ∷ placed)))
-          → List·Memᴰ (a .var) (placed ++ andOn o (λ v. placeF fuel (g .ands) (v ∷ placed)))
-      go none e next later l r =
-          by-elem (a .var) placed (λ n. Memᴰ·append-left [] n)
-          (λ n.
-          absurd (lowest-none (map (λ (b : And). b .var) (keep (ready placed) (g .ands))) e (a .var)
-          (map-in (λ (b : And). b .var) (keep-in (ready placed) m
-          (yes-and (not (elem (a .var) placed)) (elem (varOf (a .left)) placed && elem (varOf (a .right)) placed) (in-not (a .var) placed n)
-          (yes-and (elem (varOf (a .left)) placed) (elem (varOf (a .right)) placed)
-          (elem-T (varOf (a .left)) placed (here (varOf (a .left)) l)) (elem-T (varOf (a .right)) placed (here (varOf (a .right)) r))))))))
-      go (some v) e next later l r =
-          let rest = placeF fuel (g .ands) (v ∷ placed) in
-          first-between placed rest (later v (next v refl) (between-first placed rest l) (between-first placed rest r))
+      let here : (u : ℕ) → List·Memᴰ u (placed ++ []) → List·Memᴰ u placed = λ u. subst (λ (xs : List ℕ). List·Memᴰ u xs)
+      (append-nil placed) in
+      by-option (lowest (map (λ (b : And). b .var) (keep (ready placed) (g .ands)))) (λ e. rw e (by-elem (a .var) placed
+      (λ n. Memᴰ·append-left [] n) (λ n. absurd (lowest-none (map (λ (b : And). b .var) (keep (ready placed) (g .ands))) e (a .var) (map-in
+      (λ (b : And). b .var) (keep-in (ready placed) m (yes-and (not (elem (a .var) placed))
+      (elem (varOf (a .left)) placed && elem (varOf (a .right)) placed) (in-not (a .var) placed n) (yes-and (elem (varOf (a .left)) placed)
+      (elem (varOf (a .right)) placed) (elem-T (varOf (a .left)) placed (here (varOf (a .left)) (rw e at l)))
+      (elem-T (varOf (a .right)) placed (here (varOf (a .right)) (rw e at r))))))))))) (λ q p. rw p (let rest = placeF fuel (g .ands)
+      (q ∷ placed) in first-between placed rest
+      ((place-ends fuel (q ∷ placed) (omega (arith, fewer-wait placed q ((rw p at (next-turn placed)) q refl))) a m)
+      (between-first placed rest (rw p at l)) (between-first placed rest (rw p at r)))))
 
   -- an AND whose operands are placed is placed
   pub ready-placed : (a : And) → List·Memᴰ a (g .ands) → List·Memᴰ (varOf (a .left)) (placingOrder g) → List·Memᴰ (varOf (a .right)) (placingOrder g) → List·Memᴰ (a .var) (placingOrder g)
@@ -152,26 +139,18 @@ module _ (g : Graph) where
   order-placed : (vs : List ℕ) → Order g vs → (pre post : List ℕ) → vs ≡ pre ++ post → ((x : ℕ) → List·Memᴰ x pre → List·Memᴰ x (placingOrder g))
       → (x : ℕ) → List·Memᴰ x post → List·Memᴰ x (placingOrder g)
   order-placed vs o pre [] e known x m = absurd (List·Memᴰ·not-nil m)
-  order-placed vs o pre (v ∷ post) e known x m =
-      at-v m (order-placed vs o (pre ++ (v ∷ [])) post (e ∙ sym (append-assoc pre (v ∷ []) post)) (λ y n. more y (List·Memᴰ·append-cases pre n)) x)
+  order-placed vs o pre (v ∷ post) e known x m = by-member m (λ q. Memᴰ·cast q (v-placed (o .follows pre v post e))) (order-placed vs o
+      (pre ++ (v ∷ [])) post (e ∙ sym (append-assoc pre (v ∷ []) post)) (λ y n. ⊎-elim (known y)
+      (λ p. Memᴰ·cast (List·Memᴰ·eq-of-singleton p) (v-placed (o .follows pre v post e))) (List·Memᴰ·append-cases pre n)) x)
     where
       before : (y : ℕ) → List·Memᴰ y (0 ∷ g .inputs) ⊎ List·Memᴰ y pre → List·Memᴰ y (placingOrder g)
       before y (inl n) = first-placed n
       before y (inr n) = known y n
 
       v-placed : Follows g (0 ∷ g .inputs ++ pre) v → List·Memᴰ v (placingOrder g)
-      v-placed f =
-          Memᴰ·cast (sym (f .isVar))
-          (ready-placed (f .line) (f .isLine) (before (varOf (f .line .left)) (List·Memᴰ·append-cases (0 ∷ g .inputs) (f .left)))
+      v-placed f = Memᴰ·cast (sym (f .isVar)) (ready-placed (f .line) (f .isLine)
+          (before (varOf (f .line .left)) (List·Memᴰ·append-cases (0 ∷ g .inputs) (f .left)))
           (before (varOf (f .line .right)) (List·Memᴰ·append-cases (0 ∷ g .inputs) (f .right))))
-
-      more : (y : ℕ) → List·Memᴰ y pre ⊎ List·Memᴰ y (v ∷ []) → List·Memᴰ y (placingOrder g)
-      more y (inl n) = known y n
-      more y (inr n) = Memᴰ·cast (List·Memᴰ·eq-of-singleton n) (v-placed (o .follows pre v post e))
-
-      at-v : List·Memᴰ x (v ∷ post) → (List·Memᴰ x post → List·Memᴰ x (placingOrder g)) → List·Memᴰ x (placingOrder g)
-      at-v (List·Memᴰ·head q) later = Memᴰ·cast q (v-placed (o .follows pre v post e))
-      at-v (List·Memᴰ·tail n) later = later n
 
   -- what stands in an order is placed
   pub stands-placed : (v : ℕ) → Stands g v → List·Memᴰ v (placingOrder g)
@@ -188,21 +167,16 @@ module _ (g : Graph) where
   -- "variable 0 and the inputs first, then again and again the lowest-numbered AND whose operands are both placed": what stands at any place of it
   pub order-turn : (pre : List ℕ) (v : ℕ) (post : List ℕ) → placingOrder g ≡ pre ++ (v ∷ post) → List·Memᴰ v (0 ∷ g .inputs) ⊎ Follows g pre v
   unfolding placingOrder
-  order-turn pre v post e = go (split-append (0 ∷ g .inputs) (placedAnds g) pre e)
-    where
-      go : List·Memᴰ v (0 ∷ g .inputs) ⊎ ((mid : List ℕ) × (pre ≡ 0 ∷ g .inputs ++ mid) × (placedAnds g ≡ mid ++ (v ∷ post))) → List·Memᴰ v (0 ∷ g .inputs) ⊎ Follows g pre v
-      go (inl m) = inl m
-      go (inr r) = inr (subst (λ (xs : List ℕ). Follows g xs v) (sym (r .1)) (place-order .follows (r .0) v post (r .2)))
+  order-turn pre v post e =
+      ⊎-elim inl (λ r. inr (rw (r .1) (place-order .follows (r .0) v post (r .2)))) (split-append (0 ∷ g .inputs) (placedAnds g) pre e)
 
 -- where no variable is defined twice
 module _ (g : Graph) (defined : T (distinct (0 ∷ g .inputs ++ andVars g))) where
   and-placed : (v : ℕ) → List·Memᴰ v (andVars g) → List·Memᴰ v (placingOrder g) → List·Memᴰ v (placedAnds g)
   unfolding placingOrder
-  and-placed v a m = go (List·Memᴰ·append-cases (0 ∷ g .inputs) m)
-    where
-      go : List·Memᴰ v (0 ∷ g .inputs) ⊎ List·Memᴰ v (placedAnds g) → List·Memᴰ v (placedAnds g)
-      go (inl n) = absurd (twice-apart (0 ∷ g .inputs) (andVars g) v (distinct-yes (0 ∷ g .inputs ++ andVars g) defined) n a)
-      go (inr n) = n
+  and-placed v a m = ⊎-elim
+      (λ n. absurd (twice-apart (0 ∷ g .inputs) (andVars g) v (distinct-yes (0 ∷ g .inputs ++ andVars g) defined) n a)) (λ q. q)
+      (List·Memᴰ·append-cases (0 ∷ g .inputs) m)
 
   placed-stands : (v : ℕ) → List·Memᴰ v (andVars g) → List·Memᴰ v (placingOrder g) → Stands g v
   placed-stands v a m = record { order = placedAnds g; isOrder = place-order g; isIn = and-placed v a m }
@@ -232,20 +206,16 @@ module _ (g : Graph) (defined : T (distinct (0 ∷ g .inputs ++ andVars g))) whe
   -- "place, the lowest such variable": the lowest AND that stands in no order
   pub unplaced-lowest-iff : (v : ℕ)
       → lowest (unplaced g) ≡ some v ↔ (List·Memᴰ v (andVars g) × (¬ Stands g v) × ((u : ℕ) → List·Memᴰ u (andVars g) → u < v → Stands g u))
-  unplaced-lowest-iff v = (there, back)
-    where
-      there : lowest (unplaced g) ≡ some v → List·Memᴰ v (andVars g) × (¬ Stands g v) × ((u : ℕ) → List·Memᴰ u (andVars g) → u < v → Stands g u)
-      there e =
-          let k = unplaced-in g v .0 (lowest-in (unplaced g) v e) in (
-            k .0,
-            (λ s. k .1 (stands-placed g v s)),
-            (λ u a h. by-elem u (placingOrder g) (placed-stands u a) (λ n. absurd (omega (arith, lowest-least (unplaced g) v e u (unplaced-in g u .1 (a, n)))))),
-          )
-
-      back : List·Memᴰ v (andVars g) × (¬ Stands g v) × ((u : ℕ) → List·Memᴰ u (andVars g) → u < v → Stands g u) → lowest (unplaced g) ≡ some v
-      back h =
-          let m : List·Memᴰ v (unplaced g) = unplaced-in g v .1 (h .0, λ n. h .1 (placed-stands v (h .0) n)) in
-          let r = lowest-some (unplaced g) v m in
-          let k = unplaced-in g (r .0) .0 (lowest-in (unplaced g) (r .0) (r .1)) in
-          let below : ¬ (r .0 < v) = λ l. k .1 (stands-placed g (r .0) (h .2 (r .0) (k .0) l)) in
-          r .1 ∙ ap some (omega (arith, lowest-least (unplaced g) (r .0) (r .1) v m, below))
+  unplaced-lowest-iff v = (
+    (λ e. let k = unplaced-in g v .0 (lowest-in (unplaced g) v e) in (
+      k .0,
+      (λ s. k .1 (stands-placed g v s)),
+      (λ u a h. by-elem u (placingOrder g) (placed-stands u a)
+          (λ n. absurd (omega (arith, lowest-least (unplaced g) v e u (unplaced-in g u .1 (a, n)))))),
+    )),
+    (λ h. let m : List·Memᴰ v
+        (unplaced g) = unplaced-in g v .1 (h .0, λ n. h .1 (placed-stands v (h .0) n)) in let r = lowest-some (unplaced g) v m in
+        let k = unplaced-in g (r .0) .0 (lowest-in (unplaced g) (r .0) (r .1)) in let below : ¬ (r .0 < v) = λ l. k .1
+        (stands-placed g (r .0) (h .2 (r .0) (k .0) l)) in r .1 ∙ ap some
+        (omega (arith, lowest-least (unplaced g) (r .0) (r .1) v m, below))),
+  )

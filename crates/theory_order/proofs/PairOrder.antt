@@ -2,9 +2,9 @@
 -- "all pairs are kept". Assumes nothing.
 use Prim.Native.Nat.{ℕ, zero, suc, _+_, _≤_, _<_}
 use native.Mathlib.Omega.{arith}
-use mathlib.Core.Path.{_≡_, refl, sym, _∙_, ap, ap₂, subst}
-use mathlib.Core.Logic.{_⊎_, inl, inr, _↔_}
-use mathlib.Core.Bool.{Bool, true, false, cond}
+use mathlib.Core.Path.{_≡_, refl, sym, _∙_, ap, subst}
+use mathlib.Core.Logic.{inl, inr, _↔_, ⊎-elim}
+use mathlib.Core.Bool.{Bool}
 use mathlib.Core.List.{List, [], _∷_, _++_, map, List·Memᴰ, List·Memᴰ·head, List·Memᴰ·tail, List·Memᴰ·not-nil, List·Memᴰ·append-cases}
 use lib.Dec.{T, leb, le→leb}
 use lib.ListN.{length}
@@ -15,6 +15,8 @@ use Rattle.model.specs.Pairs.{Pair, joins, pairsOf}
 use Rattle.model.specs.PairDemands.{Joined, Before, Rising, PairsKept}
 use Rattle.model.specs.declared.Cell.{Cell}
 use Rattle.theory_graph.proofs.Lists.{map-in, map-out, each-in, each-out, keep-in, keep-out, below-in, below-out}
+use Rattle.theory_graph.proofs.Split.{by-bool, by-member}
+use Rattle.theory_graph.proofs.Distinct.{from-low}
 
 -- ---- lists each of whose elements stands before all that follow it
 
@@ -25,23 +27,17 @@ module _ {A : Type 0} (R : A → A → Type 0) where
 
   sorted-append : (xs ys : List A) → Sorted xs → Sorted ys → ((x y : A) → List·Memᴰ x xs → List·Memᴰ y ys → R x y) → Sorted (xs ++ ys)
   sorted-append [] ys s t h = t
-  sorted-append (x ∷ xs) ys s t h = (first, sorted-append xs ys (s .1) t (λ a b m n. h a b (List·Memᴰ·tail m) n))
-    where
-      go : (y : A) → List·Memᴰ y xs ⊎ List·Memᴰ y ys → R x y
-      go y (inl m) = s .0 y m
-      go y (inr n) = h x y (List·Memᴰ·head refl) n
-
-      first : (y : A) → List·Memᴰ y (xs ++ ys) → R x y
-      first y m = go y (List·Memᴰ·append-cases xs m)
+  sorted-append (x ∷ xs) ys s t h = (
+    (λ y m. ⊎-elim (λ q. s .0 y q) (h x y (List·Memᴰ·head refl)) (List·Memᴰ·append-cases xs m)),
+    sorted-append xs ys (s .1) t
+        (λ a b m n. h a b (List·Memᴰ·tail m) n),
+  )
 
   sorted-keep : (p : A → Bool) (xs : List A) → Sorted xs → Sorted (keep p xs)
   unfolding keep
   sorted-keep p [] s = tt
-  sorted-keep p (x ∷ xs) s = go (p x) (sorted-keep p xs (s .1))
-    where
-      go : (b : Bool) → Sorted (keep p xs) → Sorted (cond b (x ∷ keep p xs) (keep p xs))
-      go true t = ((λ y m. s .0 y (keep-out p xs m .0)), t)
-      go false t = t
+  sorted-keep p (x ∷ xs) s = by-bool (p x) (λ e. rw e ((λ y m. s .0 y (keep-out p xs m .0)), (sorted-keep p xs (s .1))))
+      (λ q. rw q (sorted-keep p xs (s .1)))
 
 module _ {A B : Type 0} (R : A → A → Type 0) (S : B → B → Type 0) where
   sorted-map : (f : A → B) → ((x y : A) → R x y → S (f x) (f y)) → (xs : List A) → Sorted R xs → Sorted S (map f xs)
@@ -53,15 +49,8 @@ module _ {A B : Type 0} (R : A → A → Type 0) (S : B → B → Type 0) where
       → (xs : List A) → Sorted R xs → Sorted S (each f xs)
   unfolding each
   sorted-each f own h [] s = tt
-  sorted-each f own h (x ∷ xs) s =
-      sorted-append S (f x) (each f xs) (own x) (sorted-each f own h xs (s .1))
+  sorted-each f own h (x ∷ xs) s = sorted-append S (f x) (each f xs) (own x) (sorted-each f own h xs (s .1))
       (λ a b m n. let w = each-out f xs n in h x (w .0) (s .0 (w .0) (w .1)) a b m (w .2))
-
-from-low : (n i k : ℕ) → List·Memᴰ k (from i n) → i ≤ k
-unfolding from
-from-low zero i k m = absurd (List·Memᴰ·not-nil m)
-from-low (suc n) i k (List·Memᴰ·head e) = omega arith
-from-low (suc n) i k (List·Memᴰ·tail m) = let h : suc i ≤ k = from-low n (suc i) k m in omega arith
 
 from-sorted : (n i : ℕ) → Sorted _<_ (from i n)
 unfolding from
@@ -95,10 +84,6 @@ module _ (cells : List Cell) where
   unfolding fits joins
   fits-out i j t = let q = and-yes (leb 1 (cellAt cells j .pins)) (leb (cellAt cells i .pins + cellAt cells j .pins) 5) t in (leb-yes (q .0), leb-yes (q .1))
 
-  fits-in : (i j : ℕ) → 1 ≤ cellAt cells j .pins → cellAt cells i .pins + cellAt cells j .pins ≤ 5 → T (fits i j)
-  unfolding fits joins
-  fits-in i j a b = yes-and (leb 1 (cellAt cells j .pins)) (leb (cellAt cells i .pins + cellAt cells j .pins) 5) (le→leb 1 (cellAt cells j .pins) a) (le→leb (cellAt cells i .pins + cellAt cells j .pins) 5 b)
-
   pair-is : (p : Pair) → List·Memᴰ p (each rooted (below (length cells))) → Joined cells p
   unfolding rooted feeding inners
   pair-is p m =
@@ -117,18 +102,18 @@ module _ (cells : List Cell) where
 
   is-pair : (p : Pair) → Joined cells p → List·Memᴰ p (each rooted (below (length cells)))
   unfolding rooted feeding inners
-  is-pair p j =
-      each-in rooted (below-in (length cells) (p .root) (j .rootLine))
-      (each-in (feeding (p .root)) (below-in (cellAt cells (p .root) .pins) (p .pin) (j .fedPin))
-      (map-in (λ (i : ℕ). record { root = p .root; pin = p .pin; inner = i })
-      (keep-in (fits (p .root)) (below-in (length cells) (p .inner) (j .innerLine)) (fits-in (p .root) (p .inner) (j .somePin) (j .few)))))
+  is-pair p j = each-in rooted (below-in (length cells) (p .root) (j .rootLine)) (each-in (feeding (p .root))
+      (below-in (cellAt cells (p .root) .pins) (p .pin) (j .fedPin)) (map-in (λ (i : ℕ). record { root = p .root; pin = p .pin; inner = i })
+      (keep-in (fits (p .root)) (below-in (length cells) (p .inner) (j .innerLine)) (unfold fits joins in yes-and
+      (leb 1 (cellAt cells (p .inner) .pins)) (leb (cellAt cells (p .root) .pins + cellAt cells (p .inner) .pins) 5)
+      (le→leb 1 (cellAt cells (p .inner) .pins) (j .somePin))
+      (le→leb (cellAt cells (p .root) .pins + cellAt cells (p .inner) .pins) 5 (j .few))))))
 
   rooted-at : (i : ℕ) (p : Pair) → List·Memᴰ p (rooted i) → p .root ≡ i
   unfolding rooted feeding
   rooted-at i p m =
       let d = each-out (feeding i) (below (cellAt cells i .pins)) m in
-      let e = map-out (λ (j : ℕ). record { root = i; pin = d .0; inner = j }) (inners i) (d .2) in
-      ap (λ (x : Pair). x .root) (e .2)
+      ap (λ (x : Pair). x .root) (map-out (λ (j : ℕ). record { root = i; pin = d .0; inner = j }) (inners i) (d .2) .2)
 
   feeding-at : (i k : ℕ) (p : Pair) → List·Memᴰ p (feeding i k) → (p .root ≡ i) × (p .pin ≡ k)
   unfolding feeding
@@ -136,19 +121,16 @@ module _ (cells : List Cell) where
       let e = map-out (λ (j : ℕ). record { root = i; pin = k; inner = j }) (inners i) m in
       (ap (λ (x : Pair). x .root) (e .2), ap (λ (x : Pair). x .pin) (e .2))
 
-  feeding-sorted : (i k : ℕ) → Sorted Before (feeding i k)
-  unfolding feeding inners
-  feeding-sorted i k = sorted-map _<_ Before (λ (j : ℕ). record { root = i; pin = k; inner = j }) (λ x y h. inr (refl, inr (refl, h))) (inners i) (sorted-keep _<_ (fits i) (below (length cells)) (below-sorted (length cells)))
-
   rooted-sorted : (i : ℕ) → Sorted Before (rooted i)
   unfolding rooted
-  rooted-sorted i = sorted-each _<_ Before (feeding i) (feeding-sorted i) later (below (cellAt cells i .pins)) (below-sorted (cellAt cells i .pins))
-    where
-      later : (x y : ℕ) → x < y → (a b : Pair) → List·Memᴰ a (feeding i x) → List·Memᴰ b (feeding i y) → Before a b
-      later x y h a b m n =
-          let u = feeding-at i x a m in
-          let v = feeding-at i y b n in
-          inr (u .0 ∙ sym (v .0), inl (let p : a .pin ≡ x = u .1 in let q : b .pin ≡ y = v .1 in omega arith))
+  rooted-sorted i =
+      let later : (x y : ℕ) → x < y → (a b : Pair) → List·Memᴰ a (feeding i x) → List·Memᴰ b (feeding i y)
+      → Before a b = λ x y h a b m n. let u = feeding-at i x a m in let v = feeding-at i y b n in inr
+      (u .0 ∙ sym (v .0), inl (let p : a .pin ≡ x = u .1 in let q : b .pin ≡ y = v .1 in omega arith)) in
+      sorted-each _<_ Before (feeding i) (unfold feeding inners in λ k. sorted-map _<_ Before
+      (λ (j : ℕ). record { root = i; pin = k; inner = j }) (λ x y h. inr (refl, inr (refl, h))) (inners i)
+      (sorted-keep _<_ (fits i) (below (length cells)) (below-sorted (length cells)))) later (below (cellAt cells i .pins)) (below-sorted
+      (cellAt cells i .pins))
 
   all-sorted : Sorted Before (each rooted (below (length cells)))
   all-sorted = sorted-each _<_ Before rooted rooted-sorted later (below (length cells)) (below-sorted (length cells))
@@ -164,11 +146,8 @@ rising-of (p ∷ ps) s = (s .0, rising-of ps (s .1))
 -- "all pairs are kept", in the document's order
 pub pairs-kept : (cells : List Cell) → PairsKept cells
 pairs-kept cells = record {
-  has = λ p. (
-    (λ m. pair-is cells p (subst (List·Memᴰ p) (pairs-are cells) m)),
-    (λ j. subst (List·Memᴰ p) (sym (pairs-are cells)) (is-pair cells p j)),
-  );
-  rising = rising-of (pairsOf cells) (subst (Sorted Before) (sym (pairs-are cells)) (all-sorted cells));
+  has = λ p. ((λ m. pair-is cells p (rw (← pairs-are cells) m)), (λ j. rw (pairs-are cells) (is-pair cells p j)));
+  rising = rising-of (pairsOf cells) (rw (pairs-are cells) (all-sorted cells));
 }
 
 -- ---- no other list is so
@@ -177,20 +156,14 @@ no-both : (p q : Pair) → Before p q → Before q p → ⊥
 no-both p q (inl a) (inl b) = let x : p .root < q .root = a in let y : q .root < p .root = b in omega arith
 no-both p q (inl a) (inr b) = let x : p .root < q .root = a in let y : q .root ≡ p .root = b .0 in omega arith
 no-both p q (inr a) (inl b) = let x : p .root ≡ q .root = a .0 in let y : q .root < p .root = b in omega arith
-no-both p q (inr a) (inr b) = pins (a .1) (b .1)
-  where
-    pins : (p .pin < q .pin) ⊎ ((p .pin ≡ q .pin) × (p .inner < q .inner)) → (q .pin < p .pin) ⊎ ((q .pin ≡ p .pin) × (q .inner < p .inner)) → ⊥
-    pins (inl c) (inl d) = let x : p .pin < q .pin = c in let y : q .pin < p .pin = d in omega arith
-    pins (inl c) (inr d) = let x : p .pin < q .pin = c in let y : q .pin ≡ p .pin = d .0 in omega arith
-    pins (inr c) (inl d) = let x : p .pin ≡ q .pin = c .0 in let y : q .pin < p .pin = d in omega arith
-    pins (inr c) (inr d) = let x : p .inner < q .inner = c .1 in let y : q .inner < p .inner = d .1 in omega arith
+no-both p q (inr a) (inr b) = ⊎-elim (λ c. ⊎-elim (λ d. let x : p .pin < q .pin = c in let y : q .pin < p .pin = d in omega arith)
+    (λ e. let x : p .pin < q .pin = c in let y : q .pin ≡ p .pin = e .0 in omega arith) (b .1)) (λ r. ⊎-elim
+    (λ z. let x : p .pin ≡ q .pin = r .0 in let y : q .pin < p .pin = z in omega arith)
+    (λ w. let x : p .inner < q .inner = r .1 in let y : q .inner < p .inner = w .1 in omega arith) (b .1)) (a .1)
 
 -- one that comes before all of a list is not in it
 drop-first : (p q x : Pair) (ps qs : List Pair) → p ≡ q → ((y : Pair) → List·Memᴰ y ps → Before p y) → List·Memᴰ x ps → List·Memᴰ x (q ∷ qs) → List·Memᴰ x qs
-drop-first p q x ps qs e before m (List·Memᴰ·head f) =
-    let b : Before p x = before x m in
-    let s : Before x x = subst (λ (y : Pair). Before y x) (e ∙ sym f) b in
-    absurd (no-both x x s s)
+drop-first p q x ps qs e before m (List·Memᴰ·head f) = let s : Before x x = rw (e ∙ sym f) at (before x m) in absurd (no-both x x s s)
 drop-first p q x ps qs e before m (List·Memᴰ·tail n) = n
 
 -- rising lists of the same pairs are one list
@@ -199,16 +172,14 @@ rising-one [] [] r s h = refl
 rising-one [] (q ∷ qs) r s h = absurd (List·Memᴰ·not-nil (h q .1 (List·Memᴰ·head refl)))
 rising-one (p ∷ ps) [] r s h = absurd (List·Memᴰ·not-nil (h p .0 (List·Memᴰ·head refl)))
 rising-one (p ∷ ps) (q ∷ qs) r s h =
-    ap₂ (λ (x : Pair) (xs : List Pair). x ∷ xs) first
-    (rising-one ps qs (r .1) (s .1) (λ x. (
-      (λ m. drop-first p q x ps qs first (r .0) m (h x .0 (List·Memᴰ·tail m))),
-      (λ m. drop-first q p x qs ps (sym first) (s .0) m (h x .1 (List·Memᴰ·tail m))),
-    )))
+    cc (
+      first,
+      rising-one ps qs (r .1) (s .1) (λ x. (
+        (λ m. drop-first p q x ps qs first (r .0) m (h x .0 (List·Memᴰ·tail m))),
+        (λ m. drop-first q p x qs ps (sym first) (s .0) m (h x .1 (List·Memᴰ·tail m))),
+      )),
+    )
   where
-    go : List·Memᴰ p (q ∷ qs) → List·Memᴰ q (p ∷ ps) → p ≡ q
-    go (List·Memᴰ·head e) m = e
-    go (List·Memᴰ·tail m) (List·Memᴰ·head e) = sym e
-    go (List·Memᴰ·tail m) (List·Memᴰ·tail n) = absurd (no-both q p (s .0 p m) (r .0 q n))
-
     first : p ≡ q
-    first = go (h p .0 (List·Memᴰ·head refl)) (h q .1 (List·Memᴰ·head refl))
+    first = by-member (h p .0 (List·Memᴰ·head refl)) (λ e. e)
+        (λ m. by-member (h q .1 (List·Memᴰ·head refl)) sym (λ n. absurd (no-both q p (s .0 p m) (r .0 q n))))

@@ -8,16 +8,15 @@
 -- Assumes nothing.
 use Prim.Native.Nat.{ℕ, _≤_, _<_, compare}
 use native.Mathlib.Omega.{arith}
-use mathlib.Core.Path.{_≡_, refl, sym, _∙_, ap, ap₂, subst, subst₂}
-use mathlib.Core.Logic.{_⊎_, inl, inr, _↔_}
-use mathlib.Core.Bool.{Bool, cond}
+use mathlib.Core.Path.{_≡_, refl, sym, _∙_, ap, subst, subst₂}
+use mathlib.Core.Logic.{_⊎_, inl, inr, _↔_, ⊎-elim}
 use mathlib.Core.List.{List, [], _∷_, _++_, map, List·Memᴰ, List·Memᴰ·head, List·Memᴰ·tail, List·Memᴰ·not-nil, List·Memᴰ·cases-cons, List·Memᴰ·eq-of-singleton, List·Memᴰ·append-cases, Memᴰ·append-left, Memᴰ·append-right, Memᴰ·cast}
 use lib.Dec.{leb}
 use lib.ListN.{length}
 use mir.Facts.{leb-yes, yes-leb}
 use borrow.Author.Tests.{eq-eqb, ne-eqb}
-use Rattle.model.specs.Base.{elem, each, union, find, run}
-use Rattle.model.specs.Graph.{And, Graph, constant, input, both, findAnd, node, placingOrder, varOf, andVars}
+use Rattle.model.specs.Base.{each, union, find}
+use Rattle.model.specs.Graph.{And, Graph, both, findAnd, node, placingOrder, varOf, andVars}
 use Rattle.model.specs.Cuts.{compareCuts, unions, nodeCuts, cutLists, cutsOf}
 use Rattle.model.specs.Demands.{Distinct}
 use Rattle.model.specs.OrderDemands.{Ascending, Follows, IsUnion, IsCut, ofConstant, ofInput, ofAnd, ofOperands}
@@ -32,6 +31,7 @@ use Rattle.theory_graph.proofs.CutFacts.{compare-found, cutStep, cutsKnown, cut
 use Rattle.theory_order.proofs.Splits.{by-elem, not-elem, distinct-yes, split-at}
 use Rattle.theory_order.proofs.Ascending.{Before, ascending-once, ascending-unique, leaves-ascend, cuts-found, cuts-never, cuts-ascend}
 use Rattle.theory_order.proofs.Orders.{order-turn}
+use Rattle.theory_graph.proofs.Split.{by-member}
 
 -- ---- unions
 
@@ -44,9 +44,8 @@ union-is c d h = record { ascends = leaves-ascend c d h; has = λ x. (union-only
 
 -- a union is one list
 is-union : (c d z : List ℕ) → Ascending _<_ d → IsUnion c d z → z ≡ union compare c d
-is-union c d z h u =
-    let v = union-is c d h in
-    ascending-unique z (union compare c d) (u .ascends) (v .ascends) (λ x m. v .has x .1 (u .has x .0 m)) (λ x m. u .has x .1 (v .has x .0 m))
+is-union c d z h u = ascending-unique z (union compare c d) (u .ascends) (union-is c d h .ascends)
+    (λ x m. (union-is c d h) .has x .1 (u .has x .0 m)) (λ x m. u .has x .1 (union-is c d h .has x .0 m))
 
 -- a union of a cut of each list that has at most four members
 record Joined (cs ds : List (List ℕ)) (z : List ℕ) : Type 0 where
@@ -76,19 +75,13 @@ abbrev pub andCuts : ℕ → List (List ℕ) → List (List ℕ) → List (List 
 andCuts v cs ds = union compareCuts ((v ∷ []) ∷ unions cs ds) []
 
 and-cuts-iff : (v : ℕ) (cs ds : List (List ℕ)) (z : List ℕ) → List·Memᴰ z (andCuts v cs ds) ↔ ((z ≡ v ∷ []) ⊎ Joined cs ds z)
-and-cuts-iff v cs ds z = ((λ m. outer (union-only compareCuts z ((v ∷ []) ∷ unions cs ds) [] m)), back)
-  where
-    inner : (z ≡ v ∷ []) ⊎ List·Memᴰ z (unions cs ds) → (z ≡ v ∷ []) ⊎ Joined cs ds z
-    inner (inl e) = inl e
-    inner (inr n) = inr (unions-iff cs ds z .0 n)
-
-    outer : List·Memᴰ z ((v ∷ []) ∷ unions cs ds) ⊎ List·Memᴰ z [] → (z ≡ v ∷ []) ⊎ Joined cs ds z
-    outer (inl n) = inner (List·Memᴰ·cases-cons n)
-    outer (inr n) = absurd (List·Memᴰ·not-nil n)
-
-    back : (z ≡ v ∷ []) ⊎ Joined cs ds z → List·Memᴰ z (andCuts v cs ds)
-    back (inl e) = union-left compareCuts cuts-found z ((v ∷ []) ∷ unions cs ds) [] (List·Memᴰ·head e)
-    back (inr j) = union-left compareCuts cuts-found z ((v ∷ []) ∷ unions cs ds) [] (List·Memᴰ·tail (unions-iff cs ds z .1 j))
+and-cuts-iff v cs ds z = (
+  (λ m. ⊎-elim (λ n. ⊎-elim inl (λ q. inr (unions-iff cs ds z .0 q)) (List·Memᴰ·cases-cons n)) (λ q. absurd
+      (List·Memᴰ·not-nil q))
+      (union-only compareCuts z ((v ∷ []) ∷ unions cs ds) [] m)),
+  (λ x. ⊎-elim (λ e. union-left compareCuts cuts-found z ((v ∷ []) ∷ unions cs ds) [] (List·Memᴰ·head e))
+      (λ j. union-left compareCuts cuts-found z ((v ∷ []) ∷ unions cs ds) [] (List·Memᴰ·tail (unions-iff cs ds z .1 j))) x),
+)
 
 -- ---- the leaves of a cut
 
@@ -120,13 +113,9 @@ cut-leaf {g} (ofOperands {c = c} {d = d} m l r u h) x n = go (u .has x .0 n) (λ
 
 find-line : (ands : List And) → Distinct (map (λ (b : And). b .var) ands) → (a : And) → List·Memᴰ a ands → findAnd (a .var) ands ≡ both (a .left) (a .right)
 unfolding findAnd
-find-line (x ∷ xs) h a (List·Memᴰ·head e) =
-    ap (λ (b : Bool). cond b (both (x .left) (x .right)) (findAnd (a .var) xs)) (eq-eqb (a .var) (x .var) (ap (λ (b : And). b .var) e))
-    ∙ ap₂ both (ap (λ (b : And). b .left) (sym e)) (ap (λ (b : And). b .right) (sym e))
+find-line (x ∷ xs) h a (List·Memᴰ·head e) = cc (eq-eqb (a .var) (x .var) (ap (λ (b : And). b .var) e))
 find-line (x ∷ xs) h a (List·Memᴰ·tail m) =
-    ap (λ (b : Bool). cond b (both (x .left) (x .right)) (findAnd (a .var) xs))
-    (ne-eqb (a .var) (x .var) (λ e. h .0 (Memᴰ·cast (sym e) (map-in (λ (b : And). b .var) m))))
-    ∙ find-line xs (h .1) a m
+    cc (ne-eqb (a .var) (x .var) (λ e. h .0 (Memᴰ·cast (sym e) (map-in (λ (b : And). b .var) m))), find-line xs (h .1) a m)
 
 -- an AND is neither variable 0 nor an input
 and-apart : (g : Graph) → Accepted g → (v : ℕ) → List·Memᴰ v (andVars g) → ¬ List·Memᴰ v (0 ∷ g .inputs)
@@ -135,12 +124,13 @@ and-apart g ok v m k = twice-apart (0 ∷ g .inputs) (andVars g) v (distinct-yes
 node-line : (g : Graph) → Accepted g → (a : And) → List·Memᴰ a (g .ands) → node g (a .var) ≡ both (a .left) (a .right)
 unfolding node
 node-line g ok a m =
-    ap (λ (b : Bool). cond b constant (cond (elem (a .var) (g .inputs)) input (findAnd (a .var) (g .ands)))) (ne-eqb (a .var) 0 (λ e. apart (List·Memᴰ·head e)))
-    ∙ ap (λ (b : Bool). cond b input (findAnd (a .var) (g .ands))) (not-elem (a .var) (g .inputs) (λ k. apart (List·Memᴰ·tail k)))
-    ∙ find-line (g .ands) (ands-once g ok) a m
-  where
-    apart : ¬ List·Memᴰ (a .var) (0 ∷ g .inputs)
-    apart k = and-apart g ok (a .var) (map-in (λ (b : And). b .var) m) k
+    let apart : ¬ List·Memᴰ (a .var) (0 ∷ g .inputs) = λ k. and-apart g ok (a .var) (map-in (λ (b : And). b .var) m) k in
+    cc (
+      ne-eqb (a .var) 0 (λ e. apart (List·Memᴰ·head e)),
+      not-elem (a .var) (g .inputs)
+          (λ k. apart (List·Memᴰ·tail k)),
+      find-line (g .ands) (ands-once g ok) a m,
+    )
 
 module _ (g : Graph) (ok : Accepted g) where
   once : Distinct (placingOrder g)
@@ -149,10 +139,11 @@ module _ (g : Graph) (ok : Accepted g) where
   -- what was known at a variable's turn of those before it is what is known at the end
   cuts-known : (pre : List ℕ) (v : ℕ) (post : List ℕ) → placingOrder g ≡ pre ++ (v ∷ post) → (u : ℕ) → List·Memᴰ u pre → find [] u (cutsKnown g pre) ≡ cutsOf g u
   unfolding cutsOf cutLists
-  cuts-known pre v post e u m =
-      sym (ap (λ (vs : List ℕ). find [] u (run (cutStep g) vs [])) e
-      ∙ ap (find [] u) (run-split [] (cutStep g) pre (v ∷ post) [])
-      ∙ run-stays [] (cutStep g) (v ∷ post) (cutsKnown g pre) u (twice-apart pre (v ∷ post) u (subst Distinct e once) m))
+  cuts-known pre v post e u m = cc (
+    run-split [] (cutStep g) pre (v ∷ post) [],
+    run-stays [] (cutStep g) (v ∷ post) (cutsKnown g pre) u
+        (twice-apart pre (v ∷ post) u (rw (← e) once) m),
+  )
 
   -- "The cut set of variable 0 is {∅}"
   pub cuts-constant : cutsOf g 0 ≡ [] ∷ []
@@ -171,63 +162,53 @@ module _ (g : Graph) (ok : Accepted g) where
   turn-cuts : (pre : List ℕ) (v : ℕ) (post : List ℕ) → placingOrder g ≡ pre ++ (v ∷ post) → (f : Follows g pre v)
       → cutsOf g v ≡ andCuts v (cutsOf g (varOf (f .line .left))) (cutsOf g (varOf (f .line .right)))
   unfolding nodeCuts
-  turn-cuts pre v post e f =
-      cuts-entry g pre v post e once
-      ∙ ap (nodeCuts (λ u. find [] u (cutsKnown g pre)) v) (ap (node g) (sym (f .isVar)) ∙ node-line g ok (f .line) (f .isLine))
-      ∙ ap₂ (andCuts v) (cuts-known pre v post e (varOf (f .line .left)) (f .left)) (cuts-known pre v post e (varOf (f .line .right)) (f .right))
+  turn-cuts pre v post e f = cc (
+    cuts-entry g pre v post e once,
+    f .isVar,
+    node-line g ok (f .line) (f .isLine),
+    cuts-known pre v post e
+        (varOf (f .line .left)) (f .left),
+    cuts-known pre v post e (varOf (f .line .right)) (f .right),
+  )
 
   -- "of AND n, {{n}} and every union of a cut of one operand's variable with a cut of the other's that has at most four members"
   pub cuts-and : (a : And) → List·Memᴰ a (g .ands) → cutsOf g (a .var) ≡ andCuts (a .var) (cutsOf g (varOf (a .left))) (cutsOf g (varOf (a .right)))
   cuts-and a m =
       let n : List·Memᴰ (a .var) (andVars g) = map-in (λ (b : And). b .var) m in
       let s = split-at (placingOrder g) (defined-placed g ok (a .var) (Memᴰ·append-right (0 ∷ g .inputs) n)) in
-      go (s .0) (s .1) (s .2) n (order-turn g (s .0) (a .var) (s .1) (s .2))
-    where
-      go : (pre post : List ℕ) → placingOrder g ≡ pre ++ (a .var ∷ post) → List·Memᴰ (a .var) (andVars g) → List·Memᴰ (a .var) (0 ∷ g .inputs) ⊎ Follows g pre (a .var)
-          → cutsOf g (a .var) ≡ andCuts (a .var) (cutsOf g (varOf (a .left))) (cutsOf g (varOf (a .right)))
-      go pre post e n (inl k) = absurd (and-apart g ok (a .var) n k)
-      go pre post e n (inr f) =
-          turn-cuts pre (a .var) post e f
-          ∙ ap (λ (b : And). andCuts (a .var) (cutsOf g (varOf (b .left))) (cutsOf g (varOf (b .right))))
-          (and-once (g .ands) (ands-once g ok) (f .line) a (f .isLine) m (f .isVar))
+      ⊎-elim (λ k. absurd (and-apart g ok (a .var) n k)) (λ f. turn-cuts (s .0) (a .var) (s .1) (s .2) f ∙ ap
+      (λ (b : And). andCuts (a .var) (cutsOf g (varOf (b .left))) (cutsOf g (varOf (b .right))))
+      (and-once (g .ands) (ands-once g ok) (f .line) a (f .isLine) m (f .isVar))) (order-turn g (s .0) (a .var) (s .1) (s .2))
 
   -- what is listed is a cut
   listed-cut : (v : ℕ) (c : List ℕ) → List·Memᴰ c (cutsOf g v) → IsCut g v c
-  listed-cut =
-      along (λ v. (c : List ℕ) → List·Memᴰ c (cutsOf g v) → IsCut g v c) (placingOrder g)
-      (λ u h c m. absurd (List·Memᴰ·not-nil (subst (λ (cs : List (List ℕ)). List·Memᴰ c cs) (cuts-none g u h) m)))
+  listed-cut = along (λ v. (c : List ℕ) → List·Memᴰ c (cutsOf g v) → IsCut g v c) (placingOrder g)
+      (λ u h c m. absurd (List·Memᴰ·not-nil (rw (cuts-none g u h) at m)))
       (λ pre v post e known c m. turn pre v post e known c m (order-turn g pre v post e))
     where
       turn : (pre : List ℕ) (v : ℕ) (post : List ℕ) → placingOrder g ≡ pre ++ (v ∷ post)
           → ((u : ℕ) → ¬ List·Memᴰ u (v ∷ post) → (c : List ℕ) → List·Memᴰ c (cutsOf g u) → IsCut g u c)
           → (c : List ℕ) → List·Memᴰ c (cutsOf g v) → List·Memᴰ v (0 ∷ g .inputs) ⊎ Follows g pre v → IsCut g v c
       turn pre v post e known c m (inl (List·Memᴰ·head q)) =
-          subst₂ (IsCut g) (sym q)
-          (sym (List·Memᴰ·eq-of-singleton (subst (λ (cs : List (List ℕ)). List·Memᴰ c cs) (ap (cutsOf g) q ∙ cuts-constant) m))) ofConstant
-      turn pre v post e known c m (inl (List·Memᴰ·tail n)) =
-          subst (IsCut g v) (sym (List·Memᴰ·eq-of-singleton (subst (λ (cs : List (List ℕ)). List·Memᴰ c cs) (cuts-input v n) m))) (ofInput n)
+          subst₂ (IsCut g) (sym q) (sym (List·Memᴰ·eq-of-singleton (rw (← ap (cutsOf g) q ∙ cuts-constant) m))) ofConstant
+      turn pre v post e known c m (inl (List·Memᴰ·tail n)) = rw (List·Memᴰ·eq-of-singleton (rw (cuts-input v n) at m)) (ofInput n)
       turn pre v post e known c m (inr f) =
-          last (and-cuts-iff v (cutsOf g (varOf (f .line .left))) (cutsOf g (varOf (f .line .right))) c .0
+          let before : (u : ℕ) → List·Memᴰ u pre → (d : List ℕ) → List·Memᴰ d (cutsOf g u) → IsCut g u d = λ u k. known u
+          (twice-apart pre (v ∷ post) u (subst Distinct e once) k) in
+          ⊎-elim (λ q. subst (λ (u : ℕ). IsCut g u c) (f .isVar)
+          (subst (IsCut g (f .line .var)) (sym (q ∙ ap (λ (u : ℕ). u ∷ []) (sym (f .isVar)))) (ofAnd (f .isLine)))) (λ j. let l = before
+          (varOf (f .line .left)) (f .left) (j .left) (j .isLeft) in let r = before (varOf (f .line .right)) (f .right) (j .right)
+          (j .isRight) in subst (λ (u : ℕ). IsCut g u c) (f .isVar) (ofOperands (f .isLine) l r
+          (subst (IsUnion (j .left) (j .right)) (sym (j .isUnion)) (union-is (j .left) (j .right) (cut-ascends r))) (j .four)))
+          (and-cuts-iff v (cutsOf g (varOf (f .line .left))) (cutsOf g (varOf (f .line .right))) c .0
           (subst (λ (cs : List (List ℕ)). List·Memᴰ c cs) (turn-cuts pre v post e f) m))
-        where
-          before : (u : ℕ) → List·Memᴰ u pre → (d : List ℕ) → List·Memᴰ d (cutsOf g u) → IsCut g u d
-          before u k = known u (twice-apart pre (v ∷ post) u (subst Distinct e once) k)
-
-          last : (c ≡ v ∷ []) ⊎ Joined (cutsOf g (varOf (f .line .left))) (cutsOf g (varOf (f .line .right))) c → IsCut g v c
-          last (inl q) = subst (λ (u : ℕ). IsCut g u c) (f .isVar) (subst (IsCut g (f .line .var)) (sym (q ∙ ap (λ (u : ℕ). u ∷ []) (sym (f .isVar)))) (ofAnd (f .isLine)))
-          last (inr j) =
-              let l = before (varOf (f .line .left)) (f .left) (j .left) (j .isLeft) in
-              let r = before (varOf (f .line .right)) (f .right) (j .right) (j .isRight) in
-              subst (λ (u : ℕ). IsCut g u c) (f .isVar)
-              (ofOperands (f .isLine) l r (subst (IsUnion (j .left) (j .right)) (sym (j .isUnion)) (union-is (j .left) (j .right) (cut-ascends r))) (j .four))
 
   -- and every cut is listed
   cut-listed : {v : ℕ} {c : List ℕ} → IsCut g v c → List·Memᴰ c (cutsOf g v)
   cut-listed ofConstant = subst (λ (cs : List (List ℕ)). List·Memᴰ [] cs) (sym cuts-constant) (List·Memᴰ·head refl)
   cut-listed (ofInput {i} m) = subst (λ (cs : List (List ℕ)). List·Memᴰ (i ∷ []) cs) (sym (cuts-input i m)) (List·Memᴰ·head refl)
   cut-listed (ofAnd {a} m) =
-      subst (λ (cs : List (List ℕ)). List·Memᴰ (a .var ∷ []) cs) (sym (cuts-and a m))
-      (and-cuts-iff (a .var) (cutsOf g (varOf (a .left))) (cutsOf g (varOf (a .right))) (a .var ∷ []) .1 (inl refl))
+      rw (cuts-and a m) (and-cuts-iff (a .var) (cutsOf g (varOf (a .left))) (cutsOf g (varOf (a .right))) (a .var ∷ []) .1 (inl refl))
   cut-listed (ofOperands {a} {c} {d} {z} m l r u h) =
       subst (λ (cs : List (List ℕ)). List·Memᴰ z cs) (sym (cuts-and a m))
       (and-cuts-iff (a .var) (cutsOf g (varOf (a .left))) (cutsOf g (varOf (a .right))) z .1
@@ -239,19 +220,14 @@ module _ (g : Graph) (ok : Accepted g) where
 
   -- "Cuts are listed by size, then by ascending leaves compared left to right."
   pub cuts-listed : (v : ℕ) → Ascending Before (cutsOf g v)
-  cuts-listed v =
-      by-elem v (placingOrder g) (λ m. let s = split-at (placingOrder g) m in go (s .0) (s .1) (s .2) (order-turn g (s .0) v (s .1) (s .2)))
-      (λ h. subst (Ascending Before) (sym (cuts-none g v h)) tt)
+  cuts-listed v = by-elem v (placingOrder g) (λ m. let s = split-at (placingOrder g) m in ⊎-elim (λ x. by-member x
+      (λ q. subst (Ascending Before) (sym (ap (cutsOf g) q ∙ cuts-constant)) (one []))
+      (λ n. subst (Ascending Before) (sym (cuts-input v n)) (one (v ∷ [])))) (λ f. rw (turn-cuts (s .0) v (s .1) (s .2) f)
+      (cuts-ascend ((v ∷ []) ∷ unions (cutsOf g (varOf (f .line .left))) (cutsOf g (varOf (f .line .right)))) [] tt))
+      (order-turn g (s .0) v (s .1) (s .2))) (λ h. subst (Ascending Before) (sym (cuts-none g v h)) tt)
     where
       one : (c : List ℕ) → Ascending Before (c ∷ [])
       one c = ((λ d m. absurd (List·Memᴰ·not-nil m)), tt)
-
-      go : (pre post : List ℕ) → placingOrder g ≡ pre ++ (v ∷ post) → List·Memᴰ v (0 ∷ g .inputs) ⊎ Follows g pre v → Ascending Before (cutsOf g v)
-      go pre post e (inl (List·Memᴰ·head q)) = subst (Ascending Before) (sym (ap (cutsOf g) q ∙ cuts-constant)) (one [])
-      go pre post e (inl (List·Memᴰ·tail n)) = subst (Ascending Before) (sym (cuts-input v n)) (one (v ∷ []))
-      go pre post e (inr f) =
-          subst (Ascending Before) (sym (turn-cuts pre v post e f))
-          (cuts-ascend ((v ∷ []) ∷ unions (cutsOf g (varOf (f .line .left))) (cutsOf g (varOf (f .line .right)))) [] tt)
 
   -- "Equal sets count once."
   pub cuts-once : (v : ℕ) → Distinct (cutsOf g v)
@@ -268,9 +244,5 @@ module _ (g : Graph) (ok : Accepted g) where
   -- and are placed before the variable, in every cut but that of the variable alone
   pub leaves-earlier : (pre : List ℕ) (v : ℕ) (post : List ℕ) → placingOrder g ≡ pre ++ (v ∷ post) → (c : List ℕ) → List·Memᴰ c (cutsOf g v) → ¬ (c ≡ v ∷ [])
       → (x : ℕ) → List·Memᴰ x c → List·Memᴰ x pre
-  leaves-earlier pre v post e c m other x n =
-      go (List·Memᴰ·append-cases pre (subst (λ (vs : List ℕ). List·Memᴰ x vs) e (defined-placed g ok x (List·Memᴰ·tail (cut-leaf (listed-cut v c m) x n)))))
-    where
-      go : List·Memᴰ x pre ⊎ List·Memᴰ x (v ∷ post) → List·Memᴰ x pre
-      go (inl k) = k
-      go (inr k) = absurd (leaves-before g pre v post e once c m other x n k)
+  leaves-earlier pre v post e c m other x n = ⊎-elim (λ k. k) (λ q. absurd (leaves-before g pre v post e once c m other x n q))
+      (List·Memᴰ·append-cases pre (rw e at (defined-placed g ok x (List·Memᴰ·tail (cut-leaf (listed-cut v c m) x n)))))

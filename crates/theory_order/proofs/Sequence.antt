@@ -3,7 +3,7 @@ use Prim.Native.Nat.{ℕ, zero, suc, _<_}
 use native.Mathlib.Nat.{le-refl, not-suc-le-zero}
 use native.Mathlib.Omega.{arith}
 use mathlib.Core.Path.{_≡_}
-use mathlib.Core.Logic.{_⊎_, inl, inr}
+use mathlib.Core.Logic.{⊎-elim}
 use mathlib.Core.List.{[], _∷_, _++_, List·Memᴰ, List·Memᴰ·append-cases, Memᴰ·append-right, Memᴰ·cast}
 use Rattle.model.specs.Graph.{And, Graph, varOf, placingOrder, unplaced, andVars}
 use Rattle.theory_graph.proofs.Lists.{map-out}
@@ -24,17 +24,10 @@ module _ (g : Graph) (rising : Rising g) where
   -- by the lower variables first
   placed-below : (n v : ℕ) → v < n → List·Memᴰ v (0 ∷ g .inputs ++ andVars g) → List·Memᴰ v (placingOrder g)
   placed-below zero v h m = absurd (not-suc-le-zero h)
-  placed-below (suc n) v h m = go (List·Memᴰ·append-cases (0 ∷ g .inputs) m) (λ u k. placed-below n u k)
-    where
-      go : List·Memᴰ v (0 ∷ g .inputs) ⊎ List·Memᴰ v (andVars g) → ((u : ℕ) → u < n → List·Memᴰ u (0 ∷ g .inputs ++ andVars g) → List·Memᴰ u (placingOrder g))
-          → List·Memᴰ v (placingOrder g)
-      go (inl k) lower = first-placed g k
-      go (inr k) lower =
-          let o = map-out (λ (a : And). a .var) (g .ands) k in
-          let p = rising .left (o .0) (o .1) in
-          let q = rising .right (o .0) (o .1) in
-          Memᴰ·cast (o .2)
-          (ready-placed g (o .0) (o .1) (lower (varOf (o .0 .left)) (omega (arith, p .less, o .2)) (p .defined)) (lower (varOf (o .0 .right)) (omega (arith, q .less, o .2)) (q .defined)))
+  placed-below (suc n) v h m = ⊎-elim (first-placed g) (λ e. let o = map-out (λ (a : And). a .var) (g .ands) e in let p = rising .left
+      (o .0) (o .1) in let q = rising .right (o .0) (o .1) in Memᴰ·cast (o .2) (ready-placed g (o .0) (o .1)
+      ((placed-below n (varOf (o .0 .left)) (omega (arith, p .less, o .2))) (p .defined))
+      ((placed-below n (varOf (o .0 .right)) (omega (arith, q .less, o .2))) (q .defined)))) (List·Memᴰ·append-cases (0 ∷ g .inputs) m)
 
   -- 15 refuses no such graph
   pub rising-placed : unplaced g ≡ []

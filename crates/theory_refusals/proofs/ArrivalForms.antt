@@ -2,7 +2,7 @@
 use Prim.Native.Nat.{ℕ, _+_, _≤_, _<_}
 use native.Mathlib.Omega.{arith}
 use mathlib.Core.Path.{_≡_, refl, sym, _∙_, ap, subst}
-use mathlib.Core.Logic.{_⊎_, inl, inr, _↔_}
+use mathlib.Core.Logic.{_⊎_, inl, inr, _↔_, ⊎-elim}
 use mathlib.Core.Bool.{Bool, true, false, not, false≢true, _&&_}
 use mathlib.Core.Option.{Option, none, some}
 use mathlib.Core.List.{List, [], _∷_, _++_, map, append-nil, append-assoc, nil≢cons, List·Memᴰ, List·Memᴰ·head, List·Memᴰ·tail, List·Memᴰ·not-nil}
@@ -18,9 +18,11 @@ use Rattle.theory_text.proofs.Steps.{then-out, only-out}
 use Rattle.theory_text.proofs.Plain.{Free}
 use Rattle.promises.specs.Forms.{Begins, NumberLine, Title, title, TitleLine}
 use Rattle.promises.specs.Refusals.{Exactly, LatesIn, noLate, aLate, LateFault, twentyFive, twentySix, ArrivalsFault, noTitle, atLate, ArrivalsHold}
-use Rattle.theory_refusals.proofs.LineForms.{Reads, Found, reads-line, first-split, no-line, lines-none, free-above, found-begins, begins-read}
+use Rattle.theory_refusals.proofs.LineForms.{Reads, reads-line, first-split, lines-none, free-above, found-begins, begins-read}
 use Rattle.theory_refusals.proofs.Results.{Result, held, refused, exactly, unless-yes, unless-no, on, next-holds, next-fault, next-next, next-same, result-next, result-map, result-as}
 use Rattle.theory_refusals.proofs.NumberLines.{reads-late}
+use Rattle.theory_text.proofs.Ends.{no-lines}
+use Rattle.theory_graph.proofs.Split.{by-bool, by-option, by-list}
 
 -- ---- the first line
 
@@ -58,11 +60,8 @@ is-title : (l : Line) → T (isTitle l) → titleOf l ≡ some tt
 unfolding andThen only
 is-title l t =
     let p = and-yes (ended l) (same (l .bytes) (text "input arrival")) t in
-    through (ended l) (p .0) ∙ ap (λ (b : Bool). only {A = Unit {0}} b (tt {0})) (is-true (same (l .bytes) (text "input arrival")) (p .1))
-  where
-    through : (e : Bool) → T e → andThen (only e (l .bytes)) titles ≡ titles (l .bytes)
-    through true u = refl
-    through false u = absurd u
+    by-bool (ended l) (λ e. rw e) (λ q. rw q (absurd (rw q at (p .0))))
+    ∙ ap (λ (b : Bool). only {A = Unit {0}} b (tt {0})) (is-true (same (l .bytes) (text "input arrival")) (p .1))
 
 -- ---- 26
 
@@ -81,11 +80,9 @@ good-form inputs before es index known t =
     (ltb-yes (p .0), λ m. false≢true (sym (is-false (elem index before) (p .1)) ∙ elem-in index before (known index .1 m)))
 
 good-back : (inputs : ℕ) (before : List ℕ) (es : List Late) (index : ℕ) → Known before es → T (not (isGood inputs before index)) → (inputs ≤ index) ⊎ List·Memᴰ index (indexes es)
-good-back inputs before es index known t = go (and-no (ltb index inputs) (not (elem index before)) t)
-  where
-    go : T (not (ltb index inputs)) ⊎ T (not (not (elem index before))) → (inputs ≤ index) ⊎ List·Memᴰ index (indexes es)
-    go (inl u) = inl (ltb-no u)
-    go (inr u) = inr (known index .0 (elem-out index before (is-true (elem index before) (T-not-not (elem index before) u))))
+good-back inputs before es index known t = ⊎-elim (λ u. inl (ltb-no u))
+    (λ q. inr (known index .0 (elem-out index before (is-true (elem index before) (T-not-not (elem index before) q)))))
+    (and-no (ltb index inputs) (not (elem index before)) t)
 
 known-more : (before : List ℕ) (es : List Late) (e : Late) → Known before es → Known (e .index ∷ before) (es ++ (e ∷ []))
 known-more before es e known v = (there, back)
@@ -102,22 +99,14 @@ known-more before es e known v = (there, back)
     out [] (List·Memᴰ·head q) = inl q
     out [] (List·Memᴰ·tail m) = absurd (List·Memᴰ·not-nil m)
     out (x ∷ xs) (List·Memᴰ·head q) = inr (List·Memᴰ·head q)
-    out (x ∷ xs) (List·Memᴰ·tail m) = go (out xs m)
-      where
-        go : (v ≡ e .index) ⊎ List·Memᴰ v (indexes xs) → (v ≡ e .index) ⊎ List·Memᴰ v (indexes (x ∷ xs))
-        go (inl q) = inl q
-        go (inr n) = inr (List·Memᴰ·tail n)
+    out (x ∷ xs) (List·Memᴰ·tail m) = ⊎-elim inl (λ n. inr (List·Memᴰ·tail n)) (out xs m)
 
     there : List·Memᴰ v (e .index ∷ before) → List·Memᴰ v (indexes (es ++ (e ∷ [])))
     there (List·Memᴰ·head q) = last es q
     there (List·Memᴰ·tail m) = front es (known v .0 m)
 
     back : List·Memᴰ v (indexes (es ++ (e ∷ []))) → List·Memᴰ v (e .index ∷ before)
-    back m = go (out es m)
-      where
-        go : (v ≡ e .index) ⊎ List·Memᴰ v (indexes es) → List·Memᴰ v (e .index ∷ before)
-        go (inl q) = List·Memᴰ·head q
-        go (inr n) = List·Memᴰ·tail (known v .1 n)
+    back m = ⊎-elim List·Memᴰ·head (λ n. List·Memᴰ·tail (known v .1 n)) (out es m)
 
 -- two numbers
 two : {s ns : List ℕ} → NumberLine false 2 s ns → ns ≡ getD ns 0 0 ∷ getD ns 1 0 ∷ []
@@ -162,57 +151,60 @@ module _ (inputs : ℕ) where
   late-run (noLate {s} t) = record {
     before = [];
     known = λ v. ((λ n. absurd (List·Memᴰ·not-nil n)), λ n. absurd (List·Memᴰ·not-nil n));
-    run = λ rest.
-        let b = reads-title .back 0 s rest tt t in
-        ap (readLateLines inputs) (b .lines ∙ ap (λ (n : ℕ). b .line ∷ linesFrom n [] rest) (let q : 0 + length s ≡ length s = omega arith in q))
-        ∙ unless-yes (isTitle (b .line)) 25 (b .line .offset) (readLate inputs [] (linesFrom (length s) [] rest)) (title-is (b .line) (b .read))
-        ∙ sym (next-holds (readLate inputs [] (linesFrom (length s) [] rest)));
+    run = λ rest. let b = reads-title .back 0 s rest tt t in ap (readLateLines inputs)
+        (b .lines ∙ ap (λ (n : ℕ). b .line ∷ linesFrom n [] rest) (let q : 0 + length s ≡ length s = omega arith in q))
+        ∙ unless-yes (isTitle (b .line)) 25 (b .line .offset) (readLate inputs [] (linesFrom (length s) [] rest))
+        (title-is (b .line) (b .read)) ∙ sym (next-holds (readLate inputs [] (linesFrom (length s) [] rest)));
   }
-  late-run (aLate {s} {l} {es} {index} {arrival} lines line inside new) = more (late-run lines)
-    where
-      more : Run s es → Run (s ++ l) (es ++ (record { index = index; arrival = arrival } ∷ []))
-      more r = record {
-        before = index ∷ r .before;
-        known = known-more (r .before) es (record { index = index; arrival = arrival }) (r .known);
-        run = λ rest.
-            let b = reads-late .back (length s) l rest (index ∷ arrival ∷ []) line in
-            let ls = linesFrom (length s + length l) [] rest in
-            ap (readArrivals inputs) (append-assoc s l rest)
-            ∙ r .run (l ++ rest)
-            ∙ ap (λ (xs : List Line). next (readLate inputs (r .before) xs) (λ ds. holds (es ++ ds))) (b .lines)
-            ∙ ap (λ (x : Read (List Late)). next x (λ ds. holds (es ++ ds)))
-            (late-passes (r .before) (b .line) ls (index ∷ arrival ∷ []) (b .read) (on (isGood inputs (r .before) index) (λ t. t) (λ t. absurd (out (good-back inputs (r .before) es index (r .known) t)))))
-            ∙ next-next (readLate inputs (index ∷ r .before) ls) (λ ds. record { index = index; arrival = arrival } ∷ ds) (λ ds. es ++ ds)
-            ∙ next-same (readLate inputs (index ∷ r .before) ls) (λ ds. es ++ (record { index = index; arrival = arrival } ∷ ds)) (λ ds. (es ++ (record { index = index; arrival = arrival } ∷ [])) ++ ds)
-            (λ ds. sym (append-assoc es (record { index = index; arrival = arrival } ∷ []) ds))
-            ∙ ap (λ (n : ℕ). next (readLate inputs (index ∷ r .before) (linesFrom n [] rest)) (λ ds. holds ((es ++ (record { index = index; arrival = arrival } ∷ [])) ++ ds))) (sym (length-append s l));
-      }
-        where
-          out : (inputs ≤ index) ⊎ List·Memᴰ index (indexes es) → ⊥
-          out (inl h) = omega arith
-          out (inr m) = new m
+  late-run (aLate {s} {l} {es} {index} {arrival} lines line inside new) = record {
+    before = index ∷ (late-run lines) .before;
+    known = known-more (late-run lines .before) es (record { index = index; arrival = arrival }) (late-run lines .known);
+    run = λ rest. let b = reads-late .back (length s) l rest (index ∷ arrival ∷ []) line in let ls = linesFrom
+        (length s + length l) [] rest in ap (readArrivals inputs) (append-assoc s l rest) ∙ (late-run lines) .run (l ++ rest)
+        ∙ ap (λ (xs : List Line). next (readLate inputs (late-run lines .before) xs) (λ ds. holds (es ++ ds))) (b .lines)
+        ∙ ap (λ (x : Read (List Late)). next x (λ ds. holds (es ++ ds))) (late-passes (late-run lines .before) (b .line) ls
+        (index ∷ arrival ∷ []) (b .read) (on (isGood inputs (late-run lines .before) index) (λ t. t)
+        (λ t. absurd (⊎-elim (λ h. omega arith) new (good-back inputs (late-run lines .before) es index (late-run lines .known) t)))))
+        ∙ next-next (readLate inputs (index ∷ (late-run lines) .before) ls) (λ ds. record { index = index; arrival = arrival } ∷ ds)
+        (λ ds. es ++ ds) ∙ next-same (readLate inputs (index ∷ (late-run lines) .before) ls)
+        (λ ds. es ++ (record { index = index; arrival = arrival } ∷ ds))
+        (λ ds. (es ++ (record { index = index; arrival = arrival } ∷ [])) ++ ds)
+        (λ ds. sym (append-assoc es (record { index = index; arrival = arrival } ∷ []) ds)) ∙ ap (λ (n : ℕ).
+        next (readLate inputs (index ∷ (late-run lines) .before) (linesFrom n [] rest))
+        (λ ds. holds ((es ++ (record { index = index; arrival = arrival } ∷ [])) ++ ds))) (sym (length-append s l));
+  }
 
   late-fault : (before : List ℕ) (es : List Late) → Known before es → (at : ℕ) (t : List ℕ) (l : Line) (ls : List Line) (n : ℕ) → linesFrom at [] t ≡ l ∷ ls → LateFault inputs es t n
       → readLate inputs before (l ∷ ls) ≡ fault n (l .offset)
-  late-fault before es known at t l ls n e (twentyFive x) = go (lateNumbers l) refl
-    where
-      go : (o : Option (List ℕ)) → lateNumbers l ≡ o → readLate inputs before (l ∷ ls) ≡ fault 25 (l .offset)
-      go none f = late-none before l ls f
-      go (some ns) f = absurd (x (ns, found-begins reads-late (reads-late .form at t l ls e ns f)))
+  late-fault before es known at t l ls n e (twentyFive x) = by-option (lateNumbers l) (λ f. late-none before l ls f)
+      (λ ns q. absurd (x (ns, found-begins reads-late (reads-late .form at t l ls e ns q))))
   late-fault before es known at t l ls n e (twentySix {index} {arrival} b x) =
       late-line before l ls (index ∷ arrival ∷ []) (begins-read reads-late at t l ls e (index ∷ arrival ∷ []) b)
-      ∙ unless-no (isGood inputs before index) 26 (l .offset) _ (not-T (isGood inputs before index) (λ u. out (good-form inputs before es index known u) x))
-    where
-      out : (index < inputs) × (¬ List·Memᴰ index (indexes es)) → (inputs ≤ index) ⊎ List·Memᴰ index (indexes es) → ⊥
-      out p (inl h) = let q : index < inputs = p .0 in omega arith
-      out p (inr m) = p .1 m
+      ∙ unless-no (isGood inputs before index) 26 (l .offset) _ (not-T (isGood inputs before index) (λ u. ⊎-elim (λ h.
+      let q : index < inputs = (good-form inputs before es index known u) .0 in omega (arith, good-form inputs before es index known u))
+      (λ m. good-form inputs before es index known u .1 m) x))
 
   late-result : (ls : List Line) (s rest : List ℕ) (es : List Late) (before : List ℕ) → LatesIn inputs s es → Known before es → linesFrom (length s) [] rest ≡ ls
       → Result (λ ds. LatesIn inputs (s ++ rest) (es ++ ds)) (ArrivalsFault inputs (s ++ rest)) (readLate inputs before ls)
   unfolding readLate linesFrom
   late-result [] s rest es before lines known e =
       held (subst (λ (x : List ℕ). LatesIn inputs x (es ++ [])) (sym (append-nil s) ∙ ap (λ (y : List ℕ). s ++ y) (sym (lines-none (length s) rest e))) (subst (LatesIn inputs s) (sym (append-nil es)) lines))
-  late-result (l ∷ ls) s rest es before lines known e = go (lateNumbers l) refl (late-result ls)
+  late-result (l ∷ ls) s rest es before lines known e = by-option (lateNumbers l) (λ f. fails 25 (late-none before l ls f) (twentyFive (λ p.
+      let z : none ≡ some (p .0) = sym f
+      ∙ begins-read reads-late (length s) rest l ls e (p .0) (p .1) in let y : false ≡ true = cc in false≢true y))) (λ ns q.
+      let x = reads-late .form (length s) rest l ls e ns q in on (isGood inputs before (getD ns 0 0)) (λ t.
+      let text-is : (s ++ x .front) ++ x .behind ≡ s ++ rest = append-assoc s (x .front) (x .behind) ∙ ap (λ (y : List ℕ). s ++ y)
+      (sym (x .whole)) in let good = good-form inputs before es (getD ns 0 0) known t in let r = (late-result ls) (s ++ x .front)
+      (x .behind) (es ++ (lateOf ns ∷ [])) (getD ns 0 0 ∷ before)
+      (aLate lines (subst (NumberLine false 2 (x .front)) (two (x .is)) (x .is)) (good .0) (good .1))
+      (known-more before es (lateOf ns) known) (ap (λ (n : ℕ). linesFrom n [] (x .behind)) (length-append s (x .front)) ∙ x .later) in
+      result-as (later before ls ns) whole (late-passes before l ls ns q t) (result-next (readLate inputs (getD ns 0 0 ∷ before) ls)
+      (λ ds. lateOf ns ∷ ds) (λ ds h. subst (λ (y : List ℕ). LatesIn inputs y (es ++ (lateOf ns ∷ ds))) text-is
+      (subst (LatesIn inputs ((s ++ x .front) ++ x .behind)) (append-assoc es (lateOf ns ∷ []) ds) h))
+      (λ n k h. subst (λ (y : List ℕ). ArrivalsFault inputs y n k) text-is h) r)) (λ t. fails 26
+      (late-line before l ls ns q ∙ unless-no (isGood inputs before (getD ns 0 0)) 26 (l .offset) _ t)
+      (twentySix (subst (Begins (NumberLine false 2) rest) (two (x .is)) (found-begins reads-late x))
+      (good-back inputs before es (getD ns 0 0) known t))))
     where
       Here : Read (List Late) → Type 0
       Here = Result (λ ds. LatesIn inputs (s ++ rest) (es ++ ds)) (ArrivalsFault inputs (s ++ rest))
@@ -228,36 +220,16 @@ module _ (inputs : ℕ) where
       Later = (s′ rest′ : List ℕ) (es′ : List Late) (before′ : List ℕ) → LatesIn inputs s′ es′ → Known before′ es′ → linesFrom (length s′) [] rest′ ≡ ls
           → Result (λ ds. LatesIn inputs (s′ ++ rest′) (es′ ++ ds)) (ArrivalsFault inputs (s′ ++ rest′)) (readLate inputs before′ ls)
 
-      accepted : (ns : List ℕ) → lateNumbers l ≡ some ns → T (isGood inputs before (getD ns 0 0)) → Found (NumberLine false 2) (length s) rest ls ns → Later → Here whole
-      accepted ns f a x ih =
-          let text-is : (s ++ x .front) ++ x .behind ≡ s ++ rest = append-assoc s (x .front) (x .behind) ∙ ap (λ (y : List ℕ). s ++ y) (sym (x .whole)) in
-          let good = good-form inputs before es (getD ns 0 0) known a in
-          let r = ih (s ++ x .front) (x .behind) (es ++ (lateOf ns ∷ [])) (getD ns 0 0 ∷ before)
-          (aLate lines (subst (NumberLine false 2 (x .front)) (two (x .is)) (x .is)) (good .0) (good .1)) (known-more before es (lateOf ns) known)
-          (ap (λ (n : ℕ). linesFrom n [] (x .behind)) (length-append s (x .front)) ∙ x .later) in
-          result-as (later before ls ns) whole (late-passes before l ls ns f a)
-          (result-next (readLate inputs (getD ns 0 0 ∷ before) ls) (λ ds. lateOf ns ∷ ds)
-          (λ ds h. subst (λ (y : List ℕ). LatesIn inputs y (es ++ (lateOf ns ∷ ds))) text-is (subst (LatesIn inputs ((s ++ x .front) ++ x .behind)) (append-assoc es (lateOf ns ∷ []) ds) h))
-          (λ n k h. subst (λ (y : List ℕ). ArrivalsFault inputs y n k) text-is h) r)
-
-      go : (o : Option (List ℕ)) → lateNumbers l ≡ o → Later → Here whole
-      go none f ih =
-          fails 25 (late-none before l ls f)
-          (twentyFive (λ p. let z : none ≡ some (p .0) = sym f ∙ begins-read reads-late (length s) rest l ls e (p .0) (p .1) in let y : false ≡ true = cc in false≢true y))
-      go (some ns) f ih =
-          let x = reads-late .form (length s) rest l ls e ns f in
-          on (isGood inputs before (getD ns 0 0))
-          (λ t. accepted ns f t x ih)
-          (λ t. fails 26 (late-line before l ls ns f ∙ unless-no (isGood inputs before (getD ns 0 0)) 26 (l .offset) _ t)
-          (twentySix (subst (Begins (NumberLine false 2) rest) (two (x .is)) (found-begins reads-late x)) (good-back inputs before es (getD ns 0 0) known t)))
-
   result : (t : List ℕ) → Result (ArrivalsHold inputs t) (ArrivalsFault inputs t) (readArrivals inputs t)
   unfolding readArrivals readLateLines
   result t = go (linesFrom 0 [] t) refl
     where
       go : (ls : List Line) → linesFrom 0 [] t ≡ ls → Result (ArrivalsHold inputs t) (ArrivalsFault inputs t) (readLateLines inputs ls)
       go [] e = held (inl (lines-none 0 t e, refl))
-      go (l ∷ ls) e = on (isTitle l) yes? no?
+      go (l ∷ ls) e = on (isTitle l) yes? (λ u. result-as (fault 25 0) (readLateLines inputs (l ∷ ls))
+          (unless-no (isTitle l) 25 (l .offset) (readLate inputs [] ls) u ∙ ap (fault 25) (first-split 0 t l ls e .offset)) (refused
+          (noTitle (λ z. no-lines 0 l ls (sym (ap (linesFrom 0 []) z) ∙ e))
+          (λ p. lib.Dec.T-not (isTitle l) u (title-is l (begins-read reads-title 0 t l ls e tt (p .1)))))))
         where
           yes? : T (isTitle l) → Result (ArrivalsHold inputs t) (ArrivalsFault inputs t) (readLateLines inputs (l ∷ ls))
           yes? u =
@@ -266,14 +238,6 @@ module _ (inputs : ℕ) where
               (result-map (readLate inputs [] ls) (λ ds h. inr (subst (λ (y : List ℕ). LatesIn inputs y ds) (sym (x .whole)) h)) (λ n k h. subst (λ (y : List ℕ). ArrivalsFault inputs y n k) (sym (x .whole)) h)
               (late-result ls (x .front) (x .behind) [] [] (noLate (x .is)) (λ v. ((λ n. absurd (List·Memᴰ·not-nil n)), λ n. absurd (List·Memᴰ·not-nil n)))
               (ap (λ (n : ℕ). linesFrom n [] (x .behind)) (let q : length (x .front) ≡ 0 + length (x .front) = omega arith in q) ∙ x .later)))
-
-          no? : T (not (isTitle l)) → Result (ArrivalsHold inputs t) (ArrivalsFault inputs t) (readLateLines inputs (l ∷ ls))
-          no? u =
-              result-as (fault 25 0) (readLateLines inputs (l ∷ ls)) (unless-no (isTitle l) 25 (l .offset) (readLate inputs [] ls) u ∙ ap (fault 25) (first-split 0 t l ls e .offset))
-              (refused (noTitle (λ z. none-lines z) (λ p. lib.Dec.T-not (isTitle l) u (title-is l (begins-read reads-title 0 t l ls e tt (p .1))))))
-            where
-              none-lines : t ≡ [] → ⊥
-              none-lines z = no-line 0 l ls (sym (ap (linesFrom 0 []) z) ∙ e)
 
   arrivals-held : (t : List ℕ) (es : List Late) → ArrivalsHold inputs t es → readArrivals inputs t ≡ holds es
   unfolding readArrivals readLateLines readLate linesFrom next
@@ -286,16 +250,15 @@ module _ (inputs : ℕ) where
     where
       go : (ls : List Line) → linesFrom 0 [] t ≡ ls → readLateLines inputs ls ≡ fault 25 0
       go [] e = absurd (some? (lines-none 0 t e))
-      go (l ∷ ls) e =
-          unless-no (isTitle l) 25 (l .offset) (readLate inputs [] ls) (not-T (isTitle l) (λ u. x (tt, found-begins reads-title (reads-title .form 0 t l ls e tt (is-title l u)))))
-          ∙ ap (fault 25) (first-split 0 t l ls e .offset)
-  arrivals-refused t n k (atLate {s} {t = u} {es} lines some? f) = let r = late-run lines in r .run u ∙ go (r .before) (r .known) (linesFrom (length s) [] u) refl
-    where
-      go : (before : List ℕ) → Known before es → (ls : List Line) → linesFrom (length s) [] u ≡ ls → next (readLate inputs before ls) (λ ds. holds (es ++ ds)) ≡ fault n (length s)
-      go before known [] e = absurd (some? (lines-none (length s) u e))
-      go before known (l ∷ ls) e =
-          next-fault (readLate inputs before (l ∷ ls)) (λ ds. holds (es ++ ds)) n (length s)
-          (late-fault before es known (length s) u l ls n e f ∙ ap (fault n) (first-split (length s) u l ls e .offset))
+      go (l ∷ ls) e = cc (
+        unless-no (isTitle l) 25 (l .offset) (readLate inputs [] ls) (not-T (isTitle l)
+            (λ u. x (tt, found-begins reads-title (reads-title .form 0 t l ls e tt (is-title l u))))),
+        first-split 0 t l ls e .offset,
+      )
+  arrivals-refused t n k (atLate {s} {t = u} {es} lines some? f) = let r = late-run lines in r .run u ∙ by-list (linesFrom (length s) [] u)
+      (λ e. rw e (absurd (some? (lines-none (length s) u e)))) (λ l ls q. rw q (next-fault (readLate inputs (r .before) (l ∷ ls))
+      (λ ds. holds (es ++ ds)) n (length s)
+      (late-fault (r .before) es (r .known) (length s) u l ls n q f ∙ ap (fault n) (first-split (length s) u l ls q .offset))))
 
   -- the arrivals, whole
   pub arrivals-exactly : (t : List ℕ) → Exactly (ArrivalsHold inputs t) (ArrivalsFault inputs t) (readArrivals inputs t)

@@ -1,7 +1,7 @@
 -- A cell line is read exactly where its bytes have the form, and with the form's meaning; and the tests of 5, 6 and 27 are their conditions. Assumes nothing.
 use Prim.Native.Nat.{ℕ, zero, suc, _/_, _%_, _^_, _≤_, _<_}
 use native.Mathlib.Omega.{arith}
-use mathlib.Core.Path.{_≡_, refl, sym, _∙_, ap, ap₂, subst}
+use mathlib.Core.Path.{_≡_, refl, sym, _∙_, ap, subst}
 use mathlib.Core.Bool.{Bool, true, false, cond, true≢false, _&&_}
 use mathlib.Core.Option.{Option, some}
 use mathlib.Core.List.{List, [], _∷_, _++_, append-nil}
@@ -19,8 +19,10 @@ use Rattle.theory_text.proofs.Plain.{Free}
 use Rattle.promises.specs.Forms.{Name, Numbers, Table, Lows, given, same as sameLows, CellFields, CellLine, joined}
 use Rattle.promises.specs.Forms.Numbers.{none as noNumbers, one as aNumber}
 use Rattle.promises.specs.Refusals.{Clean, Ranged}
-use Rattle.theory_refusals.proofs.FieldForms.{AllFree, joins, number-free, name-form, name-back, name-free, numbers-form, numbers-back, numbers-count, numbers-free, table-form, table-back, table-free, fields-joined, joined-free}
+use Rattle.theory_refusals.proofs.FieldForms.{joins, number-free, name-form, name-back, name-free, numbers-form, numbers-back, numbers-count, numbers-free, table-form, table-back, table-free, fields-joined, joined-free}
 use Rattle.theory_refusals.proofs.LineForms.{Reads, reads-line}
+use Rattle.theory_text.proofs.CellLines.{field-count}
+use Rattle.theory_graph.proofs.Split.{by-bool}
 
 -- ---- lists
 
@@ -71,21 +73,12 @@ made ranged w ns table = record {
 
 -- what is read of four fields and the delays
 abbrev readFields : Bool → List ℕ → List ℕ → List ℕ → List (List ℕ) → Option Cell
-readFields ranged w p t rest =
-    andThen (only (eqb (suc (suc (suc (length rest)))) (cond ranged 12 8) && isNamed w) (w ∷ p ∷ t ∷ rest)) (λ _.
-    andThen (numbers (p ∷ rest)) (λ ns.
-    andThen (hexTable t) (λ table. only (leb (getD ns 0 0) 4) (made ranged w ns table))))
+readFields ranged w p t rest = andThen (only (eqb (suc (suc (suc (length rest)))) (cond ranged 12 8) && isNamed w) (w ∷ p ∷ t ∷ rest))
+    (λ _. andThen (numbers (p ∷ rest)) (λ ns. andThen (hexTable t) (λ table. only (leb (getD ns 0 0) 4) (made ranged w ns table))))
 
 cell-fields : (ranged : Bool) (w p t : List ℕ) (rest : List (List ℕ)) → cellOfFields ranged (w ∷ p ∷ t ∷ rest) ≡ readFields ranged w p t rest
 unfolding cellOfFields
 cell-fields ranged w p t rest = refl
-
-few-fields : (ranged : Bool) (ws : List (List ℕ)) (c : Cell) → cellOfFields ranged ws ≡ some c → length ws ≡ cond ranged 12 8
-unfolding cellOfFields
-few-fields ranged ws c e =
-    let o = then-out (only (eqb (length ws) (cond ranged 12 8) && isNamed (getD ws 0 [])) ws) _ c e in
-    let p = only-out (eqb (length ws) (cond ranged 12 8) && isNamed (getD ws 0 [])) ws (o .0) (o .1) in
-    eqb-yes (and-yes (eqb (length ws) (cond ranged 12 8)) (isNamed (getD ws 0 [])) (p .0) .0)
 
 -- the numbers of a line apart: pins, area, and the delays
 form-made : (ranged : Bool) (w p t : List ℕ) (rest : List (List ℕ)) (ns : List ℕ) (table : ℕ) → length rest ≡ cond ranged 9 5 → Name w → Numbers (p ∷ rest) ns → Table t table → getD ns 0 0 ≤ 4
@@ -142,15 +135,11 @@ fields-form : (ranged : Bool) (w : List ℕ) (c : Cell) → cellOfFields ranged 
 fields-form ranged w c e =
     let j = joins w in
     let f : cellOfFields ranged (j .first ∷ j .others) ≡ some c = ap (cellOfFields ranged) (sym (j .areFields)) ∙ e in
-    subst (λ (x : List ℕ). CellFields ranged x c) (sym (j .isWhole)) (many (j .first) (j .others) f (few-fields ranged (j .first ∷ j .others) c f))
+    subst (λ (x : List ℕ). CellFields ranged x c) (sym (j .isWhole)) (many (j .first) (j .others) f (field-count ranged (j .first ∷ j .others) c f))
   where
     small : (r : Bool) (n : ℕ) → n < 3 → n ≡ cond r 12 8 → ⊥
     small true n h e = omega arith
     small false n h e = omega arith
-
-    left : (r : Bool) (n : ℕ) → suc (suc (suc n)) ≡ cond r 12 8 → n ≡ cond r 9 5
-    left true n e = omega arith
-    left false n e = omega arith
 
     many : (w : List ℕ) (ws : List (List ℕ)) → cellOfFields ranged (w ∷ ws) ≡ some c → suc (length ws) ≡ cond ranged 12 8 → CellFields ranged (joined (w ∷ ws)) c
     many w [] f n = absurd (small ranged 1 (lit< tt) n)
@@ -165,15 +154,16 @@ fields-form ranged w c e =
         let b = then-out (hexTable t) (λ table. only (leb (getD (a .0) 0 0) 4) (made ranged w (a .0) table)) c (a .2) in
         let d = only-out (leb (getD (a .0) 0 0) 4) (made ranged w (a .0) (b .0)) c (b .2) in
         subst (CellFields ranged (joined (w ∷ p ∷ t ∷ rest))) (d .1)
-        (form-made ranged w p t rest (a .0) (b .0) (left ranged (length rest) n) (name-form w (y .1)) (numbers-form (p ∷ rest) (a .0) (a .1)) (table-form t (b .0) (b .1)) (leb-yes (d .0)))
+        (form-made ranged w p t rest (a .0) (b .0) (by-bool ranged (λ q. rw q (omega (arith, rw q at n)))
+        (λ p. rw p (omega (arith, rw p at n)))) (name-form w (y .1)) (numbers-form (p ∷ rest) (a .0) (a .1)) (table-form t (b .0)
+        (b .1)) (leb-yes (d .0)))
 
 -- a cell by its seven values
 abbrev cell : List ℕ → ℕ → ℕ → ℕ → ℕ → List ℕ → List ℕ → Cell
 cell n l p t a d w = record { name = n; len = l; pins = p; table = t; area = a; delays = d; lows = w }
 
 same-cell : {n n′ : List ℕ} {l l′ : ℕ} (p t a : ℕ) {d d′ w w′ : List ℕ} → n ≡ n′ → l ≡ l′ → d ≡ d′ → w ≡ w′ → cell n l p t a d w ≡ cell n′ l′ p t a d′ w′
-same-cell {n} {n′} {l} {l′} p t a {d} {d′} {w} {w′} e f g h =
-    ap₂ (λ (x : List ℕ) (y : ℕ). cell x y p t a d w) e f ∙ ap₂ (λ (x y : List ℕ). cell n′ l′ p t a x y) g h
+same-cell {n} {n′} {l} {l′} p t a {d} {d′} {w} {w′} e f g h = cc
 
 -- the delays and lowest delays, read behind one another
 record Behind (ranged : Bool) (fs gs : List (List ℕ)) (ds ls : List ℕ) : Type 0 where
@@ -204,42 +194,57 @@ unfolding nameBytes andThen only
 fields-back ranged w c f =
     let b = behind ranged (f .delayFields) (f .lowFields) (c .delays) (c .lows) (f .delays) (f .four) (f .lows) in
     let rest = f .areaField ∷ f .delayFields ++ f .lowFields in
-    let all : Numbers (f .pinsField ∷ rest) (c .pins ∷ c .area ∷ b .all) = aNumber (f .pins) (aNumber (f .area) (b .read)) in
-    let free : AllFree 32 (f .nameField ∷ f .pinsField ∷ f .tableField ∷ rest) =
-    (name-free 32 (lit< tt) (f .isName), (number-free 32 (lit< tt) (f .pins), (table-free 32 (lit< tt) (f .table), (number-free 32 (lit< tt) (f .area), numbers-free 32 (lit< tt) (b .read))))) in
-    ap (λ (x : List ℕ). cellOfFields ranged (fields x)) (f .whole)
-    ∙ ap (cellOfFields ranged) (fields-joined (f .nameField) (f .pinsField ∷ f .tableField ∷ rest) free)
-    ∙ cell-fields ranged (f .nameField) (f .pinsField) (f .tableField) rest
-    ∙ ap (λ (x : Bool). andThen (only x (f .nameField ∷ f .pinsField ∷ f .tableField ∷ rest)) (λ _. andThen (numbers (f .pinsField ∷ rest)) (λ ns. andThen (hexTable (f .tableField)) (λ table. only (leb (getD ns 0 0) 4) (made ranged (f .nameField) ns table)))))
-    (is-true (eqb (suc (suc (suc (length rest)))) (cond ranged 12 8) && isNamed (f .nameField))
-    (yes-and (eqb (suc (suc (suc (length rest)))) (cond ranged 12 8)) (isNamed (f .nameField)) (yes-eqb {a = suc (suc (suc (length rest)))} {b = cond ranged 12 8} (twelve ranged (length (f .delayFields ++ f .lowFields)) (b .count))) (name-back (f .nameField) (f .isName))))
-    ∙ ap (λ (o : Option (List ℕ)). andThen o (λ ns. andThen (hexTable (f .tableField)) (λ table. only (leb (getD ns 0 0) 4) (made ranged (f .nameField) ns table)))) (numbers-back all)
-    ∙ ap (λ (o : Option ℕ). andThen o (λ table. only (leb (c .pins) 4) (made ranged (f .nameField) (c .pins ∷ c .area ∷ b .all) table))) (table-back (f .tableField) (c .table) (f .table))
-    ∙ ap (λ (x : Bool). only x (made ranged (f .nameField) (c .pins ∷ c .area ∷ b .all) (c .table))) (is-true (leb (c .pins) 4) (yes-leb (f .few)))
-    ∙ ap some (same-cell (c .pins) (c .table) (c .area) (sym (f .name)) (sym (f .len)) (b .front) (low ranged (c .pins) (c .area) (b .all) ∙ b .back))
+    cc (
+      f .whole,
+      fields-joined (f .nameField) (f .pinsField ∷ f .tableField ∷ rest) (
+        name-free 32 (lit< tt) (f .isName),
+        (
+          number-free 32
+              (lit< tt) (f .pins),
+          (table-free 32 (lit< tt) (f .table), (number-free 32 (lit< tt) (f .area), numbers-free 32 (lit< tt) (b .read))),
+        ),
+      ),
+      cell-fields ranged
+          (f .nameField) (f .pinsField) (f .tableField) rest,
+      is-true
+          (eqb (suc (suc (suc (length rest)))) (cond ranged 12 8) && isNamed (f .nameField)) (yes-and
+          (eqb (suc (suc (suc (length rest)))) (cond ranged 12 8)) (isNamed (f .nameField))
+          (yes-eqb {a = suc (suc (suc (length rest)))} {b = cond ranged 12 8}
+          (by-bool ranged (λ e. rw e (omega (arith, rw e at (b .count)))) (λ q. rw q (omega (arith, rw q at (b .count))))))
+          (name-back (f .nameField) (f .isName))),
+      numbers-back (aNumber (f .pins) (aNumber (f .area) (b .read))),
+      table-back (f .tableField)
+          (c .table) (f .table),
+      is-true (leb (c .pins) 4) (yes-leb (f .few)),
+      same-cell (c .pins) (c .table) (c .area) (sym (f .name))
+          (sym (f .len)) (b .front) (low ranged (c .pins) (c .area) (b .all) ∙ b .back),
+    )
   where
-    twelve : (r : Bool) (n : ℕ) → n ≡ cond r 8 4 → suc (suc (suc (suc n))) ≡ cond r 12 8
-    twelve true n e = omega arith
-    twelve false n e = omega arith
-
     low : (r : Bool) (p a : ℕ) (ns : List ℕ) → drop (cond r 6 2) (p ∷ a ∷ ns) ≡ drop (cond r 4 0) ns
     low true p a ns = refl
     low false p a ns = refl
 
 fields-free : (ranged : Bool) (s : ℕ) → s < 32 → (w : List ℕ) (c : Cell) → CellFields ranged w c → Free s w
-fields-free ranged s h w c f =
-    let b = behind ranged (f .delayFields) (f .lowFields) (c .delays) (c .lows) (f .delays) (f .four) (f .lows) in
-    let k : s < 48 = omega arith in
-    subst (Free s) (sym (f .whole)) (joined-free s h (f .nameField ∷ f .pinsField ∷ f .tableField ∷ f .areaField ∷ f .delayFields ++ f .lowFields)
-    (name-free s k (f .isName), (number-free s k (f .pins), (table-free s k (f .table), (number-free s k (f .area), numbers-free s k (b .read))))))
+fields-free ranged s h w c f = subst (Free s) (sym (f .whole)) (joined-free s h
+    (f .nameField ∷ f .pinsField ∷ f .tableField ∷ f .areaField ∷ f .delayFields ++ f .lowFields) (
+      name-free s (omega arith) (f .isName),
+      (
+        number-free s (omega arith) (f .pins),
+        (
+          table-free s (omega arith) (f .table),
+          (
+            number-free s (omega arith) (f .area),
+            numbers-free s
+                (omega arith) (behind ranged (f .delayFields) (f .lowFields) (c .delays) (c .lows) (f .delays) (f .four) (f .lows) .read),
+          ),
+        ),
+      ),
+    ))
 
 pub reads-cell : (ranged : Bool) → Reads (cellOfLine ranged) (CellLine ranged)
 unfolding cellOfLine andThen only
-reads-cell ranged = reads-line false (λ w. cellOfFields ranged (fields w)) (CellFields ranged) (cellOfLine ranged) (λ l. go (ended l) (l .bytes)) (fields-form ranged) (fields-back ranged) (fields-free ranged)
-  where
-    go : (b : Bool) (w : List ℕ) → andThen (only b (fields w)) (cellOfFields ranged) ≡ andThen (only b w) (λ x. cellOfFields ranged (fields x))
-    go true w = refl
-    go false w = refl
+reads-cell ranged = reads-line false (λ w. cellOfFields ranged (fields w)) (CellFields ranged) (cellOfLine ranged) (λ l. by-bool (ended l)
+    (λ e. cc) (λ q. cc)) (fields-form ranged) (fields-back ranged) (fields-free ranged)
 
 -- ---- 6 and 27
 
@@ -255,8 +260,7 @@ unfolding bit
 no-bits zero n h b = omega arith
 no-bits (suc f) n h b =
     let q : ¬ (n % 2 ≡ 1) = λ e. true≢false (sym (is-true (eqb (n % 2) 1) (yes-eqb e)) ∙ b 0) in
-    let i : n / 2 ≡ 0 = no-bits f (n / 2) (omega arith) (λ r. b (suc r)) in
-    omega arith
+    omega (arith, no-bits f (n / 2) (omega arith) (λ r. b (suc r)))
 
 bits-low : (k n : ℕ) → ((r : ℕ) → k ≤ r → bit n r ≡ false) → n < 2 ^ k
 unfolding bit
@@ -291,7 +295,7 @@ clean-back c h =
     yes-and (ltb (c .table) (2 ^ 2 ^ c .pins)) (all (eqb 0) (drop (c .pins) (c .delays)) && all (eqb 0) (drop (c .pins) (c .lows))) (yes-ltb (bits-low (2 ^ c .pins) (c .table) (h .rows)))
     (yes-and (all (eqb 0) (drop (c .pins) (c .delays))) (all (eqb 0) (drop (c .pins) (c .lows))) (all-zeros (c .pins) (c .delays) (h .delays)) (all-zeros (c .pins) (c .lows) (h .lows)))
 
-lower-form : (ls ds : List ℕ) → T (noLower ls ds) → (j : ℕ) → getD ls j 0 ≤ getD ds j 0
+pub lower-form : (ls ds : List ℕ) → T (noLower ls ds) → (j : ℕ) → getD ls j 0 ≤ getD ds j 0
 unfolding noLower
 lower-form [] ds t j = omega arith
 lower-form (l ∷ ls) [] t j = absurd t

@@ -2,7 +2,7 @@
 use Prim.Native.Nat.{ℕ, zero, suc, _+_, _-_, _*_, _≤_, _<_}
 use native.Mathlib.Omega.{arith}
 use mathlib.Core.Path.{_≡_, refl, sym, _∙_, ap, ap₂, subst}
-use mathlib.Core.Logic.{_⊎_, inl, inr}
+use mathlib.Core.Logic.{_⊎_, inl, inr, ⊎-elim}
 use mathlib.Core.Bool.{Bool, true, false, not, cond, _&&_}
 use mathlib.Core.List.{List, [], _∷_, _++_, append-nil, append-assoc}
 use lib.Dec.{T, eqb, leb, ltb}
@@ -15,6 +15,8 @@ use Rattle.theory_text.proofs.Steps.{fault-never}
 use Rattle.promises.specs.Forms.{Difference, short, long, Begins}
 use Rattle.promises.specs.Refusals.{Exactly, AndsIn, noAnd, oneAnd, AndFault, twenty, twentyOne, twentyNext, twentyOneNext, AndsHold, AndsRefused}
 use Rattle.theory_refusals.proofs.Results.{Result, held, refused, exactly, unless-yes, unless-no, on, next-holds, next-next, next-same, result-next, result-as}
+use lib.Seq.{drop-append-seam}
+use Rattle.theory_graph.proofs.Split.{by-read, by-nat}
 
 -- ---- a difference
 
@@ -30,9 +32,12 @@ diff-read : (at : ℕ) {f : List ℕ} {x : ℕ} (r : List ℕ) → Difference f 
 unfolding difference
 diff-read at [] (short {b} h) = unless-yes (ltb b 128) 20 at _ (yes-ltb h)
 diff-read at (c ∷ r) (short {b} h) = ap (λ (t : Bool). cond t (holds (passed b (at + 1))) (unless (ltb c 128) 20 at (holds (passed (b - 128 + 128 * c) (at + 2))))) (is-true (ltb b 128) (yes-ltb h))
-diff-read at r (long b {c} h) =
-    ap (λ (t : Bool). cond t (holds (passed (128 + b) (at + 1))) (unless (ltb c 128) 20 at (holds (passed (128 + b - 128 + 128 * c) (at + 2))))) (is-false (ltb (128 + b) 128) (no-ltb {a = 128 + b} {b = 128} (omega arith)))
-    ∙ unless-yes (ltb c 128) 20 at _ (yes-ltb h) ∙ ap (λ (n : ℕ). holds (passed n (at + 2))) (let q : 128 + b - 128 + 128 * c ≡ b + 128 * c = omega arith in q)
+diff-read at r (long b {c} h) = cc (
+  is-false (ltb (128 + b) 128) (no-ltb {a = 128 + b} {b = 128} (omega arith)),
+  unless-yes
+      (ltb c 128) 20 at _ (yes-ltb h),
+  let q : 128 + b - 128 + 128 * c ≡ b + 128 * c = omega arith in q,
+)
 
 diff-back : (at : ℕ) (t : List ℕ) (x : ℕ) (b : Begins Difference t x) → difference at t ≡ holds (passed x (at + length (b .front)))
 diff-back at t x b = ap (difference at) (b .whole) ∙ diff-read at (b .behind) (b .is)
@@ -47,8 +52,7 @@ one-fault at b h = unless-no (ltb b 128) 20 at _ h
 
 two-fault : (at b c : ℕ) (bs : List ℕ) → T (not (ltb b 128)) → T (not (ltb c 128)) → difference at (b ∷ c ∷ bs) ≡ fault 20 at
 unfolding difference
-two-fault at b c bs h k =
-    ap (λ (t : Bool). cond t (holds (passed b (at + 1))) (unless (ltb c 128) 20 at (holds (passed (b - 128 + 128 * c) (at + 2))))) (is-false (ltb b 128) h) ∙ unless-no (ltb c 128) 20 at _ k
+two-fault at b c bs h k = cc (is-false (ltb b 128) h, unless-no (ltb c 128) 20 at _ k)
 
 diff-result : (at : ℕ) (t : List ℕ) → Result (Reaches t at) (λ n k. (n ≡ 20) × (k ≡ at) × (¬ ((x : ℕ) × Begins Difference t x))) (difference at t)
 diff-result at t = go t refl
@@ -67,31 +71,22 @@ diff-result at t = go t refl
     go : (u : List ℕ) → t ≡ u → Here (difference at t)
     go [] e = fails (ap (difference at) e ∙ empty-fault at)
     go (b ∷ []) e = on (ltb b 128) (λ h. reads b (b ∷ []) [] e (short (ltb-yes h))) (λ h. fails (ap (difference at) e ∙ one-fault at b h))
-    go (b ∷ c ∷ bs) e =
-        on (ltb b 128) (λ h. reads b (b ∷ []) (c ∷ bs) e (short (ltb-yes h)))
-        (λ h. on (ltb c 128)
-        (λ k. let l : 128 ≤ b = ltb-no h in
-        reads (b - 128 + 128 * c) (b ∷ c ∷ []) bs e (subst (λ (x : ℕ). Difference (x ∷ c ∷ []) (b - 128 + 128 * c)) (let z : 128 + (b - 128) ≡ b = omega arith in z) (long (b - 128) (ltb-yes k))))
-        (λ k. fails (ap (difference at) e ∙ two-fault at b c bs h k)))
+    go (b ∷ c ∷ bs) e = on (ltb b 128) (λ h. reads b (b ∷ []) (c ∷ bs) e (short (ltb-yes h))) (λ h. on (ltb c 128) (λ k.
+        let l : 128 ≤ b = ltb-no h in reads (b - 128 + 128 * c) (b ∷ c ∷ []) bs e
+        (subst (λ (x : ℕ). Difference (x ∷ c ∷ []) (b - 128 + 128 * c)) (let z : 128 + (b - 128) ≡ b = omega arith in z)
+        (long (b - 128) (ltb-yes k)))) (λ k. fails (ap (difference at) e ∙ two-fault at b c bs h k)))
 
 -- ---- an operand
 
 drop-add : (m n : ℕ) (xs : List ℕ) → drop (m + n) xs ≡ drop n (drop m xs)
 drop-add zero n xs = ap (λ (k : ℕ). drop k xs) (let q : 0 + n ≡ n = omega arith in q)
-drop-add (suc m) n [] = ap (λ (k : ℕ). drop k []) (let q : suc m + n ≡ suc (m + n) = omega arith in q) ∙ sym (drop-nil n)
-  where
-    drop-nil : (k : ℕ) → drop {A = ℕ} k [] ≡ []
-    drop-nil zero = refl
-    drop-nil (suc k) = refl
+drop-add (suc m) n [] = ap (λ (k : ℕ). drop k []) (let q : suc m + n ≡ suc (m + n) = omega arith in q) ∙ sym (by-nat n (λ e. cc)
+    (λ k q. cc))
 drop-add (suc m) n (x ∷ xs) = ap (λ (k : ℕ). drop k (x ∷ xs)) (let q : suc m + n ≡ suc (m + n) = omega arith in q) ∙ drop-add m n xs
-
-drop-front : (f r : List ℕ) → drop (length f) (f ++ r) ≡ r
-drop-front [] r = refl
-drop-front (x ∷ f) r = drop-front f r
 
 -- behind bytes at a place
 pub drop-behind : (at : ℕ) (bytes f r : List ℕ) → drop at bytes ≡ f ++ r → drop (at + length f) bytes ≡ r
-drop-behind at bytes f r e = drop-add at (length f) bytes ∙ ap (drop (length f)) e ∙ drop-front f r
+drop-behind at bytes f r e = drop-add at (length f) bytes ∙ ap (drop (length f)) e ∙ drop-append-seam f r
 
 module _ (bytes : List ℕ) where
   abbrev isFine : Bool → ℕ → ℕ → Bool
@@ -100,8 +95,7 @@ module _ (bytes : List ℕ) where
   less-read : (isFirst : Bool) (at n x : ℕ) (b : Begins Difference (drop at bytes) x)
       → lessBy isFirst bytes at n ≡ unless (isFine isFirst n x) 21 at (holds (passed (n - x) (at + length (b .front))))
   unfolding lessBy next
-  less-read isFirst at n x b =
-      ap (λ (r : Read Passed). next r (λ d. unless (isFine isFirst n (d .number)) 21 at (holds (passed (n - d .number) (d .behind))))) (diff-back at (drop at bytes) x b)
+  less-read isFirst at n x b = cc (diff-back at (drop at bytes) x b)
 
   less-none : (isFirst : Bool) (at n : ℕ) → (¬ ((x : ℕ) × Begins Difference (drop at bytes) x)) → lessBy isFirst bytes at n ≡ fault 20 at
   unfolding lessBy next
@@ -113,31 +107,18 @@ module _ (bytes : List ℕ) where
 
   -- either a difference stands at a place, or none
   look : (t : List ℕ) → ((x : ℕ) × Begins Difference t x) ⊎ (¬ ((x : ℕ) × Begins Difference t x))
-  look t = go (difference 0 t) (diff-result 0 t)
-    where
-      go : (r : Read Passed) → Result (Reaches t 0) (λ m k. (m ≡ 20) × (k ≡ 0) × (¬ ((x : ℕ) × Begins Difference t x))) r → ((x : ℕ) × Begins Difference t x) ⊎ (¬ ((x : ℕ) × Begins Difference t x))
-      go (holds p) (held x) = inl (p .number, x .begins)
-      go (fault m k) (refused x) = inr (x .2)
-
-  fine-first : (n x : ℕ) → (¬ (x ≡ 0)) → x ≤ n → T (isFine true n x)
-  fine-first n x a b = yes-and (not (eqb x 0)) (leb x n) (no-eqb a) (yes-leb b)
+  look t = by-read (difference 0 t) (λ p e. elim (rw e at (diff-result 0 t)) [ held q ↦ inl (p .number, q .begins) ])
+      (λ m k r. elim (rw r at (diff-result 0 t)) [ refused z ↦ inr (z .2) ])
 
   first-fine : (n x : ℕ) → T (isFine true n x) → (¬ (x ≡ 0)) × (x ≤ n)
   first-fine n x t = let p = and-yes (not (eqb x 0)) (leb x n) t in (eqb-no (p .0), leb-yes (p .1))
 
   first-bad : (n x : ℕ) → T (not (isFine true n x)) → (x ≡ 0) ⊎ (n < x)
-  first-bad n x t = go (and-no (not (eqb x 0)) (leb x n) t)
-    where
-      go : T (not (not (eqb x 0))) ⊎ T (not (leb x n)) → (x ≡ 0) ⊎ (n < x)
-      go (inl u) = inl (eqb-yes (T-not-not (eqb x 0) u))
-      go (inr u) = inr (leb-no u)
+  first-bad n x t = ⊎-elim (λ u. inl (eqb-yes (T-not-not (eqb x 0) u))) (λ q. inr (leb-no q)) (and-no (not (eqb x 0)) (leb x n) t)
 
   bad-first : (n x : ℕ) → (x ≡ 0) ⊎ (n < x) → T (not (isFine true n x))
-  bad-first n x h = not-T (isFine true n x) (λ t. out (first-fine n x t) h)
-    where
-      out : (¬ (x ≡ 0)) × (x ≤ n) → (x ≡ 0) ⊎ (n < x) → ⊥
-      out p (inl e) = p .0 e
-      out p (inr l) = let q : x ≤ n = p .1 in omega arith
+  bad-first n x h = not-T (isFine true n x) (λ t. ⊎-elim (λ e. first-fine n x t .0 e)
+      (λ l. let q : x ≤ n = (first-fine n x t) .1 in omega (arith, first-fine n x t)) h)
 
   -- ---- an AND
 
@@ -146,10 +127,8 @@ module _ (bytes : List ℕ) where
 
   -- the second operand's reader, and what follows
   abbrev rest : ℕ → ℕ → ℕ → Passed → Read (List Item)
-  rest at left n a =
-      next (lessBy false bytes (a .behind) (a .number)) (λ b.
-      next (readAnds bytes (b .behind) (left + 2) n) (λ is.
-      holds (record { kind = anAnd; offset = at; literals = left ∷ a .number ∷ b .number ∷ [] } ∷ is)))
+  rest at left n a = next (lessBy false bytes (a .behind) (a .number)) (λ b. next (readAnds bytes (b .behind) (left + 2) n)
+      (λ is. holds (record { kind = anAnd; offset = at; literals = left ∷ a .number ∷ b .number ∷ [] } ∷ is)))
 
   and-read : (at left n : ℕ) → readAnds bytes at left (suc n) ≡ next (lessBy true bytes at left) (rest at left n)
   unfolding readAnds
@@ -161,8 +140,8 @@ module _ (bytes : List ℕ) where
   and-first : (at left n x : ℕ) (b : Begins Difference (drop at bytes) x) → (¬ (x ≡ 0)) → x ≤ left
       → readAnds bytes at left (suc n) ≡ rest at left n (passed (left - x) (at + length (b .front)))
   unfolding next
-  and-first at left n x b h k =
-      and-read at left n ∙ ap (λ (r : Read Passed). next r (rest at left n)) (less-read true at left x b ∙ unless-yes (isFine true left x) 21 at _ (fine-first left x h k))
+  and-first at left n x b h k = and-read at left n ∙ ap (λ (r : Read Passed). next r (rest at left n))
+      (less-read true at left x b ∙ unless-yes (isFine true left x) 21 at _ (yes-and (not (eqb x 0)) (leb x left) (no-eqb h) (yes-leb k)))
 
   and-second : (at left n x y : ℕ) (b : Begins Difference (drop at bytes) x) (c : Begins Difference (b .behind) y) → y ≤ left - x
       → rest at left n (passed (left - x) (at + length (b .front)))
@@ -170,8 +149,7 @@ module _ (bytes : List ℕ) where
   unfolding next
   and-second at left n x y b c k =
       let d = at-drop (at + length (b .front)) (b .behind) y (drop-behind at bytes (b .front) (b .behind) (b .whole)) c in
-      ap (λ (r : Read Passed). next r (λ z. next (readAnds bytes (z .behind) (left + 2) n) (λ is. holds (record { kind = anAnd; offset = at; literals = left ∷ (left - x) ∷ z .number ∷ [] } ∷ is))))
-      (less-read false (at + length (b .front)) (left - x) y d ∙ unless-yes (leb y (left - x)) 21 (at + length (b .front)) _ (yes-leb k))
+      cc (less-read false (at + length (b .front)) (left - x) y d, unless-yes (leb y (left - x)) 21 (at + length (b .front)) _ (yes-leb k))
 
   and-fault : (at left n m far : ℕ) → AndFault left (drop at bytes) m far → readAnds bytes at left (suc n) ≡ fault m (at + far)
   unfolding next
@@ -182,11 +160,13 @@ module _ (bytes : List ℕ) where
       and-first at left n x b h k
       ∙ ap (λ (r : Read Passed). next r (λ z. next (readAnds bytes (z .behind) (left + 2) n) (λ is. holds (record { kind = anAnd; offset = at; literals = left ∷ (left - x) ∷ z .number ∷ [] } ∷ is))))
       (less-none false (at + length (b .front)) (left - x) (λ p. none? (p .0, record { front = p .1 .front; behind = p .1 .behind; whole = sym (drop-behind at bytes (b .front) (b .behind) (b .whole)) ∙ p .1 .whole; is = p .1 .is })))
-  and-fault at left n m far (twentyOneNext {x} {y} b h k c l) =
-      let d = at-drop (at + length (b .front)) (b .behind) y (drop-behind at bytes (b .front) (b .behind) (b .whole)) c in
-      and-first at left n x b h k
-      ∙ ap (λ (r : Read Passed). next r (λ z. next (readAnds bytes (z .behind) (left + 2) n) (λ is. holds (record { kind = anAnd; offset = at; literals = left ∷ (left - x) ∷ z .number ∷ [] } ∷ is))))
-      (less-read false (at + length (b .front)) (left - x) y d ∙ unless-no (leb y (left - x)) 21 (at + length (b .front)) _ (no-leb l))
+  and-fault at left n m far (twentyOneNext {x} {y} b h k c l) = cc (
+    and-first at left n x b h k,
+    less-read false (at + length (b .front))
+        (left - x) y (at-drop (at + length (b .front)) (b .behind) y (drop-behind at bytes (b .front) (b .behind) (b .whole)) c),
+    unless-no
+        (leb y (left - x)) 21 (at + length (b .front)) _ (no-leb l),
+  )
 
   -- ---- the ANDs
 
@@ -196,10 +176,13 @@ module _ (bytes : List ℕ) where
 
     ands-run : {s : List ℕ} {is : List Item} → AndsIn start left s is → (n : ℕ) (t : List ℕ) → drop start bytes ≡ s ++ t
         → readAnds bytes start left (length is + n) ≡ next (readAnds bytes (start + length s) (leftOf is) n) (λ js. holds (is ++ js))
-    ands-run noAnd n t e =
-        ap (readAnds bytes start left) (let q : 0 + n ≡ n = omega arith in q)
-        ∙ sym (next-holds (readAnds bytes start left n))
-        ∙ ap₂ (λ (a b : ℕ). next (readAnds bytes a b n) (λ js. holds js)) (let q : start ≡ start + 0 = omega arith in q) (let q : left ≡ left + 2 * 0 = omega arith in q)
+    ands-run noAnd n t e = cc (
+      let q : 0 + n ≡ n = omega arith in q,
+      next-holds
+          (readAnds bytes start left n),
+      let q : start ≡ start + 0 = omega arith in q,
+      let q : left ≡ left + 2 * 0 = omega arith in q,
+    )
     ands-run (oneAnd {s} {d} {e} {is} {x} {y} ands p nz low q low′) n t f =
         let g : drop start bytes ≡ s ++ ((d ++ e) ++ t) = f ∙ append-assoc s (d ++ e) t in
         let here : drop (start + length s) bytes ≡ d ++ (e ++ t) = drop-behind start bytes s ((d ++ e) ++ t) g ∙ append-assoc d e t in
@@ -216,28 +199,30 @@ module _ (bytes : List ℕ) where
         (let z : start + length s + length d + length e ≡ start + length (s ++ (d ++ e)) = omega (arith, length-append s (d ++ e), length-append d e) in z)
         (let z : leftOf is + 2 ≡ left + 2 * length (is ++ (andItem (start + length s) (leftOf is) x y ∷ [])) = omega (arith, length-append is (andItem (start + length s) (leftOf is) x y ∷ [])) in z)
 
-    ands-held : (count : ℕ) (t : List ℕ) (is : List Item) → drop start bytes ≡ t → AndsHold start left count t is → readAnds bytes start left count ≡ holds is
-    unfolding readAnds next
-    ands-held count t is e h =
-        ap (readAnds bytes start left) (let q : count ≡ length is + 0 = omega (arith, h .number) in q) ∙ ands-run (h .ands) 0 (h .behind) (e ∙ h .whole) ∙ ap holds (append-nil is)
-
     ands-refused : (count : ℕ) (t : List ℕ) (n k : ℕ) → drop start bytes ≡ t → AndsRefused start left count t n k → readAnds bytes start left count ≡ fault n k
     unfolding next
-    ands-refused count t n k e h =
-        let m = count - suc (length (h .items)) in
-        ap (readAnds bytes start left) (let q : count ≡ length (h .items) + suc (count - suc (length (h .items))) = omega (arith, h .fewer) in q)
-        ∙ ands-run (h .ands) (suc (count - suc (length (h .items)))) (h .behind) (e ∙ h .whole)
-        ∙ ap (λ (r : Read (List Item)). next r (λ js. holds (h .items ++ js)))
-        (and-fault (start + length (h .front)) (leftOf (h .items)) (count - suc (length (h .items))) n (h .far)
-        (subst (λ (x : List ℕ). AndFault (leftOf (h .items)) x n (h .far)) (sym (drop-behind start bytes (h .front) (h .behind) (e ∙ h .whole))) (h .isFault)))
-        ∙ ap (fault n) (sym (h .isPlace))
+    ands-refused count t n k e h = cc (
+      let q : count ≡ length (h .items) + suc (count - suc (length (h .items))) = omega
+          (arith, h .fewer) in q,
+      ands-run (h .ands) (suc (count - suc (length (h .items)))) (h .behind) (e ∙ h .whole),
+      and-fault
+          (start + length (h .front)) (leftOf (h .items)) (count - suc (length (h .items))) n (h .far)
+          (rw (drop-behind start bytes (h .front) (h .behind) (e ∙ h .whole)) (h .isFault)),
+      h .isPlace,
+    )
 
     ands-result : (n : ℕ) (s rest : List ℕ) (is : List Item) → AndsIn start left s is → drop start bytes ≡ s ++ rest
         → Result (λ js. AndsHold start left (length is + n) (s ++ rest) (is ++ js)) (AndsRefused start left (length is + n) (s ++ rest)) (readAnds bytes (start + length s) (leftOf is) n)
     unfolding readAnds
     ands-result zero s rest is ands e =
         held (record { front = s; behind = rest; whole = refl; ands = subst (AndsIn start left s) (sym (append-nil is)) ands; number = omega (arith, length-append is []) })
-    ands-result (suc n) s rest is ands e = first (look (drop (start + length s) bytes)) (ands-result n)
+    ands-result (suc n) s rest is ands e = ⊎-elim (λ p. on (isFine true (leftOf is) (p .0))
+        (λ t. let f = first-fine (leftOf is) (p .0) t in ⊎-elim (λ c. on (leb (c .0) (leftOf is - (p .0)))
+        (λ t. accepted (p .0) (c .0) (p .1) (c .1) (f .0) (f .1) (leb-yes t) (ands-result n))
+        (λ t. fails 21 (length ((p .1) .front)) (twentyOneNext (p .1) (f .0) (f .1) (c .1) (leb-no t))))
+        (λ q. fails 20 (length ((p .1) .front)) (twentyNext (p .1) (f .0) (f .1) q)) (look (p .1 .behind)))
+        (λ t. fails 21 0 (twentyOne (p .1) (first-bad (leftOf is) (p .0) t)))) (λ q. fails 20 0 (twenty q))
+        (look (drop (start + length s) bytes))
       where
         here : drop (start + length s) bytes ≡ rest
         here = drop-behind start bytes s rest e
@@ -294,24 +279,11 @@ module _ (bytes : List ℕ) where
             (let z : start + length (s ++ (b .front ++ c .front)) ≡ start + length s + length (b .front) + length (c .front) = omega (arith, length-append s (b .front ++ c .front), length-append (b .front) (c .front)) in z)
             (let z : left + 2 * length (is ++ (andItem (start + length s) (leftOf is) x y ∷ [])) ≡ leftOf is + 2 = omega (arith, length-append is (andItem (start + length s) (leftOf is) x y ∷ [])) in z)) r))
 
-        second : (x : ℕ) (b : Begins Difference (drop (start + length s) bytes) x) → (¬ (x ≡ 0)) → x ≤ leftOf is → ((y : ℕ) × Begins Difference (b .behind) y) ⊎ (¬ ((y : ℕ) × Begins Difference (b .behind) y)) → Later → Here whole
-        second x b nz low (inl c) ih =
-            on (leb (c .0) (leftOf is - x)) (λ t. accepted x (c .0) b (c .1) nz low (leb-yes t) ih) (λ t. fails 21 (length (b .front)) (twentyOneNext b nz low (c .1) (leb-no t)))
-        second x b nz low (inr c) ih = fails 20 (length (b .front)) (twentyNext b nz low c)
-
-        first : ((x : ℕ) × Begins Difference (drop (start + length s) bytes) x) ⊎ (¬ ((x : ℕ) × Begins Difference (drop (start + length s) bytes) x)) → Later → Here whole
-        first (inl p) ih =
-            on (isFine true (leftOf is) (p .0))
-            (λ t. let f = first-fine (leftOf is) (p .0) t in second (p .0) (p .1) (f .0) (f .1) (look (p .1 .behind)) ih)
-            (λ t. fails 21 0 (twentyOne (p .1) (first-bad (leftOf is) (p .0) t)))
-        first (inr p) ih = fails 20 0 (twenty p)
-
     -- the ANDs, whole
     pub ands-exactly : (count : ℕ) → Exactly (AndsHold start left count (drop start bytes)) (AndsRefused start left count (drop start bytes)) (readAnds bytes start left count)
-    ands-exactly count =
-        exactly (readAnds bytes start left count)
-        (subst (Result (AndsHold start left count (drop start bytes)) (AndsRefused start left count (drop start bytes)))
-        (ap₂ (λ (u v : ℕ). readAnds bytes u v count) (let q : start + 0 ≡ start = omega arith in q) (let q : left + 2 * 0 ≡ left = omega arith in q))
-        (subst (λ (c : ℕ). Result (AndsHold start left c (drop start bytes)) (AndsRefused start left c (drop start bytes)) (readAnds bytes (start + 0) (left + 2 * 0) count)) (let q : 0 + count ≡ count = omega arith in q)
-        (ands-result count [] (drop start bytes) [] noAnd refl)))
-        (λ is h. ands-held count (drop start bytes) is refl h) (λ n k h. ands-refused count (drop start bytes) n k refl h)
+    ands-exactly count = exactly (readAnds bytes start left count) (rw (ap₂ (λ (u v : ℕ). readAnds bytes u v count)
+        (let q : start + 0 ≡ start = omega arith in q) (let q : left + 2 * 0 ≡ left = omega arith in q)) at
+        (rw (let q : 0 + count ≡ count = omega arith in q) at (ands-result count [] (drop start bytes) [] noAnd refl)))
+        (λ is h. (unfold readAnds next in ap (readAnds bytes start left) (let q : count ≡ length is + 0 = omega (arith, h .number) in q)
+        ∙ ands-run (h .ands) 0 (h .behind) (refl ∙ h .whole) ∙ ap holds (append-nil is))) (λ n k h. ands-refused count
+        (drop start bytes) n k refl h)

@@ -2,7 +2,7 @@
 use Prim.Native.Nat.{ℕ, suc, _+_, _-_, _*_, _/_, _%_}
 use native.Mathlib.Omega.{arith}
 use mathlib.Core.Path.{_≡_, refl, sym, _∙_, ap, ap₂, subst}
-use mathlib.Core.Logic.{_⊎_, inl, inr, _↔_}
+use mathlib.Core.Logic.{_⊎_, inl, inr, _↔_, ⊎-elim}
 use mathlib.Core.Bool.{Bool, true, false, not, cond, false≢true, _&&_, _||_}
 use mathlib.Core.Option.{Option, none, some}
 use mathlib.Core.List.{List, [], _∷_, _++_, map, append-nil, append-assoc, List·Memᴰ, List·Memᴰ·head, List·Memᴰ·tail, List·Memᴰ·not-nil, List·Memᴰ·append-cases, Memᴰ·append-left, Memᴰ·append-right}
@@ -18,6 +18,7 @@ use Rattle.promises.specs.Refusals.{Exactly, Defining, inputDefines, andDefines
 use Rattle.theory_refusals.proofs.LineForms.{Found, first-split, lines-none, found-begins, begins-read, none-begins}
 use Rattle.theory_refusals.proofs.Results.{Result, held, refused, exactly, unless-yes, unless-no, on, next-holds, next-fault, next-next, next-same, result-next, result-as}
 use Rattle.theory_refusals.proofs.NumberLines.{reads-due}
+use Rattle.theory_graph.proofs.Split.{by-bool, by-option}
 
 -- ---- what a kind defines
 
@@ -40,22 +41,13 @@ isLawful m k ns = all (λ (n : ℕ). leb n (2 * m + 1)) ns && (not (defines k) |
 lawful-form : (m : ℕ) (k : Kind) (ns : List ℕ) → T (isLawful m k ns) → Lawful m k ns
 lawful-form m k ns t = record {
   low = λ l i. leb-yes (all-of (λ (n : ℕ). leb n (2 * m + 1)) ns (p .0) l i);
-  even = λ d. half (getD ns 0 0) (on-defined (defines k) (defined d) (p .1));
+  even = λ d. (let q = and-yes (eqb ((getD ns 0 0) % 2) 0) (not (eqb (getD ns 0 0) 0))
+      (by-bool (defines k) (λ e. rw e at (p .1)) (λ q. absurd (rw q at (defined d)))) in let e : (getD ns 0 0) % 2 ≡ 0 = eqb-yes
+      (q .0) in let n : ¬ ((getD ns 0 0) ≡ 0) = eqb-no (q .1) in ((getD ns 0 0) / 2 - 1, omega arith));
 }
   where
     p : T (all (λ (n : ℕ). leb n (2 * m + 1)) ns) × T (not (defines k) || (eqb (getD ns 0 0 % 2) 0 && not (eqb (getD ns 0 0) 0)))
     p = and-yes (all (λ (n : ℕ). leb n (2 * m + 1)) ns) (not (defines k) || (eqb (getD ns 0 0 % 2) 0 && not (eqb (getD ns 0 0) 0))) t
-
-    on-defined : (b : Bool) → T b → T (not b || (eqb (getD ns 0 0 % 2) 0 && not (eqb (getD ns 0 0) 0))) → T (eqb (getD ns 0 0 % 2) 0 && not (eqb (getD ns 0 0) 0))
-    on-defined true u v = v
-    on-defined false u v = absurd u
-
-    half : (x : ℕ) → T (eqb (x % 2) 0 && not (eqb x 0)) → (v : ℕ) × (x ≡ 2 * suc v)
-    half x u =
-        let q = and-yes (eqb (x % 2) 0) (not (eqb x 0)) u in
-        let e : x % 2 ≡ 0 = eqb-yes (q .0) in
-        let n : ¬ (x ≡ 0) = eqb-no (q .1) in
-        (x / 2 - 1, omega arith)
 
 lawful-back : (m : ℕ) (k : Kind) (ns : List ℕ) → Lawful m k ns → T (isLawful m k ns)
 lawful-back m k ns h =
@@ -64,9 +56,8 @@ lawful-back m k ns h =
   where
     either : (b : Bool) → (T b → (v : ℕ) × (getD ns 0 0 ≡ 2 * suc v)) → T (not b || (eqb (getD ns 0 0 % 2) 0 && not (eqb (getD ns 0 0) 0)))
     either true f =
-        let v = f tt in
-        let e : getD ns 0 0 ≡ 2 * suc (v .0) = v .1 in
-        yes-and (eqb (getD ns 0 0 % 2) 0) (not (eqb (getD ns 0 0) 0)) (yes-eqb {a = getD ns 0 0 % 2} {b = 0} (omega arith)) (no-eqb (let d : ¬ (getD ns 0 0 ≡ 0) = λ z. omega arith in d))
+        yes-and (eqb (getD ns 0 0 % 2) 0) (not (eqb (getD ns 0 0) 0)) (yes-eqb {a = getD ns 0 0 % 2} {b = 0} (omega (arith, f tt .1)))
+        (no-eqb (let d : ¬ (getD ns 0 0 ≡ 0) = λ z. omega (arith, f tt .1) in d))
     either false f = tt
 
 -- ---- 13
@@ -79,13 +70,8 @@ abbrev isNew : Kind → List ℕ → List ℕ → Bool
 isNew k before ns = not (defines k && elem (firstVar ns) before)
 
 new-form : (k : Kind) (before : List ℕ) (is : List Item) (ns : List ℕ) → Known before is → T (isNew k before ns) → ¬ Again k is ns
-new-form k before is ns known t a =
-    go (defines k) (elem (firstVar ns) before) (defined (a .0)) (elem-in (firstVar ns) before (known (firstVar ns) .1 (a .1))) t
-  where
-    go : (x y : Bool) → T x → y ≡ true → T (not (x && y)) → ⊥
-    go true true u v w = w
-    go true false u v w = false≢true v
-    go false y u v w = u
+new-form k before is ns known t a = by-bool (defines k) (λ e. by-bool (elem (firstVar ns) before) (λ q. rw q at (rw e at t))
+    (λ p. false≢true (rw p at (elem-in (firstVar ns) before (known (firstVar ns) .1 (a .1)))))) (λ r. rw r at (defined (a .0)))
 
 new-back : (k : Kind) (before : List ℕ) (is : List Item) (ns : List ℕ) → Known before is → T (not (isNew k before ns)) → Again k is ns
 new-back k before is ns known t =
@@ -111,20 +97,12 @@ known-more before is i known v = go (defines (i .kind)) (defining (i .kind)) (λ
     out d = back (d .0) (List·Memᴰ·append-cases is (d .1)) (d .2) (d .3)
 
     go : (b : Bool) → (T b → Defining (i .kind)) → (Defining (i .kind) → T b) → List·Memᴰ v (cond b (firstVar (i .literals) ∷ before) before) ↔ DefinedBy (is ++ (i ∷ [])) v
-    go true f g = (from-head, λ d. to-head (out d))
+    go true f g = (from-head, λ d. ⊎-elim (λ q. List·Memᴰ·tail (known v .1 q)) (λ e. List·Memᴰ·head (e .1)) (out d))
       where
         from-head : List·Memᴰ v (firstVar (i .literals) ∷ before) → DefinedBy (is ++ (i ∷ [])) v
         from-head (List·Memᴰ·head e) = (i, Memᴰ·append-right is (List·Memᴰ·head refl), f tt, e)
         from-head (List·Memᴰ·tail m) = there (known v .0 m)
-
-        to-head : DefinedBy is v ⊎ (Defining (i .kind) × (v ≡ firstVar (i .literals))) → List·Memᴰ v (firstVar (i .literals) ∷ before)
-        to-head (inl d) = List·Memᴰ·tail (known v .1 d)
-        to-head (inr d) = List·Memᴰ·head (d .1)
-    go false f g = ((λ m. there (known v .0 m)), λ d. to-old (out d))
-      where
-        to-old : DefinedBy is v ⊎ (Defining (i .kind) × (v ≡ firstVar (i .literals))) → List·Memᴰ v before
-        to-old (inl d) = known v .1 d
-        to-old (inr d) = absurd (g (d .0))
+    go false f g = ((λ m. there (known v .0 m)), λ d. ⊎-elim (λ q. known v .1 q) (λ e. absurd (g (e .0))) (out d))
 
 -- ---- the lines
 
@@ -199,11 +177,9 @@ module _ (isBinary : Bool) (end m start : ℕ) where
 
   due-fault : (before : List ℕ) (is : List Item) → Known before is → (k : Kind) (ks : List Kind) (at : ℕ) (t : List ℕ) (l : Line) (ls : List Line) (n : ℕ) → linesFrom at [] t ≡ l ∷ ls
       → DueFault isBinary m is k t n → read before (k ∷ ks) (l ∷ ls) ≡ fault n (l .offset)
-  due-fault before is known k ks at t l ls n e (eleven x) = go (itemLiterals (closed isBinary) k l) refl
-    where
-      go : (o : Option (List ℕ)) → itemLiterals (closed isBinary) k l ≡ o → read before (k ∷ ks) (l ∷ ls) ≡ fault 11 (l .offset)
-      go none f = due-none before k ks l ls f
-      go (some ns) f = absurd (x (ns, found-begins (reads-due isBinary k) (reads-due isBinary k .form at t l ls e ns f)))
+  due-fault before is known k ks at t l ls n e (eleven x) = by-option (itemLiterals (closed isBinary) k l)
+      (λ f. due-none before k ks l ls f)
+      (λ ns q. absurd (x (ns, found-begins (reads-due isBinary k) (reads-due isBinary k .form at t l ls e ns q))))
   due-fault before is known k ks at t l ls n e (twelve {ns} b x) =
       due-line before k ks l ls ns (begins-read (reads-due isBinary k) at t l ls e ns b) ∙ unless-no (isLawful m k ns) 12 (l .offset) _ (not-T (isLawful m k ns) (λ u. x (lawful-form m k ns u)))
   due-fault before is known k ks at t l ls n e (thirteen {ns} b y x) =
@@ -213,9 +189,7 @@ module _ (isBinary : Bool) (end m start : ℕ) where
   lines-held : (ks : List Kind) (t : List ℕ) (is : List Item) → DueHolds isBinary m start ks t is → read [] ks (linesFrom start [] t) ≡ holds is
   unfolding readDue next
   lines-held ks t is h =
-      let r = due-run (h .lines) in
-      ap₂ (λ (xs : List Kind) (y : List ℕ). read [] xs (linesFrom start [] y)) (sym (h .kinds) ∙ sym (append-nil (map (λ (x : Item). x .kind) is))) (h .whole)
-      ∙ r .run [] (h .behind) ∙ ap holds (append-nil is)
+      cc (h .kinds, append-nil (map (λ (x : Item). x .kind) is), h .whole, (due-run (h .lines)) .run [] (h .behind), append-nil is)
 
   no-lines : (at : ℕ) (t : List ℕ) (k : Kind) (is : List Item) (n : ℕ) → linesFrom at [] t ≡ [] → DueFault isBinary m is k t n → n ≡ 11
   no-lines at t k is n e (eleven x) = refl
@@ -226,35 +200,44 @@ module _ (isBinary : Bool) (end m start : ℕ) where
   unfolding readDue
   lines-refused ks t n place ends h =
       let r = due-run (h .lines) in
-      ap₂ (λ (xs : List Kind) (y : List ℕ). read [] xs (linesFrom start [] y)) (sym (h .kinds)) (h .whole)
-      ∙ r .run (h .kind ∷ h .later) (h .behind)
-      ∙ go (r .before) (r .known) (linesFrom (start + length (h .front)) [] (h .behind)) refl
+      cc (
+        h .kinds,
+        h .whole,
+        r .run (h .kind ∷ h .later) (h .behind),
+        go (r .before) (r .known)
+            (linesFrom (start + length (h .front)) [] (h .behind)) refl,
+      )
     where
       go : (before : List ℕ) → Known before (h .items) → (ls : List Line) → linesFrom (start + length (h .front)) [] (h .behind) ≡ ls
           → next (read before (h .kind ∷ h .later) ls) (λ js. holds (h .items ++ js)) ≡ fault n place
-      go before known [] e =
-          let none-left : h .behind ≡ [] = lines-none (start + length (h .front)) (h .behind) e in
-          let long : length t ≡ length (h .front) + length (h .behind) = ap length (h .whole) ∙ length-append (h .front) (h .behind) in
-          let zero-left : length (h .behind) ≡ 0 = ap length none-left in
-          next-fault (read before (h .kind ∷ h .later) []) (λ js. holds (h .items ++ js)) n place
-          (ap₂ (λ (x y : ℕ). fault x y) (sym (no-lines (start + length (h .front)) (h .behind) (h .kind) (h .items) n e (h .isFault))) (let q : end ≡ place = omega (arith, ends, h .isPlace) in q))
-      go before known (l ∷ ls) e =
-          next-fault (read before (h .kind ∷ h .later) (l ∷ ls)) (λ js. holds (h .items ++ js)) n place
-          (due-fault before (h .items) known (h .kind) (h .later) (start + length (h .front)) (h .behind) l ls n e (h .isFault)
-          ∙ ap (fault n) (first-split (start + length (h .front)) (h .behind) l ls e .offset ∙ sym (h .isPlace)))
+      go before known [] e = next-fault (read before (h .kind ∷ h .later) []) (λ js. holds (h .items ++ js)) n place (ap₂
+          (λ (x y : ℕ). fault x y) (sym (no-lines (start + length (h .front)) (h .behind) (h .kind) (h .items) n e (h .isFault)))
+          (let q : end ≡ place = omega (
+            arith,
+            ap length (lines-none (start + length (h .front)) (h .behind) e),
+            ap length (h .whole)
+                ∙ length-append (h .front) (h .behind),
+            ends,
+            h .isPlace,
+          ) in q))
+      go before known (l ∷ ls) e = next-fault (read before (h .kind ∷ h .later) (l ∷ ls)) (λ js. holds (h .items ++ js)) n place (cc (
+        due-fault before (h .items) known (h .kind) (h .later) (start + length (h .front)) (h .behind) l ls n e (h .isFault),
+        first-split
+            (start + length (h .front)) (h .behind) l ls e .offset,
+        h .isPlace,
+      ))
 
   due-result : (ls : List Line) (ks : List Kind) (s rest : List ℕ) (is : List Item) (before : List ℕ) → DueIn isBinary m start s is → Known before is
       → linesFrom (start + length s) [] rest ≡ ls → end ≡ start + (length s + length rest)
       → Result (λ js. DueHolds isBinary m start (map (λ (x : Item). x .kind) is ++ ks) (s ++ rest) (is ++ js)) (DueRefused isBinary m start (map (λ (x : Item). x .kind) is ++ ks) (s ++ rest)) (read before ks ls)
   unfolding readDue
-  due-result ls [] s rest is before lines known e ends =
-      held (record {
-        front = s;
-        behind = rest;
-        whole = refl;
-        lines = subst (DueIn isBinary m start s) (sym (append-nil is)) lines;
-        kinds = ap (map (λ (x : Item). x .kind)) (append-nil is) ∙ sym (append-nil (map (λ (x : Item). x .kind) is));
-      })
+  due-result ls [] s rest is before lines known e ends = held (record {
+    front = s;
+    behind = rest;
+    whole = refl;
+    lines = subst (DueIn isBinary m start s) (sym (append-nil is)) lines;
+    kinds = ap (map (λ (x : Item). x .kind)) (append-nil is) ∙ sym (append-nil (map (λ (x : Item). x .kind) is));
+  })
   due-result [] (k ∷ ks) s rest is before lines known e ends =
       let zero-left : length rest ≡ 0 = ap length (lines-none (start + length s) rest e) in
       let at-end : end ≡ start + length s = omega arith in
@@ -270,7 +253,16 @@ module _ (isBinary : Bool) (end m start : ℕ) where
         isFault = eleven (λ p. none-begins (reads-due isBinary k) (start + length s) rest e (p .0) (p .1));
         isPlace = at-end;
       })
-  due-result (l ∷ ls) (k ∷ ks) s rest is before lines known e ends = go (itemLiterals (closed isBinary) k l) refl (due-result ls ks)
+  due-result (l ∷ ls) (k ∷ ks) s rest is before lines known e ends = by-option (itemLiterals (closed isBinary) k l) (λ f. fails 11
+      (due-none before k ks l ls f) (eleven (λ p. let z : none ≡ some (p .0) = sym f
+      ∙ begins-read (reads-due isBinary k) (start + length s) rest l ls e (p .0) (p .1) in let y : false ≡ true = cc in false≢true y)))
+      (λ ns q. let x = reads-due isBinary k .form (start + length s) rest l ls e ns q in let b = found-begins (reads-due isBinary k) x in
+      let is-judged = due-line before k ks l ls ns q in on (isLawful m k ns) (λ t. on (isNew k before ns)
+      (λ u. accepted ns q t u x (due-result ls ks)) (λ u. fails 13
+      (is-judged ∙ unless-yes (isLawful m k ns) 12 (l .offset) _ t ∙ unless-no (isNew k before ns) 13 (l .offset) _ u)
+      (thirteen b (lawful-form m k ns t) (new-back k before is ns known u)))) (λ t. fails 12
+      (is-judged ∙ unless-no (isLawful m k ns) 12 (l .offset) _ t)
+      (twelve b (λ h. lib.Dec.T-not (isLawful m k ns) t (lawful-back m k ns h)))))
     where
       Here : Read (List Item) → Type 0
       Here = Result (λ js. DueHolds isBinary m start (map (λ (x : Item). x .kind) is ++ (k ∷ ks)) (s ++ rest) (is ++ js)) (DueRefused isBinary m start (map (λ (x : Item). x .kind) is ++ (k ∷ ks)) (s ++ rest))
@@ -323,26 +315,10 @@ module _ (isBinary : Bool) (end m start : ℕ) where
             isPlace = h .isPlace;
           }) r)
 
-      go : (o : Option (List ℕ)) → itemLiterals (closed isBinary) k l ≡ o → Later → Here whole
-      go none f ih =
-          fails 11 (due-none before k ks l ls f)
-          (eleven (λ p. let z : none ≡ some (p .0) = sym f ∙ begins-read (reads-due isBinary k) (start + length s) rest l ls e (p .0) (p .1) in let y : false ≡ true = cc in false≢true y))
-      go (some ns) f ih =
-          let x = reads-due isBinary k .form (start + length s) rest l ls e ns f in
-          let b = found-begins (reads-due isBinary k) x in
-          let is-judged = due-line before k ks l ls ns f in
-          on (isLawful m k ns)
-          (λ t. on (isNew k before ns)
-          (λ u. accepted ns f t u x ih)
-          (λ u. fails 13 (is-judged ∙ unless-yes (isLawful m k ns) 12 (l .offset) _ t ∙ unless-no (isNew k before ns) 13 (l .offset) _ u)
-          (thirteen b (lawful-form m k ns t) (new-back k before is ns known u))))
-          (λ t. fails 12 (is-judged ∙ unless-no (isLawful m k ns) 12 (l .offset) _ t) (twelve b (λ h. lib.Dec.T-not (isLawful m k ns) t (lawful-back m k ns h))))
-
 -- the due lines, whole: of a text `t` from place `start` on, of which `end` is the end
 pub due-exactly : (isBinary : Bool) (m start : ℕ) (ks : List Kind) (t : List ℕ) (end : ℕ) → end ≡ start + length t
     → Exactly (DueHolds isBinary m start ks t) (DueRefused isBinary m start ks t) (readDue (closed isBinary) end m [] ks (linesFrom start [] t))
-due-exactly isBinary m start ks t end ends =
-    exactly (readDue (closed isBinary) end m [] ks (linesFrom start [] t))
-    (subst (λ (n : ℕ). Result (DueHolds isBinary m start ks t) (DueRefused isBinary m start ks t) (readDue (closed isBinary) end m [] ks (linesFrom n [] t))) (let q : start + 0 ≡ start = omega arith in q)
-    (due-result isBinary end m start (linesFrom (start + 0) [] t) ks [] t [] [] noLine (λ v. ((λ n. absurd (List·Memᴰ·not-nil n)), λ d. absurd (List·Memᴰ·not-nil (d .1)))) refl (omega arith)))
+due-exactly isBinary m start ks t end ends = exactly (readDue (closed isBinary) end m [] ks (linesFrom start [] t)) (rw
+    (let q : start + 0 ≡ start = omega arith in q) at (due-result isBinary end m start (linesFrom (start + 0) [] t) ks [] t [] [] noLine
+    (λ v. ((λ n. absurd (List·Memᴰ·not-nil n)), λ d. absurd (List·Memᴰ·not-nil (d .1)))) refl (omega arith)))
     (λ is h. lines-held isBinary end m start ks t is h) (λ n k h. lines-refused isBinary end m start ks t n k ends h)

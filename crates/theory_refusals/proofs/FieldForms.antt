@@ -4,35 +4,35 @@ use Prim.Native.Nat.{ℕ, zero, suc, _+_, _-_, _*_, _/_, _%_, _≤_, _<_}
 use native.Mathlib.Nat.{not-suc-le-zero, le-refl}
 use native.Mathlib.Omega.{arith}
 use mathlib.Core.Path.{_≡_, refl, sym, _∙_, ap, ap₂, subst}
-use mathlib.Core.Logic.{_⊎_, inl, inr}
+use mathlib.Core.Logic.{_⊎_, inl, inr, ⊎-elim}
 use mathlib.Core.Bool.{Bool, true, false, not, cond, false≢true, _&&_, _||_}
-use mathlib.Core.Option.{Option, none, some}
+use mathlib.Core.Option.{none, some}
 use mathlib.Core.List.{List, [], _∷_, _++_, append-assoc, List·Memᴰ, List·Memᴰ·head, List·Memᴰ·tail}
 use lib.Dec.{T, eqb, leb, ltb}
 use lib.ListN.{length}
 use mir.Facts.{and-yes, yes-and, or-yes, eqb-yes, yes-eqb, leb-yes, yes-leb, ltb-yes, ltb-no, yes-ltb, no-ltb}
 use Rattle.model.specs.Base.{all, same, andThen, only}
 use Rattle.model.specs.Text.{digits, decimal, asDigits, number, numbers, between, hexDigit, hexFrom, hexTable, isLetter, isNameByte, isName, onto, split, fields}
-use Rattle.theory_graph.proofs.Lists.{same-eq, same-refl, all-of, all-in, is-true, is-false}
+use Rattle.theory_graph.proofs.Lists.{same-eq, all-of, all-in, is-true, is-false}
 use Rattle.theory_text.proofs.Steps.{then-out, only-out}
 use Rattle.theory_text.proofs.Plain.{Free, above, free-append, decimal-free}
 use Rattle.theory_text.proofs.LineLaws.{fields-word, fields-last}
-use Rattle.theory_text.proofs.Names.{decimal-value}
 use Rattle.promises.specs.Forms.{Letter, NameByte, Name, name, Decimal, digit, more, Number, Numbers, Hex, figure, letter, Table, four, joined, Within}
 use Rattle.promises.specs.Forms.Numbers.{none as noNumbers, one as aNumber}
+use Rattle.theory_text.proofs.DueBack.{number-back as number-written}
+use Rattle.theory_graph.proofs.Split.{by-bool, by-list}
 
 -- ---- numbers
 
 digits-after : (fuel n : ℕ) (after : List ℕ) → digits fuel n after ≡ digits fuel n [] ++ after
 unfolding digits
 digits-after zero n after = refl
-digits-after (suc fuel) n after = go (ltb n 10) (digits-after fuel (n / 10) ((48 + n % 10) ∷ after)) (digits-after fuel (n / 10) ((48 + n % 10) ∷ []))
-  where
-    go : (b : Bool) → digits fuel (n / 10) ((48 + n % 10) ∷ after) ≡ digits fuel (n / 10) [] ++ ((48 + n % 10) ∷ after)
-        → digits fuel (n / 10) ((48 + n % 10) ∷ []) ≡ digits fuel (n / 10) [] ++ ((48 + n % 10) ∷ [])
-        → cond b ((48 + n) ∷ after) (digits fuel (n / 10) ((48 + n % 10) ∷ after)) ≡ cond b ((48 + n) ∷ []) (digits fuel (n / 10) ((48 + n % 10) ∷ [])) ++ after
-    go true e f = refl
-    go false e f = e ∙ sym (append-assoc (digits fuel (n / 10) []) ((48 + n % 10) ∷ []) after) ∙ ap (λ (y : List ℕ). y ++ after) (sym f)
+digits-after (suc fuel) n after = by-bool (ltb n 10) (λ e. cc) (λ q. cc (
+  (digits-after fuel (n / 10) ((48 + n % 10) ∷ after)),
+  append-assoc
+      (digits fuel (n / 10) []) ((48 + n % 10) ∷ []) after,
+  digits-after fuel (n / 10) ((48 + n % 10) ∷ []),
+))
 
 pub digits-form : (fuel n : ℕ) → n < fuel → Decimal (digits fuel n []) n
 unfolding digits
@@ -45,10 +45,8 @@ digits-form (suc fuel) n h = go (ltb n 10) (λ t. ltb-yes t) (λ t. ltb-no t) (d
     go : (b : Bool) → (T b → n < 10) → (T (not b) → 10 ≤ n) → (n / 10 < fuel → Decimal (digits fuel (n / 10) []) (n / 10))
         → Decimal (cond b ((48 + n) ∷ []) (digits fuel (n / 10) ((48 + n % 10) ∷ []))) n
     go true u v later = let q : n ≤ 9 = (let z : n < 10 = u tt in omega arith) in digit q
-    go false u v later =
-        let q : 10 ≤ n = v tt in
-        subst (λ (w : List ℕ). Decimal w n) (sym (digits-after fuel (n / 10) ((48 + n % 10) ∷ [])))
-        (subst (λ (k : ℕ). Decimal (digits fuel (n / 10) [] ++ ((48 + n % 10) ∷ [])) k) whole (more {n = n / 10} {d = n % 10} (later (omega arith)) (omega arith) (omega arith)))
+    go false u v later = rw (digits-after fuel (n / 10) ((48 + n % 10) ∷ []))
+        (rw whole at (more {n = n / 10} {d = n % 10} (later (omega (arith, v tt))) (omega (arith, v tt)) (omega (arith, v tt))))
 
 -- steps enough are steps enough
 digits-fuel : (f g n : ℕ) (after : List ℕ) → n < f → n < g → digits f n after ≡ digits g n after
@@ -66,12 +64,16 @@ digits-fuel (suc f) (suc g) n after h k = go (ltb n 10) (λ t. ltb-no t) (digits
 pub decimal-only : {w : List ℕ} {n : ℕ} → Decimal w n → w ≡ decimal n
 unfolding decimal digits
 decimal-only (digit {d} h) = sym (ap (λ (b : Bool). cond b ((48 + d) ∷ []) (digits d (d / 10) ((48 + d % 10) ∷ []))) (is-true (ltb d 10) (yes-ltb {a = d} {b = 10} (omega arith))))
-decimal-only (more {w} {n} {d} p pos h) =
-    sym
-    (ap (λ (b : Bool). cond b ((48 + (n * 10 + d)) ∷ []) (digits (n * 10 + d) ((n * 10 + d) / 10) ((48 + (n * 10 + d) % 10) ∷ []))) (is-false (ltb (n * 10 + d) 10) (no-ltb {a = n * 10 + d} {b = 10} (omega arith)))
-    ∙ ap₂ (λ (x y : ℕ). digits (n * 10 + d) x ((48 + y) ∷ [])) (let e : (n * 10 + d) / 10 ≡ n = omega arith in e) (let e : (n * 10 + d) % 10 ≡ d = omega arith in e)
-    ∙ digits-after (n * 10 + d) n ((48 + d) ∷ [])
-    ∙ ap (λ (v : List ℕ). v ++ ((48 + d) ∷ [])) (digits-fuel (n * 10 + d) (suc n) n [] (omega arith) (omega arith) ∙ sym (decimal-only p)))
+decimal-only (more {w} {n} {d} p pos h) = cc (
+  is-false (ltb (n * 10 + d) 10) (no-ltb {a = n * 10 + d} {b = 10} (omega arith)),
+  let e :
+      (n * 10 + d) / 10 ≡ n = omega arith in e,
+  let e : (n * 10 + d) % 10 ≡ d = omega arith in e,
+  digits-after (n * 10 + d) n
+      ((48 + d) ∷ []),
+  digits-fuel (n * 10 + d) (suc n) n [] (omega arith) (omega arith),
+  decimal-only p,
+)
 
 pub number-form : (w : List ℕ) (n : ℕ) → number w ≡ some n → Number w n
 unfolding number decimal
@@ -80,13 +82,6 @@ number-form w n e =
     let p = and-yes (leb (asDigits 0 w) 65535) (same w (decimal (asDigits 0 w))) (t .0) in
     let q : w ≡ decimal n = same-eq w (decimal (asDigits 0 w)) (p .1) ∙ ap decimal (t .1) in
     (subst (λ (v : List ℕ). Decimal v n) (sym q) (digits-form (suc n) n (le-refl (suc n))), subst (λ (m : ℕ). m ≤ 65535) (t .1) (leb-yes (p .0)))
-
-number-written : (n : ℕ) → n ≤ 65535 → number (decimal n) ≡ some n
-unfolding number only
-number-written n h =
-    ap (λ (m : ℕ). only (leb m 65535 && same (decimal n) (decimal m)) m) (decimal-value n)
-    ∙ ap (λ (b : Bool). only b n)
-    (is-true (leb n 65535 && same (decimal n) (decimal n)) (yes-and (leb n 65535) (same (decimal n) (decimal n)) (yes-leb h) (same-refl (decimal n))))
 
 pub number-back : (w : List ℕ) (n : ℕ) → Number w n → number w ≡ some n
 number-back w n p = ap number (decimal-only (p .0)) ∙ number-written n (p .1)
@@ -100,16 +95,13 @@ numbers-form [] ns e = let q : _≡_ {A = List ℕ} [] ns = cc in subst (Numbers
 numbers-form (w ∷ ws) ns e =
     let a = then-out (number w) (λ n. andThen (numbers ws) (λ ms. some (n ∷ ms))) ns e in
     let b = then-out (numbers ws) (λ ms. some (a .0 ∷ ms)) ns (a .2) in
-    let h : some (a .0 ∷ b .0) ≡ some ns = b .2 in
     let q : a .0 ∷ b .0 ≡ ns = cc in
     subst (Numbers (w ∷ ws)) q (aNumber (number-form w (a .0) (a .1)) (numbers-form ws (b .0) (b .1)))
 
 pub numbers-back : {ws : List (List ℕ)} {ns : List ℕ} → Numbers ws ns → numbers ws ≡ some ns
 unfolding numbers andThen
 numbers-back noNumbers = refl
-numbers-back (aNumber {w} {n} {ws} {ns} p q) =
-    ap (λ (o : Option ℕ). andThen o (λ k. andThen (numbers ws) (λ ks. some (k ∷ ks)))) (number-back w n p)
-    ∙ ap (λ (o : Option (List ℕ)). andThen o (λ ks. some (n ∷ ks))) (numbers-back q)
+numbers-back (aNumber {w} {n} {ws} {ns} p q) = cc (number-back w n p, numbers-back q)
 
 pub numbers-count : {ws : List (List ℕ)} {ns : List ℕ} → Numbers ws ns → length ws ≡ length ns
 numbers-count noNumbers = refl
@@ -141,11 +133,8 @@ yes-or false b (inr h) = h
 
 pub letter-form : (b : ℕ) → T (isLetter b) → Letter b
 unfolding isLetter
-letter-form b t = go (or-yes (between 65 90 b) (between 97 122 b) t)
-  where
-    go : T (between 65 90 b) ⊎ T (between 97 122 b) → Letter b
-    go (inl h) = inl (within-form 65 90 b h)
-    go (inr h) = inr (within-form 97 122 b h)
+letter-form b t = ⊎-elim (λ h. inl (within-form 65 90 b h)) (λ q. inr (within-form 97 122 b q))
+    (or-yes (between 65 90 b) (between 97 122 b) t)
 
 pub letter-back : (b : ℕ) → Letter b → T (isLetter b)
 unfolding isLetter
@@ -154,15 +143,9 @@ letter-back b (inr h) = yes-or (between 65 90 b) (between 97 122 b) (inr (within
 
 pub byte-form : (b : ℕ) → T (isNameByte b) → NameByte b
 unfolding isNameByte
-byte-form b t = go (or-yes (isLetter b) (between 48 57 b || eqb b 95) t)
-  where
-    rest : T (between 48 57 b) ⊎ T (eqb b 95) → NameByte b
-    rest (inl h) = inr (inl (within-form 48 57 b h))
-    rest (inr h) = inr (inr (eqb-yes h))
-
-    go : T (isLetter b) ⊎ T (between 48 57 b || eqb b 95) → NameByte b
-    go (inl h) = inl (letter-form b h)
-    go (inr h) = rest (or-yes (between 48 57 b) (eqb b 95) h)
+byte-form b t = ⊎-elim (λ h. inl (letter-form b h))
+    (λ q. ⊎-elim (λ q. inr (inl (within-form 48 57 b q))) (λ e. inr (inr (eqb-yes e))) (or-yes (between 48 57 b) (eqb b 95) q))
+    (or-yes (isLetter b) (between 48 57 b || eqb b 95) t)
 
 pub byte-back : (b : ℕ) → NameByte b → T (isNameByte b)
 unfolding isNameByte
@@ -209,39 +192,28 @@ unfolding hexDigit
 hex-form b d e = go (between 48 57 b) (between 97 102 b) (λ t. within-form 48 57 b t) (λ t. within-form 97 102 b t) e
   where
     low : Within 48 57 b → b - 48 ≡ d → Hex b d
-    low w q =
-        let l : 48 ≤ b = w .0 in
-        let h : b ≤ 57 = w .1 in
-        subst (λ (x : ℕ). Hex x d) (let z : 48 + d ≡ b = omega arith in z) (figure {d = d} (omega arith))
+    low w q = subst (λ (x : ℕ). Hex x d) (let z : 48 + d ≡ b = omega arith in z) (figure {d = d} (omega arith))
 
     high : Within 97 102 b → b - 87 ≡ d → Hex b d
-    high w q =
-        let l : 97 ≤ b = w .0 in
-        let h : b ≤ 102 = w .1 in
-        let k : ℕ = b - 97 in
-        let p : Hex (97 + (b - 97)) (10 + (b - 97)) = letter {d = b - 97} (omega arith) in
-        subst (λ (x : ℕ). Hex x d) (let z : 97 + (b - 97) ≡ b = omega arith in z) (subst (λ (y : ℕ). Hex (97 + (b - 97)) y) (let z : 10 + (b - 97) ≡ d = omega arith in z) p)
+    high w q = subst (λ (x : ℕ). Hex x d) (let z : 97 + (b - 97) ≡ b = omega arith in z)
+        (subst (λ (y : ℕ). Hex (97 + (b - 97)) y) (let z : 10 + (b - 97) ≡ d = omega arith in z) (letter {d = b - 97} (omega arith)))
 
     go : (x y : Bool) → (T x → Within 48 57 b) → (T y → Within 97 102 b) → cond x (some (b - 48)) (cond y (some (b - 87)) none) ≡ some d → Hex b d
     go true y u v f = low (u tt) (let q : b - 48 ≡ d = cc in q)
     go false true u v f = high (v tt) (let q : b - 87 ≡ d = cc in q)
-    go false false u v f = absurd (some-never f)
-      where
-        some-never : _≡_ {A = Option ℕ} none (some d) → ⊥
-        some-never e = let z : false ≡ true = cc in false≢true z
+    go false false u v f = absurd (let z : false ≡ true = cc in false≢true z)
 
 hex-back : (b d : ℕ) → Hex b d → hexDigit b ≡ some d
 unfolding hexDigit
-hex-back b d (figure h) =
-    ap (λ (x : Bool). cond x (some (48 + d - 48)) (cond (between 97 102 (48 + d)) (some (48 + d - 87)) none)) (is-true (between 48 57 (48 + d)) (within-back 48 57 (48 + d) (omega arith, omega arith)))
-    ∙ ap some (let q : 48 + d - 48 ≡ d = omega arith in q)
-hex-back b d (letter {d = k} h) =
-    ap (λ (x : Bool). cond x (some (97 + k - 48)) (cond (between 97 102 (97 + k)) (some (97 + k - 87)) none)) (is-false (between 48 57 (97 + k)) (not-low k))
-    ∙ ap (λ (x : Bool). cond x (some (97 + k - 87)) none) (is-true (between 97 102 (97 + k)) (within-back 97 102 (97 + k) (omega arith, omega arith)))
-    ∙ ap some (let q : 97 + k - 87 ≡ 10 + k = omega arith in q)
-  where
-    not-low : (k : ℕ) → T (not (between 48 57 (97 + k)))
-    not-low k = lib.Dec.not-T (between 48 57 (97 + k)) (λ t. let p = within-form 48 57 (97 + k) t in let q : 97 + k ≤ 57 = p .1 in omega arith)
+hex-back b d (figure h) = cc
+    (is-true (between 48 57 (48 + d)) (within-back 48 57 (48 + d) (omega arith, omega arith)), let q : 48 + d - 48 ≡ d = omega arith in q)
+hex-back b d (letter {d = k} h) = cc (
+  is-false (between 48 57 (97 + k)) (lib.Dec.not-T (between 48 57 (97 + k))
+      (λ t. let p = within-form 48 57 (97 + k) t in let q : 97 + k ≤ 57 = p .1 in omega arith)),
+  is-true (between 97 102 (97 + k))
+      (within-back 97 102 (97 + k) (omega arith, omega arith)),
+  let q : 97 + k - 87 ≡ 10 + k = omega arith in q,
+)
 
 pub table-form : (w : List ℕ) (n : ℕ) → hexTable w ≡ some n → Table w n
 unfolding hexTable hexFrom
@@ -256,7 +228,6 @@ table-form w n e =
         let j = then-out (hexDigit b) (λ x. hexFrom ((0 * 16 + i .0) * 16 + x) (c ∷ d ∷ [])) n (i .2) in
         let k = then-out (hexDigit c) (λ x. hexFrom (((0 * 16 + i .0) * 16 + j .0) * 16 + x) (d ∷ [])) n (j .2) in
         let l = then-out (hexDigit d) (λ x. hexFrom ((((0 * 16 + i .0) * 16 + j .0) * 16 + k .0) * 16 + x) []) n (k .2) in
-        let h : some ((((0 * 16 + i .0) * 16 + j .0) * 16 + k .0) * 16 + l .0) ≡ some n = l .2 in
         let q : (((0 * 16 + i .0) * 16 + j .0) * 16 + k .0) * 16 + l .0 ≡ n = cc in
         subst (Table (a ∷ b ∷ c ∷ d ∷ [])) (let z : i .0 * 4096 + j .0 * 256 + k .0 * 16 + l .0 ≡ n = omega arith in z)
         (four (hex-form a (i .0) (i .1)) (hex-form b (j .0) (j .1)) (hex-form c (k .0) (k .1)) (hex-form d (l .0) (l .1)))
@@ -272,11 +243,14 @@ table-form w n e =
 pub table-back : (w : List ℕ) (n : ℕ) → Table w n → hexTable w ≡ some n
 unfolding hexTable hexFrom andThen only
 table-back w n (four {a} {b} {c} {d} {w = i} {x} {y} {z} p q r s) =
-    ap (λ (o : Option ℕ). andThen o (λ e. hexFrom (0 * 16 + e) (b ∷ c ∷ d ∷ []))) (hex-back a i p)
-    ∙ ap (λ (o : Option ℕ). andThen o (λ e. hexFrom ((0 * 16 + i) * 16 + e) (c ∷ d ∷ []))) (hex-back b x q)
-    ∙ ap (λ (o : Option ℕ). andThen o (λ e. hexFrom (((0 * 16 + i) * 16 + x) * 16 + e) (d ∷ []))) (hex-back c y r)
-    ∙ ap (λ (o : Option ℕ). andThen o (λ e. hexFrom ((((0 * 16 + i) * 16 + x) * 16 + y) * 16 + e) [])) (hex-back d z s)
-    ∙ ap some (let e : (((0 * 16 + i) * 16 + x) * 16 + y) * 16 + z ≡ i * 4096 + x * 256 + y * 16 + z = omega arith in e)
+    cc (
+      hex-back a i p,
+      hex-back b x q,
+      hex-back c y r,
+      hex-back d z s,
+      let e :
+          (((0 * 16 + i) * 16 + x) * 16 + y) * 16 + z ≡ i * 4096 + x * 256 + y * 16 + z = omega arith in e,
+    )
 
 hex-high : {b d : ℕ} → Hex b d → 48 ≤ b
 hex-high (figure h) = omega arith
@@ -284,10 +258,8 @@ hex-high (letter h) = omega arith
 
 pub table-free : (s : ℕ) → s < 48 → {w : List ℕ} {n : ℕ} → Table w n → Free s w
 table-free s h (four {a} {b} {c} {d} p q r t) =
+    let high : (s : ℕ) → s < 48 → (b : ℕ) → 48 ≤ b → eqb b s ≡ false = λ s h b k. above s b (omega arith) in
     (high s h a (hex-high p), (high s h b (hex-high q), (high s h c (hex-high r), (high s h d (hex-high t), tt))))
-  where
-    high : (s : ℕ) → s < 48 → (b : ℕ) → 48 ≤ b → eqb b s ≡ false
-    high s h b k = above s b (omega arith)
 
 -- ---- fields
 
@@ -307,10 +279,6 @@ unfolding fields split onto
 joins [] = record { first = []; others = []; areFields = refl; isWhole = refl }
 joins (b ∷ s) = made (eqb b 32) (λ t. eqb-yes t) (joins s) refl
   where
-    with-first : (x : ℕ) (w : List ℕ) (ws : List (List ℕ)) → x ∷ joined (w ∷ ws) ≡ joined ((x ∷ w) ∷ ws)
-    with-first x w [] = refl
-    with-first x w (v ∷ ws) = refl
-
     made : (t : Bool) → (T t → b ≡ 32) → (r : Joins s) → fields (b ∷ s) ≡ split t b (fields s) → Joins (b ∷ s)
     made true u r e = record {
       first = [];
@@ -322,7 +290,7 @@ joins (b ∷ s) = made (eqb b 32) (λ t. eqb-yes t) (joins s) refl
       first = b ∷ r .first;
       others = r .others;
       areFields = e ∙ ap (onto b) (r .areFields);
-      isWhole = ap (λ (y : List ℕ). b ∷ y) (r .isWhole) ∙ with-first b (r .first) (r .others);
+      isWhole = ap (λ (y : List ℕ). b ∷ y) (r .isWhole) ∙ (by-list (r .others) (λ e. cc) (λ v ws q. cc));
     }
 
 pub joined-free : (s : ℕ) → s < 32 → (ws : List (List ℕ)) → AllFree s ws → Free s (joined ws)

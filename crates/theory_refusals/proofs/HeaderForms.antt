@@ -2,7 +2,7 @@
 use Prim.Native.Nat.{ℕ, suc, _+_, _≤_, _<_}
 use native.Mathlib.Omega.{arith}
 use mathlib.Core.Path.{_≡_, refl, sym, _∙_, ap, subst}
-use mathlib.Core.Logic.{_⊎_, inl, inr}
+use mathlib.Core.Logic.{inl, inr, ⊎-elim}
 use mathlib.Core.Bool.{Bool, true, false, not, false≢true, _&&_, _||_}
 use mathlib.Core.Option.{Option, none, some}
 use mathlib.Core.List.{List, [], _∷_, _++_, append-assoc}
@@ -22,6 +22,7 @@ use Rattle.promises.specs.Refusals.{Exceeds, OutOfSequence, HeaderFault, seven,
 use Rattle.theory_refusals.proofs.FieldForms.{joins, numbers-form, numbers-back, numbers-count, numbers-free, AllFree, fields-joined, joined-free}
 use Rattle.theory_refusals.proofs.LineForms.{first-split, ended-lines}
 use Rattle.theory_refusals.proofs.Results.{Result, held, refused, exactly, unless-yes, unless-no, on}
+use Rattle.theory_graph.proofs.Split.{by-bool, by-option, by-list}
 
 -- ---- the line
 
@@ -59,9 +60,18 @@ word-is w t = go (same w (text "aig")) (λ u. same-eq w (text "aig") u) (λ u. s
 line-form : (t : List ℕ) (l : Line) (ls : List Line) → linesFrom 0 [] t ≡ l ∷ ls → (h : Header) → headerOf (l ∷ ls) ≡ some h → Begins HeaderLine t h
 unfolding headerOfNumbers
 line-form t l ls e h r =
-    let j = joins (l .bytes) in
-    let f : readFields l (j .first ∷ j .others) ≡ some h = ap (readFields l) (sym (j .areFields)) ∙ sym (head-fields l ls) ∙ r in
-    from-fields (j .first) (j .others) (j .isWhole) f
+    let from-fields : (w : List ℕ) (ws : List (List ℕ)) → l .bytes ≡ joined (w ∷ ws) → readFields l (w ∷ ws) ≡ some h
+    → Begins HeaderLine t h = λ w ws whole f. let b = same w (text "aig") in let o = then-out
+    (only (closed b l && (eqb (suc (length ws)) 6 && (b || same w (text "aag")))) ws)
+    (λ vs. andThen (numbers vs) (λ ns. some (headerOfNumbers b (nextOf l) ns))) h f in let c = only-out
+    (closed b l && (eqb (suc (length ws)) 6 && (b || same w (text "aag")))) ws (o .0) (o .1) in let n = then-out (numbers (o .0))
+    (λ ns. some (headerOfNumbers b (nextOf l) ns)) h (o .2) in let x = and-yes (closed b l)
+    (eqb (suc (length ws)) 6 && (b || same w (text "aag"))) (c .0) in let y = and-yes (eqb (suc (length ws)) 6) (b || same w (text "aag"))
+    (x .1) in let p : Numbers ws (n .0) = numbers-form ws (n .0) (ap numbers (c .1) ∙ n .1) in let z : some
+    (headerOfNumbers b (nextOf l) (n .0)) ≡ some h = n .2 in let is : headerOfNumbers b (nextOf l) (n .0) ≡ h = cc in let six : suc
+    (length ws) ≡ 6 = eqb-yes (y .0) in subst (Begins HeaderLine t) is
+    (made w ws whole (n .0) (x .0) (omega (arith, numbers-count p, six)) p (y .1)) in
+    let j = joins (l .bytes) in from-fields (j .first) (j .others) (j .isWhole) (cc (j .areFields, head-fields l ls))
   where
     made : (w : List ℕ) (ws : List (List ℕ)) → l .bytes ≡ joined (w ∷ ws) → (ns : List ℕ) → T (closed (same w (text "aig")) l) → length ns ≡ 5 → Numbers ws ns
         → T (same w (text "aig") || same w (text "aag")) → Begins HeaderLine t (headerOfNumbers (same w (text "aig")) (nextOf l) ns)
@@ -83,24 +93,13 @@ line-form t l ls e h r =
           };
         }
 
-    from-fields : (w : List ℕ) (ws : List (List ℕ)) → l .bytes ≡ joined (w ∷ ws) → readFields l (w ∷ ws) ≡ some h → Begins HeaderLine t h
-    from-fields w ws whole f =
-        let b = same w (text "aig") in
-        let o = then-out (only (closed b l && (eqb (suc (length ws)) 6 && (b || same w (text "aag")))) ws) (λ vs. andThen (numbers vs) (λ ns. some (headerOfNumbers b (nextOf l) ns))) h f in
-        let c = only-out (closed b l && (eqb (suc (length ws)) 6 && (b || same w (text "aag")))) ws (o .0) (o .1) in
-        let n = then-out (numbers (o .0)) (λ ns. some (headerOfNumbers b (nextOf l) ns)) h (o .2) in
-        let x = and-yes (closed b l) (eqb (suc (length ws)) 6 && (b || same w (text "aag"))) (c .0) in
-        let y = and-yes (eqb (suc (length ws)) 6) (b || same w (text "aag")) (x .1) in
-        let p : Numbers ws (n .0) = numbers-form ws (n .0) (ap numbers (c .1) ∙ n .1) in
-        let z : some (headerOfNumbers b (nextOf l) (n .0)) ≡ some h = n .2 in
-        let is : headerOfNumbers b (nextOf l) (n .0) ≡ h = cc in
-        let six : suc (length ws) ≡ 6 = eqb-yes (y .0) in
-        subst (Begins HeaderLine t) is (made w ws whole (n .0) (x .0) (omega (arith, numbers-count p, six)) p (y .1))
-
 -- .. and from every such line
 word-free : (s : ℕ) → T (eqb s 10 || (eqb s 13 || eqb s 32)) → {w : List ℕ} {b : Bool} → Word w b → Free s w
 unfolding text
-word-free s t {w} {b} p = go (or-yes (eqb s 10) (eqb s 13 || eqb s 32) t)
+word-free s t {w} {b} p = ⊎-elim (λ h. subst (λ (x : ℕ). Free x w) (sym (eqb-yes h)) (at-ten p))
+    (λ q. ⊎-elim (λ h. subst (λ (x : ℕ). Free x w) (sym (eqb-yes h)) (at-thirteen p))
+    (λ e. subst (λ (x : ℕ). Free x w) (sym (eqb-yes e)) (at-space p)) (or-yes (eqb s 13) (eqb s 32) q)) (or-yes (eqb s 10)
+    (eqb s 13 || eqb s 32) t)
   where
     at-ten : {w : List ℕ} {b : Bool} → Word w b → Free 10 w
     at-ten aag = (refl, (refl, (refl, tt)))
@@ -114,22 +113,17 @@ word-free s t {w} {b} p = go (or-yes (eqb s 10) (eqb s 13 || eqb s 32) t)
     at-space aag = (refl, (refl, (refl, tt)))
     at-space aig = (refl, (refl, (refl, tt)))
 
-    rest : T (eqb s 13) ⊎ T (eqb s 32) → Free s w
-    rest (inl h) = subst (λ (x : ℕ). Free x w) (sym (eqb-yes h)) (at-thirteen p)
-    rest (inr h) = subst (λ (x : ℕ). Free x w) (sym (eqb-yes h)) (at-space p)
-
-    go : T (eqb s 10) ⊎ T (eqb s 13 || eqb s 32) → Free s w
-    go (inl h) = subst (λ (x : ℕ). Free x w) (sym (eqb-yes h)) (at-ten p)
-    go (inr h) = rest (or-yes (eqb s 13) (eqb s 32) h)
-
 fields-read : (l : Line) (w : List ℕ) (ws : List (List ℕ)) (ns : List ℕ) (b : Bool) → Word w b → T (closed b l) → Numbers ws ns → length ns ≡ 5
     → readFields l (w ∷ ws) ≡ some (headerOfNumbers b (nextOf l) ns)
 unfolding same text andThen only
-fields-read l w ws ns b p end q count = ap (λ (x : Bool). andThen (only (closed x l && (eqb (suc (length ws)) 6 && (x || same w (text "aag")))) ws) (λ vs. andThen (numbers vs) (λ ms. some (headerOfNumbers x (nextOf l) ms)))) (is-word p)
-    ∙ ap (λ (x : Bool). andThen (only x ws) (λ vs. andThen (numbers vs) (λ ms. some (headerOfNumbers b (nextOf l) ms))))
-    (is-true (closed b l && (eqb (suc (length ws)) 6 && (b || same w (text "aag"))))
-    (yes-and (closed b l) (eqb (suc (length ws)) 6 && (b || same w (text "aag"))) end (yes-and (eqb (suc (length ws)) 6) (b || same w (text "aag")) (yes-eqb {a = suc (length ws)} {b = 6} (omega (arith, numbers-count q, count))) (or-word p))))
-    ∙ ap (λ (o : Option (List ℕ)). andThen o (λ ms. some (headerOfNumbers b (nextOf l) ms))) (numbers-back q)
+fields-read l w ws ns b p end q count =
+    cc (
+      is-word p,
+      is-true (closed b l && (eqb (suc (length ws)) 6 && (b || same w (text "aag")))) (yes-and (closed b l)
+          (eqb (suc (length ws)) 6 && (b || same w (text "aag"))) end (yes-and (eqb (suc (length ws)) 6) (b || same w (text "aag"))
+          (yes-eqb {a = suc (length ws)} {b = 6} (omega (arith, numbers-count q, count))) (or-word p))),
+      numbers-back q,
+    )
   where
     is-word : {v : List ℕ} {c : Bool} → Word v c → same v (text "aig") ≡ c
     is-word aag = refl
@@ -175,31 +169,17 @@ within h t = go
 
 without : (h : Header) → T (not (inLimits h)) → Exceeds h
 unfolding inLimits
-without h t = go (and-no (leb (h .size) 4095) (leb (h .outputs) 4096 && leb (h .inputs + h .ands) (h .size)) t)
-  where
-    rest : T (not (leb (h .outputs) 4096)) ⊎ T (not (leb (h .inputs + h .ands) (h .size))) → Exceeds h
-    rest (inl u) = inr (inl (leb-no u))
-    rest (inr u) = inr (inr (leb-no u))
-
-    go : T (not (leb (h .size) 4095)) ⊎ T (not (leb (h .outputs) 4096 && leb (h .inputs + h .ands) (h .size))) → Exceeds h
-    go (inl u) = inl (leb-no u)
-    go (inr u) = rest (and-no (leb (h .outputs) 4096) (leb (h .inputs + h .ands) (h .size)) u)
+without h t = ⊎-elim (λ u. inl (leb-no u)) (λ q. ⊎-elim (λ u. inr (inl (leb-no u))) (λ e. inr (inr (leb-no e)))
+    (and-no (leb (h .outputs) 4096) (leb (h .inputs + h .ands) (h .size)) q))
+    (and-no (leb (h .size) 4095) (leb (h .outputs) 4096 && leb (h .inputs + h .ands) (h .size)) t)
 
 in-sequence : (h : Header) → T (inSequence h) → ¬ OutOfSequence h
 unfolding inSequence
-in-sequence h t o = go (h .binary) (o .0) t
-  where
-    go : (b : Bool) → b ≡ true → T (not b || eqb (h .size) (h .inputs + h .ands)) → ⊥
-    go true e u = o .1 (eqb-yes u)
-    go false e u = false≢true e
+in-sequence h t o = by-bool (h .binary) (λ e. o .1 (eqb-yes (rw e at t))) (λ q. false≢true (rw q at (o .0)))
 
 out-of-sequence : (h : Header) → T (not (inSequence h)) → OutOfSequence h
 unfolding inSequence
-out-of-sequence h t = go (h .binary) t
-  where
-    go : (b : Bool) → T (not (not b || eqb (h .size) (h .inputs + h .ands))) → (b ≡ true) × (¬ (h .size ≡ h .inputs + h .ands))
-    go true u = (refl, eqb-no u)
-    go false u = absurd u
+out-of-sequence h t = by-bool (h .binary) (λ e. rw e (refl, eqb-no (rw e at t))) (λ q. rw q (absurd (rw q at t)))
 
 -- the refusals of a header that has its form
 abbrev judged : Header → Read Header
@@ -215,40 +195,27 @@ read-none t e = ap (λ (o : Option Header). next (from? o 7 0) judged) e
 
 begins-header : (t : List ℕ) (h : Header) → headerOf (linesFrom 0 [] t) ≡ some h → Begins HeaderLine t h
 unfolding headerOf
-begins-header t h e = go (linesFrom 0 [] t) refl e
-  where
-    go : (ls : List Line) → linesFrom 0 [] t ≡ ls → headerOf ls ≡ some h → Begins HeaderLine t h
-    go [] l f = let z : false ≡ true = cc in absurd (false≢true z)
-    go (l ∷ ls) q f = line-form t l ls q h f
+begins-header t h e = by-list (linesFrom 0 [] t) (λ l. let z : false ≡ true = cc in absurd (false≢true z))
+    (λ q ls p. line-form t q ls p h (rw p at e))
 
 result : (t : List ℕ) → Result (HeaderHolds t) (HeaderFault t) (readHeader t)
-result t = go (headerOf (linesFrom 0 [] t)) refl
+result t = by-option (headerOf (linesFrom 0 [] t)) (λ e. comes (fault 7 0) (read-none t e)
+    (refused (seven (λ p. let z : none ≡ some (p .0) = sym e ∙ line-back t (p .0) (p .1) in let y : false ≡ true = cc in false≢true y))))
+    (λ h q. let b = begins-header t h q in on (eqb (h .latches) 0) (λ u. on (inLimits h) (λ v. on (inSequence h) (λ w. comes (holds h)
+    (read-judged t h q ∙ unless-yes (eqb (h .latches) 0) 8 0 _ u ∙ unless-yes (inLimits h) 9 0 _ v
+    ∙ unless-yes (inSequence h) 19 0 (holds h) w)
+    (held (record { begins = b; noLatch = eqb-yes u; inLimits = within h v; inSequence = in-sequence h w }))) (λ w. comes (fault 19 0)
+    (read-judged t h q ∙ unless-yes (eqb (h .latches) 0) 8 0 _ u ∙ unless-yes (inLimits h) 9 0 _ v
+    ∙ unless-no (inSequence h) 19 0 (holds h) w) (refused (nineteen b (eqb-yes u) (within h v) (out-of-sequence h w))))) (λ v. comes
+    (fault 9 0) (read-judged t h q ∙ unless-yes (eqb (h .latches) 0) 8 0 _ u ∙ unless-no (inLimits h) 9 0 _ v)
+    (refused (nine b (eqb-yes u) (without h v)))))
+    (λ u. comes (fault 8 0) (read-judged t h q ∙ unless-no (eqb (h .latches) 0) 8 0 _ u) (refused (eight b (eqb-no u)))))
   where
     comes : (r : Read Header) → readHeader t ≡ r → Result (HeaderHolds t) (HeaderFault t) r → Result (HeaderHolds t) (HeaderFault t) (readHeader t)
     comes r e x = subst (Result (HeaderHolds t) (HeaderFault t)) (sym e) x
 
-    go : (o : Option Header) → headerOf (linesFrom 0 [] t) ≡ o → Result (HeaderHolds t) (HeaderFault t) (readHeader t)
-    go none e = comes (fault 7 0) (read-none t e) (refused (seven (λ p. let z : none ≡ some (p .0) = sym e ∙ line-back t (p .0) (p .1) in let y : false ≡ true = cc in false≢true y)))
-    go (some h) e =
-        let b = begins-header t h e in
-        on (eqb (h .latches) 0)
-        (λ u. on (inLimits h)
-        (λ v. on (inSequence h)
-        (λ w. comes (holds h)
-        (read-judged t h e ∙ unless-yes (eqb (h .latches) 0) 8 0 _ u ∙ unless-yes (inLimits h) 9 0 _ v ∙ unless-yes (inSequence h) 19 0 (holds h) w)
-        (held (record { begins = b; noLatch = eqb-yes u; inLimits = within h v; inSequence = in-sequence h w })))
-        (λ w. comes (fault 19 0)
-        (read-judged t h e ∙ unless-yes (eqb (h .latches) 0) 8 0 _ u ∙ unless-yes (inLimits h) 9 0 _ v ∙ unless-no (inSequence h) 19 0 (holds h) w)
-        (refused (nineteen b (eqb-yes u) (within h v) (out-of-sequence h w)))))
-        (λ v. comes (fault 9 0) (read-judged t h e ∙ unless-yes (eqb (h .latches) 0) 8 0 _ u ∙ unless-no (inLimits h) 9 0 _ v) (refused (nine b (eqb-yes u) (without h v)))))
-        (λ u. comes (fault 8 0) (read-judged t h e ∙ unless-no (eqb (h .latches) 0) 8 0 _ u) (refused (eight b (eqb-no u))))
-
 refusals-read : (t : List ℕ) (n k : ℕ) → HeaderFault t n k → readHeader t ≡ fault n k
-refusals-read t n k (seven x) = go (headerOf (linesFrom 0 [] t)) refl
-  where
-    go : (o : Option Header) → headerOf (linesFrom 0 [] t) ≡ o → readHeader t ≡ fault 7 0
-    go none e = read-none t e
-    go (some h) e = absurd (x (h, begins-header t h e))
+refusals-read t n k (seven x) = by-option (headerOf (linesFrom 0 [] t)) (λ e. read-none t e) (λ h q. absurd (x (h, begins-header t h q)))
 refusals-read t n k (eight {h} b x) = read-judged t h (line-back t h b) ∙ unless-no (eqb (h .latches) 0) 8 0 _ (no-eqb x)
 refusals-read t n k (nine {h} b z x) =
     read-judged t h (line-back t h b) ∙ unless-yes (eqb (h .latches) 0) 8 0 _ (yes-eqb z) ∙ unless-no (inLimits h) 9 0 _ (not-T (inLimits h) (λ u. within h u x))
@@ -257,10 +224,14 @@ refusals-read t n k (nineteen {h} b z y x) =
     ∙ unless-yes (inLimits h) 9 0 _ (on (inLimits h) (λ u. u) (λ u. absurd (y (without h u)))) ∙ unless-no (inSequence h) 19 0 (holds h) (not-T (inSequence h) (λ u. in-sequence h u x))
 
 headers-read : (t : List ℕ) (h : Header) → HeaderHolds t h → readHeader t ≡ holds h
-headers-read t h x =
-    read-judged t h (line-back t h (x .begins)) ∙ unless-yes (eqb (h .latches) 0) 8 0 _ (yes-eqb (x .noLatch))
-    ∙ unless-yes (inLimits h) 9 0 _ (on (inLimits h) (λ u. u) (λ u. absurd (x .inLimits (without h u))))
-    ∙ unless-yes (inSequence h) 19 0 (holds h) (on (inSequence h) (λ u. u) (λ u. absurd (x .inSequence (out-of-sequence h u))))
+headers-read t h x = cc (
+  read-judged t h (line-back t h (x .begins)),
+  unless-yes (eqb (h .latches) 0) 8 0 _
+      (yes-eqb (x .noLatch)),
+  unless-yes (inLimits h) 9 0 _ (on (inLimits h) (λ u. u) (λ u. absurd (x .inLimits (without h u)))),
+  unless-yes
+      (inSequence h) 19 0 (holds h) (on (inSequence h) (λ u. u) (λ u. absurd (x .inSequence (out-of-sequence h u)))),
+)
 
 -- the header, whole
 pub header-exactly : (t : List ℕ) → Exactly (HeaderHolds t) (HeaderFault t) (readHeader t)

@@ -2,7 +2,7 @@
 use Prim.Native.Nat.{ℕ, suc, _+_, _≤_, _<_}
 use native.Mathlib.Omega.{arith}
 use mathlib.Core.Path.{_≡_, refl, sym, _∙_, ap, ap₂, subst}
-use mathlib.Core.Logic.{_⊎_, inl, inr}
+use mathlib.Core.Logic.{⊎-elim}
 use mathlib.Core.Bool.{Bool, true, false, not, cond, false≢true, _&&_, _||_}
 use mathlib.Core.Option.{Option, none, some}
 use mathlib.Core.List.{List, [], _∷_, _++_, reverse, reverse-append, reverse-cons, append-nil, append-assoc, nil≢cons, List·Memᴰ, List·Memᴰ·head, List·Memᴰ·tail, List·Memᴰ·not-nil, List·Memᴰ·append-cases, Memᴰ·append-left, Memᴰ·append-right}
@@ -18,11 +18,12 @@ use Rattle.model.specs.declared.Cell.{Cell}
 use Rattle.theory_graph.proofs.Lists.{same-eq, same-refl, is-true, is-false, any-each}
 use Rattle.theory_text.proofs.Plain.{Free}
 use Rattle.theory_text.proofs.Steps.{then-out, only-out}
-use Rattle.promises.specs.Forms.{Names, shorter, longer, NamesLine, CellLine}
+use Rattle.promises.specs.Forms.{Names, shorter, longer, NamesLine}
 use Rattle.promises.specs.Refusals.{Exactly, Repeated, CellsIn, noCell, aCell, CellFault, three, four, five, six, twentySeven, LibraryFault, two, atLine, LibraryHolds}
-use Rattle.theory_refusals.proofs.LineForms.{Reads, Found, reads-line, first-split, lines-none, free-above, found-begins, begins-read, none-begins}
+use Rattle.theory_refusals.proofs.LineForms.{Reads, reads-line, first-split, lines-none, free-above, found-begins, begins-read, none-begins}
 use Rattle.theory_refusals.proofs.Results.{Result, held, refused, exactly, unless-yes, unless-no, on, next-holds, next-fault, next-next, next-same, result-next, result-map, result-as}
 use Rattle.theory_refusals.proofs.CellForms.{reads-cell, clean-form, clean-back, ranged-form, ranged-back}
+use Rattle.theory_graph.proofs.Split.{by-bool, by-option, by-list, by-member}
 
 -- ---- the names line
 
@@ -33,9 +34,8 @@ abbrev pub namesOf : Line → Option Bool
 namesOf l = andThen (only (ended l) (l .bytes)) names
 
 names-form : (w : List ℕ) (r : Bool) → names w ≡ some r → Names w r
-names-form w r e =
-    go (same w (text "cell pins table area d0 d1 d2 d3")) (same w (text "cell pins table area d0 d1 d2 d3 l0 l1 l2 l3")) (λ t. same-eq w (text "cell pins table area d0 d1 d2 d3") t)
-    (λ t. same-eq w (text "cell pins table area d0 d1 d2 d3 l0 l1 l2 l3") t) e
+names-form w r e = go (same w (text "cell pins table area d0 d1 d2 d3")) (same w (text "cell pins table area d0 d1 d2 d3 l0 l1 l2 l3"))
+    (λ t. same-eq w (text "cell pins table area d0 d1 d2 d3") t) (λ t. same-eq w (text "cell pins table area d0 d1 d2 d3 l0 l1 l2 l3") t) e
   where
     go : (x y : Bool) → (T x → w ≡ text "cell pins table area d0 d1 d2 d3") → (T y → w ≡ text "cell pins table area d0 d1 d2 d3 l0 l1 l2 l3") → cond x (some false) (cond y (some true) none) ≡ some r → Names w r
     go true y u v f = subst (λ (z : List ℕ). Names z r) (sym (u tt)) (subst (Names (text "cell pins table area d0 d1 d2 d3")) (let q : false ≡ r = cc in q) shorter)
@@ -75,27 +75,21 @@ unfolding isShorter isLonger andThen only
 names-passed l t =
     let p = and-yes (ended l) (isShorter l || isLonger l) t in
     let q = either (same (l .bytes) (text "cell pins table area d0 d1 d2 d3")) (same (l .bytes) (text "cell pins table area d0 d1 d2 d3 l0 l1 l2 l3")) (p .1) in
-    (q .0, through (ended l) (p .0) ∙ q .1)
+    (q .0, (by-bool (ended l) (λ e. rw e) (λ q. rw q (absurd (rw q at (p .0))))) ∙ q .1)
   where
     either : (x y : Bool) → T (x || y) → (r : Bool) × (cond x (some false) (cond y (some true) none) ≡ some r)
     either true y u = (false, refl)
     either false true u = (true, refl)
     either false false u = absurd u
 
-    through : (e : Bool) → T e → andThen (only e (l .bytes)) names ≡ names (l .bytes)
-    through true u = refl
-    through false u = absurd u
-
 -- ---- a name that is repeated
 
 repeated-form : (c : Cell) (cs : List Cell) → T (any (λ (d : Cell). same (nameOf c) (nameOf d)) cs) → Repeated c cs
 unfolding any
 repeated-form c [] t = absurd t
-repeated-form c (d ∷ cs) t = go (or-yes (same (nameOf c) (nameOf d)) (any (λ (x : Cell). same (nameOf c) (nameOf x)) cs) t) (repeated-form c cs)
-  where
-    go : T (same (nameOf c) (nameOf d)) ⊎ T (any (λ (x : Cell). same (nameOf c) (nameOf x)) cs) → (T (any (λ (x : Cell). same (nameOf c) (nameOf x)) cs) → Repeated c cs) → Repeated c (d ∷ cs)
-    go (inl u) later = (d, List·Memᴰ·head refl, sym (same-eq (nameOf c) (nameOf d) u))
-    go (inr u) later = let r = later u in (r .0, List·Memᴰ·tail (r .1), r .2)
+repeated-form c (d ∷ cs) t = ⊎-elim (λ u. (d, List·Memᴰ·head refl, sym (same-eq (nameOf c) (nameOf d) u)))
+    (λ q. let r = (repeated-form c cs) q in (r .0, List·Memᴰ·tail (r .1), r .2))
+    (or-yes (same (nameOf c) (nameOf d)) (any (λ (x : Cell). same (nameOf c) (nameOf x)) cs) t)
 
 new-form : (c : Cell) (cs : List Cell) → T (not (any (λ (d : Cell). same (nameOf c) (nameOf d)) cs)) → ¬ Repeated c cs
 new-form c cs t r =
@@ -109,12 +103,8 @@ in-reverse (c ∷ cs) d (List·Memᴰ·tail m) = subst (λ (xs : List Cell). Lis
 
 out-reverse : (cs : List Cell) (d : Cell) → List·Memᴰ d (reverse cs) → List·Memᴰ d cs
 out-reverse [] d m = m
-out-reverse (c ∷ cs) d m = go (List·Memᴰ·append-cases (reverse cs) (subst (λ (xs : List Cell). List·Memᴰ d xs) (reverse-cons c cs) m)) (out-reverse cs d)
-  where
-    go : List·Memᴰ d (reverse cs) ⊎ List·Memᴰ d (c ∷ []) → (List·Memᴰ d (reverse cs) → List·Memᴰ d cs) → List·Memᴰ d (c ∷ cs)
-    go (inl a) later = List·Memᴰ·tail (later a)
-    go (inr (List·Memᴰ·head e)) later = List·Memᴰ·head e
-    go (inr (List·Memᴰ·tail n)) later = absurd (List·Memᴰ·not-nil n)
+out-reverse (c ∷ cs) d m = ⊎-elim (λ a. List·Memᴰ·tail (out-reverse cs d a))
+    (λ x. by-member x List·Memᴰ·head (λ n. absurd (List·Memᴰ·not-nil n))) (List·Memᴰ·append-cases (reverse cs) (rw (← reverse-cons c cs) m))
 
 abbrev isNew : Cell → List Cell → Bool
 isNew c before = not (any (λ (d : Cell). same (nameOf c) (nameOf d)) before)
@@ -128,9 +118,6 @@ old-is c cs t = let r = repeated-form c (reverse cs) (T-not-not (any (λ (d : Ce
 is-new : (c : Cell) (cs : List Cell) → (¬ Repeated c cs) → T (isNew c (reverse cs))
 is-new c cs n = on (isNew c (reverse cs)) (λ t. t) (λ t. absurd (n (old-is c cs t)))
 
-is-old : (c : Cell) (cs : List Cell) → Repeated c cs → T (not (isNew c (reverse cs)))
-is-old c cs r = on (isNew c (reverse cs)) (λ t. absurd (new-is c cs t r)) (λ t. t)
-
 -- ---- a cell line
 
 abbrev later : Bool → ℕ → List Cell → List Line → Cell → Read (List Cell)
@@ -143,13 +130,11 @@ judged ranged k before l ls c =
 line-cell : (ranged : Bool) (k : ℕ) (before : List Cell) (l : Line) (ls : List Line) (c : Cell) → k < 32 → cellOfLine ranged l ≡ some c
     → readCells ranged k before (l ∷ ls) ≡ judged ranged k before l ls c
 unfolding readCells from? next
-line-cell ranged k before l ls c h e =
-    unless-yes (ltb k 32) 3 (l .offset) _ (yes-ltb h) ∙ ap (λ (o : Option Cell). next (from? o 4 (l .offset)) (judged ranged k before l ls)) e
+line-cell ranged k before l ls c h e = cc (unless-yes (ltb k 32) 3 (l .offset) _ (yes-ltb h))
 
 line-none : (ranged : Bool) (k : ℕ) (before : List Cell) (l : Line) (ls : List Line) → k < 32 → cellOfLine ranged l ≡ none → readCells ranged k before (l ∷ ls) ≡ fault 4 (l .offset)
 unfolding readCells from? next
-line-none ranged k before l ls h e =
-    unless-yes (ltb k 32) 3 (l .offset) _ (yes-ltb h) ∙ ap (λ (o : Option Cell). next (from? o 4 (l .offset)) (judged ranged k before l ls)) e
+line-none ranged k before l ls h e = cc (unless-yes (ltb k 32) 3 (l .offset) _ (yes-ltb h))
 
 line-over : (ranged : Bool) (k : ℕ) (before : List Cell) (l : Line) (ls : List Line) → (¬ (k < 32)) → readCells ranged k before (l ∷ ls) ≡ fault 3 (l .offset)
 unfolding readCells
@@ -168,38 +153,45 @@ cells-run ranged (noCell {s} n) rest =
     let k = reads-names .back 0 s rest ranged n in
     let l = k .line in
     let is = names-read l ranged (k .read) in
-    ap readLibraryLines (k .lines ∙ ap (λ (x : ℕ). l ∷ linesFrom x [] rest) (let q : 0 + length s ≡ length s = omega arith in q))
-    ∙ unless-yes (ended l && (isShorter l || isLonger l)) 2 0 (readCells (isLonger l) 0 [] (linesFrom (length s) [] rest)) (is .0)
-    ∙ ap (λ (b : Bool). readCells b 0 [] (linesFrom (length s) [] rest)) (is .1)
-    ∙ sym (next-holds (readCells ranged 0 [] (linesFrom (length s) [] rest)))
+    cc (
+      k .lines,
+      let q : 0 + length s ≡ length s = omega arith in q,
+      unless-yes (ended l && (isShorter l || isLonger l)) 2 0
+          (readCells (isLonger l) 0 [] (linesFrom (length s) [] rest)) (is .0),
+      is .1,
+      next-holds
+          (readCells ranged 0 [] (linesFrom (length s) [] rest)),
+    )
 cells-run ranged (aCell {s} {l} {cs} {c} before few line new clean range) rest =
     let k = reads-cell ranged .back (length s) l rest c line in
     let ls = linesFrom (length s + length l) [] rest in
-    ap readLibrary (append-assoc s l rest)
-    ∙ cells-run ranged before (l ++ rest)
-    ∙ ap (λ (xs : List Line). next (readCells ranged (length cs) (reverse cs) xs) (λ ds. holds (cs ++ ds))) (k .lines)
-    ∙ ap (λ (r : Read (List Cell)). next r (λ ds. holds (cs ++ ds)))
-    (line-cell ranged (length cs) (reverse cs) (k .line) ls c few (k .read) ∙ passes ranged (length cs) (reverse cs) (k .line) ls c (is-new c cs new) (clean-back c clean) (ranged-back ranged line range))
-    ∙ next-next (readCells ranged (suc (length cs)) (c ∷ reverse cs) ls) (λ ds. c ∷ ds) (λ ds. cs ++ ds)
-    ∙ next-same (readCells ranged (suc (length cs)) (c ∷ reverse cs) ls) (λ ds. cs ++ (c ∷ ds)) (λ ds. (cs ++ (c ∷ [])) ++ ds) (λ ds. sym (append-assoc cs (c ∷ []) ds))
-    ∙ ap₂ (λ (n : ℕ) (xs : List Cell). next (readCells ranged n xs ls) (λ ds. holds ((cs ++ (c ∷ [])) ++ ds))) (let q : suc (length cs) ≡ length (cs ++ (c ∷ [])) = omega (arith, length-append cs (c ∷ [])) in q)
-    (sym (reverse-append cs (c ∷ [])))
-    ∙ ap (λ (n : ℕ). next (readCells ranged (length (cs ++ (c ∷ []))) (reverse (cs ++ (c ∷ []))) (linesFrom n [] rest)) (λ ds. holds ((cs ++ (c ∷ [])) ++ ds))) (sym (length-append s l))
-
-libraries-read : (t : List ℕ) (cs : List Cell) → LibraryHolds t cs → readLibrary t ≡ holds cs
-unfolding readCells linesFrom next
-libraries-read t cs h = ap readLibrary (sym (append-nil t)) ∙ cells-run (h .0) (h .1) [] ∙ ap holds (append-nil cs)
+    cc (
+      append-assoc s l rest,
+      cells-run ranged before (l ++ rest),
+      k .lines,
+      line-cell ranged (length cs) (reverse cs) (k .line) ls c few
+          (k .read),
+      passes ranged (length cs) (reverse cs) (k .line) ls c (is-new c cs new) (clean-back c clean)
+          (ranged-back ranged line range),
+      next-next (readCells ranged (suc (length cs)) (c ∷ reverse cs) ls) (λ ds. c ∷ ds)
+          (λ ds. cs ++ ds),
+      next-same (readCells ranged (suc (length cs)) (c ∷ reverse cs) ls) (λ ds. cs ++ (c ∷ ds))
+          (λ ds. (cs ++ (c ∷ [])) ++ ds) (λ ds. sym (append-assoc cs (c ∷ []) ds)),
+      let q : suc (length cs) ≡ length (cs ++ (c ∷ [])) = omega
+          (arith, length-append cs (c ∷ [])) in q,
+      reverse-append cs (c ∷ []),
+      length-append s l,
+    )
 
 line-fault : (ranged : Bool) (cs : List Cell) (at : ℕ) (t : List ℕ) (l : Line) (ls : List Line) (n : ℕ) → linesFrom at [] t ≡ l ∷ ls → CellFault ranged cs t n
     → readCells ranged (length cs) (reverse cs) (l ∷ ls) ≡ fault n (l .offset)
 line-fault ranged cs at t l ls n e (three over) = line-over ranged (length cs) (reverse cs) l ls over
-line-fault ranged cs at t l ls n e (four few none?) = go (cellOfLine ranged l) refl
-  where
-    go : (o : Option Cell) → cellOfLine ranged l ≡ o → readCells ranged (length cs) (reverse cs) (l ∷ ls) ≡ fault 4 (l .offset)
-    go none f = line-none ranged (length cs) (reverse cs) l ls few f
-    go (some c) f = absurd (none? (c, found-begins (reads-cell ranged) (reads-cell ranged .form at t l ls e c f)))
+line-fault ranged cs at t l ls n e (four few none?) = by-option (cellOfLine ranged l)
+    (λ f. line-none ranged (length cs) (reverse cs) l ls few f)
+    (λ c q. absurd (none? (c, found-begins (reads-cell ranged) (reads-cell ranged .form at t l ls e c q))))
 line-fault ranged cs at t l ls n e (five {c} few b r) =
-    line-cell ranged (length cs) (reverse cs) l ls c few (begins-read (reads-cell ranged) at t l ls e c b) ∙ unless-no (isNew c (reverse cs)) 5 (l .offset) _ (is-old c cs r)
+    line-cell ranged (length cs) (reverse cs) l ls c few (begins-read (reads-cell ranged) at t l ls e c b) ∙ unless-no (isNew c (reverse cs)) 5 (l .offset) _ (
+    on (isNew c (reverse cs)) (λ t. absurd (new-is c cs t r)) (λ t. t))
 line-fault ranged cs at t l ls n e (six {c} few b r x) =
     line-cell ranged (length cs) (reverse cs) l ls c few (begins-read (reads-cell ranged) at t l ls e c b) ∙ unless-yes (isNew c (reverse cs)) 5 (l .offset) _ (is-new c cs r)
     ∙ unless-no (isClean c) 6 (l .offset) _ (not-T (isClean c) (λ u. x (clean-form c u)))
@@ -209,20 +201,13 @@ line-fault ranged cs at t l ls n e (twentySeven {c} few b r y x) =
 
 refusals-read : (t : List ℕ) (n k : ℕ) → LibraryFault t n k → readLibrary t ≡ fault n k
 unfolding readLibrary readLibraryLines
-refusals-read t n k (two x) = go (linesFrom 0 [] t) refl
-  where
-    go : (ls : List Line) → linesFrom 0 [] t ≡ ls → readLibraryLines ls ≡ fault 2 0
-    go [] e = refl
-    go (l ∷ ls) e =
-        unless-no (ended l && (isShorter l || isLonger l)) 2 0 (readCells (isLonger l) 0 [] ls)
-        (not-T (ended l && (isShorter l || isLonger l)) (λ u. let p = names-passed l u in x (p .0, found-begins reads-names (reads-names .form 0 t l ls e (p .0) (p .1)))))
-refusals-read t n k (atLine {ranged} {s} {t = u} {cs} cells some? f) = cells-run ranged cells u ∙ go (linesFrom (length s) [] u) refl
-  where
-    go : (ls : List Line) → linesFrom (length s) [] u ≡ ls → next (readCells ranged (length cs) (reverse cs) ls) (λ ds. holds (cs ++ ds)) ≡ fault n (length s)
-    go [] e = absurd (some? (lines-none (length s) u e))
-    go (l ∷ ls) e =
-        next-fault (readCells ranged (length cs) (reverse cs) (l ∷ ls)) (λ ds. holds (cs ++ ds)) n (length s)
-        (line-fault ranged cs (length s) u l ls n e f ∙ ap (fault n) (first-split (length s) u l ls e .offset))
+refusals-read t n k (two x) = by-list (linesFrom 0 [] t) (λ e. cc) (λ l ls q. cc (unless-no (ended l && (isShorter l || isLonger l)) 2 0
+    (readCells (isLonger l) 0 [] ls) (not-T (ended l && (isShorter l || isLonger l))
+    (λ u. let p = names-passed l u in x (p .0, found-begins reads-names (reads-names .form 0 t l ls q (p .0) (p .1)))))))
+refusals-read t n k (atLine {ranged} {s} {t = u} {cs} cells some? f) = cells-run ranged cells u ∙ by-list (linesFrom (length s) [] u)
+    (λ e. rw e (absurd (some? (lines-none (length s) u e)))) (λ l ls q. rw q
+    (next-fault (readCells ranged (length cs) (reverse cs) (l ∷ ls)) (λ ds. holds (cs ++ ds)) n (length s)
+    (cc (line-fault ranged cs (length s) u l ls n q f, first-split (length s) u l ls q .offset))))
 
 -- ---- what comes of a text
 
@@ -242,43 +227,34 @@ cells-result ranged (l ∷ ls) s rest cs cells e =
     all = readCells ranged (length cs) (reverse cs) (l ∷ ls)
 
     fails : (n : ℕ) → all ≡ fault n (l .offset) → CellFault ranged cs rest n → Here all
-    fails n f x =
-        result-as (fault n (length s)) all (f ∙ ap (fault n) (first-split (length s) rest l ls e .offset))
+    fails n f x = result-as (fault n (length s)) all (cc (first-split (length s) rest l ls e .offset))
         (refused (atLine cells (λ z. nil≢cons (sym (ap (linesFrom (length s) []) z ∙ refl) ∙ e)) x))
 
     Later : Type 0
     Later = (s′ rest′ : List ℕ) (cs′ : List Cell) → CellsIn ranged s′ cs′ → linesFrom (length s′) [] rest′ ≡ ls
         → Result (λ ds. CellsIn ranged (s′ ++ rest′) (cs′ ++ ds)) (LibraryFault (s′ ++ rest′)) (readCells ranged (length cs′) (reverse cs′) ls)
 
-    accepted : (c : Cell) → length cs < 32 → cellOfLine ranged l ≡ some c → T (isNew c (reverse cs)) → T (isClean c) → T (noLower (c .lows) (c .delays))
-        → Found (CellLine ranged) (length s) rest ls c → Later → Here all
-    accepted c few f a b d x ih =
-        let text-is : (s ++ x .front) ++ x .behind ≡ s ++ rest = append-assoc s (x .front) (x .behind) ∙ ap (λ (y : List ℕ). s ++ y) (sym (x .whole)) in
-        let r = ih (s ++ x .front) (x .behind) (cs ++ (c ∷ [])) (aCell cells few (x .is) (new-is c cs a) (clean-form c b) (ranged-form c d))
-        (ap (λ (n : ℕ). linesFrom n [] (x .behind)) (length-append s (x .front)) ∙ x .later) in
-        result-as (later ranged (length cs) (reverse cs) ls c) all
-        (line-cell ranged (length cs) (reverse cs) l ls c few f ∙ passes ranged (length cs) (reverse cs) l ls c a b d)
-        (result-next (readCells ranged (suc (length cs)) (c ∷ reverse cs) ls) (λ ds. c ∷ ds)
-        (λ ds h. subst (λ (y : List ℕ). CellsIn ranged y (cs ++ (c ∷ ds))) text-is (subst (CellsIn ranged ((s ++ x .front) ++ x .behind)) (append-assoc cs (c ∷ []) ds) h))
-        (λ n k h. subst (λ (y : List ℕ). LibraryFault y n k) text-is h)
-        (subst (Result (λ ds. CellsIn ranged ((s ++ x .front) ++ x .behind) ((cs ++ (c ∷ [])) ++ ds)) (LibraryFault ((s ++ x .front) ++ x .behind)))
-        (ap₂ (λ (n : ℕ) (xs : List Cell). readCells ranged n xs ls) (let q : length (cs ++ (c ∷ [])) ≡ suc (length cs) = omega (arith, length-append cs (c ∷ [])) in q) (reverse-append cs (c ∷ []))) r))
-
     room : length cs < 32 → (o : Option Cell) → cellOfLine ranged l ≡ o → Later → Here all
-    room few none f ih =
-        fails 4 (line-none ranged (length cs) (reverse cs) l ls few f)
-        (four few (λ p. let z : none ≡ some (p .0) = sym f ∙ begins-read (reads-cell ranged) (length s) rest l ls e (p .0) (p .1) in let y : false ≡ true = cc in false≢true y))
+    room few none f ih = fails 4 (line-none ranged (length cs) (reverse cs) l ls few f) (four few (λ p. let z : none ≡ some (p .0) = sym f
+        ∙ begins-read (reads-cell ranged) (length s) rest l ls e (p .0) (p .1) in let y : false ≡ true = cc in false≢true y))
     room few (some c) f ih =
         let x = reads-cell ranged .form (length s) rest l ls e c f in
         let b = found-begins (reads-cell ranged) x in
         let is = line-cell ranged (length cs) (reverse cs) l ls c few f in
-        on (isNew c (reverse cs))
-        (λ t. on (isClean c)
-        (λ u. on (noLower (c .lows) (c .delays))
-        (λ v. accepted c few f t u v x ih)
-        (λ v. fails 27 (is ∙ unless-yes (isNew c (reverse cs)) 5 (l .offset) _ t ∙ unless-yes (isClean c) 6 (l .offset) _ u ∙ unless-no (noLower (c .lows) (c .delays)) 27 (l .offset) _ v)
-        (twentySeven few b (new-is c cs t) (clean-form c u) (λ h. lib.Dec.T-not (noLower (c .lows) (c .delays)) v (ranged-back ranged (x .is) h)))))
-        (λ u. fails 6 (is ∙ unless-yes (isNew c (reverse cs)) 5 (l .offset) _ t ∙ unless-no (isClean c) 6 (l .offset) _ u)
+        on (isNew c (reverse cs)) (λ t. on (isClean c) (λ u. on (noLower (c .lows) (c .delays)) (λ v.
+        let text-is : (s ++ x .front) ++ x .behind ≡ s ++ rest = append-assoc s (x .front) (x .behind) ∙ ap (λ (y : List ℕ). s ++ y)
+        (sym (x .whole)) in let r = ih (s ++ x .front) (x .behind) (cs ++ (c ∷ []))
+        (aCell cells few (x .is) (new-is c cs t) (clean-form c u) (ranged-form c v)) (cc (length-append s (x .front), x .later)) in
+        result-as (later ranged (length cs) (reverse cs) ls c) all
+        (line-cell ranged (length cs) (reverse cs) l ls c few f ∙ passes ranged (length cs) (reverse cs) l ls c t u v) (result-next
+        (readCells ranged (suc (length cs)) (c ∷ reverse cs) ls) (λ ds. c ∷ ds)
+        (λ ds h. rw (← text-is) (rw (← append-assoc cs (c ∷ []) ds) h)) (λ n k h. rw (← text-is) h) (rw (← ap₂
+        (λ (n : ℕ) (xs : List Cell). readCells ranged n xs ls)
+        (let q : length (cs ++ (c ∷ [])) ≡ suc (length cs) = omega (arith, length-append cs (c ∷ [])) in q)
+        (reverse-append cs (c ∷ []))) r))) (λ v. fails 27 (is ∙ unless-yes (isNew c (reverse cs)) 5 (l .offset) _ t
+        ∙ unless-yes (isClean c) 6 (l .offset) _ u ∙ unless-no (noLower (c .lows) (c .delays)) 27 (l .offset) _ v) (twentySeven few b
+        (new-is c cs t) (clean-form c u) (λ h. lib.Dec.T-not (noLower (c .lows) (c .delays)) v (ranged-back ranged (x .is) h))))) (λ u.
+        fails 6 (is ∙ unless-yes (isNew c (reverse cs)) 5 (l .offset) _ t ∙ unless-no (isClean c) 6 (l .offset) _ u)
         (six few b (new-is c cs t) (λ h. lib.Dec.T-not (isClean c) u (clean-back c h)))))
         (λ t. fails 5 (is ∙ unless-no (isNew c (reverse cs)) 5 (l .offset) _ t) (five few b (old-is c cs t)))
 
@@ -288,22 +264,17 @@ result t = go (linesFrom 0 [] t) refl
   where
     go : (ls : List Line) → linesFrom 0 [] t ≡ ls → Result (LibraryHolds t) (LibraryFault t) (readLibraryLines ls)
     go [] e = refused (two (λ p. none-begins reads-names 0 t e (p .0) (p .1)))
-    go (l ∷ ls) e = found (namesOf l) refl
-      where
-        found : (o : Option Bool) → namesOf l ≡ o → Result (LibraryHolds t) (LibraryFault t) (readLibraryLines (l ∷ ls))
-        found none f =
-            result-as (fault 2 0) (readLibraryLines (l ∷ ls))
-            (unless-no (ended l && (isShorter l || isLonger l)) 2 0 (readCells (isLonger l) 0 [] ls)
-            (not-T (ended l && (isShorter l || isLonger l)) (λ u. let p = names-passed l u in let z : none ≡ some (p .0) = sym f ∙ p .1 in let y : false ≡ true = cc in false≢true y)))
-            (refused (two (λ p. let z : none ≡ some (p .0) = sym f ∙ begins-read reads-names 0 t l ls e (p .0) (p .1) in let y : false ≡ true = cc in false≢true y)))
-        found (some r) f =
-            let x = reads-names .form 0 t l ls e r f in
-            let is = names-read l r f in
-            result-as (readCells r 0 [] ls) (readLibraryLines (l ∷ ls))
-            (unless-yes (ended l && (isShorter l || isLonger l)) 2 0 (readCells (isLonger l) 0 [] ls) (is .0) ∙ ap (λ (b : Bool). readCells b 0 [] ls) (is .1))
-            (result-map (readCells r 0 [] ls) (λ ds h. (r, subst (λ (y : List ℕ). CellsIn r y ds) (sym (x .whole)) h)) (λ n k h. subst (λ (y : List ℕ). LibraryFault y n k) (sym (x .whole)) h)
-            (cells-result r ls (x .front) (x .behind) [] (noCell (x .is)) (ap (λ (n : ℕ). linesFrom n [] (x .behind)) (let q : length (x .front) ≡ 0 + length (x .front) = omega arith in q) ∙ x .later)))
+    go (l ∷ ls) e = by-option (namesOf l) (λ f. result-as (fault 2 0) (readLibraryLines (l ∷ ls)) (unless-no
+        (ended l && (isShorter l || isLonger l)) 2 0 (readCells (isLonger l) 0 [] ls) (not-T (ended l && (isShorter l || isLonger l))
+        (λ u. let p = names-passed l u in let z : none ≡ some (p .0) = sym f ∙ p .1 in let y : false ≡ true = cc in false≢true y))) (refused
+        (two (λ p. let z : none ≡ some (p .0) = sym f
+        ∙ begins-read reads-names 0 t l ls e (p .0) (p .1) in let y : false ≡ true = cc in false≢true y)))) (λ r q.
+        let x = reads-names .form 0 t l ls e r q in let is = names-read l r q in result-as (readCells r 0 [] ls) (readLibraryLines (l ∷ ls))
+        (cc (unless-yes (ended l && (isShorter l || isLonger l)) 2 0 (readCells (isLonger l) 0 [] ls) (is .0), is .1)) (result-map
+        (readCells r 0 [] ls) (λ ds h. (r, rw (x .whole) h)) (λ n k h. rw (x .whole) h) (cells-result r ls (x .front) (x .behind) []
+        (noCell (x .is)) (cc (let q : length (x .front) ≡ 0 + length (x .front) = omega arith in q, x .later)))))
 
 -- the library, whole
 pub library-exactly : (t : List ℕ) → Exactly (LibraryHolds t) (LibraryFault t) (readLibrary t)
-library-exactly t = exactly (readLibrary t) (result t) (libraries-read t) (refusals-read t)
+library-exactly t = exactly (readLibrary t) (result t) (unfold readCells linesFrom next in λ cs h. ap readLibrary (sym (append-nil t))
+    ∙ cells-run (h .0) (h .1) [] ∙ ap holds (append-nil cs)) (refusals-read t)

@@ -2,10 +2,10 @@
 -- Assumes nothing.
 use Prim.Native.Nat.{ℕ, suc, _+_, _≤_, _<_}
 use native.Mathlib.Omega.{arith}
-use mathlib.Core.Path.{_≡_, refl, sym, _∙_, ap, ap₂, subst}
+use mathlib.Core.Path.{_≡_, refl, sym, _∙_, ap}
 use mathlib.Core.Bool.{Bool, true, false, cond}
 use mathlib.Core.Option.{Option, some}
-use mathlib.Core.List.{List, [], _∷_, _++_, reverse, reverse-cons, append-assoc, append-nil, cons≢nil, nil≢cons, head-eq-of-cons-eq, tail-eq-of-cons-eq}
+use mathlib.Core.List.{List, [], _∷_, _++_, reverse, reverse-cons, append-assoc, cons≢nil, nil≢cons, head-eq-of-cons-eq, tail-eq-of-cons-eq}
 use lib.Dec.{T, eqb, leb, lit<}
 use lib.ListN.{length, length-append, length-reverse}
 use mir.Facts.{and-yes, eqb-yes, leb-yes}
@@ -14,42 +14,30 @@ use Rattle.model.specs.Text.{Line, nextOf, closing, linesFrom}
 use Rattle.model.specs.GraphText.{closed}
 use Rattle.theory_text.proofs.Steps.{then-out, only-out}
 use Rattle.theory_text.proofs.Plain.{Free, above}
-use Rattle.theory_text.proofs.LineLaws.{lineOfBytes, lines-step, line-first}
+use Rattle.theory_text.proofs.LineLaws.{lineOfBytes, lines-step, line-first, held-back, held-length, heldWith}
 use Rattle.promises.specs.Forms.{End, ten, both, LineOf, Begins}
+use Rattle.theory_text.proofs.Ends.{no-lines}
+use Rattle.theory_graph.proofs.Split.{by-bool}
 
 -- ---- a line that bytes 13 and 10 end
-
-pub heldWith : List ℕ → List ℕ → List ℕ
-heldWith [] held = held
-heldWith (b ∷ w) held = heldWith w (b ∷ held)
-
-pub held-back : (w held : List ℕ) → reverse (heldWith w held) ≡ reverse held ++ w
-unfolding heldWith
-held-back [] held = sym (append-nil (reverse held))
-held-back (b ∷ w) held = held-back w (b ∷ held) ∙ ap (λ (x : List ℕ). x ++ w) (reverse-cons b held) ∙ append-assoc (reverse held) (b ∷ []) w
-
-pub held-length : (w held : List ℕ) → length (heldWith w held) ≡ length w + length held
-unfolding heldWith
-held-length [] held = let e : length held ≡ 0 + length held = omega arith in e
-held-length (b ∷ w) held = held-length w (b ∷ held) ∙ (let e : length w + suc (length held) ≡ suc (length w) + length held = omega arith in e)
 
 pub held-lines : (at : ℕ) (held w rest : List ℕ) → Free 10 w → linesFrom at held (w ++ rest) ≡ linesFrom at (heldWith w held) rest
 unfolding heldWith
 held-lines at held [] rest f = refl
-held-lines at held (b ∷ w) rest f =
-    lines-step at held b (w ++ rest)
-    ∙ ap (λ (t : Bool). cond t (closing at held ∷ linesFrom (at + suc (length held)) [] (w ++ rest)) (linesFrom at (b ∷ held) (w ++ rest))) (f .0)
-    ∙ held-lines at (b ∷ held) w rest (f .1)
+held-lines at held (b ∷ w) rest f = cc (lines-step at held b (w ++ rest), f .0, held-lines at (b ∷ held) w rest (f .1))
 
 line-both : (at : ℕ) (w rest : List ℕ) → Free 10 w
     → linesFrom at [] (w ++ (13 ∷ 10 ∷ rest)) ≡ record { offset = at; bytes = w; ending = 2 } ∷ linesFrom (at + suc (suc (length w))) [] rest
 unfolding closing
-line-both at w rest f =
-    held-lines at [] w (13 ∷ 10 ∷ rest) f
-    ∙ lines-step at (heldWith w []) 13 (10 ∷ rest)
-    ∙ lines-step at (13 ∷ heldWith w []) 10 rest
-    ∙ ap₂ (λ (x : List ℕ) (n : ℕ). record { offset = at; bytes = x; ending = 2 } ∷ linesFrom (at + suc (suc n)) [] rest) (held-back w [])
-    (held-length w [] ∙ (let e : length w + 0 ≡ length w = omega arith in e))
+line-both at w rest f = cc (
+  held-lines at [] w (13 ∷ 10 ∷ rest) f,
+  lines-step at (heldWith w []) 13 (10 ∷ rest),
+  lines-step at
+      (13 ∷ heldWith w []) 10 rest,
+  held-back w [],
+  held-length w [],
+  let e : length w + 0 ≡ length w = omega arith in e,
+)
 
 -- ---- the first line of a text
 
@@ -70,10 +58,6 @@ closing-split at (h ∷ hs) s = go (eqb h 13) (λ t. eqb-yes t)
     long : length (reverse hs) ≡ length hs
     long = length-reverse hs
 
-    both-ends : (b : Bool) → T (closed b (record { offset = at; bytes = reverse hs; ending = 2 })) → End b (13 ∷ 10 ∷ [])
-    both-ends true t = absurd t
-    both-ends false t = both
-
     go : (x : Bool) → (T x → h ≡ 13)
         → Split at (reverse (h ∷ hs) ++ (10 ∷ s)) (cond x (record { offset = at; bytes = reverse hs; ending = 2 }) (record { offset = at; bytes = reverse (h ∷ hs); ending = 1 })) (linesFrom (at + suc (suc (length hs))) [] s)
     go true u = record {
@@ -81,7 +65,7 @@ closing-split at (h ∷ hs) s = go (eqb h 13) (λ t. eqb-yes t)
       ending = 13 ∷ 10 ∷ [];
       rest = s;
       whole = ap (λ (y : List ℕ). y ++ (10 ∷ s)) (reverse-cons h hs ∙ ap (λ (x : ℕ). reverse hs ++ (x ∷ [])) (u tt)) ∙ append-assoc (reverse hs) (13 ∷ []) (10 ∷ s);
-      ends = both-ends;
+      ends = (λ z v. by-bool z (λ q. rw q (absurd (rw q at v))) (λ p. rw p both));
       later = ap (λ (n : ℕ). linesFrom n [] s) (let e : at + length (reverse hs ++ (13 ∷ 10 ∷ [])) ≡ at + suc (suc (length hs)) = omega (arith, length-append (reverse hs) (13 ∷ 10 ∷ []), long) in e);
       next = omega (arith, length-append (reverse hs) (13 ∷ 10 ∷ []), long);
     }
@@ -97,33 +81,29 @@ closing-split at (h ∷ hs) s = go (eqb h 13) (λ t. eqb-yes t)
 
 open-split : (at h : ℕ) (hs : List ℕ) → Split at (reverse (h ∷ hs) ++ []) (record { offset = at; bytes = reverse (h ∷ hs); ending = 0 }) []
 unfolding linesFrom
-open-split at h hs = record { offset = refl; ending = []; rest = []; whole = refl; ends = never; later = refl; next = omega (arith, length-append (reverse (h ∷ hs)) []) }
-  where
-    never : (b : Bool) → T (closed b (record { offset = at; bytes = reverse (h ∷ hs); ending = 0 })) → End b []
-    never true t = absurd t
-    never false t = absurd t
-
-pub no-line : (at : ℕ) (l : Line) (ls : List Line) → linesFrom at [] [] ≡ l ∷ ls → ⊥
-unfolding linesFrom
-no-line at l ls e = nil≢cons e
+open-split at h hs = record {
+  offset = refl;
+  ending = [];
+  rest = [];
+  whole = refl;
+  ends = (λ b x. by-bool b (λ e. rw e (absurd (rw e at x))) (λ q. rw q (absurd (rw q at x))));
+  later = refl;
+  next = omega (arith, length-append (reverse (h ∷ hs)) []);
+}
 
 last-line : (at h : ℕ) (hs : List ℕ) (l : Line) (ls : List Line) → linesFrom at (h ∷ hs) [] ≡ l ∷ ls → Split at (reverse (h ∷ hs) ++ []) l ls
 unfolding linesFrom
-last-line at h hs l ls e = subst (λ (m : Line). Split at (reverse (h ∷ hs) ++ []) m ls) (head-eq-of-cons-eq e)
-    (subst (Split at (reverse (h ∷ hs) ++ []) (record { offset = at; bytes = reverse (h ∷ hs); ending = 0 })) (tail-eq-of-cons-eq e) (open-split at h hs))
+last-line at h hs l ls e = rw (← head-eq-of-cons-eq e) (rw (← tail-eq-of-cons-eq e) (open-split at h hs))
 
 split-held : (at : ℕ) (held s : List ℕ) (l : Line) (ls : List Line) → linesFrom at held s ≡ l ∷ ls → Split at (reverse held ++ s) l ls
-split-held at [] [] l ls e = absurd (no-line at l ls e)
+split-held at [] [] l ls e = absurd (no-lines at l ls e)
 split-held at (h ∷ hs) [] l ls e = last-line at h hs l ls e
 split-held at held (b ∷ s) l ls e = go (eqb b 10) (λ t. eqb-yes t) (sym (lines-step at held b s) ∙ e) (λ f. split-held at (b ∷ held) s l ls f)
   where
     go : (t : Bool) → (T t → b ≡ 10) → cond t (closing at held ∷ linesFrom (at + suc (length held)) [] s) (linesFrom at (b ∷ held) s) ≡ l ∷ ls
         → (linesFrom at (b ∷ held) s ≡ l ∷ ls → Split at (reverse (b ∷ held) ++ s) l ls) → Split at (reverse held ++ (b ∷ s)) l ls
-    go true u f more =
-        subst (λ (x : ℕ). Split at (reverse held ++ (x ∷ s)) l ls) (sym (u tt))
-        (subst (λ (m : Line). Split at (reverse held ++ (10 ∷ s)) m ls) (head-eq-of-cons-eq f) (subst (Split at (reverse held ++ (10 ∷ s)) (closing at held)) (tail-eq-of-cons-eq f) (closing-split at held s)))
-    go false u f more =
-        subst (λ (y : List ℕ). Split at y l ls) (ap (λ (y : List ℕ). y ++ s) (reverse-cons b held) ∙ append-assoc (reverse held) (b ∷ []) s) (more f)
+    go true u f more = rw (u tt) (rw (← head-eq-of-cons-eq f) (rw (← tail-eq-of-cons-eq f) (closing-split at held s)))
+    go false u f more = rw (← ap (λ (y : List ℕ). y ++ s) (reverse-cons b held) ∙ append-assoc (reverse held) (b ∷ []) s) (more f)
 
 pub first-split : (at : ℕ) (t : List ℕ) (l : Line) (ls : List Line) → linesFrom at [] t ≡ l ∷ ls → Split at t l ls
 first-split at t l ls e = split-held at [] t l ls e
@@ -132,19 +112,13 @@ first-split at t l ls e = split-held at [] t l ls e
 some-line : (at h : ℕ) (hs s : List ℕ) → linesFrom at (h ∷ hs) s ≡ [] → ⊥
 unfolding linesFrom
 some-line at h hs [] e = cons≢nil e
-some-line at h hs (b ∷ s) e = go (eqb b 10) (sym (lines-step at (h ∷ hs) b s) ∙ e) (some-line at b (h ∷ hs) s)
-  where
-    go : (t : Bool) → cond t (closing at (h ∷ hs) ∷ linesFrom (at + suc (length (h ∷ hs))) [] s) (linesFrom at (b ∷ h ∷ hs) s) ≡ [] → (linesFrom at (b ∷ h ∷ hs) s ≡ [] → ⊥) → ⊥
-    go true f more = cons≢nil f
-    go false f more = more f
+some-line at h hs (b ∷ s) e = by-bool (eqb b 10) (λ q. cons≢nil (rw q at (sym (lines-step at (h ∷ hs) b s) ∙ e)))
+    (λ p. (some-line at b (h ∷ hs) s) (rw p at (sym (lines-step at (h ∷ hs) b s) ∙ e)))
 
 pub lines-none : (at : ℕ) (t : List ℕ) → linesFrom at [] t ≡ [] → t ≡ []
 lines-none at [] e = refl
-lines-none at (b ∷ t) e = absurd (go (eqb b 10) (sym (lines-step at [] b t) ∙ e))
-  where
-    go : (x : Bool) → cond x (closing at [] ∷ linesFrom (at + 1) [] t) (linesFrom at (b ∷ []) t) ≡ [] → ⊥
-    go true f = cons≢nil f
-    go false f = some-line at b [] t f
+lines-none at (b ∷ t) e = absurd (by-bool (eqb b 10) (λ q. cons≢nil (rw q at (sym (lines-step at [] b t) ∙ e)))
+    (λ p. some-line at b [] t (rw p at (sym (lines-step at [] b t) ∙ e))))
 
 -- ---- a reader of a line against the form
 
@@ -175,13 +149,9 @@ ended-lines isBinary at w e rest ten f g = (
   ap (linesFrom at []) (append-assoc w (10 ∷ []) rest) ∙ line-first at w rest f g
       ∙ ap (λ (n : ℕ). lineOfBytes at w ∷ linesFrom n [] rest) (let q : at + suc (length w) ≡ at + length (w ++ (10 ∷ [])) = omega (arith, length-append w (10 ∷ [])) in q),
   refl,
-  go isBinary,
+  (by-bool isBinary (λ q. rw q tt) (λ p. rw p tt)),
   (let q : nextOf (lineOfBytes at w) ≡ at + length (w ++ (10 ∷ [])) = omega (arith, length-append w (10 ∷ [])) in q),
 )
-  where
-    go : (b : Bool) → T (closed b (lineOfBytes at w))
-    go true = tt
-    go false = tt
 ended-lines isBinary at w e rest both f g = (
   record { offset = at; bytes = w; ending = 2 },
   ap (linesFrom at []) (append-assoc w (13 ∷ 10 ∷ []) rest) ∙ line-both at w rest f
@@ -218,13 +188,10 @@ module _ {A : Type 0} (isBinary : Bool) (q : List ℕ → Option A) (Q : List �
           record {
             line = l .0;
             lines = ap (λ (x : List ℕ). linesFrom at [] (x ++ rest)) (h .whole) ∙ l .1 ∙ ap (λ (x : List ℕ). l .0 ∷ linesFrom (at + length x) [] rest) (sym (h .whole));
-            read = is (l .0) ∙ passed (closed isBinary (l .0)) (l .3) (l .0 .bytes) ∙ ap q (l .2) ∙ back w a (h .is);
+            read = is (l .0) ∙ by-bool (closed isBinary (l .0)) (λ e. rw e) (λ r. rw r (absurd (rw r at (l .3)))) ∙ ap q (l .2)
+                ∙ back w a (h .is);
             next = l .4 ∙ ap (λ (x : List ℕ). at + length x) (sym (h .whole));
           }
-        where
-          passed : (b : Bool) → T b → (x : List ℕ) → andThen (only b x) q ≡ q x
-          passed true t x = refl
-          passed false t x = absurd t
 
 -- ---- what a reader finds, and what stands where it finds nothing
 module _ {A : Type 0} {p : Line → Option A} {P : List ℕ → A → Type 0} (r : Reads p P) where
@@ -239,9 +206,7 @@ module _ {A : Type 0} {p : Line → Option A} {P : List ℕ → A → Type 0} (r
 
   -- a text without a line begins with none
   pub none-begins : (at : ℕ) (t : List ℕ) → linesFrom at [] t ≡ [] → (a : A) → Begins P t a → ⊥
-  none-begins at t e a b =
-      let k = r .back at (b .front) (b .behind) a (b .is) in
-      nil≢cons (sym e ∙ ap (linesFrom at []) (b .whole) ∙ k .lines)
+  none-begins at t e a b = nil≢cons (sym e ∙ ap (linesFrom at []) (b .whole) ∙ (r .back at (b .front) (b .behind) a (b .is)) .lines)
 
 -- no byte of a list below 32 stands in it
 pub free-above : (s : ℕ) → s < 32 → (w : List ℕ) → T (all (λ (b : ℕ). leb 32 b) w) → Free s w

@@ -2,7 +2,7 @@
 use Prim.Native.Nat.{ℕ, _<_}
 use native.Mathlib.Omega.{arith}
 use mathlib.Core.Path.{_≡_, refl, sym, _∙_, ap, subst}
-use mathlib.Core.Bool.{Bool, true, false, _&&_}
+use mathlib.Core.Bool.{Bool, false, _&&_}
 use mathlib.Core.Option.{Option, some}
 use mathlib.Core.List.{List, [], _∷_}
 use lib.Dec.{eqb, lit<}
@@ -19,6 +19,7 @@ use Rattle.promises.specs.Forms.{Numbers, NumberFields, NumberLine, joined}
 use Rattle.promises.specs.Refusals.{Wants, inputWants, outputWants, andWants, DueLine}
 use Rattle.theory_refusals.proofs.FieldForms.{joins, numbers-form, numbers-back, numbers-count, numbers-free, fields-joined, joined-free}
 use Rattle.theory_refusals.proofs.LineForms.{Reads, reads-line}
+use Rattle.theory_graph.proofs.Split.{by-bool}
 
 -- so many numbers of a line's contents
 abbrev counted : ℕ → List (List ℕ) → Option (List ℕ)
@@ -39,26 +40,21 @@ fields-back n h w ns f = go (f .fields) (f .whole) (f .numbers)
   where
     go : (ws : List (List ℕ)) → w ≡ joined ws → Numbers ws ns → counted n (fields w) ≡ some ns
     go [] e p = let z : ⊥ = omega (arith, numbers-count p, f .count) in absurd z
-    go (v ∷ ws) e p =
-        ap (λ (x : List ℕ). counted n (fields x)) e
-        ∙ ap (counted n) (fields-joined v ws (numbers-free 32 (lit< tt) p))
-        ∙ ap (λ (x : Bool). andThen (only x (v ∷ ws)) numbers) (is-true (eqb (length (v ∷ ws)) n) (yes-eqb (numbers-count p ∙ f .count)))
-        ∙ numbers-back p
-
-fields-free : (n s : ℕ) → s < 32 → (w ns : List ℕ) → NumberFields n w ns → Free s w
-fields-free n s h w ns f = subst (Free s) (sym (f .whole)) (joined-free s h (f .fields) (numbers-free s (omega arith) (f .numbers)))
+    go (v ∷ ws) e p = cc (
+      fields-joined v ws (numbers-free 32 (lit< tt) p),
+      is-true (eqb (length (v ∷ ws)) n)
+          (yes-eqb (numbers-count p ∙ f .count)),
+      numbers-back p,
+    )
 
 abbrev numbersOf : Bool → ℕ → Line → Option (List ℕ)
 numbersOf isBinary n l = andThen (only (closed isBinary l && eqb (length (fields (l .bytes))) n) (fields (l .bytes))) numbers
 
 reads-numbers : (isBinary : Bool) (n : ℕ) → 0 < n → Reads (numbersOf isBinary n) (NumberLine isBinary n)
 unfolding andThen only
-reads-numbers isBinary n h =
-    reads-line isBinary (λ w. counted n (fields w)) (NumberFields n) (numbersOf isBinary n) (λ l. go (closed isBinary l) (l .bytes)) (fields-form n) (fields-back n h) (fields-free n)
-  where
-    go : (b : Bool) (w : List ℕ) → andThen (only (b && eqb (length (fields w)) n) (fields w)) numbers ≡ andThen (only b w) (λ x. counted n (fields x))
-    go true w = refl
-    go false w = refl
+reads-numbers isBinary n h = reads-line isBinary (λ w. counted n (fields w)) (NumberFields n) (numbersOf isBinary n)
+    (λ l. by-bool (closed isBinary l) (λ e. cc) (λ q. cc)) (fields-form n) (fields-back n h)
+    (λ s h w ns f. subst (Free s) (sym (f .whole)) (joined-free s h (f .fields) (numbers-free s (omega arith) (f .numbers))))
 
 -- ---- a line of two numbers, of the arrivals
 
@@ -88,12 +84,10 @@ some-wanted anAnd = lit< tt
 
 pub reads-due : (isBinary : Bool) (k : Kind) → Reads (itemLiterals (closed isBinary) k) (DueLine isBinary k)
 unfolding itemLiterals
-reads-due isBinary k = record {
-  form = λ at t l ls e ns f.
-      let x = r .form at t l ls e ns f in
-      record { front = x .front; behind = x .behind; whole = x .whole; is = (howMany k, wants k, x .is); later = x .later };
-  back = λ at s rest ns d. r .back at s rest ns (subst (λ (n : ℕ). NumberLine isBinary n s ns) (wanted (d .1)) (d .2));
-}
-  where
-    r : Reads (numbersOf isBinary (howMany k)) (NumberLine isBinary (howMany k))
-    r = reads-numbers isBinary (howMany k) (some-wanted k)
+reads-due isBinary k =
+    let r = reads-numbers isBinary (howMany k) (some-wanted k) in
+    record {
+      form = λ at t l ls e ns f. let x = r .form at t l ls e ns f in
+          record { front = x .front; behind = x .behind; whole = x .whole; is = (howMany k, wants k, x .is); later = x .later };
+      back = λ at s rest ns d. r .back at s rest ns (subst (λ (n : ℕ). NumberLine isBinary n s ns) (wanted (d .1)) (d .2));
+    }

@@ -2,15 +2,14 @@
 use Prim.Native.Nat.{ℕ}
 use native.Mathlib.Omega.{arith}
 use mathlib.Core.Path.{_≡_, refl, sym, _∙_, ap, ap₂, subst}
-use mathlib.Core.Logic.{_⊎_, inl, inr, _↔_}
-use mathlib.Core.Bool.{Bool, true, false, not, cond}
+use mathlib.Core.Logic.{_⊎_, inl, inr, _↔_, ⊎-elim}
+use mathlib.Core.Bool.{Bool, true, false}
 use mathlib.Core.Option.{Option, none, some}
 use mathlib.Core.List.{List, [], _∷_, _++_}
 use lib.Dec.{T, leb}
 use lib.ListN.{length}
-use mir.Facts.{yes-and}
-use Rattle.model.specs.Base.{lowest, elem}
-use Rattle.model.specs.Reading.{Read, holds, fault, firstOf}
+use Rattle.model.specs.Base.{lowest}
+use Rattle.model.specs.Reading.{holds, fault, firstOf}
 use Rattle.model.specs.Graph.{Graph, unplaced, andVars}
 use Rattle.model.specs.Cuts.{crowded}
 use Rattle.model.specs.ArrivalsText.{timedBy}
@@ -23,15 +22,16 @@ use Rattle.model.specs.declared.Cell.{Cell}
 use Rattle.model.specs.declared.Phase.{Phase}
 use Rattle.model.specs.declared.Figures.{Figures}
 use Rattle.theory_graph.specs.Accepted.{distinct}
-use Rattle.theory_order.proofs.Orders.{in-not, unplaced-none-iff, unplaced-lowest-iff}
+use Rattle.theory_order.proofs.Orders.{unplaced-none-iff, unplaced-lowest-iff}
 use Rattle.theory_order.proofs.Crowded.{crowded-first-iff, crowded-none-iff}
-use Rattle.theory_text.proofs.ReadGraph.{graph-known}
+use Rattle.theory_text.proofs.ReadGraph.{graph-known, once-distinct}
 use Rattle.theory_text.proofs.ReadTexts.{texts-read, design-accepted}
 use Rattle.theory_text.proofs.Outcomes.{outcome-is, refused-never}
 use Rattle.promises.specs.Refusals.{ToDesign, TextsFault}
 use Rattle.promises.specs.Outcomes.{LowestUnplaced, NoneCrowded, Outcomes}
 use Rattle.model.specs.OrderDemands.{OrderOfAll, FirstCrowded}
 use Rattle.theory_refusals.proofs.TextForms.{texts-exactly}
+use Rattle.theory_graph.proofs.Split.{by-bool, by-read}
 
 numberIn : Outcome → ℕ
 numberIn (refused n k) = n
@@ -61,11 +61,8 @@ module _ (bytes : ℕ) (ranged : Bool) (listed cells : List Cell) (g : Graph) wh
 
   within-number : (t : List ℕ) (f : Figures) (n k : ℕ) → within bytes (mapped t f) ≡ refused n k → n ≡ 18
   unfolding within
-  within-number t f n k e = go (leb (length t) bytes) e
-    where
-      go : (b : Bool) → cond b (mapped t f) (refused 18 (length t)) ≡ refused n k → n ≡ 18
-      go true q = absurd (refused-never (sym q))
-      go false q = sym (same-number q)
+  within-number t f n k e = by-bool (leb (length t) bytes) (λ q. absurd (refused-never (sym (rw q at e))))
+      (λ p. sym (same-number (rw p at e)))
 
   mapped-number : (r : Bool) (t : List ℕ) (f : Figures) (n k : ℕ) → within bytes (followed r cells g (mapped t f)) ≡ refused n k → n ≡ 18
   unfolding followed
@@ -92,29 +89,23 @@ module _ (bytes : ℕ) (ranged : Bool) (listed cells : List Cell) (g : Graph) wh
   fifteen-is : (o : Option ℕ) (v : ℕ) → (ends (mapPlaced listed cells g o) ≡ refused 15 v) ↔ (o ≡ some v)
   unfolding mapPlaced
   fifteen-is (some u) v = ((λ e. ap some (same-place (sym (ends-refused 15 u) ∙ e))), λ q. ap (λ (x : Option ℕ). ends (mapPlaced listed cells g x)) q ∙ ends-refused 15 v)
-  fifteen-is none v = ((λ e. absurd (other (cut-number (crowded g) 15 v e))), λ q. ap (λ (x : Option ℕ). ends (mapPlaced listed cells g x)) q ∙ ends-refused 15 v)
-    where
-      other : (_≡_ {A = ℕ} 15 16) ⊎ (_≡_ {A = ℕ} 15 17) ⊎ (_≡_ {A = ℕ} 15 18) → ⊥
-      other (inl q) = omega arith
-      other (inr (inl q)) = omega arith
-      other (inr (inr q)) = omega arith
+  fifteen-is none v = (
+    (λ e. absurd (⊎-elim (λ q. omega arith) (⊎-elim (λ p. omega arith) (λ r. omega arith))
+        (cut-number (crowded g) 15 v e))),
+    λ q. ap (λ (x : Option ℕ). ends (mapPlaced listed cells g x)) q ∙ ends-refused 15 v,
+  )
 
   -- 16
   sixteen-is : (vs : List ℕ) (v : ℕ) → (ends (mapCut listed cells g vs) ≡ refused 16 v) ↔ (firstOf vs ≡ some v)
   unfolding mapCut mapChosen chosen firstOf
   sixteen-is (u ∷ us) v = ((λ e. ap some (same-place (sym (ends-refused 16 u) ∙ e))), λ q. let z : u ≡ v = cc in ends-refused 16 u ∙ ap (refused 16) z)
-  sixteen-is [] v = ((λ e. absurd (other (printed-number (chosen cells g) (uncovered (chosen cells g) 0 (g .outputs)) 16 v e))), λ q. absurd (let z : false ≡ true = cc in mathlib.Core.Bool.false≢true z))
-    where
-      other : (_≡_ {A = ℕ} 16 17) ⊎ (_≡_ {A = ℕ} 16 18) → ⊥
-      other (inl q) = omega arith
-      other (inr q) = omega arith
+  sixteen-is [] v = (
+    (λ e. absurd (⊎-elim (λ q. omega arith) (λ p. omega arith) (printed-number (chosen cells g)
+        (uncovered (chosen cells g) 0 (g .outputs)) 16 v e))),
+    λ q. absurd (let z : false ≡ true = cc in mathlib.Core.Bool.false≢true z),
+  )
 
 -- ---- a design's graph defines nothing twice
-
-pub once-distinct : (xs : List ℕ) → Distinct xs → T (distinct xs)
-unfolding distinct
-once-distinct [] h = tt
-once-distinct (x ∷ xs) h = yes-and (not (elem x xs)) (distinct xs) (in-not x xs (h .0)) (once-distinct xs (h .1))
 
 design-once : (c : Call) (d : Design) → readTexts c ≡ holds d → T (distinct (0 ∷ d .graph .inputs ++ andVars (d .graph)))
 unfolding timedBy
@@ -144,48 +135,34 @@ module _ (c : Call) where
   placed : (d : Design) → ToDesign c d → OrderOfAll (d .graph) → unplaced (d .graph) ≡ []
   placed d x o = unplaced-none-iff (d .graph) (design-once c d (read d x)) .1 o
 
-  lowest-nil : (xs : List ℕ) → xs ≡ [] → lowest xs ≡ none
-  unfolding lowest
-  lowest-nil xs e = ap lowest e
-
   cut-is : (d : Design) (x : ToDesign c d) → OrderOfAll (d .graph) → mapTexts c ≡ within (c .bytes) (followed (d .ranged) (d .cells) (d .graph) (mapCut (d .listed) (d .cells) (d .graph) (crowded (d .graph))))
   unfolding mapGraph mapPlaced
-  cut-is d x o =
-      outcome-is c d (read d x)
-      ∙ ap (λ (y : Option ℕ). within (c .bytes) (followed (d .ranged) (d .cells) (d .graph) (mapPlaced (d .listed) (d .cells) (d .graph) y))) (lowest-nil (unplaced (d .graph)) (placed d x o))
+  cut-is d x o = cc (outcome-is c d (read d x), ap lowest (placed d x o))
 
   sixteen : (d : Design) → ToDesign c d → OrderOfAll (d .graph) → (v : ℕ) → (mapTexts c ≡ refused 16 v) ↔ FirstCrowded (d .graph) v
   sixteen d x o v =
-      let is = cut-is d x o in
       let f = sixteen-is (c .bytes) (d .ranged) (d .listed) (d .cells) (d .graph) (crowded (d .graph)) v in
       let i = crowded-first-iff (d .graph) (design-accepted c d (read d x) (placed d x o)) v in
-      ((λ e. i .0 (f .0 (sym is ∙ e))), (λ l. is ∙ f .1 (i .1 l)))
+      ((λ e. i .0 (f .0 (sym (cut-is d x o) ∙ e))), (λ l. (cut-is d x o) ∙ f .1 (i .1 l)))
 
   mappable : (d : Design) → Mappable c d ↔ (ToDesign c d × OrderOfAll (d .graph) × NoneCrowded (d .graph))
-  mappable d = (there, back)
-    where
-      there : Mappable c d → ToDesign c d × OrderOfAll (d .graph) × NoneCrowded (d .graph)
-      there m = (
-        texts-exactly c .accepts d .0 (m .design),
-        unplaced-none-iff (d .graph) (design-once c d (m .design)) .0 (m .placed),
-        crowded-none-iff (d .graph) (design-accepted c d (m .design) (m .placed)) .0 (m .few),
-      )
-
-      back : (ToDesign c d × OrderOfAll (d .graph) × NoneCrowded (d .graph)) → Mappable c d
-      back p =
-          let e = read d (p .0) in
-          let q = placed d (p .0) (p .1) in
-          record { design = e; placed = q; few = crowded-none-iff (d .graph) (design-accepted c d e q) .1 (p .2) }
+  mappable d = (
+    (λ m. (
+      texts-exactly c .accepts d .0 (m .design),
+      unplaced-none-iff (d .graph) (design-once c d (m .design)) .0
+          (m .placed),
+      crowded-none-iff (d .graph) (design-accepted c d (m .design) (m .placed)) .0 (m .few),
+    )),
+    (λ p. let e = read d (p .0) in let q = placed d (p .0) (p .1) in
+        record { design = e; placed = q; few = crowded-none-iff (d .graph) (design-accepted c d e q) .1 (p .2) }),
+  )
 
   only-these : (n k : ℕ) → mapTexts c ≡ refused n k → TextsFault c n k ⊎ ((n ≡ 15) ⊎ (n ≡ 16) ⊎ (n ≡ 17) ⊎ (n ≡ 18))
   unfolding mapTexts mapDesign mapGraph numberIn placeIn
-  only-these n k e = go (readTexts c) refl
-    where
-      go : (r : Read Design) → readTexts c ≡ r → TextsFault c n k ⊎ ((n ≡ 15) ⊎ (n ≡ 16) ⊎ (n ≡ 17) ⊎ (n ≡ 18))
-      go (holds d) q = inr (placed-number (c .bytes) (d .ranged) (d .listed) (d .cells) (d .graph) (lowest (unplaced (d .graph))) n k (sym (outcome-is c d q) ∙ e))
-      go (fault m j) q =
-          let z : refused m j ≡ refused n k = sym (ap (mapDesign (c .bytes)) q) ∙ e in
-          inl (texts-exactly c .refuses n k .0 (q ∙ ap₂ (λ (x y : ℕ). fault x y) (same-number z) (same-place z)))
+  only-these n k e = by-read (readTexts c) (λ d q. inr (placed-number (c .bytes) (d .ranged) (d .listed) (d .cells) (d .graph)
+      (lowest (unplaced (d .graph))) n k (sym (outcome-is c d q) ∙ e))) (λ m j p.
+      let z : refused m j ≡ refused n k = sym (ap (mapDesign (c .bytes)) p)
+      ∙ e in inl (texts-exactly c .refuses n k .0 (p ∙ ap₂ (λ (x y : ℕ). fault x y) (same-number z) (same-place z))))
 
 -- the refusals of every call
 pub demand-refusals : (c : Call) → Outcomes c

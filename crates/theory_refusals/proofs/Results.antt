@@ -1,7 +1,7 @@
 -- `Exactly`, from what a reading comes to and from what is enough for it. Assumes nothing.
 use Prim.Native.Nat.{ℕ}
 use mathlib.Core.Path.{_≡_, refl, sym, _∙_, ap, ap₂, subst}
-use mathlib.Core.Logic.{_⊎_, inl, inr, _↔_}
+use mathlib.Core.Logic.{_⊎_, inl, inr, _↔_, ⊎-elim}
 use mathlib.Core.Bool.{Bool, true, false, not}
 use lib.Dec.{T}
 use Rattle.model.specs.Reading.{Read, holds, fault, next, unless}
@@ -92,13 +92,18 @@ next-fault {A} r f n k e = ap (λ (x : Read A). next x f) e
 
 pub exactly-next : {A B : Type 0} {H : A → Type 0} {F : ℕ → ℕ → Type 0} (I : (a : A) → H a → B → Type 0) (G : (a : A) → H a → ℕ → ℕ → Type 0) (r : Read A) (f : A → Read B) → Exactly H F r
     → ((a : A) (x : H a) → Exactly (I a x) (G a x) (f a)) → Exactly (λ b. (a : A) × (x : H a) × I a x b) (λ n k. F n k ⊎ ((a : A) × (x : H a) × G a x n k)) (next r f)
-exactly-next {A} {B} {H} {F} I G r f e g = record { accepts = λ b. (there b, back b); refuses = λ n k. (down n k, up n k) }
+exactly-next {A} {B} {H} {F} I G r f e g = record {
+  accepts = λ b. (there b, (λ u. next-held r f (u .0) (e .accepts (u .0) .1 (u .1)) ∙ g (u .0) (u .1) .accepts b .1 (u .2)));
+  refuses = λ n k. (
+    down n k,
+    (λ y. ⊎-elim
+        (λ z. next-fault r f n k (e .refuses n k .1 z))
+        (λ q. next-held r f (q .0) (e .accepts (q .0) .1 (q .1)) ∙ g (q .0) (q .1) .refuses n k .1 (q .2)) y),
+  );
+}
   where
     there : (b : B) → next r f ≡ holds b → (a : A) × (x : H a) × I a x b
     there b q = let o = next-out r f b q in let x = e .accepts (o .0) .0 (o .1) in (o .0, x, g (o .0) x .accepts b .0 (o .2))
-
-    back : (b : B) → ((a : A) × (x : H a) × I a x b) → next r f ≡ holds b
-    back b p = next-held r f (p .0) (e .accepts (p .0) .1 (p .1)) ∙ g (p .0) (p .1) .accepts b .1 (p .2)
 
     down : (n k : ℕ) → next r f ≡ fault n k → F n k ⊎ ((a : A) × (x : H a) × G a x n k)
     down n k q = go (fault-out r f n k q)
@@ -106,10 +111,6 @@ exactly-next {A} {B} {H} {F} I G r f e g = record { accepts = λ b. (there b, ba
         go : (r ≡ fault n k) ⊎ ((a : A) × (r ≡ holds a) × (f a ≡ fault n k)) → F n k ⊎ ((a : A) × (x : H a) × G a x n k)
         go (inl z) = inl (e .refuses n k .0 z)
         go (inr z) = let x = e .accepts (z .0) .0 (z .1) in inr (z .0, x, g (z .0) x .refuses n k .0 (z .2))
-
-    up : (n k : ℕ) → F n k ⊎ ((a : A) × (x : H a) × G a x n k) → next r f ≡ fault n k
-    up n k (inl z) = next-fault r f n k (e .refuses n k .1 z)
-    up n k (inr z) = next-held r f (z .0) (e .accepts (z .0) .1 (z .1)) ∙ g (z .0) (z .1) .refuses n k .1 (z .2)
 
 -- a condition that a test decides, and what is read where it holds
 pub exactly-unless : {A : Type 0} {H : A → Type 0} {F : ℕ → ℕ → Type 0} (P : Type 0) (b : Bool) (m j : ℕ) (r : Read A) → (T b → P) → (P → T b) → Exactly H F r
@@ -119,12 +120,11 @@ exactly-unless {A} {H} {F} P b m j r there back e = on b yes? no?
     yes? : T b → Exactly (λ a. P × H a) (λ n k. ((¬ P) × (n ≡ m) × (k ≡ j)) ⊎ (P × F n k)) (unless b m j r)
     yes? t = record {
       accepts = λ a. ((λ q. (there t, e .accepts a .0 (sym (unless-yes b m j r t) ∙ q))), λ p. unless-yes b m j r t ∙ e .accepts a .1 (p .1));
-      refuses = λ n k. ((λ q. inr (there t, e .refuses n k .0 (sym (unless-yes b m j r t) ∙ q))), up n k);
+      refuses = λ n k. (
+        (λ q. inr (there t, e .refuses n k .0 (sym (unless-yes b m j r t) ∙ q))),
+        (λ x. ⊎-elim (λ z. absurd (z .0 (there t))) (λ w. unless-yes b m j r t ∙ e .refuses n k .1 (w .1)) x),
+      );
     }
-      where
-        up : (n k : ℕ) → ((¬ P) × (n ≡ m) × (k ≡ j)) ⊎ (P × F n k) → unless b m j r ≡ fault n k
-        up n k (inl x) = absurd (x .0 (there t))
-        up n k (inr x) = unless-yes b m j r t ∙ e .refuses n k .1 (x .1)
 
     no? : T (not b) → Exactly (λ a. P × H a) (λ n k. ((¬ P) × (n ≡ m) × (k ≡ j)) ⊎ (P × F n k)) (unless b m j r)
     no? t = record {

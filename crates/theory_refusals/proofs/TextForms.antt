@@ -2,7 +2,7 @@
 use Prim.Native.Nat.{ℕ, suc, _+_, _*_, _≤_, _<_}
 use native.Mathlib.Omega.{arith}
 use mathlib.Core.Path.{_≡_, refl, sym, _∙_, ap, subst}
-use mathlib.Core.Logic.{_⊎_, inl, inr}
+use mathlib.Core.Logic.{_⊎_, inl, inr, ⊎-elim}
 use mathlib.Core.Bool.{_&&_}
 use mathlib.Core.List.{List}
 use lib.Dec.{T, leb}
@@ -24,12 +24,10 @@ use Rattle.theory_refusals.proofs.LibraryForms.{library-exactly}
 use Rattle.theory_refusals.proofs.HeaderForms.{header-exactly}
 use Rattle.theory_refusals.proofs.GraphForms.{graph-exactly}
 use Rattle.theory_refusals.proofs.ArrivalForms.{arrivals-exactly}
+use native.Mathlib.Nat.{not-le-of-lt}
 
 over : (n m : ℕ) → (¬ (n ≤ m)) → m < n
 over n m h = omega arith
-
-not-over : (n m : ℕ) → m < n → ¬ (n ≤ m)
-not-over n m h = λ k. omega arith
 
 module _ (c : Call) where
   short-form : T (short c) → Short c
@@ -39,9 +37,8 @@ module _ (c : Call) where
       (leb-yes (p .0), leb-yes (q .0), leb-yes (q .1))
 
   short-back : Short c → T (short c)
-  short-back h =
-      yes-and (leb (length (c .library)) 65536) (leb (length (c .graph)) 65536 && leb (length (c .arrivals)) 65536) (yes-leb (h .0))
-      (yes-and (leb (length (c .graph)) 65536) (leb (length (c .arrivals)) 65536) (yes-leb (h .1)) (yes-leb (h .2)))
+  short-back h = yes-and (leb (length (c .library)) 65536) (leb (length (c .graph)) 65536 && leb (length (c .arrivals)) 65536)
+      (yes-leb (h .0)) (yes-and (leb (length (c .graph)) 65536) (leb (length (c .arrivals)) 65536) (yes-leb (h .1)) (yes-leb (h .2)))
 
   -- ---- the listed cells
 
@@ -54,20 +51,10 @@ module _ (c : Call) where
   abbrev NoCells : ℕ → ℕ → Type 0
   NoCells n k = LibraryFault (c .library) n k ⊎ ((a : List Cell) × (x : LibraryHolds (c .library) a) × (((¬ Few a) × (n ≡ 30) × (k ≡ 0)) ⊎ (Few a × ⊥)))
 
-  listed-exactly : Exactly Cells NoCells (readListed (c .paired) (c .library))
-  unfolding readListed
-  listed-exactly =
-      exactly-next (λ a x cs. Few a × (a ≡ cs)) (λ a x n k. ((¬ Few a) × (n ≡ 30) × (k ≡ 0)) ⊎ (Few a × ⊥)) (readLibrary (c .library))
-      (λ cells. unless (leb (length (cellsFor (c .paired) cells)) 256) 30 0 (holds cells)) (library-exactly (c .library))
-      (λ a x. exactly-unless (Few a) (leb (length (cellsFor (c .paired) a)) 256) 30 0 (holds a) (λ t. leb-yes t) (λ h. yes-leb h) (exactly-holds a))
-
   -- ---- behind the header
 
   inside : (h : Header) → HeaderHolds (c .graph) h → h .next ≤ length (c .graph)
-  inside h x =
-      let b = x .begins in
-      let long : length (c .graph) ≡ length (b .front) + length (b .behind) = ap length (b .whole) ∙ length-append (b .front) (b .behind) in
-      omega (arith, b .is .next)
+  inside h x = let b = x .begins in omega (arith, ap length (b .whole) ∙ length-append (b .front) (b .behind), b .is .next)
 
   abbrev Words : Header → Type 0
   Words h = 124 * suc (h .size) + h .outputs ≤ c .words
@@ -77,20 +64,11 @@ module _ (c : Call) where
       (g : Graph) × (x : GraphIn (drop (h .next) (c .graph)) h g) × ((es : List Late) × (y : ArrivalsHold (h .inputs) (c .arrivals) es) × (designOf c cs (timedBy g es) ≡ d))
 
   abbrev Untimed : List Cell → Header → ℕ → ℕ → Type 0
-  Untimed cs h n k =
-      GraphFault (drop (h .next) (c .graph)) h n k
-      ⊎ ((g : Graph) × (x : GraphIn (drop (h .next) (c .graph)) h g) × (ArrivalsFault (h .inputs) (c .arrivals) n k ⊎ ((es : List Late) × (y : ArrivalsHold (h .inputs) (c .arrivals) es) × ⊥)))
+  Untimed cs h n k = GraphFault (drop (h .next) (c .graph)) h n k ⊎ ((g : Graph) × (x : GraphIn (drop (h .next) (c .graph)) h g) ×
+      (ArrivalsFault (h .inputs) (c .arrivals) n k ⊎ ((es : List Late) × (y : ArrivalsHold (h .inputs) (c .arrivals) es) × ⊥)))
 
   abbrev readTimed : List Cell → Header → Read Design
   readTimed cs h = next (readGraph (c .graph) h) (λ g. next (readArrivals (h .inputs) (c .arrivals)) (λ es. holds (designOf c cs (timedBy g es))))
-
-  timed-exactly : (cs : List Cell) (h : Header) → HeaderHolds (c .graph) h → Exactly (Timed cs h) (Untimed cs h) (readTimed cs h)
-  timed-exactly cs h x =
-      exactly-next (λ g y d. (es : List Late) × (z : ArrivalsHold (h .inputs) (c .arrivals) es) × (designOf c cs (timedBy g es) ≡ d))
-      (λ g y n k. ArrivalsFault (h .inputs) (c .arrivals) n k ⊎ ((es : List Late) × (z : ArrivalsHold (h .inputs) (c .arrivals) es) × ⊥)) (readGraph (c .graph) h)
-      (λ g. next (readArrivals (h .inputs) (c .arrivals)) (λ es. holds (designOf c cs (timedBy g es)))) (graph-exactly (c .graph) h (inside h x))
-      (λ g y. exactly-next (λ es z d. designOf c cs (timedBy g es) ≡ d) (λ es z n k. ⊥) (readArrivals (h .inputs) (c .arrivals)) (λ es. holds (designOf c cs (timedBy g es))) (arrivals-exactly (h .inputs) (c .arrivals))
-      (λ es z. exactly-holds (designOf c cs (timedBy g es))))
 
   abbrev Headed : List Cell → Design → Type 0
   Headed cs d = (h : Header) × (x : HeaderHolds (c .graph) h) × (Words h × Timed cs h d)
@@ -106,7 +84,13 @@ module _ (c : Call) where
   headed-exactly cs =
       exactly-next (λ h x d. Words h × Timed cs h d) (λ h x n k. ((¬ Words h) × (n ≡ 10) × (k ≡ 0)) ⊎ (Words h × Untimed cs h n k)) (readHeader (c .graph))
       (λ h. unless (leb (need (h .size) (h .outputs)) (c .words)) 10 0 (readTimed cs h)) (header-exactly (c .graph))
-      (λ h x. exactly-unless (Words h) (leb (need (h .size) (h .outputs)) (c .words)) 10 0 (readTimed cs h) (λ t. leb-yes t) (λ y. yes-leb y) (timed-exactly cs h x))
+      (λ h x. exactly-unless (Words h) (leb (need (h .size) (h .outputs)) (c .words)) 10 0 (readTimed cs h) (λ t. leb-yes t) (λ y. yes-leb y) (
+      exactly-next (λ g y d. (es : List Late) × (z : ArrivalsHold (h .inputs) (c .arrivals) es) × (designOf c cs (timedBy g es) ≡ d))
+      (λ g y n k. ArrivalsFault (h .inputs) (c .arrivals) n k ⊎ ((es : List Late) × (z : ArrivalsHold (h .inputs) (c .arrivals) es) × ⊥))
+      (readGraph (c .graph) h) (λ g. next (readArrivals (h .inputs) (c .arrivals)) (λ es. holds (designOf c cs (timedBy g es))))
+      (graph-exactly (c .graph) h (inside h x)) (λ g y. exactly-next (λ es z d. designOf c cs (timedBy g es) ≡ d) (λ es z n k. ⊥)
+      (readArrivals (h .inputs) (c .arrivals)) (λ es. holds (designOf c cs (timedBy g es))) (arrivals-exactly (h .inputs) (c .arrivals))
+      (λ es z. exactly-holds (designOf c cs (timedBy g es))))))
 
   abbrev All : Design → Type 0
   All d = Short c × ((cs : List Cell) × (x : Cells cs) × Headed cs d)
@@ -116,9 +100,12 @@ module _ (c : Call) where
 
   all-exactly : Exactly All NotAll (readTexts c)
   unfolding readTexts
-  all-exactly =
-      exactly-unless (Short c) (short c) 1 0 (next (readListed (c .paired) (c .library)) readHeaded) short-form short-back
-      (exactly-next (λ cs x d. Headed cs d) (λ cs x n k. Unheaded cs n k) (readListed (c .paired) (c .library)) readHeaded listed-exactly (λ cs x. headed-exactly cs))
+  all-exactly = exactly-unless (Short c) (short c) 1 0 (next (readListed (c .paired) (c .library)) readHeaded) short-form short-back
+      (exactly-next (λ cs x d. Headed cs d) (λ cs x n k. Unheaded cs n k) (readListed (c .paired) (c .library)) readHeaded
+      (unfold readListed in exactly-next (λ a x cs. Few a × (a ≡ cs)) (λ a x n k. ((¬ Few a) × (n ≡ 30) × (k ≡ 0)) ⊎ (Few a × ⊥))
+      (readLibrary (c .library)) (λ cells. unless (leb (length (cellsFor (c .paired) cells)) 256) 30 0 (holds cells))
+      (library-exactly (c .library)) (λ a x. exactly-unless (Few a) (leb (length (cellsFor (c .paired) a)) 256) 30 0 (holds a)
+      (λ t. leb-yes t) (λ h. yes-leb h) (exactly-holds a))) (λ cs x. headed-exactly cs))
 
   -- ---- in the words of the conditions
 
@@ -144,17 +131,25 @@ module _ (c : Call) where
       }
 
   back : (d : Design) → ToDesign c d → All d
-  back d x =
-      let g = x .toGraph in
-      let h = g .toHeader in
-      (h .toCells .short, (x .listed, from-cells (x .listed) (h .toCells), (x .header, h .header, (g .enough, (x .graph, g .graph, (x .lates, x .arrivals, x .isDesign))))))
+  back d x = (
+    ((x .toGraph) .toHeader) .toCells .short,
+    (
+      x .listed,
+      from-cells (x .listed) (((x .toGraph) .toHeader) .toCells),
+      (
+        x .header,
+        ((x .toGraph) .toHeader) .header,
+        ((x .toGraph) .enough, (x .graph, (x .toGraph) .graph, (x .lates, x .arrivals, x .isDesign))),
+      ),
+    ),
+  )
 
   at : (n k m j : ℕ) → n ≡ m → k ≡ j → TextsFault c m j → TextsFault c n k
   at n k m j e f x = subst (λ (u : ℕ). TextsFault c u k) (sym e) (subst (TextsFault c m) (sym f) x)
 
   down : (n k : ℕ) → NotAll n k → TextsFault c n k
   down n k (inl x) = at n k 1 0 (x .1) (x .2) (one (x .0))
-  down n k (inr x) = go (x .1)
+  down n k (inr x) = ⊎-elim cells (λ q. headed (q .0) (to-cells s (q .0) (q .1)) (q .2)) (x .1)
     where
       s : Short c
       s = x .0
@@ -169,11 +164,7 @@ module _ (c : Call) where
 
       timed : (cs : List Cell) (h : Header) → ToHeader c cs h → Words h → Untimed cs h n k → TextsFault c n k
       timed cs h t w (inl y) = ofGraph t w y
-      timed cs h t w (inr y) = more (y .2)
-        where
-          more : ArrivalsFault (h .inputs) (c .arrivals) n k ⊎ ((es : List Late) × (z : ArrivalsHold (h .inputs) (c .arrivals) es) × ⊥) → TextsFault c n k
-          more (inl z) = ofArrivals (record { toHeader = t; enough = w; graph = y .1 }) z
-          more (inr z) = absurd (z .2)
+      timed cs h t w (inr y) = ⊎-elim (ofArrivals (record { toHeader = t; enough = w; graph = y .1 })) (λ q. absurd (q .2)) (y .2)
 
       headed : (cs : List Cell) → ToCells c cs → Unheaded cs n k → TextsFault c n k
       headed cs t (inl y) = ofHeader t y
@@ -183,16 +174,12 @@ module _ (c : Call) where
           more (inl z) = at n k 10 0 (z .1) (z .2) (ten (record { toCells = t; header = y .1 }) (over (124 * suc (y .0 .size) + y .0 .outputs) (c .words) (z .0)))
           more (inr z) = timed cs (y .0) (record { toCells = t; header = y .1 }) (z .0) (z .1)
 
-      go : NoCells n k ⊎ ((cs : List Cell) × (y : Cells cs) × Unheaded cs n k) → TextsFault c n k
-      go (inl y) = cells y
-      go (inr y) = headed (y .0) (to-cells s (y .0) (y .1)) (y .2)
-
   up : (n k : ℕ) → TextsFault c n k → NotAll n k
   up n k (one x) = inl (x, refl, refl)
   up n k (ofLibrary s x) = inr (s, inl (inl x))
-  up n k (thirty {cs} s x f) = inr (s, inl (inr (cs, x, inl (not-over (length (cellsFor (c .paired) cs)) 256 f, refl, refl))))
+  up n k (thirty {cs} s x f) = inr (s, inl (inr (cs, x, inl (not-le-of-lt f, refl, refl))))
   up n k (ofHeader {cs} t x) = inr (t .short, inr (cs, from-cells cs t, inl x))
-  up n k (ten {cs} {h} t x) = inr (t .toCells .short, inr (cs, from-cells cs (t .toCells), inr (h, t .header, inl (not-over (124 * suc (h .size) + h .outputs) (c .words) x, refl, refl))))
+  up n k (ten {cs} {h} t x) = inr (t .toCells .short, inr (cs, from-cells cs (t .toCells), inr (h, t .header, inl (not-le-of-lt x, refl, refl))))
   up n k (ofGraph {cs} {h} t w x) = inr (t .toCells .short, inr (cs, from-cells cs (t .toCells), inr (h, t .header, inr (w, inl x))))
   up n k (ofArrivals {cs} {h} {g} t x) = inr (t .toHeader .toCells .short, inr (cs, from-cells cs (t .toHeader .toCells), inr (h, t .toHeader .header, inr (t .enough, inr (g, t .graph, inl x)))))
 

@@ -1,8 +1,8 @@
 -- 14 comes exactly where a line uses an undefined variable, at the first such line. Assumes nothing.
 use Prim.Native.Nat.{ℕ}
-use mathlib.Core.Path.{_≡_, refl, sym, _∙_, ap, ap₂, subst}
-use mathlib.Core.Logic.{_⊎_, inl, inr}
-use mathlib.Core.Bool.{Bool, true, false, not, cond}
+use mathlib.Core.Path.{_≡_, refl, sym, _∙_, ap, subst}
+use mathlib.Core.Logic.{⊎-elim}
+use mathlib.Core.Bool.{Bool, not}
 use mathlib.Core.List.{List, [], _∷_, _++_, append-nil, append-assoc, List·Memᴰ, List·Memᴰ·head, List·Memᴰ·tail, List·Memᴰ·not-nil, List·Memᴰ·append-cases, Memᴰ·append-left}
 use lib.Dec.{T}
 use lib.ListN.{drop}
@@ -14,6 +14,7 @@ use Rattle.model.specs.GraphText.{Kind, anInput, anOutput, anAnd, defines, Item
 use Rattle.theory_graph.proofs.Lists.{is-true, all-of, elem-out, elem-T}
 use Rattle.promises.specs.Refusals.{Exactly, Defining, inputDefines, andDefines, firstVar, DefinedBy, Using, outputUses, andUses, Stray, FirstStray}
 use Rattle.theory_refusals.proofs.Results.{Result, held, refused, exactly, unless-yes, unless-no, on, next-holds, next-next, result-next, result-as}
+use Rattle.theory_graph.proofs.Split.{by-bool, by-member}
 
 -- an input's line has its literal alone
 abbrev pub Shaped : Item → Type 0
@@ -36,7 +37,9 @@ uses-out (andUses m) = m
 known-in : (is : List Item) (v : ℕ) → List·Memᴰ v (definedBy is) → DefinedBy is v
 unfolding definedBy
 known-in [] v m = absurd (List·Memᴰ·not-nil m)
-known-in (i ∷ is) v m = go (defines (i .kind)) (kind-defines (i .kind)) m (known-in is v)
+known-in (i ∷ is) v m = by-bool (defines (i .kind)) (λ e. by-member (rw e at m)
+    (λ q. (i, List·Memᴰ·head refl, ((rw e at (kind-defines (i .kind))) tt), q)) (λ n. later (known-in is v n)))
+    (λ q. later (known-in is v (rw q at m)))
   where
     kind-defines : (k : Kind) → T (defines k) → Defining k
     kind-defines anInput t = inputDefines
@@ -46,31 +49,16 @@ known-in (i ∷ is) v m = go (defines (i .kind)) (kind-defines (i .kind)) m (kno
     later : DefinedBy is v → DefinedBy (i ∷ is) v
     later d = (d .0, List·Memᴰ·tail (d .1), d .2, d .3)
 
-    first : Defining (i .kind) → List·Memᴰ v (firstVar (i .literals) ∷ definedBy is) → (List·Memᴰ v (definedBy is) → DefinedBy is v) → DefinedBy (i ∷ is) v
-    first d (List·Memᴰ·head e) ih = (i, List·Memᴰ·head refl, d, e)
-    first d (List·Memᴰ·tail n) ih = later (ih n)
-
-    go : (b : Bool) → (T b → Defining (i .kind)) → List·Memᴰ v (cond b (firstVar (i .literals) ∷ definedBy is) (definedBy is)) → (List·Memᴰ v (definedBy is) → DefinedBy is v) → DefinedBy (i ∷ is) v
-    go true f n ih = first (f tt) n ih
-    go false f n ih = later (ih n)
-
 known-out : (is : List Item) (v : ℕ) (i : Item) → List·Memᴰ i is → Defining (i .kind) → v ≡ firstVar (i .literals) → List·Memᴰ v (definedBy is)
 unfolding definedBy
-known-out (j ∷ is) v i (List·Memᴰ·head q) d e =
-    go (defines (j .kind)) (defined (subst (λ (x : Item). Defining (x .kind)) q d)) (e ∙ ap (λ (x : Item). firstVar (x .literals)) q)
+known-out (j ∷ is) v i (List·Memᴰ·head q) d e = by-bool (defines (j .kind))
+    (λ p. rw p (List·Memᴰ·head (e ∙ ap (λ (x : Item). firstVar (x .literals)) q))) (λ r. rw r (absurd (rw r at (defined (rw q at d)))))
   where
     defined : {k : Kind} → Defining k → T (defines k)
     defined inputDefines = tt
     defined andDefines = tt
-
-    go : (b : Bool) → T b → v ≡ firstVar (j .literals) → List·Memᴰ v (cond b (firstVar (j .literals) ∷ definedBy is) (definedBy is))
-    go true t f = List·Memᴰ·head f
-    go false t f = absurd t
-known-out (j ∷ is) v i (List·Memᴰ·tail m) d e = go (defines (j .kind)) (known-out is v i m d e)
-  where
-    go : (b : Bool) → List·Memᴰ v (definedBy is) → List·Memᴰ v (cond b (firstVar (j .literals) ∷ definedBy is) (definedBy is))
-    go true n = List·Memᴰ·tail n
-    go false n = n
+known-out (j ∷ is) v i (List·Memᴰ·tail m) d e = by-bool (defines (j .kind)) (λ q. rw q (List·Memᴰ·tail (known-out is v i m d e)))
+    (λ p. rw p (known-out is v i m d e))
 
 -- ---- the test of a line
 
@@ -80,11 +68,8 @@ isDefined is i = all (λ (l : ℕ). elem (varOf l) (0 ∷ definedBy is)) (uses i
 not-all : (p : ℕ → Bool) (xs : List ℕ) → T (not (all p xs)) → (x : ℕ) × List·Memᴰ x xs × T (not (p x))
 unfolding all
 not-all p [] t = absurd t
-not-all p (x ∷ xs) t = go (and-no (p x) (all p xs) t) (not-all p xs)
-  where
-    go : T (not (p x)) ⊎ T (not (all p xs)) → (T (not (all p xs)) → (y : ℕ) × List·Memᴰ y xs × T (not (p y))) → (y : ℕ) × List·Memᴰ y (x ∷ xs) × T (not (p y))
-    go (inl u) ih = (x, List·Memᴰ·head refl, u)
-    go (inr u) ih = let r = ih u in (r .0, List·Memᴰ·tail (r .1), r .2)
+not-all p (x ∷ xs) t = ⊎-elim (λ u. (x, List·Memᴰ·head refl, u)) (λ q. let r = (not-all p xs) q in (r .0, List·Memᴰ·tail (r .1), r .2))
+    (and-no (p x) (all p xs) t)
 
 stray-form : (is : List Item) (i : Item) → Shaped i → T (not (isDefined is i)) → Stray is i
 stray-form is i s t =
@@ -93,11 +78,9 @@ stray-form is i s t =
     (r .0, uses-in (i .kind) (i .offset) (i .literals) s (r .0) (r .1), (λ e. out (List·Memᴰ·head e)), (λ d. out (List·Memᴰ·tail (known-out is (varOf (r .0)) (d .0) (d .1) (d .2) (d .3)))))
 
 stray-not : (is : List Item) (i : Item) → T (isDefined is i) → ¬ Stray is i
-stray-not is i t s = go (elem-out (varOf (s .0)) (0 ∷ definedBy is) (is-true (elem (varOf (s .0)) (0 ∷ definedBy is)) (all-of (λ (l : ℕ). elem (varOf l) (0 ∷ definedBy is)) (uses i) t (s .0) (uses-out (s .1)))))
-  where
-    go : List·Memᴰ (varOf (s .0)) (0 ∷ definedBy is) → ⊥
-    go (List·Memᴰ·head e) = s .2 e
-    go (List·Memᴰ·tail m) = s .3 (known-in is (varOf (s .0)) m)
+stray-not is i t s = elim (elem-out (varOf (s .0)) (0 ∷ definedBy is) (is-true (elem (varOf (s .0)) (0 ∷ definedBy is)) (all-of
+    (λ (l : ℕ). elem (varOf l) (0 ∷ definedBy is)) (uses i) t (s .0)
+    (uses-out (s .1))))) [ List·Memᴰ·head e ↦ s .2 e | List·Memᴰ·tail m ↦ s .3 (known-in is (varOf (s .0)) m) ]
 
 -- ---- the lines
 
@@ -119,10 +102,12 @@ module _ (is : List Item) where
 
   check-skips : (xs ys : List Item) → ((i : Item) → List·Memᴰ i xs → Shaped i) → ((i : Item) → List·Memᴰ i xs → ¬ Stray is i) → check (xs ++ ys) ≡ next (check ys) (λ js. holds (xs ++ js))
   check-skips [] ys s n = sym (next-holds (check ys))
-  check-skips (x ∷ xs) ys s n =
-      check-passes x (xs ++ ys) (s x (List·Memᴰ·head refl)) (n x (List·Memᴰ·head refl))
-      ∙ ap (λ (r : Read (List Item)). next r (λ js. holds (x ∷ js))) (check-skips xs ys (λ i m. s i (List·Memᴰ·tail m)) (λ i m. n i (List·Memᴰ·tail m)))
-      ∙ next-next (check ys) (λ js. xs ++ js) (λ js. x ∷ js)
+  check-skips (x ∷ xs) ys s n = cc (
+    check-passes x (xs ++ ys) (s x (List·Memᴰ·head refl)) (n x (List·Memᴰ·head refl)),
+    check-skips xs ys
+        (λ i m. s i (List·Memᴰ·tail m)) (λ i m. n i (List·Memᴰ·tail m)),
+    next-next (check ys) (λ js. xs ++ js) (λ js. x ∷ js),
+  )
 
   check-result : (rest before : List Item) → is ≡ before ++ rest → ((i : Item) → List·Memᴰ i rest → Shaped i) → ((i : Item) → List·Memᴰ i before → ¬ Stray is i)
       → Result (λ js. (js ≡ rest) × ((i : Item) → List·Memᴰ i rest → ¬ Stray is i)) (λ n k. (n ≡ 14) × FirstStray is k) (check rest)
@@ -136,35 +121,31 @@ module _ (is : List Item) where
       fails : Stray is i → Here (check (i ∷ rest))
       fails x = result-as (fault 14 (i .offset)) (check (i ∷ rest)) (check-fails i rest x) (refused (refl, record { before = before; item = i; later = rest; split = e; isStray = x; noneBefore = n; isPlace = refl }))
 
-      old : (x : Item) → List·Memᴰ x before ⊎ List·Memᴰ x (i ∷ []) → (¬ Stray is i) → ¬ Stray is x
-      old x (inl m) h = n x m
-      old x (inr (List·Memᴰ·head q)) h = λ y. h (subst (Stray is) q y)
-      old x (inr (List·Memᴰ·tail m)) h = absurd (List·Memᴰ·not-nil m)
-
       goes : T (isDefined is i) → ((before′ : List Item) → is ≡ before′ ++ rest → ((x : Item) → List·Memᴰ x rest → Shaped x) → ((x : Item) → List·Memᴰ x before′ → ¬ Stray is x)
           → Result (λ js. (js ≡ rest) × ((x : Item) → List·Memᴰ x rest → ¬ Stray is x)) (λ n k. (n ≡ 14) × FirstStray is k) (check rest)) → Here (check (i ∷ rest))
       goes t ih =
           let h : ¬ Stray is i = stray-not is i t in
           result-as (next (check rest) (λ js. holds (i ∷ js))) (check (i ∷ rest)) (check-passes i rest (s i (List·Memᴰ·head refl)) h)
-          (result-next (check rest) (λ js. i ∷ js) (λ js x. (ap (λ (ys : List Item). i ∷ ys) (x .0), all-of-them h (x .1))) (λ m k x. x)
-          (ih (before ++ (i ∷ [])) (e ∙ sym (append-assoc before (i ∷ []) rest)) (λ x m. s x (List·Memᴰ·tail m)) (λ x m. old x (List·Memᴰ·append-cases before m) h)))
-        where
-          all-of-them : (¬ Stray is i) → ((x : Item) → List·Memᴰ x rest → ¬ Stray is x) → (x : Item) → List·Memᴰ x (i ∷ rest) → ¬ Stray is x
-          all-of-them h f x (List·Memᴰ·head q) = λ y. h (subst (Stray is) q y)
-          all-of-them h f x (List·Memᴰ·tail m) = f x m
-
-  check-held : ((i : Item) → List·Memᴰ i is → Shaped i) → (js : List Item) → AllDefined is js → check is ≡ holds js
-  unfolding checkUses next
-  check-held s js h = ap check (sym (append-nil is)) ∙ check-skips is [] s (h .1) ∙ ap holds (append-nil is ∙ sym (h .0))
+          (result-next (check rest) (λ js. i ∷ js) (λ js x. (
+            ap (λ (ys : List Item). i ∷ ys) (x .0),
+            (λ y z. elim z [ List·Memᴰ·head q ↦ λ y. h (subst (Stray is) q y) | List·Memᴰ·tail p ↦ (x .1) y p ]),
+          )) (λ m k x. x)
+          (ih (before ++ (i ∷ [])) (e ∙ sym (append-assoc before (i ∷ []) rest)) (λ x m. s x (List·Memᴰ·tail m)) (λ x m. ⊎-elim (n x)
+          (λ p. by-member p (λ r. λ y. h (subst (Stray is) r y)) (λ z. absurd (List·Memᴰ·not-nil z))) (List·Memᴰ·append-cases before m))))
 
   check-refused : ((i : Item) → List·Memᴰ i is → Shaped i) → (n k : ℕ) → (n ≡ 14) × FirstStray is k → check is ≡ fault n k
   unfolding next
-  check-refused s n k h =
-      let f = h .1 in
-      let inside : (i : Item) → List·Memᴰ i (f .before) → List·Memᴰ i is = λ i m. subst (λ (xs : List Item). List·Memᴰ i xs) (sym (f .split)) (Memᴰ·append-left (f .item ∷ f .later) m) in
-      ap check (f .split) ∙ check-skips (f .before) (f .item ∷ f .later) (λ i m. s i (inside i m)) (f .noneBefore)
-      ∙ ap (λ (r : Read (List Item)). next r (λ js. holds (f .before ++ js))) (check-fails (f .item) (f .later) (f .isStray)) ∙ ap₂ (λ (x y : ℕ). fault x y) (sym (h .0)) (f .isPlace)
+  check-refused s n k h = cc (
+    (h .1) .split,
+    check-skips ((h .1) .before) ((h .1) .item ∷ (h .1) .later)
+        (λ i m. s i (rw ((h .1) .split) (Memᴰ·append-left ((h .1) .item ∷ (h .1) .later) m))) ((h .1) .noneBefore),
+    check-fails ((h .1) .item)
+        ((h .1) .later) ((h .1) .isStray),
+    h .0,
+    (h .1) .isPlace,
+  )
 
   -- 14, whole
   pub uses-exactly : ((i : Item) → List·Memᴰ i is → Shaped i) → Exactly (AllDefined is) (λ n k. (n ≡ 14) × FirstStray is k) (checkUses (definedBy is) is)
-  uses-exactly s = exactly (check is) (check-result is [] refl s (λ i m. absurd (List·Memᴰ·not-nil m))) (check-held s) (check-refused s)
+  uses-exactly s = exactly (check is) (check-result is [] refl s (λ i m. absurd (List·Memᴰ·not-nil m))) (unfold checkUses next in λ js h. cc
+      (append-nil is, check-skips is [] s (h .1), h .0)) (check-refused s)

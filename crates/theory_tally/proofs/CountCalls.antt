@@ -4,7 +4,7 @@
 -- Assumes nothing.
 use Prim.Native.Nat.{ℕ, _^_, _≤_}
 use mathlib.Core.Path.{_≡_, refl, sym, _∙_, ap, subst}
-use mathlib.Core.Logic.{_⊎_, inl, inr}
+use mathlib.Core.Logic.{_⊎_, inl, inr, ⊎-elim}
 use mathlib.Core.Bool.{Bool, _&&_}
 use mathlib.Core.List.{List, [], _++_, append-nil, append-assoc}
 use lib.Dec.{T, leb, ltb}
@@ -99,18 +99,8 @@ module _ (t : Tally) (library netlist : List ℕ) where
   All u = BothShort library netlist × ((cs : List Cell) × (x : LibraryHolds library cs) × (Room t × Gates cs u))
 
   abbrev NotAll : ℕ → ℕ → Type 0
-  NotAll n k =
-      ((¬ BothShort library netlist) × (n ≡ 1) × (k ≡ 0))
-      ⊎ (BothShort library netlist × (LibraryFault library n k ⊎ ((cs : List Cell) × (x : LibraryHolds library cs) × (((¬ Room t) × (n ≡ 28) × (k ≡ 64)) ⊎ (Room t × NoGates cs n k)))))
-
-  all-exactly : Exactly All NotAll (countText t library netlist)
-  unfolding countText
-  all-exactly =
-      exactly-unless (BothShort library netlist) (leb (length library) 65536 && leb (length netlist) 65536) 1 0
-      (next (readLibrary library) (λ cs. unless (ltb (t .netlists) 64 && inWidth t) 28 64 (readGates cs))) short-form short-back
-      (exactly-next (λ cs x u. Room t × Gates cs u) (λ cs x n k. ((¬ Room t) × (n ≡ 28) × (k ≡ 64)) ⊎ (Room t × NoGates cs n k)) (readLibrary library)
-      (λ cs. unless (ltb (t .netlists) 64 && inWidth t) 28 64 (readGates cs)) (library-exactly library)
-      (λ cs x. exactly-unless (Room t) (ltb (t .netlists) 64 && inWidth t) 28 64 (readGates cs) (room-form t) (room-back t) (gates-exactly cs x)))
+  NotAll n k = ((¬ BothShort library netlist) × (n ≡ 1) × (k ≡ 0)) ⊎ (BothShort library netlist × (LibraryFault library n k ⊎
+      ((cs : List Cell) × (x : LibraryHolds library cs) × (((¬ Room t) × (n ≡ 28) × (k ≡ 64)) ⊎ (Room t × NoGates cs n k)))))
 
   there : (u : Tally) → All u → CountHolds t library netlist u
   there u p =
@@ -119,25 +109,12 @@ module _ (t : Tally) (library netlist : List ℕ) where
       record { short = p .0; ranged = isRanged library; cells = q .0; areCells = cells-in (q .1); room = q .2 .0; used = g .0; areGates = g .1; isTally = g .2 }
 
   back : (u : Tally) → CountHolds t library netlist u → All u
-  back u h =
-      (h .short, (h .cells, (h .ranged, h .areCells), (h .room, (h .used, subst (λ (r : Bool). NetlistIn r (h .cells) netlist (h .used)) (sym (ranged-is (h .areCells))) (h .areGates), h .isTally))))
+  back u h = (h .short, (h .cells, (h .ranged, h .areCells), (h .room, (h .used, rw (ranged-is (h .areCells)) (h .areGates), h .isTally))))
 
   down : (n k : ℕ) → NotAll n k → CountFault t library netlist n k
   down n k (inl p) = subst (λ (i : ℕ). CountFault t library netlist i k) (sym (p .1)) (subst (CountFault t library netlist 1) (sym (p .2)) (one (p .0)))
-  down n k (inr p) = go (p .1)
-    where
-      in-library : (cs : List Cell) → LibraryHolds library cs → ((¬ Room t) × (n ≡ 28) × (k ≡ 64)) ⊎ (Room t × NoGates cs n k) → CountFault t library netlist n k
-      in-library cs x (inl q) =
-          subst (λ (i : ℕ). CountFault t library netlist i k) (sym (q .1)) (subst (CountFault t library netlist 28) (sym (q .2)) (twentyEight (p .0) (cells-in x) (q .0)))
-      in-library cs x (inr q) = in-netlist (q .1)
-        where
-          in-netlist : NoGates cs n k → CountFault t library netlist n k
-          in-netlist (inl f) = ofNetlist (p .0) (cells-in x) (q .0) f
-          in-netlist (inr f) = absurd (f .2)
-
-      go : LibraryFault library n k ⊎ ((cs : List Cell) × (x : LibraryHolds library cs) × (((¬ Room t) × (n ≡ 28) × (k ≡ 64)) ⊎ (Room t × NoGates cs n k))) → CountFault t library netlist n k
-      go (inl f) = ofLibrary (p .0) f
-      go (inr q) = in-library (q .0) (q .1) (q .2)
+  down n k (inr p) = ⊎-elim (ofLibrary (p .0)) (λ q. ⊎-elim (λ e. rw (e .1) (rw (e .2) (twentyEight (p .0) (cells-in (q .1)) (e .0))))
+      (λ r. ⊎-elim (ofNetlist (p .0) (cells-in (q .1)) (r .0)) (λ e. absurd (e .2)) (r .1)) (q .2)) (p .1)
 
   up : (n k : ℕ) → CountFault t library netlist n k → NotAll n k
   up n k (one s) = inl (s, refl, refl)
@@ -146,7 +123,12 @@ module _ (t : Tally) (library netlist : List ℕ) where
   up n k (ofNetlist {ranged} {cs} s c r f) = inr (s, inr (cs, (ranged, c), inr (r, inl (subst (λ (x : Bool). NetlistFault x cs netlist n k) (sym (ranged-is c)) f))))
 
   pub count-exactly : CountRefusals t library netlist
-  count-exactly = exactly-map (countText t library netlist) (λ u. (there u, back u)) (λ n k. (down n k, up n k)) all-exactly
+  count-exactly = exactly-map (countText t library netlist) (λ u. (there u, back u)) (λ n k. (down n k, up n k)) (unfold countText in
+      exactly-unless (BothShort library netlist) (leb (length library) 65536 && leb (length netlist) 65536) 1 0
+      (next (readLibrary library) (λ cs. unless (ltb (t .netlists) 64 && inWidth t) 28 64 (readGates cs))) short-form short-back
+      (exactly-next (λ cs x u. Room t × Gates cs u) (λ cs x n k. ((¬ Room t) × (n ≡ 28) × (k ≡ 64)) ⊎ (Room t × NoGates cs n k))
+      (readLibrary library) (λ cs. unless (ltb (t .netlists) 64 && inWidth t) 28 64 (readGates cs)) (library-exactly library) (λ cs x.
+      exactly-unless (Room t) (ltb (t .netlists) 64 && inWidth t) 28 64 (readGates cs) (room-form t) (room-back t) (gates-exactly cs x))))
 
 -- ---- a report
 module _ (t : Tally) (library : List ℕ) (bytes : ℕ) where
@@ -163,18 +145,8 @@ module _ (t : Tally) (library : List ℕ) (bytes : ℕ) where
   Whole r = (length library ≤ 65536) × ((cs : List Cell) × (x : LibraryHolds library cs) × (Narrow t × (Fits cs × (reportText cs t ≡ r))))
 
   abbrev NotWhole : ℕ → ℕ → Type 0
-  NotWhole n k =
-      ((¬ (length library ≤ 65536)) × (n ≡ 1) × (k ≡ 0))
-      ⊎ ((length library ≤ 65536) × (LibraryFault library n k ⊎ ((cs : List Cell) × (x : LibraryHolds library cs) × (((¬ Narrow t) × (n ≡ 28) × (k ≡ 64)) ⊎ (Narrow t × Written cs n k)))))
-
-  whole-exactly : Exactly Whole NotWhole (reportOf t library bytes)
-  unfolding reportOf
-  whole-exactly =
-      exactly-unless (length library ≤ 65536) (leb (length library) 65536) 1 0 (next (readLibrary library) (λ cs. unless (inWidth t) 28 64 (readReport cs))) (λ h. leb-yes h) (λ h. yes-leb h)
-      (exactly-next (λ cs x r. Narrow t × (Fits cs × (reportText cs t ≡ r))) (λ cs x n k. ((¬ Narrow t) × (n ≡ 28) × (k ≡ 64)) ⊎ (Narrow t × Written cs n k)) (readLibrary library)
-      (λ cs. unless (inWidth t) 28 64 (readReport cs)) (library-exactly library)
-      (λ cs x. exactly-unless (Narrow t) (inWidth t) 28 64 (readReport cs) (narrow-form t) (narrow-back t)
-      (exactly-unless (Fits cs) (leb (length (reportText cs t)) bytes) 18 (length (reportText cs t)) (holds (reportText cs t)) (λ h. leb-yes h) (λ h. yes-leb h) (exactly-holds (reportText cs t)))))
+  NotWhole n k = ((¬ (length library ≤ 65536)) × (n ≡ 1) × (k ≡ 0)) ⊎ ((length library ≤ 65536) × (LibraryFault library n k ⊎
+      ((cs : List Cell) × (x : LibraryHolds library cs) × (((¬ Narrow t) × (n ≡ 28) × (k ≡ 64)) ⊎ (Narrow t × Written cs n k)))))
 
   in-whole : (r : List ℕ) → Whole r → ReportHolds t library bytes r
   in-whole r p =
@@ -186,21 +158,10 @@ module _ (t : Tally) (library : List ℕ) (bytes : ℕ) where
 
   in-fault : (n k : ℕ) → NotWhole n k → ReportFault t library bytes n k
   in-fault n k (inl p) = subst (λ (i : ℕ). ReportFault t library bytes i k) (sym (p .1)) (subst (ReportFault t library bytes 1) (sym (p .2)) (r-one (p .0)))
-  in-fault n k (inr p) = go (p .1)
-    where
-      in-library : (cs : List Cell) → LibraryHolds library cs → ((¬ Narrow t) × (n ≡ 28) × (k ≡ 64)) ⊎ (Narrow t × Written cs n k) → ReportFault t library bytes n k
-      in-library cs x (inl q) =
-          subst (λ (i : ℕ). ReportFault t library bytes i k) (sym (q .1)) (subst (ReportFault t library bytes 28) (sym (q .2)) (r-twentyEight (p .0) (cells-in x) (q .0)))
-      in-library cs x (inr q) = in-memory (q .1)
-        where
-          in-memory : Written cs n k → ReportFault t library bytes n k
-          in-memory (inl f) =
-              subst (λ (i : ℕ). ReportFault t library bytes i k) (sym (f .1)) (subst (ReportFault t library bytes 18) (sym (f .2)) (r-eighteen (p .0) (cells-in x) (q .0) (f .0)))
-          in-memory (inr f) = absurd (f .1)
-
-      go : LibraryFault library n k ⊎ ((cs : List Cell) × (x : LibraryHolds library cs) × (((¬ Narrow t) × (n ≡ 28) × (k ≡ 64)) ⊎ (Narrow t × Written cs n k))) → ReportFault t library bytes n k
-      go (inl f) = r-library (p .0) f
-      go (inr q) = in-library (q .0) (q .1) (q .2)
+  in-fault n k (inr p) = ⊎-elim (r-library (p .0)) (λ q. ⊎-elim (λ e. rw (e .1) (rw (e .2) (r-twentyEight (p .0) (cells-in (q .1)) (e .0))))
+      (λ r. ⊎-elim (λ f. subst (λ (i : ℕ). ReportFault t library bytes i k) (sym (f .1))
+      (subst (ReportFault t library bytes 18) (sym (f .2)) (r-eighteen (p .0) (cells-in (q .1)) (r .0) (f .0)))) (λ e. absurd (e .1))
+      (r .1)) (q .2)) (p .1)
 
   of-fault : (n k : ℕ) → ReportFault t library bytes n k → NotWhole n k
   of-fault n k (r-one s) = inl (s, refl, refl)
@@ -209,4 +170,11 @@ module _ (t : Tally) (library : List ℕ) (bytes : ℕ) where
   of-fault n k (r-eighteen {ranged} {cs} s c r f) = inr (s, inr (cs, (ranged, c), inr (r, inl (f, refl, refl))))
 
   pub report-exactly : ReportRefusals t library bytes
-  report-exactly = exactly-map (reportOf t library bytes) (λ r. (in-whole r, of-whole r)) (λ n k. (in-fault n k, of-fault n k)) whole-exactly
+  report-exactly = exactly-map (reportOf t library bytes) (λ r. (in-whole r, of-whole r)) (λ n k. (in-fault n k, of-fault n k))
+      (unfold reportOf in exactly-unless (length library ≤ 65536) (leb (length library) 65536) 1 0
+      (next (readLibrary library) (λ cs. unless (inWidth t) 28 64 (readReport cs))) (λ h. leb-yes h) (λ h. yes-leb h)
+      (exactly-next (λ cs x r. Narrow t × (Fits cs × (reportText cs t ≡ r)))
+      (λ cs x n k. ((¬ Narrow t) × (n ≡ 28) × (k ≡ 64)) ⊎ (Narrow t × Written cs n k)) (readLibrary library)
+      (λ cs. unless (inWidth t) 28 64 (readReport cs)) (library-exactly library) (λ cs x. exactly-unless (Narrow t) (inWidth t) 28 64
+      (readReport cs) (narrow-form t) (narrow-back t) (exactly-unless (Fits cs) (leb (length (reportText cs t)) bytes) 18
+      (length (reportText cs t)) (holds (reportText cs t)) (λ h. leb-yes h) (λ h. yes-leb h) (exactly-holds (reportText cs t))))))

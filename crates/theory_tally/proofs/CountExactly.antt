@@ -15,11 +15,13 @@ use Rattle.model.specs.declared.Cell.{Cell}
 use Rattle.theory_graph.specs.Accepted.{libraryFits}
 use Rattle.promises.specs.Forms.{Begins}
 use Rattle.theory_refusals.proofs.Results.{Result, held, refused, exactly, result-as}
-use Rattle.theory_refusals.proofs.LineForms.{first-split, no-line, lines-none, found-begins, begins-read, none-begins}
+use Rattle.theory_refusals.proofs.LineForms.{first-split, lines-none, found-begins, begins-read, none-begins}
 use Rattle.theory_tally.specs.CountForms.{Due, modelDue, timingDue, NextLine, Reached, noLine, aLine}
 use Rattle.theory_tally.specs.CountRefusals.{NetlistIn, Finished, NetlistFault, twentyNine, Netlists}
 use Rattle.theory_tally.proofs.CountSteps.{lineStep, reads-step}
 use Rattle.theory_tally.proofs.CountRun.{left, goes-on, stops, ends, finished, finished?, counted-left}
+use Rattle.theory_graph.proofs.Split.{by-option, by-list}
+use Rattle.theory_text.proofs.Ends.{no-lines}
 
 none-some : {d : Due} → _≡_ {A = Option Due} none (some d) → ⊥
 none-some e = let z : _≡_ {A = ℕ} 0 1 = cc in omega arith
@@ -37,40 +39,27 @@ module _ (ranged : Bool) (cells : List Cell) (fits : T (libraryFits cells)) wher
       → Result (Held (s ++ rest)) (Refused (s ++ rest)) (left end ranged cells d ls)
   result [] end d s rest r e q = subst (λ (x : List ℕ). Result (Held (s ++ x)) (Refused (s ++ x)) (left end ranged cells d [])) (sym (lines-none (length s) rest e)) (finished? d yes no)
     where
-      long : length (s ++ []) ≡ length s
-      long = ap length (append-nil s)
-
       at-end : end ≡ length s
-      at-end = sym q ∙ ap (λ (x : List ℕ). length (s ++ x)) (lines-none (length s) rest e) ∙ long
+      at-end = sym q ∙ ap (λ (x : List ℕ). length (s ++ x)) (lines-none (length s) rest e) ∙ (ap length (append-nil s))
 
       yes : (us : List ℕ) → d ≡ timingDue zero us → Result (Held (s ++ [])) (Refused (s ++ [])) (left end ranged cells d [])
       yes us f =
-          result-as (holds us) (left end ranged cells d []) (ap (λ (x : Due). left end ranged cells x []) f ∙ finished end ranged cells us)
-          (held (subst (λ (x : List ℕ). Held x us) (sym (append-nil s)) (subst (Reached ranged cells s) f r)))
+          result-as (holds us) (left end ranged cells d []) (cc (finished end ranged cells us)) (held (rw (append-nil s) (rw f at r)))
 
       no : (¬ Finished d) → Result (Held (s ++ [])) (Refused (s ++ [])) (left end ranged cells d [])
-      no f =
-          result-as (fault 29 end) (left end ranged cells d []) (ends end ranged cells d f)
-          (refused (subst (Refused (s ++ []) 29) (sym at-end) (twentyNine r (λ p. f (p .1)) (λ p. none-there (p .1)))))
+      no f = result-as (fault 29 end) (left end ranged cells d []) (ends end ranged cells d f)
+          (refused (rw at-end (twentyNine r (λ p. f (p .1)) (λ p. none-there (p .1)))))
         where
           none-there : {a : Due} → Begins (NextLine ranged cells d) [] a → ⊥
           none-there {a} b = none-begins (reads-step ranged cells fits d) 0 [] (unfold linesFrom in refl) a b
-  result (l ∷ ls) end d s rest r e q = go (lineStep ranged cells d l) refl (result ls end)
-    where
-      go : (o : Option Due) → lineStep ranged cells d l ≡ o
-          → ((x : Due) (s′ rest′ : List ℕ) → Reached ranged cells s′ x → linesFrom (length s′) [] rest′ ≡ ls → length (s′ ++ rest′) ≡ end → Result (Held (s′ ++ rest′)) (Refused (s′ ++ rest′)) (left end ranged cells x ls))
-          → Result (Held (s ++ rest)) (Refused (s ++ rest)) (left end ranged cells d (l ∷ ls))
-      go none f later =
-          result-as (fault 29 (l .offset)) (left end ranged cells d (l ∷ ls)) (stops end ranged cells d l ls f)
-          (refused (subst (Refused (s ++ rest) 29) (sym (first-split (length s) rest l ls e .offset))
-          (twentyNine r (λ p. no-line (length s) l ls (ap (linesFrom (length s) []) (sym (p .0)) ∙ e))
-          (λ p. none-some (sym f ∙ begins-read (reads-step ranged cells fits d) (length s) rest l ls e (p .0) (p .1))))))
-      go (some x) f later =
-          let m = reads-step ranged cells fits d .form (length s) rest l ls e x f in
-          let is : (s ++ m .front) ++ m .behind ≡ s ++ rest = append-assoc s (m .front) (m .behind) ∙ ap (λ (y : List ℕ). s ++ y) (sym (m .whole)) in
-          result-as (left end ranged cells x ls) (left end ranged cells d (l ∷ ls)) (goes-on end ranged cells d l ls x f)
-          (subst (λ (y : List ℕ). Result (Held y) (Refused y) (left end ranged cells x ls)) is
-          (later x (s ++ m .front) (m .behind) (aLine r (m .is)) (ap (λ (n : ℕ). linesFrom n [] (m .behind)) (length-append s (m .front)) ∙ m .later) (ap length is ∙ q)))
+  result (l ∷ ls) end d s rest r e q = by-option (lineStep ranged cells d l) (λ f. result-as (fault 29 (l .offset))
+      (left end ranged cells d (l ∷ ls)) (stops end ranged cells d l ls f) (refused (rw (first-split (length s) rest l ls e .offset)
+      (twentyNine r (λ p. no-lines (length s) l ls (ap (linesFrom (length s) []) (sym (p .0)) ∙ e))
+      (λ p. none-some (sym f ∙ begins-read (reads-step ranged cells fits d) (length s) rest l ls e (p .0) (p .1))))))) (λ x p.
+      let m = reads-step ranged cells fits d .form (length s) rest l ls e x p in let is :
+      (s ++ m .front) ++ m .behind ≡ s ++ rest = append-assoc s (m .front) (m .behind) ∙ ap (λ (y : List ℕ). s ++ y) (sym (m .whole)) in
+      result-as (left end ranged cells x ls) (left end ranged cells d (l ∷ ls)) (goes-on end ranged cells d l ls x p) (rw is at
+      (result ls end x (s ++ m .front) (m .behind) (aLine r (m .is)) (cc (length-append s (m .front), m .later)) (ap length is ∙ q))))
 
   -- ---- and back
 
@@ -79,36 +68,23 @@ module _ (ranged : Bool) (cells : List Cell) (fits : T (libraryFits cells)) wher
   reached end noLine rest = refl
   reached end (aLine {s} {l} {d} {e} r h) rest =
       let b = reads-step ranged cells fits d .back (length s) l rest e h in
-      ap (λ (x : List ℕ). left end ranged cells modelDue (linesFrom 0 [] x)) (append-assoc s l rest)
-      ∙ reached end r (l ++ rest)
-      ∙ ap (left end ranged cells d) (b .lines)
-      ∙ goes-on end ranged cells d (b .line) (linesFrom (length s + length l) [] rest) e (b .read)
-      ∙ ap (λ (n : ℕ). left end ranged cells e (linesFrom n [] rest)) (sym (length-append s l))
-
-  held-read : (end : ℕ) (t us : List ℕ) → Held t us → left end ranged cells modelDue (linesFrom 0 [] t) ≡ holds us
-  held-read end t us r =
-      ap (λ (x : List ℕ). left end ranged cells modelDue (linesFrom 0 [] x)) (sym (append-nil t))
-      ∙ reached end r []
-      ∙ ap (left end ranged cells (timingDue zero us)) (none-left (length t))
-      ∙ finished end ranged cells us
-    where
-      none-left : (n : ℕ) → linesFrom n [] [] ≡ []
-      none-left n = unfold linesFrom in refl
+      cc (
+        append-assoc s l rest,
+        reached end r (l ++ rest),
+        b .lines,
+        goes-on end ranged cells d (b .line)
+            (linesFrom (length s + length l) [] rest) e (b .read),
+        length-append s l,
+      )
 
   -- a line that may not stand there, or none
   stopped : (end : ℕ) (d : Due) (s t : List ℕ) → end ≡ length (s ++ t) → (¬ ((t ≡ []) × Finished d)) → (¬ ((a : Due) × Begins (NextLine ranged cells d) t a))
       → left end ranged cells d (linesFrom (length s) [] t) ≡ fault 29 (length s)
-  stopped end d s t q n b = go (linesFrom (length s) [] t) refl
-    where
-      go : (ls : List Line) → linesFrom (length s) [] t ≡ ls → left end ranged cells d ls ≡ fault 29 (length s)
-      go [] e =
-          let z : t ≡ [] = lines-none (length s) t e in
-          ends end ranged cells d (λ f. n (z, f)) ∙ ap (fault 29) (q ∙ ap (λ (x : List ℕ). length (s ++ x)) z ∙ ap length (append-nil s))
-      go (l ∷ ls) e = some-line (lineStep ranged cells d l) refl
-        where
-          some-line : (o : Option Due) → lineStep ranged cells d l ≡ o → left end ranged cells d (l ∷ ls) ≡ fault 29 (length s)
-          some-line none f = stops end ranged cells d l ls f ∙ ap (fault 29) (first-split (length s) t l ls e .offset)
-          some-line (some x) f = absurd (b (x, found-begins (reads-step ranged cells fits d) (reads-step ranged cells fits d .form (length s) t l ls e x f)))
+  stopped end d s t q n b = by-list (linesFrom (length s) [] t)
+      (λ e. rw e (let z : t ≡ [] = lines-none (length s) t e in cc (ends end ranged cells d (λ f. n (z, f)), append-nil s))) (λ l ls p. rw p
+      (by-option (lineStep ranged cells d l)
+      (λ f. stops end ranged cells d l ls f ∙ ap (fault 29) (first-split (length s) t l ls p .offset)) (λ x q. absurd
+      (b (x, found-begins (reads-step ranged cells fits d) (reads-step ranged cells fits d .form (length s) t l ls p x q))))))
 
   refused-read : {t : List ℕ} {n k : ℕ} → Refused t n k → left (length t) ranged cells modelDue (linesFrom 0 [] t) ≡ fault n k
   refused-read (twentyNine {s} {t} {d} r n b) = reached (length (s ++ t)) r t ∙ stopped (length (s ++ t)) d s t refl n b
@@ -117,5 +93,6 @@ module _ (ranged : Bool) (cells : List Cell) (fits : T (libraryFits cells)) wher
   netlist-exactly t =
       exactly (readCounted ranged cells t)
       (result-as (left (length t) ranged cells modelDue (linesFrom 0 [] t)) (readCounted ranged cells t) (counted-left ranged cells t) (result (linesFrom 0 [] t) (length t) modelDue [] t noLine refl refl))
-      (λ us h. counted-left ranged cells t ∙ held-read (length t) t us h)
+      (λ us h. counted-left ranged cells t ∙ (let none-left : (n : ℕ) → linesFrom n [] [] ≡ [] = λ n. unfold linesFrom in refl in cc
+      (append-nil t, reached (length t) h [], none-left (length t), finished (length t) ranged cells us)))
       (λ n k h. counted-left ranged cells t ∙ refused-read h)

@@ -20,8 +20,10 @@ use Rattle.theory_text.proofs.Plain.{Free, decimal-free}
 use Rattle.promises.specs.Forms.{Decimal, joined}
 use Rattle.theory_refusals.proofs.FieldForms.{decimal-only, digits-form, AllFree, fields-joined, name-form, name-free}
 use Rattle.theory_tally.specs.CountForms.{AnyDigits, Label, PhaseNet, Pins, output, pin, Labels, noLabel, oneLabel, GateWords}
-use Rattle.theory_tally.proofs.Named.{others-named, name-once}
+use Rattle.theory_tally.proofs.Named.{name-once}
 use Rattle.theory_tally.proofs.CountWords.{digits-word, word-digits, label-word, word-label, net-word, word-net, bound-word, word-bound, form-more, form-end, Fit, noField, field, form-fits, line-fits, of-fields, digits-free, label-free, net-free, pins-free, labels-free, word-free}
+use Rattle.theory_graph.proofs.Split.{by-list}
+use Rattle.theory_text.proofs.Names.{library-rest}
 
 -- ---- a list of names
 
@@ -37,21 +39,15 @@ labels-back {b} (oneLabel {w} {ws} h r) = yes-and (isLabel b w) (all (isLabel b)
 
 pub names-form : (key : List ℕ) (b : ℕ) (w : List ℕ) → T (isNameList key b w) → (ws : List (List ℕ)) × Labels b ws × (fields w ≡ key ∷ ws)
 unfolding isNameList ofList
-names-form key b w t = go (fields w) refl t
-  where
-    go : (vs : List (List ℕ)) → fields w ≡ vs → T (ofList key (isLabel b) vs) → (ws : List (List ℕ)) × Labels b ws × (fields w ≡ key ∷ ws)
-    go [] e u = absurd u
-    go (v ∷ vs) e u =
-        let p = and-yes (same key v) (all (isLabel b) vs) u in
-        (vs, labels-form b vs (p .1), e ∙ ap (λ (x : List ℕ). x ∷ vs) (sym (same-eq key v (p .0))))
+names-form key b w t = by-list (fields w) (λ e. absurd (rw e at t)) (λ v vs q. let p = and-yes (same key v) (all (isLabel b) vs)
+    (rw q at t) in (vs, labels-form b vs (p .1), q ∙ ap (λ (x : List ℕ). x ∷ vs) (sym (same-eq key v (p .0)))))
 
 pub names-fields : (key : List ℕ) → T (all (leb 33) key) → {b : ℕ} {ws : List (List ℕ)} → 48 ≤ b → Labels b ws → fields (joined (key ∷ ws)) ≡ key ∷ ws
 names-fields key k {ws = ws} h l = fields-joined key ws (word-free 32 (lit< tt) key k, labels-free 32 (lit< tt) h l)
 
 pub names-back : (key : List ℕ) → T (all (leb 33) key) → {b : ℕ} {ws : List (List ℕ)} → 48 ≤ b → Labels b ws → T (isNameList key b (joined (key ∷ ws)))
 unfolding isNameList ofList
-names-back key k {b} {ws} h l =
-    subst (λ (x : List (List ℕ)). T (ofList key (isLabel b) x)) (sym (names-fields key k h l)) (yes-and (same key key) (all (isLabel b) ws) (same-refl key) (labels-back l))
+names-back key k {b} {ws} h l = rw (names-fields key k h l) (yes-and (same key key) (all (isLabel b) ws) (same-refl key) (labels-back l))
 
 -- ---- a gate line
 
@@ -77,26 +73,6 @@ record Words (c : Cell) (w : List ℕ) : Type 0 where
   areFields : fields w ≡ text ".gate" ∷ nameOf c ∷ nets
   areNets : Pins 65 (c .pins) nets
 
-words-form : (c : Cell) (w : List ℕ) → T (ofForm (gateForm c) (fields w)) → Words c w
-unfolding gateForm below
-words-form c w t =
-    let ps = map (λ (j : ℕ). isBound (65 + j)) (from 0 (c .pins)) ++ (isBound 79 ∷ []) in
-    let a = form-more (same (text ".gate")) (same (nameOf c) ∷ ps) (fields w) t in
-    let b = form-more (same (nameOf c)) ps (a .1) (a .4) in
-    record {
-      nets = b .1;
-      areFields = a .2 ∙ ap₂ (λ (x : List ℕ) (y : List (List ℕ)). x ∷ y) (sym (same-eq (text ".gate") (a .0) (a .3))) (b .2 ∙ ap (λ (x : List ℕ). x ∷ b .1) (sym (same-eq (nameOf c) (b .0) (b .3))));
-      areNets = pins-form 0 (c .pins) (b .1) (b .4);
-    }
-
-words-back : (c : Cell) (w : List ℕ) → Words c w → T (ofForm (gateForm c) (fields w))
-unfolding gateForm below
-words-back c w h =
-    let ps = map (λ (j : ℕ). isBound (65 + j)) (from 0 (c .pins)) ++ (isBound 79 ∷ []) in
-    subst (λ (x : List (List ℕ)). T (ofForm (same (text ".gate") ∷ same (nameOf c) ∷ ps) x)) (sym (h .areFields))
-    (form-fits (same (text ".gate") ∷ same (nameOf c) ∷ ps) (text ".gate" ∷ nameOf c ∷ h .nets)
-    (field (same-refl (text ".gate")) (field (same-refl (nameOf c)) (pins-fit 0 (c .pins) (h .nets) 65 refl (h .areNets)))))
-
 -- which listed cell a gate line is of
 record Listed (k : ℕ) (cs : List Cell) (w : List ℕ) (m : ℕ) : Type 0 where
   place : ℕ
@@ -107,7 +83,14 @@ record Listed (k : ℕ) (cs : List Cell) (w : List ℕ) (m : ℕ) : Type 0 where
 gate-listed : (k : ℕ) (cs : List Cell) (w : List ℕ) (m : ℕ) → gateOf k cs w ≡ some m → Listed k cs w m
 unfolding gateOf cellAt
 gate-listed k [] w m e = let z : _≡_ {A = ℕ} 0 1 = cc in absurd (omega arith)
-gate-listed k (c ∷ cs) w m e = go (ofForm (gateForm c) (fields w)) (words-form c w) e (gate-listed (suc k) cs w m)
+gate-listed k (c ∷ cs) w m e = go (ofForm (gateForm c) (fields w)) (unfold gateForm below in λ t. let ps = map (λ (j : ℕ). isBound (65 + j))
+    (from 0 (c .pins)) ++ (isBound 79 ∷ []) in let a = form-more (same (text ".gate")) (same (nameOf c) ∷ ps) (fields w) t in
+    let b = form-more (same (nameOf c)) ps (a .1) (a .4) in record {
+      nets = b .1;
+      areFields = a .2 ∙ ap₂ (λ (x : List ℕ) (y : List (List ℕ)). x ∷ y) (sym (same-eq (text ".gate") (a .0) (a .3)))
+          (b .2 ∙ ap (λ (x : List ℕ). x ∷ b .1) (sym (same-eq (nameOf c) (b .0) (b .3))));
+      areNets = pins-form 0 (c .pins) (b .1) (b .4);
+    }) e (gate-listed (suc k) cs w m)
   where
     go : (b : Bool) → (T b → Words c w) → cond b (some k) (gateOf (suc k) cs w) ≡ some m → (gateOf (suc k) cs w ≡ some m → Listed (suc k) cs w m) → Listed k (c ∷ cs) w m
     go true f q later = let z : k ≡ m = cc in record { place = 0; isPlace = omega arith; listed = omega arith; words = f tt }
@@ -136,9 +119,8 @@ wire-form w t =
     let a = form-more (same (text ".names")) (isPhaseNet ∷ isLabel 111 ∷ []) (fields w) t in
     let b = form-more isPhaseNet (isLabel 111 ∷ []) (a .1) (a .4) in
     let c = form-more (isLabel 111) [] (b .1) (b .4) in
-    let e : fields w ≡ text ".names" ∷ b .0 ∷ c .0 ∷ [] =
-    a .2 ∙ ap₂ (λ (x : List ℕ) (y : List (List ℕ)). x ∷ y) (sym (same-eq (text ".names") (a .0) (a .3)))
-    (b .2 ∙ ap (λ (y : List (List ℕ)). b .0 ∷ y) (c .2 ∙ ap (λ (y : List (List ℕ)). c .0 ∷ y) (form-end (c .1) (c .4)))) in
+    let e : fields w ≡ text ".names" ∷ b .0 ∷ c .0 ∷ [] = a .2 ∙ ap₂ (λ (x : List ℕ) (y : List (List ℕ)). x ∷ y)
+    (sym (same-eq (text ".names") (a .0) (a .3))) (cc (b .2, c .2, form-end (c .1) (c .4))) in
     (b .0, c .0, net-word (b .0) (b .3), label-word 111 (c .0) (c .3), of-fields w _ e)
 
 pub wire-free : (s : ℕ) → s < 33 → {v o : List ℕ} → PhaseNet v → Label 111 o → AllFree s (text ".names" ∷ v ∷ o ∷ [])
@@ -147,9 +129,8 @@ wire-free s h {v} n l = (word-free s h (text ".names") tt, (net-free s h v n, (l
 
 pub wire-back : {v o : List ℕ} → PhaseNet v → Label 111 o → T (isWire (joined (text ".names" ∷ v ∷ o ∷ [])))
 unfolding isWire
-wire-back {v} {o} n l =
-    line-fits (same (text ".names") ∷ isPhaseNet ∷ isLabel 111 ∷ []) (text ".names") (v ∷ o ∷ []) (wire-free 32 (lit< tt) n l)
-    (field (same-refl (text ".names")) (field (word-net v n) (field (word-label l) noField)))
+wire-back {v} {o} n l = line-fits (same (text ".names") ∷ isPhaseNet ∷ isLabel 111 ∷ []) (text ".names") (v ∷ o ∷ [])
+    (wire-free 32 (lit< tt) n l) (field (same-refl (text ".names")) (field (word-net v n) (field (word-label l) noField)))
 
 decimal-form : (n : ℕ) → Decimal (decimal n) n
 unfolding decimal
@@ -189,15 +170,11 @@ figures-free s h d e f = (
 pub figures-back : {gates area : ℕ} {g a t : List ℕ} → Decimal g gates → Decimal a area → AnyDigits t
     → T (isFigures gates area (joined (text "#" ∷ text "gates" ∷ g ∷ text "area" ∷ a ∷ text "arrival" ∷ t ∷ [])))
 unfolding isFigures
-figures-back {gates} {area} {g} {a} {t} d e f =
-    line-fits (same (text "#") ∷ same (text "gates") ∷ same (decimal gates) ∷ same (text "area") ∷ same (decimal area) ∷ same (text "arrival") ∷ areDigits ∷ []) (text "#")
-    (text "gates" ∷ g ∷ text "area" ∷ a ∷ text "arrival" ∷ t ∷ []) (figures-free 32 (lit< tt) d e f)
-    (field (same-refl (text "#"))
-    (field (same-refl (text "gates"))
-    (field (subst (λ (x : List ℕ). T (same (decimal gates) x)) (sym (decimal-only d)) (same-refl (decimal gates)))
-    (field (same-refl (text "area"))
-    (field (subst (λ (x : List ℕ). T (same (decimal area) x)) (sym (decimal-only e)) (same-refl (decimal area)))
-    (field (same-refl (text "arrival")) (field (word-digits f) noField)))))))
+figures-back {gates} {area} {g} {a} {t} d e f = line-fits (same (text "#") ∷ same (text "gates") ∷ same (decimal gates) ∷ same
+    (text "area") ∷ same (decimal area) ∷ same (text "arrival") ∷ areDigits ∷ []) (text "#")
+    (text "gates" ∷ g ∷ text "area" ∷ a ∷ text "arrival" ∷ t ∷ []) (figures-free 32 (lit< tt) d e f) (field (same-refl (text "#"))
+    (field (same-refl (text "gates")) (field (rw (decimal-only d) (same-refl (decimal gates))) (field (same-refl (text "area"))
+    (field (rw (decimal-only e) (same-refl (decimal area))) (field (same-refl (text "arrival")) (field (word-digits f) noField)))))))
 
 pub timing-form : (w : List ℕ) → T (isTiming w) → (o : List ℕ) × (l : List ℕ) × (h : List ℕ) × Label 111 o × AnyDigits l × AnyDigits h × (w ≡ joined (text "#" ∷ text "timing" ∷ o ∷ l ∷ h ∷ []))
 unfolding isTiming
@@ -206,12 +183,18 @@ timing-form w t =
     let x1 = form-more (same (text "timing")) (isLabel 111 ∷ areDigits ∷ areDigits ∷ []) (x0 .1) (x0 .4) in
     let x2 = form-more (isLabel 111) (areDigits ∷ areDigits ∷ []) (x1 .1) (x1 .4) in
     let x3 = form-more areDigits (areDigits ∷ []) (x2 .1) (x2 .4) in
-    let x4 = form-more areDigits [] (x3 .1) (x3 .4) in
-    let f : x1 .1 ≡ x2 .0 ∷ x3 .0 ∷ x4 .0 ∷ [] =
-    x2 .2 ∙ ap (λ (y : List (List ℕ)). x2 .0 ∷ y) (x3 .2 ∙ ap (λ (y : List (List ℕ)). x3 .0 ∷ y) (x4 .2 ∙ ap (λ (y : List (List ℕ)). x4 .0 ∷ y) (form-end (x4 .1) (x4 .4)))) in
-    let e1 : x0 .1 ≡ text "timing" ∷ x2 .0 ∷ x3 .0 ∷ x4 .0 ∷ [] = keyed (text "timing") (x1 .0) (x1 .1) (x0 .1) _ (x1 .2) (x1 .3) f in
-    let e0 : fields w ≡ text "#" ∷ text "timing" ∷ x2 .0 ∷ x3 .0 ∷ x4 .0 ∷ [] = keyed (text "#") (x0 .0) (x0 .1) (fields w) _ (x0 .2) (x0 .3) e1 in
-    (x2 .0, x3 .0, x4 .0, label-word 111 (x2 .0) (x2 .3), digits-word (x3 .0) (x3 .3), digits-word (x4 .0) (x4 .3), of-fields w _ e0)
+    let x4 = form-more areDigits [] (x3 .1) (x3 .4) in (
+      x2 .0,
+      x3 .0,
+      x4 .0,
+      label-word 111 (x2 .0) (x2 .3),
+      digits-word (x3 .0) (x3 .3),
+      digits-word (x4 .0) (x4 .3),
+      of-fields w _
+          (keyed (text "#") (x0 .0) (x0 .1) (fields w) _ (x0 .2) (x0 .3) (keyed (text "timing") (x1 .0) (x1 .1) (x0 .1) _ (x1 .2) (x1 .3) (x2 .2
+          ∙ ap (λ (y : List (List ℕ)). x2 .0 ∷ y)
+          (x3 .2 ∙ ap (λ (y : List (List ℕ)). x3 .0 ∷ y) (x4 .2 ∙ ap (λ (y : List (List ℕ)). x4 .0 ∷ y) (form-end (x4 .1) (x4 .4))))))),
+    )
 
 pub timing-free : (s : ℕ) → s < 33 → {o l h : List ℕ} → Label 111 o → AnyDigits l → AnyDigits h → AllFree s (text "#" ∷ text "timing" ∷ o ∷ l ∷ h ∷ [])
 unfolding text all
@@ -230,7 +213,7 @@ module _ (cells : List Cell) (fits : T (libraryFits cells)) where
   unfolding libraryFits cellAt
   cell-fits [] t i h = absurd (omega arith)
   cell-fits (c ∷ cs) t zero h = and-yes (cellFits c) (all (λ (d : Cell). not (same (nameOf c) (nameOf d))) cs && libraryFits cs) t .0
-  cell-fits (c ∷ cs) t (suc i) h = cell-fits cs (others-named c cs t .1) i (omega arith)
+  cell-fits (c ∷ cs) t (suc i) h = cell-fits cs (library-rest c cs t .1) i (omega arith)
 
   named-free : (s : ℕ) → s < 48 → (i : ℕ) → i < length cells → Free s (nameOf (cellAt cells i))
   unfolding cellFits
@@ -258,9 +241,15 @@ module _ (cells : List Cell) (fits : T (libraryFits cells)) where
   pub gate-back : (w : List ℕ) (i : ℕ) → GateWords cells w i → gateOf 0 cells w ≡ some i
   gate-back w i g =
       let x = gate-words w i g in
-      let m = gate-some 0 cells w i (g .listed) (words-back (cellAt cells i) w x) in
+      let m = gate-some 0 cells w i (g .listed) (unfold gateForm below in let ps = map (λ (j : ℕ). isBound (65 + j))
+      (from 0 (cellAt cells i .pins)) ++ (isBound 79 ∷ []) in rw (x .areFields)
+      (form-fits (same (text ".gate") ∷ same (nameOf (cellAt cells i)) ∷ ps) (text ".gate" ∷ nameOf (cellAt cells i) ∷ x .nets)
+      (field (same-refl (text ".gate"))
+      (field (same-refl (nameOf (cellAt cells i))) (pins-fit 0 (cellAt cells i .pins) (x .nets) 65 refl (x .areNets)))))) in
       let l = gate-listed 0 cells w (m .0) (m .1) in
-      let n : nameOf (cellAt cells (l .place)) ≡ nameOf (cellAt cells i) = head-eq-of-cons-eq (tail-eq-of-cons-eq (sym (l .words .areFields) ∙ x .areFields)) in
-      let z : l .place ≡ i = name-once cells fits (l .place) i (l .listed) (g .listed) n in
-      let q : m .0 ≡ i = omega (arith, l .isPlace, z) in
-      m .1 ∙ ap some q
+      m .1 ∙ ap some (omega (
+        arith,
+        l .isPlace,
+        (name-once cells fits (l .place) i (l .listed) (g .listed)
+            (head-eq-of-cons-eq (tail-eq-of-cons-eq (sym (l .words .areFields) ∙ x .areFields)))),
+      ))

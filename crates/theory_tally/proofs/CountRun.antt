@@ -2,8 +2,8 @@
 -- refused with 29 at its offset, a missing one at the text's length. Assumes nothing.
 use Prim.Native.Nat.{ℕ, zero, suc, _-_}
 use native.Mathlib.Omega.{arith}
-use mathlib.Core.Path.{_≡_, refl, sym, _∙_, ap, ap₂}
-use mathlib.Core.Bool.{Bool, true, false, not, cond, _&&_}
+use mathlib.Core.Path.{_≡_, refl, sym, _∙_, ap}
+use mathlib.Core.Bool.{Bool, true, false, cond, _&&_}
 use mathlib.Core.Option.{Option, none, some}
 use mathlib.Core.List.{List, [], _∷_, _++_, map, append-nil, append-assoc}
 use lib.Dec.{T, not-T}
@@ -22,6 +22,7 @@ use Rattle.theory_refusals.proofs.Results.{on, unless-yes, unless-no}
 use Rattle.theory_tally.specs.CountForms.{Due, modelDue, inputsDue, outputsDue, gateDue, wireDue, coverDue, figuresDue, timingDue}
 use Rattle.theory_tally.specs.CountRefusals.{Finished}
 use Rattle.theory_tally.proofs.CountSteps.{wireStep, timeStep, gateStep, stepOf, lineStep}
+use Rattle.theory_graph.proofs.Split.{by-option}
 
 -- ---- the tests behind the gates, one after the other
 
@@ -86,9 +87,8 @@ module _ (end : ℕ) (ranged : Bool) (cells : List Cell) where
   due-no : (p : List ℕ → Bool) (ps : List (List ℕ → Bool)) (l : Line) (ls : List Line) (f : List Line → Read (List ℕ)) → (T (endedByTen l) → ¬ T (p (l .bytes)))
       → next (dueLines end (p ∷ ps) (l ∷ ls)) f ≡ fault 29 (l .offset)
   unfolding dueLines next
-  due-no p ps l ls f n =
-      ap (λ (r : Read (List Line)). next r f)
-      (unless-no (endedByTen l && p (l .bytes)) 29 (l .offset) (dueLines end ps ls) (not-T (endedByTen l && p (l .bytes)) (λ t. let q = and-yes (endedByTen l) (p (l .bytes)) t in n (q .0) (q .1))))
+  due-no p ps l ls f n = cc (unless-no (endedByTen l && p (l .bytes)) 29 (l .offset) (dueLines end ps ls)
+      (not-T (endedByTen l && p (l .bytes)) (λ t. let q = and-yes (endedByTen l) (p (l .bytes)) t in n (q .0) (q .1))))
 
   due-none : (p : List ℕ → Bool) (ps : List (List ℕ → Bool)) (f : List Line → Read (List ℕ)) → next (dueLines end (p ∷ ps) []) f ≡ fault 29 end
   unfolding dueLines next
@@ -115,13 +115,10 @@ module _ (end : ℕ) (ranged : Bool) (cells : List Cell) where
   none-fails true a e t = let z : _≡_ {A = ℕ} 0 1 = cc in omega arith
   none-fails false a e t = t
 
-  behind-are : (n : ℕ) (us : List ℕ) → behindGates ranged n (length us) (areaOf cells us) ≡ pairTests n ++ tail n us
-  unfolding behindGates wirePairs below
-  behind-are n us = ap₂ (λ (x y : List (List ℕ → Bool)). x ++ (same (text ".end") ∷ isFigures (length us) (areaOf cells us) ∷ y)) (pairs-are 0 n) (timings-are ranged n)
-
   run-is : (n : ℕ) (us : List ℕ) (ls : List Line) → run n us ls ≡ left (wireDue n n us) ls
   unfolding left
-  run-is n us ls = ap (λ (ps : List (List ℕ → Bool)). next (dueLines end ps ls) (fin us)) (behind-are n us)
+  run-is n us ls = ap (λ (ps : List (List ℕ → Bool)). next (dueLines end ps ls) (fin us)) (unfold behindGates wirePairs below in cc
+      (pairs-are 0 n, timings-are ranged n))
 
   -- gate lines
   gated-some : (n : ℕ) (us : List ℕ) (l : Line) (ls : List Line) (i : ℕ) → gateIn cells l ≡ some i → gated n us (l ∷ ls) ≡ gated n (us ++ (i ∷ [])) ls
@@ -132,22 +129,13 @@ module _ (end : ℕ) (ranged : Bool) (cells : List Cell) where
 
   gated-none : (n : ℕ) (us : List ℕ) (l : Line) (ls : List Line) → gateIn cells l ≡ none → gated n us (l ∷ ls) ≡ left (wireDue n n us) (l ∷ ls)
   unfolding gatesIn afterGates
-  gated-none n us l ls e =
-      ap (λ (o : Option ℕ). run n (us ++ elim o [ some j ↦ j ∷ gatesIn cells ls | none ↦ [] ]) (elim o [ some j ↦ afterGates cells ls | none ↦ l ∷ ls ])) e
-      ∙ ap (λ (x : List ℕ). run n x (l ∷ ls)) (append-nil us)
+  gated-none n us l ls e = ap (λ (o : Option ℕ). run n (us ++ elim o [ some j ↦ j ∷ gatesIn cells ls | none ↦ [] ])
+      (elim o [ some j ↦ afterGates cells ls | none ↦ l ∷ ls ])) e ∙ ap (λ (x : List ℕ). run n x (l ∷ ls)) (append-nil us)
       ∙ run-is n us (l ∷ ls)
-
-  gated-end : (n : ℕ) (us : List ℕ) → gated n us [] ≡ left (wireDue n n us) []
-  unfolding gatesIn afterGates
-  gated-end n us = ap (λ (x : List ℕ). run n x []) (append-nil us) ∙ run-is n us []
 
   gate-in : (l : Line) → T (endedByTen l) → gateIn cells l ≡ gateOf 0 cells (l .bytes)
   unfolding gateIn
   gate-in l t = ap (λ (b : Bool). cond b (gateOf 0 cells (l .bytes)) none) (is-true (endedByTen l) t)
-
-  gate-open : (l : Line) → T (not (endedByTen l)) → gateIn cells l ≡ none
-  unfolding gateIn
-  gate-open l t = ap (λ (b : Bool). cond b (gateOf 0 cells (l .bytes)) none) (is-false (endedByTen l) t)
 
   wire-on : (k n : ℕ) (us : List ℕ) (l : Line) (ls : List Line) (e : Due) → T (endedByTen l) → wireStep k n us (l .bytes) ≡ some e → left (wireDue k n us) (l ∷ ls) ≡ left e ls
   unfolding left wireStep pairTests
@@ -172,11 +160,10 @@ module _ (end : ℕ) (ranged : Bool) (cells : List Cell) where
       let a = took outputsDue l e q in
       let p = only-out (isNameList (text ".outputs") 111 (l .bytes)) (gateDue (length (fields (l .bytes)) - 1) []) e (a .1) in
       due-yes (isNameList (text ".outputs") 111) [] l ls _ (a .0) (p .0) ∙ due-all ls _ ∙ ap (λ (d : Due). left d ls) (p .1)
-  goes-on (gateDue n us) l ls e q = let a = took (gateDue n us) l e q in go (gateOf 0 cells (l .bytes)) refl (a .0) (a .1)
-    where
-      go : (o : Option ℕ) → gateOf 0 cells (l .bytes) ≡ o → T (endedByTen l) → gateStep o n us (l .bytes) ≡ some e → gated n us (l ∷ ls) ≡ left e ls
-      go none f t r = unfold gateStep in gated-none n us l ls (gate-in l t ∙ f) ∙ wire-on n n us l ls e t r
-      go (some i) f t r = unfold gateStep left in (gated-some n us l ls i (gate-in l t ∙ f) ∙ (let z : gateDue n (us ++ (i ∷ [])) ≡ e = cc in ap (λ (d : Due). left d ls) z))
+  goes-on (gateDue n us) l ls e q = let a = took (gateDue n us) l e q in by-option (gateOf 0 cells (l .bytes))
+      (λ f. unfold gateStep in gated-none n us l ls (gate-in l (a .0) ∙ f) ∙ wire-on n n us l ls e (a .0) (rw f at (a .1))) (λ i p.
+      unfold gateStep left in
+      (gated-some n us l ls i (gate-in l (a .0) ∙ p) ∙ (let z : gateDue n (us ++ (i ∷ [])) ≡ e = cc in ap (λ (d : Due). left d ls) z)))
   goes-on (wireDue k n us) l ls e q = let a = took (wireDue k n us) l e q in wire-on k n us l ls e (a .0) (a .1)
   goes-on (coverDue k n us) l ls e q =
       let a = took (coverDue k n us) l e q in
@@ -203,16 +190,16 @@ module _ (end : ℕ) (ranged : Bool) (cells : List Cell) where
   stops inputsDue l ls q = due-no (isNameList (text ".inputs") 112) _ l ls _ (λ t. none-fails (isNameList (text ".inputs") 112 (l .bytes)) outputsDue (refused inputsDue l q t))
   stops outputsDue l ls q =
       due-no (isNameList (text ".outputs") 111) _ l ls _ (λ t. none-fails (isNameList (text ".outputs") 111 (l .bytes)) (gateDue (length (fields (l .bytes)) - 1) []) (refused outputsDue l q t))
-  stops (gateDue n us) l ls q = on (endedByTen l) (λ t. go (gateOf 0 cells (l .bytes)) refl t (refused (gateDue n us) l q t)) (λ t. gated-none n us l ls (gate-open l t) ∙ wire-off n n us l ls (λ u. absurd (lib.Dec.T-not (endedByTen l) t u)))
+  stops (gateDue n us) l ls q = on (endedByTen l) (λ t. go (gateOf 0 cells (l .bytes)) refl t (refused (gateDue n us) l q t)) (λ t. gated-none n us l ls (
+      unfold gateIn in cc (is-false (endedByTen l) t)) ∙ wire-off n n us l ls (λ u. absurd (lib.Dec.T-not (endedByTen l) t u)))
     where
       go : (o : Option ℕ) → gateOf 0 cells (l .bytes) ≡ o → T (endedByTen l) → gateStep o n us (l .bytes) ≡ none → gated n us (l ∷ ls) ≡ fault 29 (l .offset)
       go none f t r = unfold gateStep in gated-none n us l ls (gate-in l t ∙ f) ∙ wire-off n n us l ls (λ u. r)
       go (some i) f t r = unfold gateStep in let z : _≡_ {A = ℕ} 0 1 = cc in absurd (omega arith)
   stops (wireDue k n us) l ls q = wire-off k n us l ls (refused (wireDue k n us) l q)
   stops (coverDue k n us) l ls q = due-no (same (text "1 1")) _ l ls (fin us) (λ t. none-fails (same (text "1 1") (l .bytes)) (wireDue k n us) (refused (coverDue k n us) l q t))
-  stops (figuresDue n us) l ls q =
-      due-no (isFigures (length us) (areaOf cells us)) _ l ls (fin us)
-      (λ t. none-fails (isFigures (length us) (areaOf cells us) (l .bytes)) (timingDue (cond ranged n zero) us) (refused (figuresDue n us) l q t))
+  stops (figuresDue n us) l ls q = due-no (isFigures (length us) (areaOf cells us)) _ l ls (fin us) (λ t.
+      none-fails (isFigures (length us) (areaOf cells us) (l .bytes)) (timingDue (cond ranged n zero) us) (refused (figuresDue n us) l q t))
   stops (timingDue zero us) l ls q = unfold timeTests next dueLines nothingLeft in refl
   stops (timingDue (suc k) us) l ls q =
       unfold timeTests in due-no isTiming (timeTests k) l ls (fin us) (λ t. none-fails (isTiming (l .bytes)) (timingDue k us) (refused (timingDue (suc k) us) l q t))
@@ -229,7 +216,7 @@ module _ (end : ℕ) (ranged : Bool) (cells : List Cell) where
   ends modelDue f = due-none (same (text ".model top")) _ _
   ends inputsDue f = due-none (isNameList (text ".inputs") 112) _ _
   ends outputsDue f = due-none (isNameList (text ".outputs") 111) _ _
-  ends (gateDue n us) f = gated-end n us ∙ wire-end n n us
+  ends (gateDue n us) f = unfold gatesIn afterGates in ap (λ (x : List ℕ). run n x []) (append-nil us) ∙ run-is n us [] ∙ wire-end n n us
   ends (wireDue k n us) f = wire-end k n us
   ends (coverDue k n us) f = due-none (same (text "1 1")) _ (fin us)
   ends (figuresDue n us) f = due-none (isFigures (length us) (areaOf cells us)) _ (fin us)

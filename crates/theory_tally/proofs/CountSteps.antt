@@ -14,9 +14,9 @@ use Rattle.model.specs.Cells.{nameOf, cellAt}
 use Rattle.model.specs.NetlistLines.{isNameList, gateOf, isWire, isFigures, isTiming}
 use Rattle.model.specs.Tally.{areaOf}
 use Rattle.model.specs.declared.Cell.{Cell}
-use Rattle.theory_graph.proofs.Lists.{is-true, same-eq, same-refl}
+use Rattle.theory_graph.proofs.Lists.{same-eq, same-refl}
 use Rattle.theory_graph.specs.Accepted.{libraryFits}
-use Rattle.theory_text.proofs.Steps.{only-out}
+use Rattle.theory_text.proofs.Steps.{only-out, only-yes}
 use Rattle.theory_text.proofs.Plain.{Free}
 use Rattle.promises.specs.Forms.{joined}
 use Rattle.theory_refusals.proofs.FieldForms.{fields-joined, joined-free}
@@ -25,6 +25,7 @@ use Rattle.theory_tally.specs.CountForms.{Due, modelDue, inputsDue, outp
 use Rattle.theory_tally.proofs.DueMet.{no-gate}
 use Rattle.theory_tally.proofs.CountWords.{of-fields, labels-free, word-free}
 use Rattle.theory_tally.proofs.CountLines.{names-form, names-fields, names-back, wire-form, wire-free, wire-back, figures-form, figures-free, figures-back, timing-form, timing-free, timing-back, words-free, gate-form, gate-back}
+use Rattle.theory_graph.proofs.Split.{by-option}
 
 unfoldable pub wireStep : ℕ → ℕ → List ℕ → List ℕ → Option Due
 wireStep zero n us w = only (same (text ".end") w) (figuresDue n us)
@@ -52,14 +53,6 @@ stepOf ranged cells (timingDue k us) w = timeStep k us w
 abbrev pub lineStep : Bool → List Cell → Due → Line → Option Due
 lineStep ranged cells d l = andThen (only (closed true l) (l .bytes)) (stepOf ranged cells d)
 
--- a test that passes gives what it guards
-only-yes : {A : Type 0} (b : Bool) (a : A) → T b → only b a ≡ some a
-unfolding only
-only-yes b a t = ap (λ (x : Bool). only x a) (is-true b t)
-
-no-due : {d : Due} → _≡_ {A = Option Due} none (some d) → ⊥
-no-due e = let z : _≡_ {A = ℕ} 0 1 = cc in omega arith
-
 -- a line that is one text
 is-text : (key w : List ℕ) (d e : Due) → only (same key w) d ≡ some e → (key ≡ w) × (d ≡ e)
 is-text key w d e q = let p = only-out (same key w) d e q in (same-eq key w (p .0), p .1)
@@ -70,9 +63,7 @@ module _ (ranged : Bool) (cells : List Cell) (fits : T (libraryFits cells)) wher
 
   wire-step : (k n : ℕ) (us w : List ℕ) (e : Due) → wireStep k n us w ≡ some e → Step (wireDue k n us) w e
   unfolding wireStep
-  wire-step zero n us w e q =
-      let p = is-text (text ".end") w (figuresDue n us) e q in
-      subst (λ (x : List ℕ). Step (wireDue zero n us) x e) (p .0) (subst (Step (wireDue zero n us) (text ".end")) (p .1) end)
+  wire-step zero n us w e q = let p = is-text (text ".end") w (figuresDue n us) e q in rw (← p .0) (rw (← p .1) end)
   wire-step (suc k) n us w e q =
       let p = only-out (isWire w) (coverDue k n us) e q in
       let f = wire-form w (p .0) in
@@ -80,9 +71,7 @@ module _ (ranged : Bool) (cells : List Cell) (fits : T (libraryFits cells)) wher
 
   step-form : (d : Due) (w : List ℕ) (e : Due) → stepOf ranged cells d w ≡ some e → Step d w e
   unfolding stepOf timeStep gateStep
-  step-form modelDue w e q =
-      let p = is-text (text ".model top") w inputsDue e q in
-      subst (λ (x : List ℕ). Step modelDue x e) (p .0) (subst (Step modelDue (text ".model top")) (p .1) model)
+  step-form modelDue w e q = let p = is-text (text ".model top") w inputsDue e q in rw (← p .0) (rw (← p .1) model)
   step-form inputsDue w e q =
       let p = only-out (isNameList (text ".inputs") 112 w) outputsDue e q in
       let f = names-form (text ".inputs") 112 w (p .0) in
@@ -92,20 +81,15 @@ module _ (ranged : Bool) (cells : List Cell) (fits : T (libraryFits cells)) wher
       let f = names-form (text ".outputs") 111 w (p .0) in
       let z : length (f .0) ≡ length (fields w) - 1 = (let y : length (fields w) ≡ suc (length (f .0)) = ap length (f .2) in omega arith) in
       subst (λ (x : List ℕ). Step outputsDue x e) (sym (of-fields w _ (f .2))) (subst (Step outputsDue _) (ap (λ (n : ℕ). gateDue n []) z ∙ p .1) (outputs (f .1)))
-  step-form (gateDue n us) w e q = go (gateOf 0 cells w) refl q
-    where
-      go : (o : Option ℕ) → gateOf 0 cells w ≡ o → gateStep o n us w ≡ some e → Step (gateDue n us) w e
-      go none f r = unfold gateStep in behind (wire-step n n us w e r)
-      go (some i) f r = unfold gateStep in let z : gateDue n (us ++ (i ∷ [])) ≡ e = cc in subst (Step (gateDue n us) w) z (gate (gate-form cells fits w i f))
+  step-form (gateDue n us) w e q = by-option (gateOf 0 cells w) (λ f. unfold gateStep in behind (wire-step n n us w e (rw f at q))) (λ i p.
+      unfold gateStep in let z : gateDue n (us ++ (i ∷ [])) ≡ e = cc in subst (Step (gateDue n us) w) z (gate (gate-form cells fits w i p)))
   step-form (wireDue k n us) w e q = wire-step k n us w e q
-  step-form (coverDue k n us) w e q =
-      let p = is-text (text "1 1") w (wireDue k n us) e q in
-      subst (λ (x : List ℕ). Step (coverDue k n us) x e) (p .0) (subst (Step (coverDue k n us) (text "1 1")) (p .1) cover)
+  step-form (coverDue k n us) w e q = let p = is-text (text "1 1") w (wireDue k n us) e q in rw (← p .0) (rw (← p .1) cover)
   step-form (figuresDue n us) w e q =
       let p = only-out (isFigures (length us) (areaOf cells us) w) (timingDue (cond ranged n zero) us) e q in
       let f = figures-form (length us) (areaOf cells us) w (p .0) in
       subst (λ (x : List ℕ). Step (figuresDue n us) x e) (sym (f .6)) (subst (Step (figuresDue n us) _) (p .1) (figures (f .3) (f .4) (f .5)))
-  step-form (timingDue zero us) w e q = absurd (no-due q)
+  step-form (timingDue zero us) w e q = absurd (let z : _≡_ {A = ℕ} 0 1 = cc in omega arith)
   step-form (timingDue (suc k) us) w e q =
       let p = only-out (isTiming w) (timingDue k us) e q in
       let f = timing-form w (p .0) in

@@ -2,7 +2,7 @@
 use Prim.Native.Nat.{ℕ, suc, _≤_, _<_}
 use native.Mathlib.Omega.{arith}
 use mathlib.Core.Path.{_≡_, refl, sym, _∙_, ap, subst}
-use mathlib.Core.Logic.{_⊎_, inl, inr}
+use mathlib.Core.Logic.{_⊎_, inl, inr, ⊎-elim}
 use mathlib.Core.Bool.{Bool, _&&_}
 use mathlib.Core.List.{List, [], _∷_, List·Memᴰ, List·Memᴰ·head, List·Memᴰ·tail}
 use lib.Dec.{T, eqb, ltb, leb, lit<}
@@ -32,13 +32,9 @@ word-digits (someDigits {b} {w} h f) =
     yes-and (ltb 0 (suc (length w))) (between 48 57 b && all (between 48 57) w) (yes-ltb {a = 0} {b = suc (length w)} (omega arith))
     (yes-and (between 48 57 b) (all (between 48 57) w) (within-back 48 57 b h) (all-in (between 48 57) w (λ x m. within-back 48 57 x (f x m))))
 
-no-digits : T (areDigits []) → ⊥
-unfolding areDigits
-no-digits t = t
-
 pub label-word : (b : ℕ) (w : List ℕ) → T (isLabel b w) → Label b w
 unfolding isLabel
-label-word b [] t = absurd (no-digits (and-yes (eqb 0 b) (areDigits []) t .1))
+label-word b [] t = absurd (unfold areDigits in and-yes (eqb 0 b) (areDigits []) t .1)
 label-word b (x ∷ w) t = let p = and-yes (eqb x b) (areDigits w) t in subst (λ (y : ℕ). Label b (y ∷ w)) (sym (eqb-yes (p .0))) (label (digits-word w (p .1)))
 
 pub word-label : {b : ℕ} {w : List ℕ} → Label b w → T (isLabel b w)
@@ -47,11 +43,7 @@ word-label {b} (label {w} d) = yes-and (eqb b b) (areDigits w) (yes-eqb {a = b} 
 
 pub net-word : (w : List ℕ) → T (isPhaseNet w) → PhaseNet w
 unfolding isPhaseNet
-net-word w t = go (or-yes (isLabel 112 w) (isLabel 109 w) t)
-  where
-    go : T (isLabel 112 w) ⊎ T (isLabel 109 w) → PhaseNet w
-    go (inl h) = inl (label-word 112 w h)
-    go (inr h) = inr (label-word 109 w h)
+net-word w t = ⊎-elim (λ h. inl (label-word 112 w h)) (λ q. inr (label-word 109 w q)) (or-yes (isLabel 112 w) (isLabel 109 w) t)
 
 pub word-net : (w : List ℕ) → PhaseNet w → T (isPhaseNet w)
 unfolding isPhaseNet
@@ -78,11 +70,8 @@ word-gate-net (inner {w} n) = yes-or (isPhaseNet (115 ∷ w)) (isPhaseNet w) (in
 
 no-gate-net : T (isGateNet []) → ⊥
 unfolding isGateNet isInnerNet
-no-gate-net t = go (or-yes (isPhaseNet []) (eqb 0 115 && isPhaseNet []) t)
-  where
-    go : T (isPhaseNet []) ⊎ T (eqb 0 115 && isPhaseNet []) → ⊥
-    go (inl h) = no-net h
-    go (inr h) = no-net (and-yes (eqb 0 115) (isPhaseNet []) h .1)
+no-gate-net t = ⊎-elim no-net (λ q. no-net (and-yes (eqb 0 115) (isPhaseNet []) q .1))
+    (or-yes (isPhaseNet []) (eqb 0 115 && isPhaseNet []) t)
 
 pub bound-word : (b : ℕ) (w : List ℕ) → T (isBound b w) → Bound b w
 unfolding isBound

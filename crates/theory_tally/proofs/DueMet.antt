@@ -16,7 +16,6 @@ use Rattle.model.specs.NetlistLines.{isBound, ofForm, gateForm, gateOf}
 use Rattle.model.specs.Tally.{dueLines, gateIn, gatesIn, afterGates}
 use Rattle.model.specs.declared.Cell.{Cell}
 use Rattle.theory_graph.proofs.Lists.{same-refl}
-use Rattle.theory_text.proofs.LineLaws.{lineOfBytes}
 use Rattle.theory_tally.proofs.Worded.{placed}
 
 -- ---- due lines
@@ -39,8 +38,7 @@ unfolding dueLines placed unless
 due-met end at [] [] ls m = refl
 due-met end at [] (w ∷ ws) ls m = absurd m
 due-met end at (p ∷ ps) [] ls m = absurd m
-due-met end at (p ∷ ps) (w ∷ ws) ls m =
-    ap (λ (b : Bool). unless (true && b) 29 at (dueLines end ps (placed (at + suc (length w)) ws ++ ls))) (m .0) ∙ due-met end (at + suc (length w)) ps ws ls (m .1)
+due-met end at (p ∷ ps) (w ∷ ws) ls m = rw (m .0) (due-met end (at + suc (length w)) ps ws ls (m .1))
 
 -- ---- gate lines
 
@@ -57,18 +55,14 @@ module _ (cells : List Cell) (l : Line) (ls : List Line) (no : gateIn cells l �
   gates-met at [] [] a = ap (λ (o : Option ℕ). elim o [ some i ↦ i ∷ gatesIn cells ls | none ↦ [] ]) no
   gates-met at [] (i ∷ is) a = absurd a
   gates-met at (w ∷ ws) [] a = absurd a
-  gates-met at (w ∷ ws) (i ∷ is) a =
-      ap (λ (o : Option ℕ). elim o [ some k ↦ k ∷ gatesIn cells (placed (at + suc (length w)) ws ++ (l ∷ ls)) | none ↦ [] ]) (a .0)
-      ∙ ap (λ (ks : List ℕ). i ∷ ks) (gates-met (at + suc (length w)) ws is (a .1))
+  gates-met at (w ∷ ws) (i ∷ is) a = rw (a .0, gatesIn) (ap (λ (ks : List ℕ). i ∷ ks) (gates-met (at + suc (length w)) ws is (a .1)))
 
   pub behind-met : (at : ℕ) (ws : List (List ℕ)) (is : List ℕ) → AreGates cells ws is → afterGates cells (placed at ws ++ (l ∷ ls)) ≡ l ∷ ls
   unfolding afterGates placed gateIn
   behind-met at [] [] a = ap (λ (o : Option ℕ). elim o [ some i ↦ afterGates cells ls | none ↦ l ∷ ls ]) no
   behind-met at [] (i ∷ is) a = absurd a
   behind-met at (w ∷ ws) [] a = absurd a
-  behind-met at (w ∷ ws) (i ∷ is) a =
-      ap (λ (o : Option ℕ). elim o [ some k ↦ afterGates cells (placed (at + suc (length w)) ws ++ (l ∷ ls)) | none ↦ lineOfBytes at w ∷ placed (at + suc (length w)) ws ++ (l ∷ ls) ]) (a .0)
-      ∙ behind-met (at + suc (length w)) ws is (a .1)
+  behind-met at (w ∷ ws) (i ∷ is) a = rw (a .0, afterGates) (behind-met (at + suc (length w)) ws is (a .1))
 
 -- a line of another keyword is no gate's
 pub no-gate : (k : ℕ) (cs : List Cell) (l w : List ℕ) (ws : List (List ℕ)) → fields l ≡ w ∷ ws → same (text ".gate") w ≡ false → gateOf k cs l ≡ none
@@ -98,10 +92,9 @@ module _ (c : Cell) (l : List ℕ) (yes : ofForm (gateForm c) (fields l) ≡ tru
         isCell = f;
       }
       go false q f (List·Memᴰ·head s) later = absurd (subst T (sym (ap (λ (x : Cell). same (nameOf x) (nameOf c)) (sym s)) ∙ q) (same-refl (nameOf c)))
-      go false q f (List·Memᴰ·tail i) later =
-          let r = later i f in
-          record {
-            index = suc (r .index);
-            isGate = ap (λ (b : Bool). cond b (some k) (gateOf (suc k) cs l)) (no d q) ∙ r .isGate ∙ ap some (let z : suc k + r .index ≡ k + suc (r .index) = omega arith in z);
-            isCell = r .isCell;
-          }
+      go false q f (List·Memᴰ·tail i) later = record {
+        index = suc (later i f .index);
+        isGate = ap (λ (b : Bool). cond b (some k) (gateOf (suc k) cs l)) (no d q) ∙ (later i f) .isGate
+            ∙ ap some (let z : suc k + (later i f) .index ≡ k + suc (later i f .index) = omega arith in z);
+        isCell = (later i f) .isCell;
+      }

@@ -11,19 +11,19 @@ use mir.Facts.{and-yes}
 use Rattle.model.specs.Base.{each, same, andThen, only, from, below}
 use Rattle.model.specs.Text.{Line, endedByTen, text, decimal, parts, closing, linesFrom, fields, split, onto}
 use Rattle.model.specs.Reading.{holds}
-use Rattle.model.specs.Blif.{figure}
 use Rattle.model.specs.NetlistLines.{isNameList, isWire, isFigures, ofForm, ofList, isPhaseNet, isLabel, areDigits, isBound, gateForm, gateOf}
 use Rattle.model.specs.Cells.{nameOf}
 use Rattle.model.specs.Tally.{dueLines, nothingLeft, gateIn, gatesIn, afterGates, areaOf, frame, wirePairs, timings, behindGates, outputsOf, readCounted}
 use Rattle.model.specs.declared.Cell.{Cell}
 use Rattle.theory_graph.proofs.Lists.{is-true, same-eq}
-use Rattle.theory_text.proofs.Plain.{Free, free-append}
+use Rattle.theory_text.proofs.Plain.{Free, free-reverse}
 use Rattle.theory_text.proofs.LineLaws.{lines-step}
 use Rattle.theory_text.proofs.Steps.{holds-once, fault-never, unless-out, next-out}
 use Rattle.theory_text.proofs.ReadBack.{parts-line}
 use Rattle.theory_text.proofs.ReadFigures.{figure-back}
 use Rattle.theory_tally.specs.Sums.{GatesLine, beginsGates, gatesWords, gatesLine, figuresIn}
 use Rattle.theory_tally.proofs.DueMet.{Meets}
+use Rattle.theory_graph.proofs.Split.{by-bool, by-list}
 
 -- ---- lines that byte 10 alone ends are the parts between bytes 10
 
@@ -38,40 +38,26 @@ pub ten-append : (ls ms : List Line) → Ten ls → Ten ms → Ten (ls ++ ms)
 ten-append [] ms a b = b
 ten-append (l ∷ ls) ms a b = (a .0, ten-append ls ms (a .1) b)
 
-free-reverse : (s : ℕ) (w : List ℕ) → Free s w → Free s (reverse w)
-free-reverse s [] f = tt
-free-reverse s (b ∷ w) f = subst (Free s) (sym (reverse-cons b w)) (free-append s (reverse w) (b ∷ []) (free-reverse s w (f .1)) (f .0, tt))
-
 closed : (at : ℕ) (held : List ℕ) → T (endedByTen (closing at held)) → closing at held .bytes ≡ reverse held
 unfolding closing
 closed at [] t = refl
-closed at (h ∷ hs) t = go (eqb h 13) t
-  where
-    wide : Line
-    wide = record { offset = at; bytes = reverse hs; ending = 2 }
-
-    short : Line
-    short = record { offset = at; bytes = reverse (h ∷ hs); ending = 1 }
-
-    go : (b : Bool) → T (endedByTen (cond b wide short)) → cond b wide short .bytes ≡ reverse (h ∷ hs)
-    go true u = absurd u
-    go false u = refl
+closed at (h ∷ hs) t = by-bool (eqb h 13) (λ e. rw e (absurd (rw e at t))) (λ q. rw q)
 
 pub lines-parts : (at : ℕ) (held s : List ℕ) → Free 10 held → Ten (linesFrom at held s) → bytesOf (linesFrom at held s) ≡ parts 10 (reverse held ++ s)
 lines-parts at [] [] f t = unfold linesFrom parts in refl
 lines-parts at (h ∷ hs) [] f t = unfold linesFrom in absurd (t .0)
-lines-parts at held (b ∷ s) f t =
-    ap bytesOf (lines-step at held b s)
-    ∙ go (eqb b 10) refl (subst Ten (lines-step at held b s) t) (lines-parts (at + suc (length held)) [] s tt) (λ e. lines-parts at (b ∷ held) s (e, f))
+lines-parts at held (b ∷ s) f t = cc (
+  lines-step at held b s,
+  go (eqb b 10) refl (rw (← lines-step at held b s) t)
+      (lines-parts (at + suc (length held)) [] s tt) (λ e. lines-parts at (b ∷ held) s (e, f)),
+)
   where
     go : (x : Bool) → eqb b 10 ≡ x → Ten (cond x (closing at held ∷ linesFrom (at + suc (length held)) [] s) (linesFrom at (b ∷ held) s))
         → (Ten (linesFrom (at + suc (length held)) [] s) → bytesOf (linesFrom (at + suc (length held)) [] s) ≡ parts 10 s)
         → (eqb b 10 ≡ false → Ten (linesFrom at (b ∷ held) s) → bytesOf (linesFrom at (b ∷ held) s) ≡ parts 10 (reverse (b ∷ held) ++ s))
         → bytesOf (cond x (closing at held ∷ linesFrom (at + suc (length held)) [] s) (linesFrom at (b ∷ held) s)) ≡ parts 10 (reverse held ++ (b ∷ s))
     go true e u line more =
-        ap₂ (λ (w : List ℕ) (ws : List (List ℕ)). w ∷ ws) (closed at held (u .0)) (line (u .1))
-        ∙ sym (parts-line 10 (reverse held) s (free-reverse 10 held f))
-        ∙ ap (λ (c : ℕ). parts 10 (reverse held ++ (c ∷ s))) (sym (eqb→eq b 10 (subst T (sym e) tt)))
+        cc (closed at held (u .0), line (u .1), parts-line 10 (reverse held) s (free-reverse 10 held f), eqb→eq b 10 (rw e tt))
     go false e u line more = more e u ∙ ap (parts 10) (ap (λ (x : List ℕ). x ++ s) (reverse-cons b held) ∙ append-assoc (reverse held) (b ∷ []) s)
 
 -- ---- lines that are no `# gates` line
@@ -122,11 +108,8 @@ keys-first (k ∷ ks) ps (w ∷ ws) e =
 
 apart-list : (key : List ℕ) (b : ℕ) → same (text "#") key ≡ false → Apart (isNameList key b)
 unfolding isNameList ofList
-apart-list key b n w e = go (fields w) refl e
-  where
-    go : (ws : List (List ℕ)) → fields w ≡ ws → ofList key (isLabel b) ws ≡ true → Other w
-    go [] q t = absurd (subst T (sym t) tt)
-    go (v ∷ vs) q t = other-word w v vs q (subst (λ (k : List ℕ). same (text "#") k ≡ false) (same-eq key v (and-yes (same key v) _ (subst T (sym t) tt) .0)) n)
+apart-list key b n w e = by-list (fields w) (λ q. absurd (subst T (sym (rw q at e)) tt)) (λ v vs p. other-word w v vs p
+    (subst (λ (k : List ℕ). same (text "#") k ≡ false) (same-eq key v (and-yes (same key v) _ (subst T (sym (rw p at e)) tt) .0)) n))
 
 apart-wire : Apart isWire
 unfolding isWire
@@ -147,13 +130,9 @@ apart-pairs k (suc n) = (apart-wire, (apart-same (text "1 1") (unfold beginsGate
 other-gate : (k : ℕ) (cells : List Cell) (w : List ℕ) (i : ℕ) → gateOf k cells w ≡ some i → Other w
 unfolding gateOf gateForm
 other-gate k [] w i e = let z : _≡_ {A = ℕ} 0 1 = cc in absurd (omega arith)
-other-gate k (c ∷ cs) w i e = go (ofForm (gateForm c) (fields w)) refl e (other-gate (suc k) cs w i)
-  where
-    go : (b : Bool) → ofForm (gateForm c) (fields w) ≡ b → cond b (some k) (gateOf (suc k) cs w) ≡ some i → (gateOf (suc k) cs w ≡ some i → Other w) → Other w
-    go true f q later =
-        let r = keys-first (text ".gate" ∷ []) (same (nameOf c) ∷ map (λ (j : ℕ). isBound (65 + j)) (below (c .pins)) ++ (isBound 79 ∷ [])) (fields w) f in
-        other-word w (text ".gate") (r .0) (r .1) (unfold same text in refl)
-    go false f q later = later q
+other-gate k (c ∷ cs) w i e = by-bool (ofForm (gateForm c) (fields w)) (λ f. let r = keys-first (text ".gate" ∷ [])
+    (same (nameOf c) ∷ map (λ (j : ℕ). isBound (65 + j)) (below (c .pins)) ++ (isBound 79 ∷ [])) (fields w) f in other-word w (text ".gate")
+    (r .0) (r .1) (unfold same text in refl)) (λ q. other-gate (suc k) cs w i (rw q at e))
 
 -- ---- the lines of a counted netlist
 
@@ -218,19 +197,17 @@ module _ (n a : ℕ) where
       → (beginsGates ws ≡ true) × (gatesLine ws ≡ some said)
   unfolding said
   figures-said ws e =
-      let r = keys-first (text "#" ∷ text "gates" ∷ decimal n ∷ text "area" ∷ decimal a ∷ []) (same (text "arrival") ∷ areDigits ∷ []) ws e in (
+      let r = keys-first (text "#" ∷ text "gates" ∷ decimal n ∷ text "area" ∷ decimal a ∷ [])
+      (same (text "arrival") ∷ areDigits ∷ []) ws e in (
         ap beginsGates (r .1) ∙ (unfold beginsGates same text in refl),
-        ap gatesLine (r .1) ∙ (unfold gatesLine same text andThen only in
-            (ap (λ (o : Option ℕ). andThen o (λ g. andThen (figure (decimal a)) (λ x. some (record { gates = g; area = x })))) (figure-back n)
-            ∙ ap (λ (o : Option ℕ). andThen o (λ x. some (record { gates = n; area = x }))) (figure-back a))),
+        ap gatesLine (r .1)
+            ∙ (unfold gatesLine same text andThen only in (cc (figure-back n, figure-back a))),
       )
 
   figures-first : (qs : List (List ℕ → Bool)) (ws : List (List ℕ)) → Meets (isFigures n a ∷ qs) ws → gatesLine (gatesWords ws) ≡ some said
   unfolding gatesWords isFigures
   figures-first qs [] m = absurd m
-  figures-first qs (w ∷ ws) m =
-      let r = figures-said (fields w) (m .0) in
-      ap (λ (b : Bool). gatesLine (cond b (fields w) (gatesWords ws))) (r .0) ∙ r .1
+  figures-first qs (w ∷ ws) m = let r = figures-said (fields w) (m .0) in cc (r .0, r .1)
 
   behind-figures : (ranged : Bool) (outs : ℕ) (ws : List (List ℕ)) → Meets (behindGates ranged outs n a) ws → gatesLine (gatesWords ws) ≡ some said
   unfolding behindGates wirePairs below

@@ -6,11 +6,11 @@ use mathlib.Core.Path.{_≡_, refl, sym, _∙_, ap, ap₂, subst}
 use mathlib.Core.Bool.{Bool, true, false, not, cond, _&&_}
 use mathlib.Core.Option.{Option, none, some}
 use mathlib.Core.List.{List, [], _∷_, _++_, map, map-append, append-nil, List·Memᴰ, List·Memᴰ·head, List·Memᴰ·tail}
-use lib.Dec.{T, eqb}
+use lib.Dec.{T, eqb, T-not}
 use lib.ListN.{length, getD}
 use borrow.Author.Tests.{eq-eqb, ne-eqb}
 use mir.Facts.{and-yes}
-use Rattle.model.specs.Base.{all, each, same, from, below}
+use Rattle.model.specs.Base.{each, same, from, below}
 use Rattle.model.specs.Text.{Line, endedByTen, text, decimal, linesFrom, fields, split, onto}
 use Rattle.model.specs.Reading.{holds}
 use Rattle.model.specs.Cells.{nameOf, cellAt}
@@ -19,12 +19,14 @@ use Rattle.model.specs.NetlistLines.{isNameList, isWire, isFigures, isTiming, o
 use Rattle.model.specs.Tally.{dueLines, nothingLeft, gateIn, gatesIn, afterGates, areaOf, frame, wirePairs, timings, behindGates, outputsOf, readCounted, times}
 use Rattle.model.specs.declared.Cell.{Cell}
 use Rattle.theory_graph.proofs.Lists.{is-true, same-eq, same-refl, all-of, by-eqb}
-use Rattle.theory_graph.specs.Accepted.{cellFits, libraryFits}
+use Rattle.theory_graph.specs.Accepted.{libraryFits}
 use Rattle.theory_text.proofs.Steps.{holds-once, next-out}
 use Rattle.theory_text.proofs.ReadLibrary.{library-fits}
 use Rattle.theory_tally.specs.TallyDemands.{namesCell, linesNaming, gatesNaming}
 use Rattle.theory_tally.proofs.DueMet.{Meets, AreGates}
 use Rattle.theory_tally.proofs.FiguresIn.{bytesOf, Ten, ten-append, lines-parts, keys-first, due-out, left-out}
+use Rattle.theory_graph.proofs.Split.{by-bool, by-list, by-option}
+use Rattle.theory_text.proofs.Names.{library-rest}
 
 -- ---- no two cells share a name
 
@@ -35,28 +37,18 @@ at-listed [] i h = absurd (omega arith)
 at-listed (c ∷ cs) zero h = List·Memᴰ·head refl
 at-listed (c ∷ cs) (suc i) h = List·Memᴰ·tail (at-listed cs i (omega arith))
 
-pub others-named : (c : Cell) (cs : List Cell) → T (libraryFits (c ∷ cs)) → T (all (λ (d : Cell). not (same (nameOf c) (nameOf d))) cs) × T (libraryFits cs)
-unfolding libraryFits
-others-named c cs t =
-    and-yes (all (λ (d : Cell). not (same (nameOf c) (nameOf d))) cs) (libraryFits cs)
-    (and-yes (cellFits c) (all (λ (d : Cell). not (same (nameOf c) (nameOf d))) cs && libraryFits cs) t .1)
-
-not-both : (b : Bool) → T (not b) → T b → ⊥
-not-both true n t = n
-not-both false n t = t
-
 pub name-once : (cells : List Cell) → T (libraryFits cells) → (i k : ℕ) → i < length cells → k < length cells
     → nameOf (cellAt cells i) ≡ nameOf (cellAt cells k) → i ≡ k
 unfolding cellAt
 name-once [] t i k hi hk e = absurd (omega arith)
 name-once (c ∷ cs) t zero zero hi hk e = refl
 name-once (c ∷ cs) t zero (suc k) hi hk e =
-    let n = all-of (λ (d : Cell). not (same (nameOf c) (nameOf d))) cs (others-named c cs t .0) (cellAt cs k) (at-listed cs k (omega arith)) in
-    absurd (not-both (same (nameOf c) (nameOf (cellAt cs k))) n (subst (λ (w : List ℕ). T (same (nameOf c) w)) e (same-refl (nameOf c))))
+    let n = all-of (λ (d : Cell). not (same (nameOf c) (nameOf d))) cs (library-rest c cs t .0) (cellAt cs k) (at-listed cs k (omega arith)) in
+    absurd (T-not (same (nameOf c) (nameOf (cellAt cs k))) n (subst (λ (w : List ℕ). T (same (nameOf c) w)) e (same-refl (nameOf c))))
 name-once (c ∷ cs) t (suc i) zero hi hk e =
-    let n = all-of (λ (d : Cell). not (same (nameOf c) (nameOf d))) cs (others-named c cs t .0) (cellAt cs i) (at-listed cs i (omega arith)) in
-    absurd (not-both (same (nameOf c) (nameOf (cellAt cs i))) n (subst (λ (w : List ℕ). T (same (nameOf c) w)) (sym e) (same-refl (nameOf c))))
-name-once (c ∷ cs) t (suc i) (suc k) hi hk e = ap suc (name-once cs (others-named c cs t .1) i k (omega arith) (omega arith) e)
+    let n = all-of (λ (d : Cell). not (same (nameOf c) (nameOf d))) cs (library-rest c cs t .0) (cellAt cs i) (at-listed cs i (omega arith)) in
+    absurd (T-not (same (nameOf c) (nameOf (cellAt cs i))) n (subst (λ (w : List ℕ). T (same (nameOf c) w)) (sym e) (same-refl (nameOf c))))
+name-once (c ∷ cs) t (suc i) (suc k) hi hk e = ap suc (name-once cs (library-rest c cs t .1) i k (omega arith) (omega arith) e)
 
 name-tells : (cells : List Cell) → T (libraryFits cells) → (i k : ℕ) → i < length cells → k < length cells
     → same (nameOf (cellAt cells i)) (nameOf (cellAt cells k)) ≡ eqb i k
@@ -96,11 +88,8 @@ line-names : (cells : List Cell) → T (libraryFits cells) → (i k : ℕ) (w : 
 unfolding namesCell
 line-names cells t i k w h e =
     let s = gate-says 0 cells w k e in
-    let z : k ≡ s .place = omega (arith, s .isPlace) in
     ap (λ (ws : List (List ℕ)). same (text ".gate") (getD ws 0 []) && same (nameOf (cellAt cells i)) (getD ws 1 [])) (s .words)
-    ∙ (unfold same text in refl)
-    ∙ name-tells cells t i (s .place) h (s .listed)
-    ∙ ap (eqb i) (sym z)
+    ∙ (unfold same text in refl) ∙ name-tells cells t i (s .place) h (s .listed) ∙ ap (eqb i) (sym (omega (arith, s .isPlace)))
 
 gates-named : (cells : List Cell) → T (libraryFits cells) → (i : ℕ) → i < length cells → (ws : List (List ℕ)) (is : List ℕ) → AreGates cells ws is
     → linesNaming (nameOf (cellAt cells i)) ws ≡ times i is
@@ -108,8 +97,7 @@ unfolding linesNaming times
 gates-named cells t i h [] [] a = refl
 gates-named cells t i h [] (k ∷ is) a = absurd a
 gates-named cells t i h (w ∷ ws) [] a = absurd a
-gates-named cells t i h (w ∷ ws) (k ∷ is) a =
-    ap₂ (λ (b : Bool) (r : ℕ). cond b (suc r) r) (line-names cells t i k w h (a .0)) (gates-named cells t i h ws is (a .1))
+gates-named cells t i h (w ∷ ws) (k ∷ is) a = cc (line-names cells t i k w h (a .0), gates-named cells t i h ws is (a .1))
 
 -- ---- the other lines name no cell
 
@@ -132,8 +120,7 @@ unfolding linesNaming namesCell
 none-named name [] [] a m = refl
 none-named name [] (w ∷ ws) a m = absurd m
 none-named name (p ∷ ps) [] a m = absurd m
-none-named name (p ∷ ps) (w ∷ ws) a m =
-    ap₂ (λ (b : Bool) (r : ℕ). cond (b && same name (getD (fields w) 1 [])) (suc r) r) (a .0 w (m .0)) (none-named name ps ws (a .1) (m .1))
+none-named name (p ∷ ps) (w ∷ ws) a m = cc (a .0 w (m .0), none-named name ps ws (a .1) (m .1))
 
 never-same : (v : List ℕ) → NoGate v → Never (same v)
 never-same v o w e = subst NoGate (same-eq v w (subst T (sym e) tt)) o
@@ -143,11 +130,8 @@ never-word w v vs e n = ap (λ (ws : List (List ℕ)). same (text ".gate") (getD
 
 never-list : (key : List ℕ) (b : ℕ) → same (text ".gate") key ≡ false → Never (isNameList key b)
 unfolding isNameList ofList
-never-list key b n w e = go (fields w) refl e
-  where
-    go : (ws : List (List ℕ)) → fields w ≡ ws → ofList key (isLabel b) ws ≡ true → NoGate w
-    go [] q t = absurd (subst T (sym t) tt)
-    go (v ∷ vs) q t = never-word w v vs q (subst (λ (k : List ℕ). same (text ".gate") k ≡ false) (same-eq key v (and-yes (same key v) _ (subst T (sym t) tt) .0)) n)
+never-list key b n w e = by-list (fields w) (λ q. absurd (subst T (sym (rw q at e)) tt)) (λ v vs p. never-word w v vs p
+    (subst (λ (k : List ℕ). same (text ".gate") k ≡ false) (same-eq key v (and-yes (same key v) _ (subst T (sym (rw p at e)) tt) .0)) n))
 
 never-form : (key : List ℕ) (ps : List (List ℕ → Bool)) → same (text ".gate") key ≡ false → Never (λ (w : List ℕ). ofForm (same key ∷ ps) (fields w))
 never-form key ps n w e = let r = keys-first (key ∷ []) ps (fields w) e in never-word w key (r .0) (r .1) n
@@ -197,37 +181,30 @@ record AllGates (cells : List Cell) (ls : List Line) : Type 0 where
 all-gates : (cells : List Cell) (ls : List Line) → AllGates cells ls
 unfolding afterGates gatesIn gateIn
 all-gates cells [] = record { passed = []; areThese = refl; ten = tt; are = tt }
-all-gates cells (l ∷ ls) = go (gateIn cells l) refl (all-gates cells ls)
+all-gates cells (l ∷ ls) = by-option (gateIn cells l) (λ e. record {
+  passed = [];
+  areThese = sym (ap (λ (x : Option ℕ). elim x [ some i ↦ afterGates cells ls | none ↦ l ∷ ls ]) e);
+  ten = tt;
+  are = subst (AreGates cells []) (sym (ap (λ (x : Option ℕ). elim x [ some i ↦ i ∷ gatesIn cells ls | none ↦ [] ]) e)) tt;
+}) (λ i q. let g = gate (endedByTen l) i refl q in record {
+  passed = l ∷ (all-gates cells ls) .passed;
+  areThese = ap (λ (xs : List Line). l ∷ xs) (all-gates cells ls .areThese)
+      ∙ ap (λ (xs : List Line). l ∷ (all-gates cells ls .passed ++ xs))
+      (sym (ap (λ (x : Option ℕ). elim x [ some j ↦ afterGates cells ls | none ↦ l ∷ ls ]) q));
+  ten = (g .0, (all-gates cells ls) .ten);
+  are = subst (AreGates cells (l .bytes ∷ bytesOf (all-gates cells ls .passed)))
+      (sym (ap (λ (x : Option ℕ). elim x [ some j ↦ j ∷ gatesIn cells ls | none ↦ [] ]) q)) (g .1, (all-gates cells ls) .are);
+})
   where
     gate : (b : Bool) (i : ℕ) → endedByTen l ≡ b → cond b (gateOf 0 cells (l .bytes)) none ≡ some i → T (endedByTen l) × (gateOf 0 cells (l .bytes) ≡ some i)
     gate true i q e = (subst T (sym q) tt, e)
     gate false i q e = let z : _≡_ {A = ℕ} 0 1 = cc in absurd (omega arith)
 
-    go : (o : Option ℕ) → gateIn cells l ≡ o → AllGates cells ls → AllGates cells (l ∷ ls)
-    go none e later = record {
-      passed = [];
-      areThese = sym (ap (λ (x : Option ℕ). elim x [ some i ↦ afterGates cells ls | none ↦ l ∷ ls ]) e);
-      ten = tt;
-      are = subst (AreGates cells []) (sym (ap (λ (x : Option ℕ). elim x [ some i ↦ i ∷ gatesIn cells ls | none ↦ [] ]) e)) tt;
-    }
-    go (some i) e later =
-        let g = gate (endedByTen l) i refl e in
-        record {
-          passed = l ∷ later .passed;
-          areThese = ap (λ (xs : List Line). l ∷ xs) (later .areThese) ∙ ap (λ (xs : List Line). l ∷ (later .passed ++ xs)) (sym (ap (λ (x : Option ℕ). elim x [ some j ↦ afterGates cells ls | none ↦ l ∷ ls ]) e));
-          ten = (g .0, later .ten);
-          are = subst (AreGates cells (l .bytes ∷ bytesOf (later .passed))) (sym (ap (λ (x : Option ℕ). elim x [ some j ↦ j ∷ gatesIn cells ls | none ↦ [] ]) e)) (g .1, later .are);
-        }
-
 naming-append : (name : List ℕ) (ws vs : List (List ℕ)) → linesNaming name (ws ++ vs) ≡ linesNaming name ws + linesNaming name vs
 unfolding linesNaming
 naming-append name [] vs = sym (zero-add (linesNaming name vs))
-naming-append name (w ∷ ws) vs = go (namesCell name w) (naming-append name ws vs)
-  where
-    go : (b : Bool) → linesNaming name (ws ++ vs) ≡ linesNaming name ws + linesNaming name vs
-        → cond b (suc (linesNaming name (ws ++ vs))) (linesNaming name (ws ++ vs)) ≡ cond b (suc (linesNaming name ws)) (linesNaming name ws) + linesNaming name vs
-    go true h = omega arith
-    go false h = h
+naming-append name (w ∷ ws) vs = by-bool (namesCell name w) (λ e. rw e (omega (arith, naming-append name ws vs)))
+    (λ q. rw q (naming-append name ws vs))
 
 -- the gates that are counted of a cell are the netlist's lines that name it
 pub used-named : (library : List ℕ) (cells : List Cell) → readLibrary library ≡ holds cells → (ranged : Bool) (s used : List ℕ) → readCounted ranged cells s ≡ holds used
@@ -251,8 +228,5 @@ used-named library cells lib ranged s used e i hi =
     (naming-append name (bytesOf (g .passed)) (bytesOf (h .passed))
     ∙ ap₂ (λ (x y : ℕ). x + y) (gates-named cells (library-fits library cells lib) i hi (bytesOf (g .passed)) (gatesIn cells (a .0)) (g .are))
     (none-named name (behindGates ranged (outputsOf (linesFrom 0 [] s)) (length (gatesIn cells (a .0))) (areaOf cells (gatesIn cells (a .0)))) (bytesOf (h .passed)) (never-behind ranged (outputsOf (linesFrom 0 [] s)) (length (gatesIn cells (a .0))) (areaOf cells (gatesIn cells (a .0)))) (h .met)))
-    ∙ plain (times i (gatesIn cells (a .0)))
+    ∙ (omega arith)
     ∙ ap (times i) (holds-once (c .2))
-  where
-    plain : (n : ℕ) → 0 + (n + 0) ≡ n
-    plain n = omega arith

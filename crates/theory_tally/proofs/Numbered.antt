@@ -8,7 +8,6 @@ use Rattle.model.specs.Text.{Line, endedByTen, linesFrom}
 use Rattle.model.specs.Reading.{holds}
 use Rattle.model.specs.LibraryText.{readLibrary, isRanged}
 use Rattle.model.specs.Tally.{inWidth, dueLines, nothingLeft, gatesIn, afterGates, areaOf, frame, behindGates, outputsOf, readCounted, counted, countText, reportText, reportOf}
-use Rattle.model.specs.declared.Cell.{Cell}
 use Rattle.model.specs.declared.Tally.{Tally}
 use Rattle.theory_text.proofs.Faults.{Faults, in-holds, in-fault, in-unless, in-next, library-faults}
 
@@ -26,29 +25,25 @@ unfolding nothingLeft
 left-numbered [] = in-holds Numbered []
 left-numbered (l ∷ ls) = in-fault Numbered 29 (l .offset) (lit< tt)
 
-read-numbered : (ranged : Bool) (cells : List Cell) (s : List ℕ) → Faults Numbered (readCounted ranged cells s)
-unfolding readCounted
-read-numbered ranged cells s =
-    in-next Numbered (dueLines (length s) frame (linesFrom 0 [] s)) _ (due-numbered (length s) frame (linesFrom 0 [] s)) (λ ms _.
-    in-next Numbered (dueLines (length s) (behindGates ranged (outputsOf (linesFrom 0 [] s)) (length (gatesIn cells ms)) (areaOf cells (gatesIn cells ms))) (afterGates cells ms)) _
-    (due-numbered (length s) (behindGates ranged (outputsOf (linesFrom 0 [] s)) (length (gatesIn cells ms)) (areaOf cells (gatesIn cells ms))) (afterGates cells ms)) (λ rest _.
-    in-next Numbered (nothingLeft rest) (λ _. holds (gatesIn cells ms)) (left-numbered rest) (λ x _. in-holds Numbered (gatesIn cells ms))))
-
 library-numbered : (library : List ℕ) → Faults Numbered (readLibrary library)
 library-numbered library = library-faults Numbered (lit< tt) (λ k. lit< tt) (λ k. lit< tt) (λ k. lit< tt) (λ k. lit< tt) (λ k. lit< tt) library
 
 pub count-numbered : (t : Tally) (library netlist : List ℕ) → Faults Numbered (countText t library netlist)
 unfolding countText
-count-numbered t library netlist =
-    in-unless Numbered (leb (length library) 65536 && leb (length netlist) 65536) 1 0 _ (λ _. lit< tt)
-    (in-next Numbered (readLibrary library) _ (library-numbered library) (λ cells _.
-    in-unless Numbered (ltb (t .netlists) 64 && inWidth t) 28 64 _ (λ _. lit< tt)
-    (in-next Numbered (readCounted (isRanged library) cells netlist) _ (read-numbered (isRanged library) cells netlist) (λ used _. in-holds Numbered (counted cells used t)))))
+count-numbered t library netlist = in-unless Numbered (leb (length library) 65536 && leb (length netlist) 65536) 1 0 _ (λ _. lit< tt)
+    (in-next Numbered (readLibrary library) _ (library-numbered library) (λ cells _. in-unless Numbered
+    (ltb (t .netlists) 64 && inWidth t) 28 64 _ (λ _. lit< tt) (in-next Numbered (readCounted (isRanged library) cells netlist) _
+    (unfold readCounted in in-next Numbered (dueLines (length netlist) frame (linesFrom 0 [] netlist)) _
+    (due-numbered (length netlist) frame (linesFrom 0 [] netlist)) (λ ms _. in-next Numbered (dueLines (length netlist)
+    (behindGates (isRanged library) (outputsOf (linesFrom 0 [] netlist)) (length (gatesIn cells ms)) (areaOf cells (gatesIn cells ms)))
+    (afterGates cells ms)) _ (due-numbered (length netlist)
+    (behindGates (isRanged library) (outputsOf (linesFrom 0 [] netlist)) (length (gatesIn cells ms)) (areaOf cells (gatesIn cells ms)))
+    (afterGates cells ms)) (λ rest _. in-next Numbered (nothingLeft rest) (λ _. holds (gatesIn cells ms)) (left-numbered rest)
+    (λ x _. in-holds Numbered (gatesIn cells ms))))) (λ used _. in-holds Numbered (counted cells used t)))))
 
 pub report-numbered : (t : Tally) (library : List ℕ) (bytes : ℕ) → Faults Numbered (reportOf t library bytes)
 unfolding reportOf
-report-numbered t library bytes =
-    in-unless Numbered (leb (length library) 65536) 1 0 _ (λ _. lit< tt)
-    (in-next Numbered (readLibrary library) _ (library-numbered library) (λ cells _.
-    in-unless Numbered (inWidth t) 28 64 _ (λ _. lit< tt)
-    (in-unless Numbered (leb (length (reportText cells t)) bytes) 18 (length (reportText cells t)) (holds (reportText cells t)) (λ _. lit< tt) (in-holds Numbered (reportText cells t)))))
+report-numbered t library bytes = in-unless Numbered (leb (length library) 65536) 1 0 _ (λ _. lit< tt) (in-next Numbered
+    (readLibrary library) _ (library-numbered library) (λ cells _. in-unless Numbered (inWidth t) 28 64 _ (λ _. lit< tt) (in-unless Numbered
+    (leb (length (reportText cells t)) bytes) 18 (length (reportText cells t)) (holds (reportText cells t)) (λ _. lit< tt)
+    (in-holds Numbered (reportText cells t)))))

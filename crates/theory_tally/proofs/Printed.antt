@@ -2,15 +2,14 @@
 use Prim.Native.Nat.{ℕ, suc, _+_, _-_, _≤_, _<_}
 use native.Mathlib.Omega.{arith}
 use mathlib.Core.Path.{_≡_, refl, sym, _∙_, ap, ap₂, subst}
-use mathlib.Core.Bool.{Bool, true, false, _&&_, _||_}
+use mathlib.Core.Bool.{Bool, true, false}
 use mathlib.Core.Option.{none}
 use mathlib.Core.List.{List, [], _∷_, _++_, map, append-nil, List·Memᴰ, List·Memᴰ·head, List·Memᴰ·tail}
-use lib.Dec.{T, eqb, leb}
+use lib.Dec.{T}
 use lib.ListN.{length}
 use borrow.Author.Tests.{le-leb, lt-ltb}
-use mir.Facts.{and-yes, yes-and}
-use Rattle.model.specs.Base.{all, each, same, from, below}
-use Rattle.model.specs.Text.{Line, text, linesFrom, split, onto, fields, between, isLetter, isNameByte, isName}
+use Rattle.model.specs.Base.{each, same, from, below}
+use Rattle.model.specs.Text.{Line, text, linesFrom, split, onto, fields}
 use Rattle.model.specs.Reading.{Read, holds, next, unless}
 use Rattle.model.specs.Cells.{nameOf, cellAt}
 use Rattle.model.specs.LibraryText.{readLibrary, isRanged}
@@ -20,7 +19,7 @@ use Rattle.model.specs.Netlist.{Gate, outName, sum, figuresOf}
 use Rattle.model.specs.Timing.{lowOf}
 use Rattle.model.specs.Mapper.{Call, readTexts}
 use Rattle.model.specs.Demands.{choiceText, choiceFigures, printedText}
-use Rattle.model.specs.Tally.{inWidth, frame, wirePairs, timings, behindGates, outputsOf, areaOf, gateIn, gatesIn, afterGates, dueLines, nothingLeft, readCounted, counted, countText}
+use Rattle.model.specs.Tally.{inWidth, frame, timings, behindGates, outputsOf, areaOf, gateIn, gatesIn, afterGates, dueLines, nothingLeft, readCounted, counted, countText}
 use Rattle.model.specs.NetlistLines.{isWire}
 use Rattle.model.specs.declared.Cell.{Cell}
 use Rattle.model.specs.declared.Figures.{Figures}
@@ -28,7 +27,7 @@ use Rattle.model.specs.declared.Tally.{Tally}
 use Rattle.theory_graph.specs.Accepted.{Accepted, libraryFits}
 use Rattle.theory_graph.proofs.Distinct.{length-map, length-from}
 use Rattle.theory_text.proofs.LineLaws.{lineOfBytes}
-use Rattle.theory_text.proofs.Plain.{bytes-free}
+use Rattle.theory_text.proofs.Plain.{name-clear, Clear}
 use Rattle.theory_text.proofs.Steps.{holds-once}
 use Rattle.theory_text.proofs.ReadTexts.{texts-read, design-accepted}
 use Rattle.theory.proofs.Numbered.{Fitting}
@@ -39,7 +38,7 @@ use Rattle.theory_text.proofs.Names.{named-cell}
 use Rattle.theory_text.proofs.ReadBack.{outputNames}
 use Rattle.theory_tally.specs.Sums.{Grown, CountsPrinted}
 use Rattle.theory_tally.proofs.Sums.{grown}
-use Rattle.theory_tally.proofs.Worded.{Clear, Wholes, wholes-append, lined, placed, behind, lines-placed, placed-append}
+use Rattle.theory_tally.proofs.Worded.{Wholes, wholes-append, lined, placed, behind, lines-placed, placed-append}
 use Rattle.theory_tally.proofs.DueMet.{Meets, meets-append, due-met, AreGates, gates-met, behind-met, no-gate, Found, gate-found}
 use Rattle.theory_tally.proofs.Rows.{gateRow, gate-whole, gate-form, other-form, modelRow, inputsRow, outputsRow, model-whole, inputs-whole, outputs-whole, inputs-met, outputs-met, outputs-fields, wireRow, wireRows, wire-fields, wires-met, wires-whole, figureRow, figure-whole, figure-met, timingRows, timings-whole, timings-met, timings-lined, behindRows, netlistRows, netlist-lined}
 
@@ -135,9 +134,13 @@ module _ (ranged : Bool) (cells : List Cell) (fit : T (libraryFits cells)) (g : 
 
   lines : linesFrom 0 [] (lined rows) ≡ placed 0 front ++ (placed a (map gateRow ts) ++ (tail .line ∷ tail .rest))
   unfolding front rows a b
-  lines = lines-placed 0 rows rows-whole
-      ∙ placed-append 0 front (map gateRow ts ++ behindRows g f (times .rows))
-      ∙ ap (λ (x : List Line). placed 0 front ++ x) (placed-append a (map gateRow ts) (behindRows g f (times .rows)) ∙ ap (λ (x : List Line). placed a (map gateRow ts) ++ x) (tail .isFirst))
+  lines = cc (
+    lines-placed 0 rows rows-whole,
+    placed-append 0 front (map gateRow ts ++ behindRows g f (times .rows)),
+    placed-append a
+        (map gateRow ts) (behindRows g f (times .rows)),
+    tail .isFirst,
+  )
 
   front-met : Meets frame front
   unfolding frame front
@@ -149,59 +152,35 @@ module _ (ranged : Bool) (cells : List Cell) (fit : T (libraryFits cells)) (g : 
       ∙ (let z : suc (length (outputNames g)) - 1 ≡ length (outputNames g) = omega arith in z)
       ∙ length-map outName (below (length (g .outputs))) ∙ (unfold below in length-from (length (g .outputs)) 0)
 
-  behind-met-all : Meets (behindGates ranged (length (g .outputs)) (f .gates) (f .area)) (behindRows g f (times .rows))
-  unfolding behindGates wirePairs below
-  behind-met-all =
-      meets-append (each (λ (_ : ℕ). isWire ∷ same (text "1 1") ∷ []) (from 0 (length (g .outputs)))) _ (wireRows 0 (g .outputs)) (text ".end" ∷ figureRow f ∷ times .rows)
-      (wires-met 0 0 (g .outputs)) ((unfold same text in refl), (figure-met f, times .met))
-
   -- the lines are read as the gates' cells
   read-rows : readCounted ranged cells (lined rows) ≡ holds (u .used)
   unfolding readCounted next
   read-rows =
+      let end = length (lined rows) in
+      let ls : List Line = placed 0 front ++ (placed a (map gateRow ts) ++ (tail .line ∷ tail .rest)) in
+      let behindThem : ℕ → List ℕ → List Line → Read (List ℕ) = λ n us after. next
+      (dueLines end (behindGates ranged n (length us) (areaOf cells us)) after) (λ rest. next (nothingLeft rest) (λ _. holds us)) in
+      let whole : List Line → Read (List ℕ) = λ xs. next (dueLines end frame xs)
+      (λ ms. behindThem (outputsOf xs) (gatesIn cells ms) (afterGates cells ms)) in
       ap whole lines
       ∙ ap (λ (r : Read (List Line)). next r (λ ms. behindThem (outputsOf ls) (gatesIn cells ms) (afterGates cells ms))) (due-met end 0 frame front (placed a (map gateRow ts) ++ (tail .line ∷ tail .rest)) front-met)
       ∙ ap (λ (n : ℕ). behindThem n (gatesIn cells (placed a (map gateRow ts) ++ (tail .line ∷ tail .rest))) (afterGates cells (placed a (map gateRow ts) ++ (tail .line ∷ tail .rest)))) outs
       ∙ ap₂ (behindThem (length (g .outputs))) (gates-met cells (tail .line) (tail .rest) (tail .notGate) a (map gateRow ts) (u .used) (u .areGates))
       (behind-met cells (tail .line) (tail .rest) (tail .notGate) a (map gateRow ts) (u .used) (u .areGates))
       ∙ ap₂ (λ (n : ℕ) (k : ℕ). next (dueLines end (behindGates ranged (length (g .outputs)) n k) (tail .line ∷ tail .rest)) (λ rest. next (nothingLeft rest) (λ _. holds (u .used)))) (u .many ∙ sym many) (u .area ∙ sym area)
-      ∙ ap (λ (r : Read (List Line)). next r (λ rest. next (nothingLeft rest) (λ _. holds (u .used)))) last
+      ∙ ap (λ (r : Read (List Line)). next r (λ rest. next (nothingLeft rest) (λ _. holds (u .used)))) (ap
+      (dueLines end (behindGates ranged (length (g .outputs)) (f .gates) (f .area)))
+      (sym (tail .isFirst) ∙ sym (append-nil (placed b (behindRows g f (times .rows))))) ∙ due-met end b
+      (behindGates ranged (length (g .outputs)) (f .gates) (f .area)) (behindRows g f (times .rows)) []
+      (meets-append (each (λ (_ : ℕ). isWire ∷ same (text "1 1") ∷ []) (from 0 (length (g .outputs)))) _ (wireRows 0 (g .outputs))
+      (text ".end" ∷ figureRow f ∷ times .rows) (wires-met 0 0 (g .outputs)) ((unfold same text in refl), (figure-met f, times .met))))
       ∙ (unfold nothingLeft in refl)
-    where
-      end : ℕ
-      end = length (lined rows)
-
-      ls : List Line
-      ls = placed 0 front ++ (placed a (map gateRow ts) ++ (tail .line ∷ tail .rest))
-
-      behindThem : ℕ → List ℕ → List Line → Read (List ℕ)
-      behindThem n us after = next (dueLines end (behindGates ranged n (length us) (areaOf cells us)) after) (λ rest. next (nothingLeft rest) (λ _. holds us))
-
-      whole : List Line → Read (List ℕ)
-      whole xs = next (dueLines end frame xs) (λ ms. behindThem (outputsOf xs) (gatesIn cells ms) (afterGates cells ms))
-
-      last : dueLines end (behindGates ranged (length (g .outputs)) (f .gates) (f .area)) (tail .line ∷ tail .rest) ≡ holds []
-      last = ap (dueLines end (behindGates ranged (length (g .outputs)) (f .gates) (f .area))) (sym (tail .isFirst) ∙ sym (append-nil (placed b (behindRows g f (times .rows)))))
-          ∙ due-met end b (behindGates ranged (length (g .outputs)) (f .gates) (f .area)) (behindRows g f (times .rows)) [] behind-met-all
 
   rows-counted : (used : List ℕ) × (readCounted ranged cells (lined (netlistRows g ts f (times .rows))) ≡ holds used) × (length used ≡ f .gates) × (areaOf cells used ≡ f .area)
   unfolding rows
   rows-counted = (u .used, read-rows, u .many ∙ sym many, u .area ∙ sym area)
 
 -- ---- what the mapper prints
-
--- no space and no line end stands in a cell's name
-pub name-clear : (w : List ℕ) → T (isName w) → Clear w
-unfolding isName all
-name-clear [] t s h = absurd t
-name-clear (b ∷ bs) t s h =
-    let p = and-yes (isLetter b) (all isNameByte bs && leb (length bs) 7) t in
-    let q = and-yes (all isNameByte bs) (leb (length bs) 7) (p .1) in
-    bytes-free s (b ∷ bs) h (yes-and (isNameByte b) (all isNameByte bs) (unfold isNameByte in yes-or-left (isLetter b) (between 48 57 b || eqb b 95) (p .0)) (q .0))
-  where
-    yes-or-left : (x y : Bool) → T x → T (x || y)
-    yes-or-left true y u = tt
-    yes-or-left false y u = absurd u
 
 module _ (listed cells : List Cell) (fit : Fitting listed cells) (g : Graph) (ok : Accepted g)
     (present-outputs : (l : ℕ) → List·Memᴰ l (g .outputs) → absent (chosen cells g l .source) ≡ false) where

@@ -1,8 +1,8 @@
 -- The lines of a printed netlist, by their words: each is of the form that is due, and together they are the text. Assumes nothing.
 use Prim.Native.Nat.{ℕ, zero, suc, _+_, _/_, _%_, _<_}
 use native.Mathlib.Omega.{arith}
-use mathlib.Core.Path.{_≡_, refl, sym, _∙_, ap, ap₂}
-use mathlib.Core.Bool.{Bool, true, false, cond, _&&_, _||_}
+use mathlib.Core.Path.{_≡_, refl, sym, _∙_, ap}
+use mathlib.Core.Bool.{Bool, true, false, cond, or-true}
 use mathlib.Core.List.{List, [], _∷_, _++_, map, append-assoc}
 use lib.Dec.{T, ltb, ltb→lt, lit<}
 use lib.ListN.{length}
@@ -18,11 +18,12 @@ use Rattle.model.specs.declared.Cell.{Cell}
 use Rattle.model.specs.declared.Figures.{Figures}
 use Rattle.theory_graph.proofs.Lists.{is-true, same-refl}
 use Rattle.theory_graph.proofs.Literals.{lit-neg}
-use Rattle.theory_text.proofs.Plain.{above, decimal-free, net-free, label-free}
+use Rattle.theory_text.proofs.Plain.{above, decimal-free, net-free, label-free, out-clear, Clear, Clears, clears-map}
 use mir.Facts.{and-yes}
 use Rattle.theory_text.proofs.ReadBack.{namesOf, body, bodyOf, gate-line, wireBody, wire-line, inputNames, outputNames}
-use Rattle.theory_tally.proofs.Worded.{Clear, Clears, clears-map, Whole, Wholes, names-whole, names-fields, names-ended, lined}
+use Rattle.theory_tally.proofs.Worded.{Whole, Wholes, names-whole, names-fields, names-ended, lined}
 use Rattle.theory_tally.proofs.DueMet.{Meets}
+use Rattle.theory_graph.proofs.Split.{by-bool}
 
 -- ---- words
 
@@ -33,49 +34,30 @@ digit-is d h = rw (le-leb 48 (48 + d) (omega arith), le-leb (48 + d) 57 (omega a
 digits-are : (fuel n : ℕ) (after : List ℕ) → all (between 48 57) after ≡ true → all (between 48 57) (digits fuel n after) ≡ true
 unfolding digits all
 digits-are zero n after h = h
-digits-are (suc fuel) n after h = go (ltb n 10) (ltb→lt n 10) (digits-are fuel (n / 10) ((48 + n % 10) ∷ after) (rw (digit-is (n % 10) (omega arith)) h))
-  where
-    go : (b : Bool) → (T b → n < 10) → all (between 48 57) (digits fuel (n / 10) ((48 + n % 10) ∷ after)) ≡ true
-        → all (between 48 57) (cond b ((48 + n) ∷ after) (digits fuel (n / 10) ((48 + n % 10) ∷ after))) ≡ true
-    go true e more = rw (digit-is n (e tt)) h
-    go false e more = more
+digits-are (suc fuel) n after h = by-bool (ltb n 10) (λ e. rw e (rw (digit-is n ((rw e at (ltb→lt n 10)) tt)) h))
+    (λ q. rw q (digits-are fuel (n / 10) ((48 + n % 10) ∷ after) (rw (digit-is (n % 10) (omega arith)) h)))
 
 digits-some : (fuel n : ℕ) (after : List ℕ) → 0 < length after → 0 < length (digits fuel n after)
 unfolding digits
 digits-some zero n after h = h
-digits-some (suc fuel) n after h = go (ltb n 10) (digits-some fuel (n / 10) ((48 + n % 10) ∷ after) (omega arith))
-  where
-    go : (b : Bool) → 0 < length (digits fuel (n / 10) ((48 + n % 10) ∷ after)) → 0 < length (cond b ((48 + n) ∷ after) (digits fuel (n / 10) ((48 + n % 10) ∷ after)))
-    go true more = omega arith
-    go false more = more
-
-decimal-some : (n : ℕ) → 0 < length (decimal n)
-unfolding decimal digits
-decimal-some n = go (ltb n 10) (digits-some n (n / 10) ((48 + n % 10) ∷ []) (omega arith))
-  where
-    go : (b : Bool) → 0 < length (digits n (n / 10) ((48 + n % 10) ∷ [])) → 0 < length (cond b ((48 + n) ∷ []) (digits n (n / 10) ((48 + n % 10) ∷ [])))
-    go true more = omega arith
-    go false more = more
+digits-some (suc fuel) n after h = by-bool (ltb n 10)
+    (λ e. rw e (omega (arith, digits-some fuel (n / 10) ((48 + n % 10) ∷ after) (omega arith))))
+    (λ q. rw q (digits-some fuel (n / 10) ((48 + n % 10) ∷ after) (omega arith)))
 
 decimal-digits : (n : ℕ) → areDigits (decimal n) ≡ true
 unfolding areDigits decimal all
-decimal-digits n = rw (lt-ltb 0 (length (decimal n)) (decimal-some n)) (digits-are (suc n) n [] refl)
+decimal-digits n = rw (lt-ltb 0 (length (decimal n)) (unfold digits in by-bool (ltb n 10)
+    (λ e. rw e (omega (arith, digits-some n (n / 10) ((48 + n % 10) ∷ []) (omega arith))))
+    (λ q. rw q (digits-some n (n / 10) ((48 + n % 10) ∷ []) (omega arith))))) (digits-are (suc n) n [] refl)
 
 label-is : (b n : ℕ) → isLabel b (b ∷ decimal n) ≡ true
 unfolding isLabel
 label-is b n = rw (eq-eqb b b refl) (decimal-digits n)
 
-or-true : (x : Bool) → (x || true) ≡ true
-or-true true = refl
-or-true false = refl
-
 net-is : (l : ℕ) → isPhaseNet (netName l) ≡ true
 unfolding isPhaseNet netName
-net-is l = go (negated l)
-  where
-    go : (b : Bool) → (isLabel 112 (cond b 109 112 ∷ decimal (varOf l)) || isLabel 109 (cond b 109 112 ∷ decimal (varOf l))) ≡ true
-    go true = rw (label-is 109 (varOf l)) (or-true (isLabel 112 (109 ∷ decimal (varOf l))))
-    go false = rw (label-is 112 (varOf l)) refl
+net-is l = by-bool (negated l) (λ e. rw e (rw (label-is 109 (varOf l)) (or-true (isLabel 112 (109 ∷ decimal (varOf l))))))
+    (λ q. rw q (rw (label-is 112 (varOf l)) refl))
 
 gate-net-is : (n : Net) → isGateNet (label n) ≡ true
 unfolding isGateNet isInnerNet label
@@ -95,10 +77,6 @@ net-clear l s h = net-free s l h
 
 label-clear : (n : Net) → Clear (label n)
 label-clear n s h = label-free s n h
-
-out-clear : (k : ℕ) → Clear (outName k)
-unfolding outName
-out-clear k s h = (above s 111 (omega arith), decimal-free s k h)
 
 decimal-clear : (n : ℕ) → Clear (decimal n)
 decimal-clear n s h = decimal-free s n h
@@ -120,8 +98,7 @@ gateRow t = namesOf (text ".gate") (gateWords t)
 bound-words : (b : ℕ) (ls : List Net) (o : Net) → each (λ (n : List ℕ). 32 ∷ n) (boundWords b ls o) ≡ pinWords b ls ++ pinWords 79 (o ∷ [])
 unfolding each boundWords pinWords
 bound-words b [] o = refl
-bound-words b (l ∷ ls) o =
-    ap (λ (x : List ℕ). 32 ∷ b ∷ 61 ∷ label l ++ x) (bound-words (suc b) ls o) ∙ ap (λ (x : List ℕ). 32 ∷ b ∷ 61 ∷ x) (sym (append-assoc (label l) (pinWords (suc b) ls) (pinWords 79 (o ∷ []))))
+bound-words b (l ∷ ls) o = cc (bound-words (suc b) ls o, append-assoc (label l) (pinWords (suc b) ls) (pinWords 79 (o ∷ [])))
 
 row-body : (t : Gate) → bodyOf t ≡ gateRow t
 unfolding bodyOf body namesOf gateWords each text
@@ -131,8 +108,7 @@ pub gates-lined : (ts : List Gate) (vs : List (List ℕ)) → each gateLine ts +
 unfolding each lined
 gates-lined [] vs = refl
 gates-lined (t ∷ ts) vs =
-    append-assoc (gateLine t) (each gateLine ts) (lined vs) ∙ gate-line t (each gateLine ts ++ lined vs)
-    ∙ ap₂ (λ (x y : List ℕ). x ++ (10 ∷ y)) (row-body t) (gates-lined ts vs)
+    cc (append-assoc (gateLine t) (each gateLine ts) (lined vs), gate-line t (each gateLine ts ++ lined vs), row-body t, gates-lined ts vs)
 
 bound-clear : (b : ℕ) → 48 < b → (ls : List Net) (o : Net) → Clears (boundWords b ls o)
 unfolding boundWords
@@ -159,17 +135,16 @@ pins-form i b e (l ∷ ls) o = rw (bound-is b (65 + i) l e) (pins-form (suc i) (
 -- it is of its cell's form, and of no form with another name
 pub gate-form : (t : Gate) → Clear (nameOf (t .cell)) → length (t .pins) ≡ t .cell .pins → ofForm (gateForm (t .cell)) (fields (gateRow t)) ≡ true
 unfolding gateForm gateWords below ofForm same text
-gate-form t c n =
-    ap (ofForm (gateForm (t .cell))) (gate-fields t c)
-    ∙ ap₂ (λ (b : Bool) (k : ℕ). b && ofForm (map (λ (j : ℕ). isBound (65 + j)) (from 0 k) ++ (isBound 79 ∷ [])) (boundWords 65 (t .pins) (t .net)))
-    (is-true (same (nameOf (t .cell)) (nameOf (t .cell))) (same-refl (nameOf (t .cell)))) (sym n)
-    ∙ pins-form 0 65 refl (t .pins) (t .net)
+gate-form t c n = cc (
+  gate-fields t c,
+  is-true (same (nameOf (t .cell)) (nameOf (t .cell)))
+      (same-refl (nameOf (t .cell))),
+  pins-form 0 65 refl (t .pins) (t .net),
+)
 
 pub other-form : (t : Gate) (d : Cell) → Clear (nameOf (t .cell)) → same (nameOf d) (nameOf (t .cell)) ≡ false → ofForm (gateForm d) (fields (gateRow t)) ≡ false
 unfolding gateForm gateWords ofForm same text
-other-form t d c n =
-    ap (ofForm (gateForm d)) (gate-fields t c)
-    ∙ ap (λ (b : Bool). b && ofForm (map (λ (j : ℕ). isBound (65 + j)) (below (d .pins)) ++ (isBound 79 ∷ [])) (boundWords 65 (t .pins) (t .net))) n
+other-form t d c n = cc (gate-fields t c)
 
 -- ---- the first lines
 
@@ -203,9 +178,6 @@ module _ (g : Graph) where
   outputs-clear : Clears (outputNames g)
   outputs-clear = clears-map outName out-clear (below (length (g .outputs)))
 
-  inputs-fields : fields (inputsRow g) ≡ text ".inputs" ∷ inputNames g
-  inputs-fields = names-fields (text ".inputs") (inputNames g) (unfold text in (refl, (refl, (refl, (refl, (refl, (refl, (refl, tt)))))))) inputs-clear
-
   pub outputs-fields : fields (outputsRow g) ≡ text ".outputs" ∷ outputNames g
   outputs-fields = names-fields (text ".outputs") (outputNames g) (unfold text in (refl, (refl, (refl, (refl, (refl, (refl, (refl, (refl, tt))))))))) outputs-clear
 
@@ -219,7 +191,9 @@ module _ (g : Graph) where
 
   pub inputs-met : isNameList (text ".inputs") 112 (inputsRow g) ≡ true
   unfolding isNameList ofList same text
-  inputs-met = ap (ofList (text ".inputs") (isLabel 112)) inputs-fields ∙ all-named (isLabel 112) (λ (v : ℕ). netName (literal false v)) own-is (g .inputs)
+  inputs-met = ap (ofList (text ".inputs") (isLabel 112)) (names-fields (text ".inputs") (inputNames g)
+      (unfold text in (refl, (refl, (refl, (refl, (refl, (refl, (refl, tt)))))))) inputs-clear)
+      ∙ all-named (isLabel 112) (λ (v : ℕ). netName (literal false v)) own-is (g .inputs)
 
   pub outputs-met : isNameList (text ".outputs") 111 (outputsRow g) ≡ true
   unfolding isNameList ofList same text
@@ -238,9 +212,12 @@ wireRows k (l ∷ ls) = wireRow k l ∷ text "1 1" ∷ wireRows (suc k) ls
 pub wires-lined : (k : ℕ) (ls : List ℕ) (vs : List (List ℕ)) → wireLines k ls ++ lined vs ≡ lined (wireRows k ls ++ vs)
 unfolding wireLines wireRows lined wireBody
 wires-lined k [] vs = refl
-wires-lined k (l ∷ ls) vs =
-    append-assoc (wireLine k l) (wireLines (suc k) ls) (lined vs) ∙ wire-line k l (wireLines (suc k) ls ++ lined vs)
-    ∙ ap (λ (x : List ℕ). wireRow k l ++ (10 ∷ text "1 1" ++ (10 ∷ x))) (wires-lined (suc k) ls vs)
+wires-lined k (l ∷ ls) vs = cc (
+  append-assoc (wireLine k l) (wireLines (suc k) ls) (lined vs),
+  wire-line k l
+      (wireLines (suc k) ls ++ lined vs),
+  wires-lined (suc k) ls vs,
+)
 
 wire-clear : (k l : ℕ) → Clears (netName l ∷ outName k ∷ [])
 wire-clear k l = (net-clear l, (out-clear k, tt))
@@ -248,14 +225,14 @@ wire-clear k l = (net-clear l, (out-clear k, tt))
 pub wire-fields : (k l : ℕ) → fields (wireRow k l) ≡ text ".names" ∷ netName l ∷ outName k ∷ []
 wire-fields k l = names-fields (text ".names") (netName l ∷ outName k ∷ []) (unfold text in (refl, (refl, (refl, (refl, (refl, (refl, tt))))))) (wire-clear k l)
 
-wire-met : (k l : ℕ) → isWire (wireRow k l) ≡ true
-unfolding isWire ofForm same text
-wire-met k l = ap (ofForm (same (text ".names") ∷ isPhaseNet ∷ isLabel 111 ∷ [])) (wire-fields k l) ∙ rw (net-is l, out-is k) refl
-
 pub wires-met : (i k : ℕ) (ls : List ℕ) → Meets (each (λ (_ : ℕ). isWire ∷ same (text "1 1") ∷ []) (from i (length ls))) (wireRows k ls)
 unfolding each from wireRows
 wires-met i k [] = tt
-wires-met i k (l ∷ ls) = (wire-met k l, ((unfold same text in refl), wires-met (suc i) (suc k) ls))
+wires-met i k (l ∷ ls) = (
+  unfold isWire ofForm same text in ap (ofForm (same (text ".names") ∷ isPhaseNet ∷ isLabel 111 ∷ [])) (wire-fields k l)
+      ∙ rw (net-is l, out-is k) refl,
+  ((unfold same text in refl), wires-met (suc i) (suc k) ls),
+)
 
 pub wires-whole : (k : ℕ) (ls : List ℕ) → Wholes (wireRows k ls)
 unfolding wireRows
@@ -281,17 +258,16 @@ letters (b ∷ w) t s h =
     let q : 48 < b = ltb→lt 48 b (p .0) in (above s b (omega arith), letters w (p .1) s h)
 
 figure-clear : (f : Figures) → Clears (figureWords f)
-figure-clear f =
-    (letters (text "gates") word, (decimal-clear (f .gates), (letters (text "area") area, (decimal-clear (f .area), (letters (text "arrival") arrival, (decimal-clear (f .arrival), tt))))))
-  where
-    word : T (all (λ (b : ℕ). ltb 48 b) (text "gates"))
-    word = unfold all text in tt
-
-    area : T (all (λ (b : ℕ). ltb 48 b) (text "area"))
-    area = unfold all text in tt
-
-    arrival : T (all (λ (b : ℕ). ltb 48 b) (text "arrival"))
-    arrival = unfold all text in tt
+figure-clear f = (
+  letters (text "gates") (unfold all text in tt),
+  (
+    decimal-clear (f .gates),
+    (
+      letters (text "area") (unfold all text in tt),
+      (decimal-clear (f .area), (letters (text "arrival") (unfold all text in tt), (decimal-clear (f .arrival), tt))),
+    ),
+  ),
+)
 
 pub figure-whole : (f : Figures) → Whole (figureRow f)
 figure-whole f = names-whole (text "#") (figureWords f) (unfold text in ((refl, tt), (refl, tt))) (figure-clear f)
@@ -351,24 +327,13 @@ netlistRows g ts f times = modelRow ∷ inputsRow g ∷ outputsRow g ∷ map gat
 pub netlist-lined : (g : Graph) (ts : List Gate) (f : Figures) (times : List (List ℕ)) → netlistText g ts f ++ lined times ≡ lined (netlistRows g ts f times)
 unfolding netlistText lined text
 netlist-lined g ts f times =
-    (simp append-assoc)
-    ∙ ap (λ (x : List ℕ). text ".model top\n" ++ x)
-    (names-ended (text ".inputs") (inputNames g) after-inputs
-    ∙ ap (λ (x : List ℕ). inputsRow g ++ (10 ∷ x))
-    (names-ended (text ".outputs") (outputNames g) after-outputs
-    ∙ ap (λ (x : List ℕ). outputsRow g ++ (10 ∷ x))
-    (ap (λ (x : List ℕ). each gateLine ts ++ (wireLines 0 (g .outputs) ++ x)) ended
+    let figures : List ℕ = text ".end\n# gates " ++
+    (decimal (f .gates) ++ (text " area " ++ (decimal (f .area) ++ (text " arrival " ++ (decimal (f .arrival) ++ (10 ∷ lined times)))))) in
+    let after-outputs : List ℕ = each gateLine ts ++ (wireLines 0 (g .outputs) ++ figures) in
+    let ended : figures ≡ lined (text ".end" ∷ figureRow f ∷ times) = unfold namesOf each in sym (simp append-assoc) in
+    (simp append-assoc) ∙ ap (λ (x : List ℕ). text ".model top\n" ++ x)
+    (names-ended (text ".inputs") (inputNames g) (namesLine (text ".outputs") (outputNames g) ++ after-outputs)
+    ∙ ap (λ (x : List ℕ). inputsRow g ++ (10 ∷ x)) (names-ended (text ".outputs") (outputNames g) after-outputs
+    ∙ ap (λ (x : List ℕ). outputsRow g ++ (10 ∷ x)) (ap (λ (x : List ℕ). each gateLine ts ++ (wireLines 0 (g .outputs) ++ x)) ended
     ∙ ap (λ (x : List ℕ). each gateLine ts ++ x) (wires-lined 0 (g .outputs) (text ".end" ∷ figureRow f ∷ times))
     ∙ gates-lined ts (behindRows g f times))))
-  where
-    figures : List ℕ
-    figures = text ".end\n# gates " ++ (decimal (f .gates) ++ (text " area " ++ (decimal (f .area) ++ (text " arrival " ++ (decimal (f .arrival) ++ (10 ∷ lined times))))))
-
-    after-outputs : List ℕ
-    after-outputs = each gateLine ts ++ (wireLines 0 (g .outputs) ++ figures)
-
-    after-inputs : List ℕ
-    after-inputs = namesLine (text ".outputs") (outputNames g) ++ after-outputs
-
-    ended : figures ≡ lined (text ".end" ∷ figureRow f ∷ times)
-    ended = unfold namesOf each in sym (simp append-assoc)

@@ -3,7 +3,7 @@ use Prim.Native.Nat.{ℕ, zero, suc, _+_, _*_, _^_, _≤_, _<_}
 use native.Mathlib.Nat.{mul-le-mul}
 use native.Mathlib.Omega.{arith}
 use mathlib.Core.Path.{_≡_, refl, sym, _∙_, ap, ap₂, subst}
-use mathlib.Core.Bool.{Bool, true, false}
+use mathlib.Core.Bool.{true}
 use mathlib.Core.Option.{Option}
 use mathlib.Core.List.{List, [], _∷_, _++_, map, List·Memᴰ, List·Memᴰ·head, List·Memᴰ·tail}
 use lib.Dec.{leb, ltb}
@@ -26,6 +26,7 @@ use Rattle.theory_tally.specs.Sums as promised
 use Rattle.theory_tally.proofs.Weights.{added-first, added-length, added-at, weights, ones, times-low}
 use Rattle.theory_tally.proofs.FiguresIn.{figures-in}
 use Rattle.theory_tally.proofs.Used.{used-is, counted-by}
+use Rattle.theory_graph.proofs.Literals.{one-le}
 
 -- ---- the sums
 
@@ -90,13 +91,12 @@ module _ (library : List ℕ) (cells : List Cell) (e : readLibrary library ≡ h
   counted-adds t u netlist g a n =
       let b = counted-by t library netlist u n in
       let same : b .cells ≡ cells = holds-once (sym (b .isLibrary) ∙ e) in
-      let read : readCounted (isRanged library) cells netlist ≡ holds (b .used) = ap (λ (x : List Cell). readCounted (isRanged library) x netlist) (sym same) ∙ b .isRead in
+      let read : readCounted (isRanged library) cells netlist ≡ holds (b .used) = ap
+      (λ (x : List Cell). readCounted (isRanged library) x netlist) (sym same) ∙ b .isRead in
       record {
         line = record { gates = length (b .used); area = areaOf cells (b .used) };
         isLine = figures-in (isRanged library) cells netlist (b .used) read;
-        grown =
-            subst (λ (v : Tally). Grown cells t v (length (b .used)) (areaOf cells (b .used))) (ap (λ (x : List Cell). counted x (b .used) t) (sym same) ∙ b .isTally)
-            (grown t netlist (b .used) g a read);
+        grown = rw (ap (λ (x : List Cell). counted x (b .used) t) (sym same) ∙ b .isTally) at (grown t netlist (b .used) g a read);
       }
 
   -- the places are as many as before
@@ -112,20 +112,18 @@ module _ (library : List ℕ) (cells : List Cell) (e : readLibrary library ≡ h
   unfolding sum
   totals ns t promised.Counting.empty = first
   totals ns t (promised.Counting.more {ns = ms} {t = s} netlist c n) =
-      let h = totals ms s c in
-      let w = counted-adds s t netlist (h .gatesLong) (h .areasLong) n in
+      let w = counted-adds s t netlist (totals ms s c .gatesLong) (totals ms s c .areasLong) n in
       let l = as-long s t netlist n in
       record {
-        gatesLong = l .0 ∙ h .gatesLong;
-        areasLong = l .1 ∙ h .areasLong;
-        sums =
-            record {
-              lines = w .line ∷ h .sums .lines;
-              areLines = ap₂ (λ (o : Option GatesLine) (os : List (Option GatesLine)). o ∷ os) (w .isLine) (h .sums .areLines);
-              gates = omega (arith, w .grown .gatesGrown, h .sums .gates);
-              areas = omega (arith, w .grown .areasGrown, h .sums .areas);
-              netlists = omega (arith, w .grown .netlistsGrown, h .sums .netlists);
-            };
+        gatesLong = l .0 ∙ (totals ms s c) .gatesLong;
+        areasLong = l .1 ∙ (totals ms s c) .areasLong;
+        sums = record {
+          lines = w .line ∷ (totals ms s c) .sums .lines;
+          areLines = ap₂ (λ (o : Option GatesLine) (os : List (Option GatesLine)). o ∷ os) (w .isLine) (totals ms s c .sums .areLines);
+          gates = omega (arith, w .grown .gatesGrown, (totals ms s c) .sums .gates);
+          areas = omega (arith, w .grown .areasGrown, (totals ms s c) .sums .areas);
+          netlists = omega (arith, w .grown .netlistsGrown, (totals ms s c) .sums .netlists);
+        };
       }
 
   -- "Its gates and area equal the sums of the counted netlists' `# gates` lines, and the sums over cells."
@@ -137,17 +135,15 @@ module _ (library : List ℕ) (cells : List Cell) (e : readLibrary library ≡ h
   unfolding reportOf reportText totalLine
   report-sums ns t bytes report c r =
       let s = tally-sums ns t c in
-      let a = unless-out (leb (length library) 65536) 1 0 _ report r in
-      let b = next-out (readLibrary library) _ report (a .1) in
-      let d = unless-out (inWidth t) 28 64 _ report (b .2) in
-      let f = unless-out (leb (length (reportText (b .0) t)) bytes) 18 (length (reportText (b .0) t)) (holds (reportText (b .0) t)) report (d .1) in
-      let same : b .0 ≡ cells = holds-once (sym (b .1) ∙ e) in
+      let b = next-out (readLibrary library) _ report (unless-out (leb (length library) 65536) 1 0 _ report r .1) in
       record {
         sums = s;
-        isReport =
-            sym (holds-once (f .1)) ∙ ap (λ (x : List Cell). reportText x t) same
-            ∙ ap₂ (λ (x y : ℕ). each (cellLine cells t) (below (length cells)) ++ reportLine (text "total") x y (t .netlists)) (s .gates) (s .areas)
-            ∙ ap (λ (x : ℕ). each (cellLine cells t) (below (length cells)) ++ reportLine (text "total") (gatesSum (s .lines)) (areaSum (s .lines)) x) (s .netlists);
+        isReport = sym (holds-once (unless-out (leb (length (reportText (b .0) t)) bytes) 18 (length (reportText (b .0) t))
+            (holds (reportText (b .0) t)) report (unless-out (inWidth t) 28 64 _ report (b .2) .1) .1))
+            ∙ ap (λ (x : List Cell). reportText x t) (holds-once (sym (b .1) ∙ e)) ∙ ap₂
+            (λ (x y : ℕ). each (cellLine cells t) (below (length cells)) ++ reportLine (text "total") x y (t .netlists)) (s .gates)
+            (s .areas) ∙ ap (λ (x : ℕ). each (cellLine cells t) (below (length cells)) ++ reportLine (text "total") (gatesSum (s .lines))
+            (areaSum (s .lines)) x) (s .netlists);
         overGates = (unfold below in sum-first (length cells) (t .gates)) ∙ s .gates;
         overAreas = (unfold below in sum-first (length cells) (t .areas)) ∙ s .areas;
       }
@@ -172,11 +168,6 @@ area-at [] h i = omega arith
 area-at (c ∷ cs) h zero = h c (List·Memᴰ·head refl)
 area-at (c ∷ cs) h (suc i) = area-at cs (λ d m. h d (List·Memᴰ·tail m)) i
 
-one-low : (b : Bool) → one b ≤ 1
-unfolding one
-one-low true = omega arith
-one-low false = omega arith
-
 product-low : (n a : ℕ) → n ≤ 65536 → a ≤ 65535 → n * a ≤ 65536 * 65535
 product-low n a h k = mul-le-mul h k
 
@@ -191,7 +182,7 @@ more-small t cells used s few area low = record {
         s .areas i,
         product-low (times (0 + i) used) (cellAt cells (0 + i) .area) (omega (arith, times-low (0 + i) used)) (area (0 + i)),
       );
-  occurs = λ i. omega (arith, added-at (λ k. one (ltb 0 (times k used))) 0 (t .occurs) i, s .occurs i, one-low (ltb 0 (times (0 + i) used)));
+  occurs = λ i. omega (arith, added-at (λ k. one (ltb 0 (times k used))) 0 (t .occurs) i, s .occurs i, one-le (ltb 0 (times (0 + i) used)));
   few = omega arith;
 }
 
@@ -215,7 +206,10 @@ all-low (x ∷ xs) h = rw (le-leb x (2 ^ 40) (h 0)) (all-low xs (λ i. h (suc i)
 -- a tally handed on from an empty one has no "tally figure" that "exceeds 2^40"
 pub handed-fits : (t : Tally) → Handed t → inWidth t ≡ true
 unfolding inWidth
-handed-fits t h =
-    let s = small t h in
-    rw (all-low (t .gates) (λ i. omega (arith, s .gates i, s .few)), all-low (t .areas) (λ i. omega (arith, s .areas i, s .few)), all-low (t .occurs) (λ i. omega (arith, s .occurs i, s .few)))
-    (le-leb (t .netlists) (2 ^ 40) (omega (arith, s .few)))
+handed-fits t h = rw (
+  all-low (t .gates) (λ i. omega (arith, (small t h) .gates i, (small t h) .few)),
+  all-low (t .areas)
+      (λ i. omega (arith, (small t h) .areas i, (small t h) .few)),
+  all-low (t .occurs)
+      (λ i. omega (arith, (small t h) .occurs i, (small t h) .few)),
+) (le-leb (t .netlists) (2 ^ 40) (omega (arith, (small t h) .few)))

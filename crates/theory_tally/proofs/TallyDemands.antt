@@ -3,47 +3,37 @@ use Prim.Native.Nat.{ℕ, zero, suc, _+_, _*_, _<_}
 use native.Mathlib.Nat.{add-mul}
 use native.Mathlib.Omega.{arith}
 use mathlib.Core.Path.{_≡_, refl, sym, _∙_, ap, ap₂}
-use mathlib.Core.Bool.{Bool, true, false, cond, _&&_}
 use mathlib.Core.Option.{Option, some}
 use mathlib.Core.List.{List, [], _∷_, _++_, map, append-assoc, append-nil, List·Memᴰ, List·Memᴰ·head, List·Memᴰ·tail}
-use lib.Dec.{eqb, leb, ltb, lit<}
+use lib.Dec.{leb, ltb, lit<}
 use lib.ListN.{length, take, getD}
 use Rattle.model.specs.Base.{one, each, keep, andThen, only, from, below}
 use Rattle.model.specs.Text.{text, decimal, linesFrom}
 use Rattle.model.specs.Reading.{holds}
 use Rattle.model.specs.Cells.{nameOf, cellAt}
 use Rattle.model.specs.LibraryText.{readLibrary, isRanged}
-use Rattle.model.specs.Blif.{figure}
 use Rattle.model.specs.Netlist.{sum, namesLine}
 use Rattle.model.specs.Tally.{emptyTally, inWidth, readCounted, times, counted, countText, reportLine, cellLine, totalLine, reportText, reportOf}
 use Rattle.model.specs.declared.Cell.{Cell}
 use Rattle.model.specs.declared.Tally.{Tally}
 use Rattle.theory_graph.proofs.Lists.{map-same, below-out}
-use Rattle.theory_text.proofs.Plain.{above, decimal-free}
+use Rattle.theory_text.proofs.Plain.{above, decimal-free, Clear, Clears, name-clear}
 use Rattle.theory_text.proofs.LineLaws.{lineOfBytes, line-first}
 use Rattle.theory_text.proofs.ReadBack.{namesOf}
 use Rattle.theory_text.proofs.ReadFigures.{figure-back}
 use Rattle.theory_text.proofs.ReadLibrary.{library-few, library-written}
 use Rattle.theory_text.proofs.Steps.{holds-once, unless-out, next-out}
-use Rattle.theory_tally.specs.Sums.{GatesLine, gatesSum, areaSum, Counting}
+use Rattle.theory_tally.specs.Sums.{GatesLine, Counting}
 use Rattle.theory_tally.specs.Sums as promised
 use Rattle.theory_tally.specs.TallyDemands.{gatesNaming, gatesOf, occursIn, Tallied, Row, readRow, readRows, readReport, cellRow, totalRow, ReadsBack}
 use Rattle.theory_tally.proofs.Weights.{added-is, added-length}
 use Rattle.theory_tally.proofs.Used.{counted-by}
-use Rattle.theory_tally.proofs.Worded.{Clear, Clears, names-whole, names-fields, names-ended}
-use Rattle.theory_tally.proofs.Printed.{name-clear}
+use Rattle.theory_tally.proofs.Worded.{names-whole, names-fields, names-ended}
 use Rattle.theory_tally.proofs.Sums.{tally-sums, counted-adds, sum-first, none-at}
 use Rattle.theory_tally.proofs.Named.{at-listed, used-named}
+use Rattle.theory_graph.proofs.Split.{by-bool}
 
 -- ---- one netlist more
-
-kept-more : (p : List ℕ → Bool) (n : List ℕ) (ns : List (List ℕ)) → length (keep p (n ∷ ns)) ≡ length (keep p ns) + one (p n)
-unfolding keep one
-kept-more p n ns = go (p n)
-  where
-    go : (b : Bool) → length (cond b (n ∷ keep p ns) (keep p ns)) ≡ length (keep p ns) + one b
-    go true = omega arith
-    go false = omega arith
 
 sum-mul : (a b c d : ℕ) → a ≡ b * d → a + c * d ≡ (c + b) * d
 sum-mul a b c d e = let z : (c + b) * d ≡ c * d + b * d = add-mul c b d in omega arith
@@ -66,6 +56,7 @@ module _ (library : List ℕ) (cells : List Cell) (e : readLibrary library ≡ h
   pub tallied-more : (ns : List (List ℕ)) (t u : Tally) (netlist : List ℕ) → Tallied cells ns t → countText t library netlist ≡ holds u → Tallied cells (netlist ∷ ns) u
   unfolding counted gatesOf occursIn sum
   tallied-more ns t u netlist h n =
+      let zeroed : (i : ℕ) → 0 + i ≡ i = λ i. omega arith in
       let b = counted-by t library netlist u n in
       let few = library-few library cells e in
       let same : b .cells ≡ cells = holds-once (sym (b .isLibrary) ∙ e) in
@@ -96,7 +87,7 @@ module _ (library : List ℕ) (cells : List Cell) (e : readLibrary library ≡ h
             ∙ (added-is (λ j. one (ltb 0 (times j (b .used)))) 0 (t .occurs) i (omega arith))
             ∙ ap (λ (j : ℕ). getD (t .occurs) i 0 + one (ltb 0 (times j (b .used)))) (zeroed i)
             ∙ ap₂ (λ (x m : ℕ). x + one (ltb 0 m)) (h .occurs i k) (sym (named i k))
-            ∙ (sym (kept-more (λ (x : List ℕ). ltb 0 (gatesNaming (nameOf (cellAt cells i)) x)) netlist ns));
+            ∙ (sym (by-bool (ltb 0 (gatesNaming (nameOf (cellAt cells i)) netlist)) (λ e. rw e (omega arith)) (λ q. rw q (omega arith))));
         sums =
             record {
               lines = w .line ∷ h .sums .lines;
@@ -106,9 +97,6 @@ module _ (library : List ℕ) (cells : List Cell) (e : readLibrary library ≡ h
               netlists = omega (arith, w .grown .netlistsGrown, h .sums .netlists);
             };
       }
-    where
-      zeroed : (i : ℕ) → 0 + i ≡ i
-      zeroed i = omega arith
 
   -- so of every tally "handed on by these calls from an empty one"
   pub tallied : (ns : List (List ℕ)) (t : Tally) → Counting library ns t → Tallied cells ns t
@@ -122,13 +110,12 @@ row-words a b c = decimal a ∷ decimal b ∷ decimal c ∷ []
 
 row-shape : (name : List ℕ) (a b c : ℕ) → reportLine name a b c ≡ namesLine name (row-words a b c)
 unfolding row-words reportLine namesLine each
-row-shape name a b c =
-    ap (λ (x : List ℕ). name ++ (32 ∷ x))
-    (ap (λ (x : List ℕ). decimal a ++ (32 ∷ x)) (ap (λ (x : List ℕ). decimal b ++ (32 ∷ (x ++ text "\n"))) (sym (append-nil (decimal c))) ∙ sym (append-assoc (decimal b) (32 ∷ decimal c ++ []) (text "\n")))
-    ∙ sym (append-assoc (decimal a) (32 ∷ decimal b ++ (32 ∷ decimal c ++ [])) (text "\n")))
-
-row-ended : (name : List ℕ) (a b c : ℕ) (rest : List ℕ) → reportLine name a b c ++ rest ≡ namesOf name (row-words a b c) ++ (10 ∷ rest)
-row-ended name a b c rest = ap (λ (x : List ℕ). x ++ rest) (row-shape name a b c) ∙ names-ended name (row-words a b c) rest
+row-shape name a b c = cc (
+  append-nil (decimal c),
+  append-assoc (decimal b) (32 ∷ decimal c ++ []) (text "\n"),
+  append-assoc (decimal a)
+      (32 ∷ decimal b ++ (32 ∷ decimal c ++ [])) (text "\n"),
+)
 
 figures-clear : (a b c : ℕ) → Clears (row-words a b c)
 unfolding row-words
@@ -140,24 +127,14 @@ rowOf name a b c = record { name = name; gates = a; area = b; netlists = c }
 row-read : (at : ℕ) (name : List ℕ) (a b c : ℕ) → Clear name → readRow (lineOfBytes at (namesOf name (row-words a b c))) ≡ some (rowOf name a b c)
 unfolding readRow row-words rowOf andThen only
 row-read at name a b c k =
-    ap told (names-fields name (row-words a b c) (k 32 (lit< tt)) (figures-clear a b c))
-    ∙ ap (λ (o : Option ℕ). andThen o (λ x. andThen (figure (decimal b)) (λ y. andThen (figure (decimal c)) (λ z. some (rowOf name x y z))))) (figure-back a)
-    ∙ ap (λ (o : Option ℕ). andThen o (λ y. andThen (figure (decimal c)) (λ z. some (rowOf name a y z)))) (figure-back b)
-    ∙ ap (λ (o : Option ℕ). andThen o (λ z. some (rowOf name a b z))) (figure-back c)
-  where
-    told : List (List ℕ) → Option Row
-    told vs =
-        andThen (only (true && eqb (length vs) 4) vs) (λ ws.
-        andThen (figure (getD ws 1 [])) (λ gates.
-        andThen (figure (getD ws 2 [])) (λ area.
-        andThen (figure (getD ws 3 [])) (λ netlists. some (record { name = getD ws 0 []; gates = gates; area = area; netlists = netlists })))))
+    cc (names-fields name (row-words a b c) (k 32 (lit< tt)) (figures-clear a b c), figure-back a, figure-back b, figure-back c)
 
 first-row : (at : ℕ) (name : List ℕ) (a b c : ℕ) (rest : List ℕ) → Clear name
     → readRows (linesFrom at [] (reportLine name a b c ++ rest)) ≡ andThen (readRows (linesFrom (at + suc (length (namesOf name (row-words a b c)))) [] rest)) (λ rs. some (rowOf name a b c ∷ rs))
 unfolding readRows andThen
 first-row at name a b c rest k =
     let w = names-whole name (row-words a b c) (k 10 (lit< tt), k 13 (lit< tt)) (figures-clear a b c) in
-    ap (λ (x : List ℕ). readRows (linesFrom at [] x)) (row-ended name a b c rest)
+    ap (λ (x : List ℕ). readRows (linesFrom at [] x)) (cc (row-shape name a b c, names-ended name (row-words a b c) rest))
     ∙ ap readRows (line-first at (namesOf name (row-words a b c)) rest (w .0) (w .1))
     ∙ ap (λ (o : Option Row). andThen o (λ r. andThen (readRows (linesFrom (at + suc (length (namesOf name (row-words a b c)))) [] rest)) (λ rs. some (r ∷ rs)))) (row-read at name a b c k)
 
@@ -184,14 +161,15 @@ cell-first cells t i at rest k = (
 rows-read : (cells : List Cell) (t : Tally) (a b c at : ℕ) (is : List ℕ) → ((i : ℕ) → List·Memᴰ i is → Clear (nameOf (cellAt cells i)))
     → readRows (linesFrom at [] (each (cellLine cells t) is ++ reportLine (text "total") a b c)) ≡ some (map (tallyRow cells t) is ++ (rowOf (text "total") a b c ∷ []))
 unfolding each andThen linesFrom readRows
-rows-read cells t a b c at [] h =
-    ap (λ (x : List ℕ). readRows (linesFrom at [] x)) (sym (append-nil (reportLine (text "total") a b c)))
-    ∙ first-row at (text "total") a b c [] total-clear
+rows-read cells t a b c at [] h = cc (append-nil (reportLine (text "total") a b c), first-row at (text "total") a b c [] total-clear)
 rows-read cells t a b c at (i ∷ is) h =
     let f = cell-first cells t i at (each (cellLine cells t) is ++ reportLine (text "total") a b c) (h i (List·Memᴰ·head refl)) in
-    ap (λ (x : List ℕ). readRows (linesFrom at [] x)) (append-assoc (cellLine cells t i) (each (cellLine cells t) is) (reportLine (text "total") a b c))
-    ∙ f .1
-    ∙ ap (λ (o : Option (List Row)). andThen o (λ rs. some (tallyRow cells t i ∷ rs))) (rows-read cells t a b c (f .0) is (λ j m. h j (List·Memᴰ·tail m)))
+    cc (
+      append-assoc (cellLine cells t i) (each (cellLine cells t) is) (reportLine (text "total") a b c),
+      f .1,
+      rows-read cells t a b c
+          (f .0) is (λ j m. h j (List·Memᴰ·tail m)),
+    )
 
 -- the lines of a library, by their places
 shift : {A : Type 0} (f : ℕ → A) (k n : ℕ) → map f (from (suc k) n) ≡ map (λ (i : ℕ). f (suc i)) (from k n)
@@ -207,25 +185,29 @@ by-place {A} f (c ∷ cs) = ap (λ (xs : List A). f c ∷ xs) (shift (λ (i : �
 module _ (library : List ℕ) (cells : List Cell) (e : readLibrary library ≡ holds cells) where
   row-same : (ns : List (List ℕ)) (t : Tally) → Tallied cells ns t → (i : ℕ) → i < length cells → tallyRow cells t i ≡ cellRow ns (cellAt cells i)
   unfolding tallyRow cellRow rowOf
-  row-same ns t h i k =
-      ap₂ (λ (x y : ℕ). record { name = nameOf (cellAt cells i); gates = x; area = y; netlists = getD (t .occurs) i 0 }) (h .gates i k) (h .areas i k)
-      ∙ ap (λ (x : ℕ). record { name = nameOf (cellAt cells i); gates = gatesOf ns (cellAt cells i); area = gatesOf ns (cellAt cells i) * cellAt cells i .area; netlists = x }) (h .occurs i k)
+  row-same ns t h i k = cc (h .gates i k, h .areas i k, h .occurs i k)
 
   rows-same : (ns : List (List ℕ)) (t : Tally) → Tallied cells ns t → {A : Type 0} (f : Row → A)
       → map (λ (i : ℕ). f (tallyRow cells t i)) (from 0 (length cells)) ≡ map (λ (c : Cell). f (cellRow ns c)) cells
   unfolding below
-  rows-same ns t h f =
-      map-same (λ (i : ℕ). f (tallyRow cells t i)) (λ (i : ℕ). f (cellRow ns (cellAt cells i))) (from 0 (length cells)) (λ i m. ap f (row-same ns t h i (below-out (length cells) i m)))
-      ∙ by-place (λ (c : Cell). f (cellRow ns c)) cells
+  rows-same ns t h f = cc (
+    map-same (λ (i : ℕ). f (tallyRow cells t i)) (λ (i : ℕ). f (cellRow ns (cellAt cells i))) (from 0 (length cells))
+        (λ i m. ap f (row-same ns t h i (below-out (length cells) i m))),
+    by-place (λ (c : Cell). f (cellRow ns c)) cells,
+  )
 
   whole-read : (ns : List (List ℕ)) (t : Tally) (h : Tallied cells ns t) → readRows (linesFrom 0 [] (reportText cells t)) ≡ some (map (cellRow ns) cells ++ (totalRow (h .sums .lines) (length ns) ∷ []))
   unfolding reportText totalLine below rowOf
-  whole-read ns t h =
-      rows-read cells t (sum (take (length cells) (t .gates))) (sum (take (length cells) (t .areas))) (t .netlists) 0 (from 0 (length cells))
-      (λ i m. name-clear (nameOf (cellAt cells i)) (library-written library cells e (cellAt cells i) (at-listed cells i (below-out (length cells) i m)) .0 .isNamed))
-      ∙ ap (λ (xs : List Row). some (xs ++ (rowOf (text "total") (sum (take (length cells) (t .gates))) (sum (take (length cells) (t .areas))) (t .netlists) ∷ []))) (rows-same ns t h (λ x. x))
-      ∙ ap₂ (λ (x y : ℕ). some (map (cellRow ns) cells ++ (rowOf (text "total") x y (t .netlists) ∷ []))) (h .sums .gates) (h .sums .areas)
-      ∙ ap (λ (x : ℕ). some (map (cellRow ns) cells ++ (rowOf (text "total") (gatesSum (h .sums .lines)) (areaSum (h .sums .lines)) x ∷ []))) (h .sums .netlists)
+  whole-read ns t h = cc (
+    rows-read cells t (sum (take (length cells) (t .gates))) (sum (take (length cells) (t .areas))) (t .netlists) 0
+        (from 0 (length cells)) (λ i m. name-clear (nameOf (cellAt cells i))
+        (library-written library cells e (cellAt cells i) (at-listed cells i (below-out (length cells) i m)) .0 .isNamed)),
+    rows-same ns t h
+        (λ x. x),
+    h .sums .gates,
+    h .sums .areas,
+    h .sums .netlists,
+  )
 
   -- the report of a tally of these netlists reads back to their figures
   pub reads-back : (ns : List (List ℕ)) (t : Tally) (bytes : ℕ) (report : List ℕ) → Tallied cells ns t → reportOf t library bytes ≡ holds report → ReadsBack cells ns report

@@ -7,7 +7,7 @@ use mathlib.Core.Option.{Option, none, some}
 use mathlib.Core.List.{List, [], _∷_, List·Memᴰ, List·Memᴰ·head, List·Memᴰ·tail, List·Memᴰ·not-nil}
 use lib.Dec.{T, eqb, leb, ltb}
 use lib.ListN.{length}
-use Rattle.model.specs.Text.{Line, closing, endedByTen, linesFrom, fields}
+use Rattle.model.specs.Text.{Line, endedByTen, linesFrom, fields}
 use Rattle.model.specs.Reading.{holds}
 use Rattle.model.specs.LibraryText.{readLibrary, isRanged}
 use Rattle.model.specs.NetlistLines.{ofForm, gateForm, gateOf}
@@ -16,6 +16,7 @@ use Rattle.model.specs.declared.Cell.{Cell}
 use Rattle.model.specs.declared.Tally.{Tally}
 use Rattle.theory_text.proofs.LineLaws.{lines-step}
 use Rattle.theory_text.proofs.Steps.{holds-once, unless-out, next-out}
+use Rattle.theory_graph.proofs.Split.{by-bool}
 
 -- ---- listed
 
@@ -67,12 +68,9 @@ due-few end (p ∷ ps) (l ∷ ls) ms e =
 lines-few : (at : ℕ) (held bs : List ℕ) → length (linesFrom at held bs) ≤ length held + length bs
 lines-few at [] [] = unfold linesFrom in omega arith
 lines-few at (h ∷ hs) [] = unfold linesFrom in omega arith
-lines-few at held (b ∷ bs) = subst (λ (ls : List Line). length ls ≤ length held + suc (length bs)) (sym (lines-step at held b bs)) (go (eqb b 10) (lines-few (at + suc (length held)) [] bs) (lines-few at (b ∷ held) bs))
-  where
-    go : (t : Bool) → length (linesFrom (at + suc (length held)) [] bs) ≤ 0 + length bs → length (linesFrom at (b ∷ held) bs) ≤ suc (length held) + length bs
-        → length (cond t (closing at held ∷ linesFrom (at + suc (length held)) [] bs) (linesFrom at (b ∷ held) bs)) ≤ length held + suc (length bs)
-    go true p q = omega arith
-    go false p q = omega arith
+lines-few at held (b ∷ bs) = subst (λ (ls : List Line). length ls ≤ length held + suc (length bs)) (sym (lines-step at held b bs)) (by-bool
+    (eqb b 10) (λ e. rw e (omega (arith, lines-few (at + suc (length held)) [] bs, lines-few at (b ∷ held) bs)))
+    (λ q. rw q (omega (arith, lines-few (at + suc (length held)) [] bs, lines-few at (b ∷ held) bs))))
 
 -- ---- a netlist that is read
 

@@ -2,16 +2,17 @@
 use Prim.Native.Nat.{ℕ, zero, suc, _+_, _*_, _≤_, _<_}
 use native.Mathlib.Nat.{le-refl, zero-add}
 use native.Mathlib.Omega.{arith}
-use mathlib.Core.Path.{_≡_, refl, sym, _∙_, ap, ap₂}
-use mathlib.Core.Bool.{Bool, true, false, cond}
+use mathlib.Core.Path.{_≡_, refl, _∙_, ap}
+use mathlib.Core.Bool.{cond}
 use mathlib.Core.List.{List, [], _∷_, map, List·Memᴰ, List·Memᴰ·head, List·Memᴰ·tail}
-use lib.Dec.{T, eqb, eqb→eq, eqb-refl}
+use lib.Dec.{eqb, eqb→eq, eqb-refl}
 use lib.ListN.{length, take, getD}
 use lib.Seq.{length-take-le}
 use Rattle.model.specs.Base.{from}
 use Rattle.model.specs.Netlist.{sum}
 use Rattle.model.specs.Tally.{times, addEach}
 use Rattle.theory_graph.proofs.Lists.{by-eqb, map-same}
+use Rattle.theory_graph.proofs.Split.{by-bool}
 
 -- ---- sums
 
@@ -28,8 +29,7 @@ take-added f (suc n) k (m ∷ ms) = ap (λ (xs : List ℕ). (m + f k) ∷ xs) (t
 
 -- the first n places
 pub added-first : (f : ℕ → ℕ) (n : ℕ) (ns : List ℕ) → n ≤ length ns → sum (take n (addEach f 0 ns)) ≡ sum (take n ns) + sum (map f (from 0 n))
-added-first f n ns h =
-    ap sum (take-added f n 0 ns) ∙ added-sum f 0 (take n ns) ∙ ap (λ (k : ℕ). sum (take n ns) + sum (map f (from 0 k))) (length-take-le n ns h)
+added-first f n ns h = cc (take-added f n 0 ns, added-sum f 0 (take n ns), length-take-le n ns h)
 
 pub added-length : (f : ℕ → ℕ) (k : ℕ) (ns : List ℕ) → length (addEach f k ns) ≡ length ns
 unfolding addEach
@@ -63,49 +63,33 @@ sum-zero k (suc n) f h = let a : f k ≡ 0 = h k (le-refl k) in omega (arith, su
 weighed : ℕ → ℕ → ℕ → ℕ
 weighed m a i = cond (eqb i m) a 0
 
-weighed-here : (m a : ℕ) → weighed m a m ≡ a
-unfolding weighed
-weighed-here m a = go (eqb m m) (eqb-refl m)
-  where
-    go : (b : Bool) → T b → cond b a 0 ≡ a
-    go true t = refl
-    go false t = absurd t
-
 weighed-past : (m a i : ℕ) → ¬ (i ≡ m) → weighed m a i ≡ 0
 unfolding weighed
-weighed-past m a i h = go (eqb i m) (eqb→eq i m)
-  where
-    go : (b : Bool) → (T b → i ≡ m) → cond b a 0 ≡ 0
-    go true y = absurd (h (y tt))
-    go false y = refl
+weighed-past m a i h = by-bool (eqb i m) (λ e. rw e (absurd (h ((rw e at (eqb→eq i m)) tt)))) (λ q. rw q)
 
 one-weight : (m a n k : ℕ) → k ≤ m → m < k + n → sum (map (weighed m a) (from k n)) ≡ a
 unfolding sum from
 one-weight m a zero k h b = absurd (omega arith)
-one-weight m a (suc n) k h b =
-    by-eqb k m
-    (λ e. let p : weighed m a k ≡ a = ap (weighed m a) e ∙ weighed-here m a in
-    omega (arith, p, sum-zero (suc k) n (weighed m a) (λ i q. weighed-past m a i (λ z. omega arith))))
+one-weight m a (suc n) k h b = by-eqb k m (λ e. let p : weighed m a k ≡ a = ap (weighed m a) e
+    ∙ (unfold weighed in by-bool (eqb m m) (λ e. rw e) (λ q. rw q (absurd (rw q at (eqb-refl m))))) in omega
+    (arith, p, sum-zero (suc k) n (weighed m a) (λ i q. weighed-past m a i (λ z. omega arith))))
     (λ d. let p : weighed m a k ≡ 0 = weighed-past m a k d in omega (arith, p, one-weight m a n (suc k) (omega arith) (omega arith)))
 
 suc-mul : (a b : ℕ) → suc a * b ≡ b + a * b
 suc-mul a b = omega arith
 
-times-more : (w : ℕ → ℕ) (m : ℕ) (ms : List ℕ) (i : ℕ) → times i (m ∷ ms) * w i ≡ weighed m (w m) i + times i ms * w i
-unfolding times weighed
-times-more w m ms i = go (eqb i m) (eqb→eq i m)
-  where
-    go : (b : Bool) → (T b → i ≡ m) → cond b (suc (times i ms)) (times i ms) * w i ≡ cond b (w m) 0 + times i ms * w i
-    go true y = suc-mul (times i ms) (w i) ∙ ap (λ (x : ℕ). x + times i ms * w i) (ap w (y tt))
-    go false y = sym (zero-add (times i ms * w i))
-
 pub weights : (w : ℕ → ℕ) (n : ℕ) (used : List ℕ) → ((i : ℕ) → List·Memᴰ i used → i < n) → sum (map (λ (i : ℕ). times i used * w i) (from 0 n)) ≡ sum (map w used)
 unfolding sum
 weights w n [] h = sum-zero 0 n (λ (i : ℕ). times i [] * w i) (λ i q. unfold times in (let e : 0 * w i ≡ 0 = omega arith in e))
-weights w n (m ∷ ms) h =
-    ap sum (map-same (λ (i : ℕ). times i (m ∷ ms) * w i) (λ (i : ℕ). weighed m (w m) i + times i ms * w i) (from 0 n) (λ i q. times-more w m ms i))
-    ∙ sum-plus (weighed m (w m)) (λ (i : ℕ). times i ms * w i) (from 0 n)
-    ∙ ap₂ (λ (a b : ℕ). a + b) (one-weight m (w m) n 0 (omega arith) (let q : m < n = h m (List·Memᴰ·head refl) in omega arith)) (weights w n ms (λ i q. h i (List·Memᴰ·tail q)))
+weights w n (m ∷ ms) h = cc (
+  map-same (λ (i : ℕ). times i (m ∷ ms) * w i) (λ (i : ℕ). weighed m (w m) i + times i ms * w i) (from 0 n)
+      (λ i q. (unfold times weighed in by-bool (eqb i m) (λ e. cc (suc-mul (times i ms) (w i), (rw e at (eqb→eq i m)) tt))
+      (λ q. cc (zero-add (times i ms * w i))))),
+  sum-plus (weighed m (w m)) (λ (i : ℕ). times i ms * w i) (from 0 n),
+  one-weight m (w m) n 0 (omega arith)
+      (let q : m < n = h m (List·Memᴰ·head refl) in omega arith),
+  weights w n ms (λ i q. h i (List·Memᴰ·tail q)),
+)
 
 sum-ones : (ns : List ℕ) → sum (map (λ (_ : ℕ). 1) ns) ≡ length ns
 unfolding sum
@@ -114,16 +98,14 @@ sum-ones (n ∷ ns) = omega (arith, sum-ones ns)
 
 -- the gates at the places are all gates
 pub ones : (n : ℕ) (used : List ℕ) → ((i : ℕ) → List·Memᴰ i used → i < n) → sum (map (λ (i : ℕ). times i used) (from 0 n)) ≡ length used
-ones n used h =
-    ap sum (map-same (λ (i : ℕ). times i used) (λ (i : ℕ). times i used * 1) (from 0 n) (λ i q. let e : times i used ≡ times i used * 1 = omega arith in e))
-    ∙ weights (λ (_ : ℕ). 1) n used h
-    ∙ sum-ones used
+ones n used h = cc (
+  map-same (λ (i : ℕ). times i used) (λ (i : ℕ). times i used * 1) (from 0 n)
+      (λ i q. let e : times i used ≡ times i used * 1 = omega arith in e),
+  weights (λ (_ : ℕ). 1) n used h,
+  sum-ones used,
+)
 
 pub times-low : (i : ℕ) (used : List ℕ) → times i used ≤ length used
 unfolding times
 times-low i [] = omega arith
-times-low i (m ∷ ms) = go (eqb i m) (times-low i ms)
-  where
-    go : (b : Bool) → times i ms ≤ length ms → cond b (suc (times i ms)) (times i ms) ≤ suc (length ms)
-    go true h = omega arith
-    go false h = omega arith
+times-low i (m ∷ ms) = by-bool (eqb i m) (λ e. rw e (omega (arith, times-low i ms))) (λ q. rw q (omega (arith, times-low i ms)))

@@ -23,7 +23,6 @@ use Rattle.model.specs.ArrivalsText.{Late, lateNumbers, readLate, readLateLines
 use Rattle.model.specs.Mapper.{Call, Design, designOf, readListed, readTexts}
 use Rattle.model.specs.Demands.{Distinct, readUntimed, Lists, ListedFor, Listed}
 use Rattle.model.specs.declared.Cell.{Cell}
-use Rattle.model.specs.declared.Header.{Header}
 use Rattle.theory_graph.proofs.Lists.{is-true, elem-T, elem-out}
 use Rattle.theory_graph.proofs.Distinct.{front-distinct}
 use Rattle.theory_graph.proofs.Timed.{timed-none, listed-for}
@@ -33,6 +32,7 @@ use Rattle.theory_text.proofs.LineLaws.{lineOfBytes, line-first}
 use Rattle.theory_text.proofs.DueBack.{numbers-back, words, fields-numbers, numbers-first}
 use Rattle.theory_text.proofs.ReadGraph.{graph-known, graph-counted, graph-untimed}
 use Rattle.theory_text.proofs.ReadTexts.{texts-read}
+use Rattle.theory_graph.proofs.Split.{by-bool, by-list, by-member}
 
 -- ---- the lines that are read
 
@@ -61,45 +61,36 @@ lines-late : (inputs : ℕ) (before : List ℕ) (ls : List Line) (es : List Late
 unfolding readLate
 lines-late inputs before [] es e = subst (LateRead inputs before) (holds-once e) (none-read inputs before)
 lines-late inputs before (l ∷ ls) es e =
+    let unheard : (n : ℕ) → T (not (elem n before)) → ¬ List·Memᴰ n before = λ n t m. apart (elem n before) t (elem-T n before m) in
     let a = next-out (from? (lateNumbers l) 25 (l .offset)) _ es e in
     let n = getD (a .0) 0 0 in
     let b = unless-out (ltb n inputs && not (elem n before)) 26 (l .offset) _ es (a .2) in
     let p = and-yes (ltb n inputs) (not (elem n before)) (b .0) in
     let c = next-out (readLate inputs (n ∷ before) ls) (λ ds. holds (record { index = n; arrival = getD (a .0) 1 0 } ∷ ds)) es (b .1) in
-    subst (LateRead inputs before) (holds-once (c .2))
-    (more (record { index = n; arrival = getD (a .0) 1 0 }) (c .0) (ltb-yes (p .0)) (unheard n (p .1)) (arrival-small l (a .0) (from-out (lateNumbers l) 25 (l .offset) (a .0) (a .1)))
-    (lines-late inputs (n ∷ before) ls (c .0) (c .1)))
+    rw (← holds-once (c .2)) (more (record { index = n; arrival = getD (a .0) 1 0 }) (c .0) (ltb-yes (p .0)) (unheard n (p .1))
+    (arrival-small l (a .0) (from-out (lateNumbers l) 25 (l .offset) (a .0) (a .1))) (lines-late inputs (n ∷ before) ls (c .0) (c .1)))
   where
     apart : (b : Bool) → T (not b) → ¬ T b
     apart true t u = t
     apart false t u = u
-
-    unheard : (n : ℕ) → T (not (elem n before)) → ¬ List·Memᴰ n before
-    unheard n t m = apart (elem n before) t (elem-T n before m)
 
     more : (x : Late) (ds : List Late) → x .index < inputs → ¬ List·Memᴰ (x .index) before → x .arrival ≤ 65535 → LateRead inputs (x .index ∷ before) ds → LateRead inputs before (x ∷ ds)
     more x ds h f s r = record {
       inside = at-index (λ k. k < inputs) h (r .inside);
       once = ((λ m. r .fresh (x .index) m (List·Memᴰ·head refl)), r .once);
       fresh = at-index (λ k. ¬ List·Memᴰ k before) f (λ k m i. r .fresh k m (List·Memᴰ·tail i));
-      small = at-line;
+      small = (λ y z. by-member z (λ q. subst (λ (z : Late). z .arrival ≤ 65535) (sym q) s) (λ e. r .small y e));
     }
       where
         at-index : (P : ℕ → Type 0) → P (x .index) → ((k : ℕ) → Lists ds k → P k) → (k : ℕ) → Lists (x ∷ ds) k → P k
         at-index P a later k (List·Memᴰ·head q) = subst P (sym q) a
         at-index P a later k (List·Memᴰ·tail m) = later k m
 
-        at-line : (y : Late) → List·Memᴰ y (x ∷ ds) → y .arrival ≤ 65535
-        at-line y (List·Memᴰ·head q) = subst (λ (z : Late). z .arrival ≤ 65535) (sym q) s
-        at-line y (List·Memᴰ·tail m) = r .small y m
-
 pub late-read : (inputs : ℕ) (s : List ℕ) (es : List Late) → readArrivals inputs s ≡ holds es → LateRead inputs [] es
 unfolding readArrivals readLateLines
-late-read inputs s es = go (linesFrom 0 [] s)
-  where
-    go : (ls : List Line) → readLateLines inputs ls ≡ holds es → LateRead inputs [] es
-    go [] e = subst (LateRead inputs []) (holds-once e) (none-read inputs [])
-    go (l ∷ ls) e = lines-late inputs [] ls es (unless-out (ended l && same (l .bytes) (text "input arrival")) 25 (l .offset) (readLate inputs [] ls) es e .1)
+late-read inputs s es = λ x. by-list (linesFrom 0 [] s) (λ e. subst (LateRead inputs []) (holds-once (rw e at x)) (none-read inputs []))
+    (λ l ls q. lines-late inputs [] ls es
+    (unless-out (ended l && same (l .bytes) (text "input arrival")) 25 (l .offset) (readLate inputs [] ls) es (rw q at x) .1))
 
 -- ---- lines that are written read back
 
@@ -116,27 +107,18 @@ lines-back : (inputs : ℕ) → inputs ≤ 65536 → (at : ℕ) (before : List �
 unfolding readLate linesFrom each next unless from?
 lines-back inputs few at before [] r = refl
 lines-back inputs few at before (e ∷ es) r =
-    ap (readLate inputs before) (numbers-first at (e .index) (e .arrival ∷ []) (each lateLine es))
-    ∙ ap (λ (o : Option (List ℕ)). next (from? o 25 at) read)
-    (line-back at (e .index) (e .arrival) (let q : e .index < inputs = r .inside (e .index) (List·Memᴰ·head refl) in omega arith) (r .small e (List·Memᴰ·head refl)))
-    ∙ ap (λ (b : Bool). unless b 26 at (rest (e .index) (e .arrival)))
-    (is-true (ltb (e .index) inputs && not (elem (e .index) before))
-    (yes-and (ltb (e .index) inputs) (not (elem (e .index) before)) (yes-ltb (r .inside (e .index) (List·Memᴰ·head refl))) (unheard (elem (e .index) before) (elem-out (e .index) before))))
+    let behind : ℕ = at + suc (length (words (e .index) (e .arrival ∷ []))) in
+    let rest : ℕ → ℕ → Read (List Late) = λ i a. next (readLate inputs (i ∷ before) (linesFrom behind [] (each lateLine es)))
+    (λ ds. holds (record { index = i; arrival = a } ∷ ds)) in
+    ap (readLate inputs before) (numbers-first at (e .index) (e .arrival ∷ []) (each lateLine es)) ∙ ap (λ (o : Option (List ℕ)). next
+    (from? o 25 at) (λ ns. unless (ltb (getD ns 0 0) inputs && not (elem (getD ns 0 0) before)) 26 at (rest (getD ns 0 0) (getD ns 1 0))))
+    (line-back at (e .index) (e .arrival) (let q : e .index < inputs = r .inside (e .index) (List·Memᴰ·head refl) in omega arith)
+    (r .small e (List·Memᴰ·head refl))) ∙ ap (λ (b : Bool). unless b 26 at (rest (e .index) (e .arrival)))
+    (is-true (ltb (e .index) inputs && not (elem (e .index) before)) (yes-and (ltb (e .index) inputs) (not (elem (e .index) before))
+    (yes-ltb (r .inside (e .index) (List·Memᴰ·head refl))) (by-bool (elem (e .index) before)
+    (λ q. rw q (r .fresh (e .index) (List·Memᴰ·head refl) ((rw q at (elem-out (e .index) before)) refl))) (λ p. rw p tt))))
     ∙ ap (λ (q : Read (List Late)). next q (λ ds. holds (e ∷ ds))) (lines-back inputs few behind (e .index ∷ before) es later)
   where
-    behind : ℕ
-    behind = at + suc (length (words (e .index) (e .arrival ∷ [])))
-
-    rest : ℕ → ℕ → Read (List Late)
-    rest i a = next (readLate inputs (i ∷ before) (linesFrom behind [] (each lateLine es))) (λ ds. holds (record { index = i; arrival = a } ∷ ds))
-
-    read : List ℕ → Read (List Late)
-    read ns = unless (ltb (getD ns 0 0) inputs && not (elem (getD ns 0 0) before)) 26 at (rest (getD ns 0 0) (getD ns 1 0))
-
-    unheard : (b : Bool) → (b ≡ true → List·Memᴰ (e .index) before) → T (not b)
-    unheard true h = r .fresh (e .index) (List·Memᴰ·head refl) (h refl)
-    unheard false h = tt
-
     other : (k : ℕ) → Lists es k → ¬ List·Memᴰ k (e .index ∷ before)
     other k m (List·Memᴰ·head q) = r .once .0 (Memᴰ·cast (sym q) m)
     other k m (List·Memᴰ·tail i) = r .fresh k (List·Memᴰ·tail m) i
@@ -147,8 +129,7 @@ lines-back inputs few at before (e ∷ es) r =
 -- "first line `input arrival`, then an input's index from 0 and its arrival": what may be listed is read from the text that lists it
 pub arrivals-back : (inputs : ℕ) → inputs ≤ 65536 → (es : List Late) → LateRead inputs [] es → readArrivals inputs (arrivalsText es) ≡ holds es
 unfolding readArrivals readLateLines arrivalsText text same unless
-arrivals-back inputs few es r =
-    ap (readLateLines inputs) (line-first 0 (text "input arrival") (each lateLine es)
+arrivals-back inputs few es r = ap (readLateLines inputs) (line-first 0 (text "input arrival") (each lateLine es)
     (refl, (refl, (refl, (refl, (refl, (refl, (refl, (refl, (refl, (refl, (refl, (refl, (refl, tt)))))))))))))
     (refl, (refl, (refl, (refl, (refl, (refl, (refl, (refl, (refl, (refl, (refl, (refl, (refl, tt))))))))))))))
     ∙ lines-back inputs few (0 + suc (length (text "input arrival"))) [] es r
@@ -185,28 +166,16 @@ next-same (fault n m) f k e = refl
 pub reads-untimed : (c : Call) → c .arrivals ≡ [] → readTexts c ≡ readUntimed c
 unfolding readTexts readArrivals readLateLines linesFrom next
 reads-untimed c e =
-    ap given e
-    ∙ ap₂ (λ (b : Bool) (k : List Cell → Read Design). unless (leb (length (c .library)) 65536 && b) 1 0 (next (readListed (c .paired) (c .library)) k))
-    (and-true (leb (length (c .graph)) 65536)) (fun-ext (λ cells. ap (next (readHeader (c .graph))) (fun-ext (λ h. ap (unless (leb (need (h .size) (h .outputs)) (c .words)) 10 0) (same-graph cells h)))))
-  where
-    given : List ℕ → Read Design
-    given s =
-        unless (leb (length (c .library)) 65536 && (leb (length (c .graph)) 65536 && leb (length s) 65536)) 1 0
-        (next (readListed (c .paired) (c .library)) (λ cells.
-        next (readHeader (c .graph)) (λ h.
-        unless (leb (need (h .size) (h .outputs)) (c .words)) 10 0
-        (next (readGraph (c .graph) h) (λ g.
-        next (readArrivals (h .inputs) s) (λ es. holds (designOf c cells (timedBy g es))))))))
-
-    and-true : (b : Bool) → (b && true) ≡ b
-    and-true true = refl
-    and-true false = refl
-
-    made : List Cell → Graph → Read Design
-    made cells g = holds (designOf c cells g)
-
-    same-graph : (cells : List Cell) (h : Header) → next (readGraph (c .graph) h) (λ g. made cells (timedBy g [])) ≡ next (readGraph (c .graph) h) (made cells)
-    same-graph cells h = next-same (readGraph (c .graph) h) _ (made cells) (λ g q. ap (made cells) (timed-none g (graph-untimed (c .graph) h g q)))
+    let given : List ℕ → Read Design = λ s. unless
+    (leb (length (c .library)) 65536 && (leb (length (c .graph)) 65536 && leb (length s) 65536)) 1 0
+    (next (readListed (c .paired) (c .library)) (λ cells. next (readHeader (c .graph)) (λ h.
+    unless (leb (need (h .size) (h .outputs)) (c .words)) 10 0
+    (next (readGraph (c .graph) h) (λ g. next (readArrivals (h .inputs) s) (λ es. holds (designOf c cells (timedBy g es)))))))) in
+    let made : List Cell → Graph → Read Design = λ cells g. holds (designOf c cells g) in
+    ap given e ∙ ap₂ (λ (b : Bool) (k : List Cell → Read Design). unless (leb (length (c .library)) 65536 && b) 1 0
+    (next (readListed (c .paired) (c .library)) k)) (by-bool (leb (length (c .graph)) 65536) (λ q. cc) (λ p. cc)) (fun-ext (λ cells.
+    ap (next (readHeader (c .graph))) (fun-ext (λ h. ap (unless (leb (need (h .size) (h .outputs)) (c .words)) 10 0)
+    (next-same (readGraph (c .graph) h) _ (made cells) (λ g q. ap (made cells) (timed-none g (graph-untimed (c .graph) h g q))))))))
 
 -- and every input arrives at 0
 pub untimed-zero : (c : Call) (d : Design) → readUntimed c ≡ holds d → (v : ℕ) → d .graph .late v ≡ 0

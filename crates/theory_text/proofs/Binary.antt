@@ -4,8 +4,8 @@ use Prim.Native.Nat.{ℕ, zero, suc, _+_, _-_, _*_, _/_, _≤_, _<_}
 use native.Mathlib.Nat.{le-of-eq}
 use native.Mathlib.Omega.{arith}
 use mathlib.Core.Path.{_≡_, refl, sym, _∙_, ap, ap₂, subst}
-use mathlib.Core.Logic.{_⊎_, inl, inr}
-use mathlib.Core.Bool.{Bool, true, false, not, cond, _&&_}
+use mathlib.Core.Logic.{_⊎_, inl, inr, ⊎-elim}
+use mathlib.Core.Bool.{Bool, true, false, not, _&&_}
 use mathlib.Core.List.{List, [], _∷_, _++_, map, List·Memᴰ, List·Memᴰ·head, List·Memᴰ·tail, List·Memᴰ·not-nil, List·Memᴰ·cases-cons, List·Memᴰ·append-cases, Memᴰ·append-left, Memᴰ·append-right, map-append, cons≢nil, head-eq-of-cons-eq, tail-eq-of-cons-eq}
 use lib.Dec.{T, eqb, leb, leb→le, le→leb, ltb, ltb→lt, nltb→le}
 use lib.ListN.{length, getD, drop, replicate}
@@ -21,6 +21,7 @@ use Rattle.theory_graph.proofs.Lists.{from-in, from-high, map-out, elem-T, all-
 use Rattle.theory_graph.proofs.Distinct.{from-low, from-distinct, append-distinct}
 use Rattle.theory_text.proofs.Steps.{holds-once, unless-out, next-out}
 use Rattle.theory_text.proofs.Items.{head, Good, due-kinds, due-good, Fresh, defined-cons, kindsOf, Lawful}
+use Rattle.theory_graph.proofs.Split.{by-bool, by-list}
 
 -- lines whose uses are all known pass
 pub uses-in : (known : List ℕ) (is : List Item) → ((i : Item) → List·Memᴰ i is → T (all (λ (l : ℕ). elem (varOf l) (0 ∷ known)) (uses i))) → checkUses known is ≡ holds is
@@ -81,8 +82,6 @@ and-step bytes at v n is e =
     let a = next-out (lessBy true bytes at (2 * v)) _ is e in
     let b = next-out (lessBy false bytes (a .0 .behind) (a .0 .number)) _ is (a .2) in
     let c = next-out (readAnds bytes (b .0 .behind) (2 * v + 2) n) _ is (b .2) in
-    let l = less-out true bytes at (2 * v) (a .0) (a .1) in
-    let m = less-out false bytes (a .0 .behind) (a .0 .number) (b .0) (b .1) in
     record {
       item = record { kind = anAnd; offset = at; literals = 2 * v ∷ a .0 .number ∷ b .0 .number ∷ [] };
       rest = c .0;
@@ -95,10 +94,10 @@ and-step bytes at v n is e =
         isLiterals = refl;
         atLeast = omega arith;
         below = omega arith;
-        less = l .below refl;
-        lesser = m .atMost;
+        less = (less-out true bytes at (2 * v) (a .0) (a .1)) .below refl;
+        lesser = (less-out false bytes (a .0 .behind) (a .0 .number) (b .0) (b .1)) .atMost;
       };
-      isRest = subst (λ (k : ℕ). readAnds bytes (b .0 .behind) k n ≡ holds (c .0)) (let q : 2 * v + 2 ≡ 2 * suc v = omega arith in q) (c .1);
+      isRest = rw (← let q : 2 * v + 2 ≡ 2 * suc v = omega arith in q) (c .1);
       isList = holds-once (c .2);
     }
 
@@ -114,13 +113,9 @@ ands-turn : (bytes : List ℕ) (at v n : ℕ) (is : List Item) → readAnds byte
 unfolding readAnds
 ands-turn bytes at v zero is e i m = absurd (List·Memᴰ·not-nil (subst (λ (js : List Item). List·Memᴰ i js) (sym (holds-once e)) m))
 ands-turn bytes at v (suc n) is e i m =
-    go (List·Memᴰ·cases-cons (subst (λ (js : List Item). List·Memᴰ i js) (sym (s .isList)) m)) (ands-turn bytes (s .behind) (suc v) n (s .rest) (s .isRest) i)
-  where
-    s : Packed bytes v n is
-    s = and-step bytes at v n is e
-
-    wider : (low high : ℕ) (j : Item) → v ≤ low → high ≤ v + suc n → InTurn low high j → InTurn v (v + suc n) j
-    wider low high j a b t = record {
+    let s : Packed bytes v n is = and-step bytes at v n is e in
+    let wider : (low high : ℕ) (j : Item) → v ≤ low → high ≤ v + suc n → InTurn low high j → InTurn v
+    (v + suc n) j = λ low high j a b t. record {
       var = t .var;
       first = t .first;
       second = t .second;
@@ -130,11 +125,10 @@ ands-turn bytes at v (suc n) is e i m =
       below = omega (arith, t .below);
       less = t .less;
       lesser = t .lesser;
-    }
-
-    go : (i ≡ s .item) ⊎ List·Memᴰ i (s .rest) → (List·Memᴰ i (s .rest) → InTurn (suc v) (suc v + n) i) → InTurn v (v + suc n) i
-    go (inl q) later = wider v (suc v) i (omega arith) (omega arith) (subst (InTurn v (suc v)) (sym q) (s .isTurn))
-    go (inr k) later = wider (suc v) (suc v + n) i (omega arith) (omega arith) (later k)
+    } in
+    ⊎-elim (λ q. wider v (suc v) i (omega arith) (omega arith) (subst (InTurn v (suc v)) (sym q) (s .isTurn)))
+    (λ k. wider (suc v) (suc v + n) i (omega arith) (omega arith) (ands-turn bytes (s .behind) (suc v) n (s .rest) (s .isRest) i k))
+    (List·Memᴰ·cases-cons (subst (λ (js : List Item). List·Memᴰ i js) (sym (s .isList)) m))
 
 pub turn-head : (low high : ℕ) (i : Item) (t : InTurn low high i) → head i ≡ t .var
 unfolding varOf
@@ -146,10 +140,9 @@ ands-defined bytes at v zero is e = ap definedBy (sym (holds-once e))
 ands-defined bytes at v (suc n) is e =
     let s = and-step bytes at v n is e in
     let t = s .isTurn in
-    let q : t .var ≡ v = omega (arith, t .atLeast, t .below) in
-    ap definedBy (sym (s .isList))
-    ∙ defined-cons true (s .item) (s .rest) (ap defines (t .isAnd))
-    ∙ ap₂ (λ (a : ℕ) (b : List ℕ). a ∷ b) (turn-head v (suc v) (s .item) t ∙ q) (ands-defined bytes (s .behind) (suc v) n (s .rest) (s .isRest))
+    ap definedBy (sym (s .isList)) ∙ defined-cons true (s .item) (s .rest) (ap defines (t .isAnd)) ∙ ap₂ (λ (a : ℕ) (b : List ℕ). a ∷ b)
+    (turn-head v (suc v) (s .item) t ∙ (omega (arith, t .atLeast, t .below)))
+    (ands-defined bytes (s .behind) (suc v) n (s .rest) (s .isRest))
 
 -- variables 1 to I
 abbrev inputItem : ℕ → ℕ → Item
@@ -168,12 +161,7 @@ inputs-defined at (suc n) i = ap₂ (λ (a : ℕ) (b : List ℕ). a ∷ b) (let 
 pub defined-append : (xs ys : List Item) → definedBy (xs ++ ys) ≡ definedBy xs ++ definedBy ys
 unfolding definedBy
 defined-append [] ys = refl
-defined-append (x ∷ xs) ys = go (defines (x .kind)) (defined-append xs ys)
-  where
-    go : (b : Bool) → definedBy (xs ++ ys) ≡ definedBy xs ++ definedBy ys
-        → cond b (head x ∷ definedBy (xs ++ ys)) (definedBy (xs ++ ys)) ≡ cond b (head x ∷ definedBy xs) (definedBy xs) ++ definedBy ys
-    go true e = ap (λ (l : List ℕ). head x ∷ l) e
-    go false e = e
+defined-append (x ∷ xs) ys = by-bool (defines (x .kind)) (λ e. cc (defined-append xs ys)) (λ q. cc (defined-append xs ys))
 
 outputs-defined : (n : ℕ) (is : List Item) → kindsOf is ≡ replicate n anOutput → definedBy is ≡ []
 unfolding definedBy defines
@@ -204,11 +192,8 @@ module _ (bytes : List ℕ) (h : Header) (is : List Item) (s : Binary bytes h is
   -- "Inputs are variables 1 to I and ANDs follow in sequence."
   pub binary-defined : definedBy is ≡ from 1 (h .inputs) ++ from (suc (h .inputs)) (h .ands)
   unfolding inputItems
-  binary-defined =
-      ap definedBy (sym (s .isItems))
-      ∙ defined-append (inputItems h) (s .outs ++ s .gates)
-      ∙ ap₂ (λ (xs ys : List ℕ). xs ++ ys) (inputs-defined (h .next) (h .inputs) 1)
-      (defined-append (s .outs) (s .gates)
+  binary-defined = ap definedBy (sym (s .isItems)) ∙ defined-append (inputItems h) (s .outs ++ s .gates)
+      ∙ ap₂ (λ (xs ys : List ℕ). xs ++ ys) (inputs-defined (h .next) (h .inputs) 1) (defined-append (s .outs) (s .gates)
       ∙ ap₂ (λ (xs ys : List ℕ). xs ++ ys) (outputs-defined (h .outputs) (s .outs) outs-kinds)
       (ands-defined bytes (s .isGates .0) (suc (h .inputs)) (h .ands) (s .gates) (s .isGates .1)))
 
@@ -216,18 +201,12 @@ module _ (bytes : List ℕ) (h : Header) (is : List Item) (s : Binary bytes h is
   pub binary-turns : (i : Item) → List·Memᴰ i (s .gates) → InTurn (suc (h .inputs)) (suc (h .inputs) + h .ands) i
   binary-turns = ands-turn bytes (s .isGates .0) (suc (h .inputs)) (h .ands) (s .gates) (s .isGates .1)
 
-  binary-kinds : kindsOf is ≡ due h
-  unfolding inputItems due
-  binary-kinds =
-      ap kindsOf (sym (s .isItems))
-      ∙ map-append (λ (i : Item). i .kind) (inputItems h) (s .outs ++ s .gates)
-      ∙ ap₂ (λ (xs ys : List Kind). xs ++ ys) (inputs-kinds (h .next) (h .inputs) 1)
-      (map-append (λ (i : Item). i .kind) (s .outs) (s .gates)
-      ∙ ap₂ (λ (xs ys : List Kind). xs ++ ys) outs-kinds (ands-kinds bytes (s .isGates .0) (suc (h .inputs)) (h .ands) (s .gates) (s .isGates .1)))
-
   binary-good : h .inputs + h .ands ≤ h .size → (i : Item) → List·Memᴰ i is → Good (h .size) i
   unfolding inputItems howMany all
-  binary-good fit i m = first (List·Memᴰ·append-cases (inputItems h) (subst (λ (js : List Item). List·Memᴰ i js) (sym (s .isItems)) m))
+  binary-good fit i m = ⊎-elim (λ n. let o = map-out (inputItem (h .next)) (from 1 (h .inputs)) n in input (o .0) (o .1) (o .2)) (λ q.
+      ⊎-elim (due-good (closed true) (length bytes) (h .size) [] (replicate (h .outputs) anOutput)
+      (linesFrom (h .next) [] (drop (h .next) bytes)) (s .outs) (s .isOuts) i) (λ e. gate (binary-turns i e))
+      (List·Memᴰ·append-cases (s .outs) q)) (List·Memᴰ·append-cases (inputItems h) (rw (s .isItems) m))
     where
       input : (v : ℕ) → List·Memᴰ v (from 1 (h .inputs)) → i ≡ inputItem (h .next) v → Good (h .size) i
       input v n q =
@@ -243,19 +222,13 @@ module _ (bytes : List ℕ) (h : Header) (is : List Item) (s : Binary bytes h is
             (yes-and (leb (t .second) (2 * h .size + 1)) true (le→leb (t .second) (2 * h .size + 1) (omega (arith, t .below, t .less, t .lesser))) tt)));
       }
 
-      second : List·Memᴰ i (s .outs) ⊎ List·Memᴰ i (s .gates) → Good (h .size) i
-      second (inl n) =
-          due-good (closed true) (length bytes) (h .size) [] (replicate (h .outputs) anOutput) (linesFrom (h .next) [] (drop (h .next) bytes)) (s .outs) (s .isOuts) i n
-      second (inr n) = gate (binary-turns i n)
-
-      first : List·Memᴰ i (inputItems h) ⊎ List·Memᴰ i (s .outs ++ s .gates) → Good (h .size) i
-      first (inl n) = let o = map-out (inputItem (h .next)) (from 1 (h .inputs)) n in input (o .0) (o .1) (o .2)
-      first (inr n) = second (List·Memᴰ·append-cases (s .outs) n)
-
   -- what the binary form has is lawful
   pub binary-lawful : h .inputs + h .ands ≤ h .size → Lawful h is
   binary-lawful fit = record {
-    kinds = binary-kinds;
+    kinds = unfold inputItems due in ap kindsOf (sym (s .isItems)) ∙ map-append (λ (i : Item). i .kind) (inputItems h) (s .outs ++ s .gates)
+        ∙ ap₂ (λ (xs ys : List Kind). xs ++ ys) (inputs-kinds (h .next) (h .inputs) 1)
+        (map-append (λ (i : Item). i .kind) (s .outs) (s .gates) ∙ ap₂ (λ (xs ys : List Kind). xs ++ ys) outs-kinds
+        (ands-kinds bytes (s .isGates .0) (suc (h .inputs)) (h .ands) (s .gates) (s .isGates .1)));
     good = binary-good fit;
     fresh = λ x m. fresh x (List·Memᴰ·append-cases (from 1 (h .inputs)) (subst (λ (xs : List ℕ). List·Memᴰ x xs) binary-defined m));
     once = subst Distinct (sym binary-defined)
@@ -265,9 +238,8 @@ module _ (bytes : List ℕ) (h : Header) (is : List Item) (s : Binary bytes h is
     where
       fresh : (x : ℕ) → List·Memᴰ x (from 1 (h .inputs)) ⊎ List·Memᴰ x (from (suc (h .inputs)) (h .ands)) → Fresh (h .size) [] x
       fresh x (inl m) =
-          let u = from-high (h .inputs) 1 x m in
           let v = from-low (h .inputs) 1 x m in
-          record { isNew = List·Memᴰ·not-nil; nonzero = λ e. omega (arith, v); small = omega (arith, u) }
+          record { isNew = List·Memᴰ·not-nil; nonzero = λ e. omega (arith, v); small = omega (arith, (from-high (h .inputs) 1 x m)) }
       fresh x (inr m) =
           let u = from-high (h .ands) (suc (h .inputs)) x m in
           let v = from-low (h .ands) (suc (h .inputs)) x m in
@@ -280,24 +252,14 @@ module _ (bytes : List ℕ) (h : Header) (is : List Item) (s : Binary bytes h is
     where
       go : (t : Bool) → (T t → x < h .inputs) → (T (not t) → h .inputs ≤ x) → List·Memᴰ (suc x) (from 1 (h .inputs) ++ from (suc (h .inputs)) (h .ands))
       go true y n = Memᴰ·append-left (from (suc (h .inputs)) (h .ands)) (subst (λ (k : ℕ). List·Memᴰ k (from 1 (h .inputs))) (let e : 1 + x ≡ suc x = omega arith in e) (from-in (h .inputs) 1 x (y tt)))
-      go false y n =
-          let u : h .inputs ≤ x = n tt in
-          let e : suc (h .inputs) + (x - h .inputs) ≡ suc x = omega arith in
-          Memᴰ·append-right (from 1 (h .inputs)) (subst (λ (k : ℕ). List·Memᴰ k (from (suc (h .inputs)) (h .ands))) e (from-in (h .ands) (suc (h .inputs)) (x - h .inputs) (omega arith)))
+      go false y n = Memᴰ·append-right (from 1 (h .inputs)) (subst (λ (k : ℕ). List·Memᴰ k (from (suc (h .inputs)) (h .ands)))
+          (omega (arith, n tt)) (from-in (h .ands) (suc (h .inputs)) (x - h .inputs) (omega (arith, n tt))))
 
   -- so 14 refuses no binary text
   pub binary-used : h .size ≡ h .inputs + h .ands → checkUses (definedBy is) is ≡ holds is
   unfolding uses
-  binary-used q = uses-in (definedBy is) is (λ i m. all-in (λ (l : ℕ). elem (varOf l) (0 ∷ definedBy is)) (uses i) (used i m))
-    where
-      within : (b : Bool) (ns : List ℕ) (l : ℕ) → List·Memᴰ l (cond b (drop 1 ns) ns) → List·Memᴰ l ns
-      within true (n ∷ ns) l m = List·Memᴰ·tail m
-      within true [] l m = m
-      within false ns l m = m
-
-      used : (i : Item) → List·Memᴰ i is → (l : ℕ) → List·Memᴰ l (uses i) → T (elem (varOf l) (0 ∷ definedBy is))
-      used i m l n =
-          elem-T (varOf l) (0 ∷ definedBy is)
-          (all-defined q (varOf l)
-          (var-low l (h .size) (leb→le l (2 * h .size + 1)
-          (all-of (λ (k : ℕ). leb k (2 * h .size + 1)) (i .literals) (binary-good (le-of-eq (sym q)) i m .low) l (within (defines (i .kind)) (i .literals) l n)))))
+  binary-used q = uses-in (definedBy is) is (λ i m. all-in (λ (l : ℕ). elem (varOf l) (0 ∷ definedBy is)) (uses i) (λ x y. elem-T (varOf x)
+      (0 ∷ definedBy is) (all-defined q (varOf x) (var-low x (h .size) (leb→le x (2 * h .size + 1)
+      (all-of (λ (k : ℕ). leb k (2 * h .size + 1)) (i .literals) (binary-good (le-of-eq (sym q)) i m .low) x (by-bool (defines (i .kind))
+      (λ e. by-list (i .literals) (λ z. rw z (rw z at (rw e at y))) (λ p ns r. rw r (List·Memᴰ·tail (rw r at (rw e at y)))))
+      (λ w. rw w at y))))))))

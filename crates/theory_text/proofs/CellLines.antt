@@ -3,7 +3,7 @@
 use Prim.Native.Nat.{ℕ, suc}
 use native.Mathlib.Omega.{arith}
 use mathlib.Core.Path.{_≡_, refl, sym, _∙_, ap, subst}
-use mathlib.Core.Bool.{Bool, true, false, not, cond, _&&_, _||_}
+use mathlib.Core.Bool.{Bool, not, cond, _&&_, _||_}
 use mathlib.Core.Option.{Option, some}
 use mathlib.Core.List.{List, [], _∷_, List·Memᴰ, List·Memᴰ·head, List·Memᴰ·tail, List·Memᴰ·not-nil}
 use lib.Dec.{eqb, ltb}
@@ -18,13 +18,14 @@ use Rattle.model.specs.ShuffleDemands.{behindFirst, cellLines, SameLines, SameC
 use Rattle.model.specs.declared.Cell.{Cell}
 use Rattle.theory_graph.proofs.Lists.{map-in, map-out}
 use Rattle.theory_text.proofs.Steps.{holds-once, fault-never, unless-out, next-out, from-out, then-out, only-out}
+use Rattle.theory_graph.proofs.Split.{by-bool, by-member}
 
 -- the cell of a line's bytes
 abbrev cellOfBytes : Bool → List ℕ → Option Cell
 cellOfBytes ranged w = cellOfFields ranged (fields w)
 
 -- a line's fields are of one names line only
-field-count : (b : Bool) (ws : List (List ℕ)) (x : Cell) → cellOfFields b ws ≡ some x → length ws ≡ cond b 12 8
+pub field-count : (b : Bool) (ws : List (List ℕ)) (x : Cell) → cellOfFields b ws ≡ some x → length ws ≡ cond b 12 8
 unfolding cellOfFields
 field-count b ws x h =
     let o = then-out (only (eqb (length ws) (cond b 12 8) && isName (getD ws 0 [])) ws) _ x h in
@@ -32,20 +33,17 @@ field-count b ws x h =
     eqb-yes (and-yes (eqb (length ws) (cond b 12 8)) (isName (getD ws 0 [])) (p .0) .0)
 
 one-form : (r q : Bool) (w : List ℕ) (c d : Cell) → cellOfBytes r w ≡ some c → cellOfBytes q w ≡ some d → r ≡ q
-one-form r q w c d e f = go r q (field-count r (fields w) c e) (field-count q (fields w) d f)
-  where
-    go : (a b : Bool) → length (fields w) ≡ cond a 12 8 → length (fields w) ≡ cond b 12 8 → a ≡ b
-    go true true h k = refl
-    go true false h k = absurd (let z : ⊥ = omega arith in z)
-    go false true h k = absurd (let z : ⊥ = omega arith in z)
-    go false false h k = refl
+one-form r q w c d e f = by-bool r (λ p. rw p (by-bool q (λ z. rw z)
+    (λ u. rw u (absurd (let z : ⊥ = omega (arith, rw p at (field-count r (fields w) c e), rw u at (field-count q (fields w) d f)) in z)))))
+    (λ v. rw v (by-bool q
+    (λ g. rw g (absurd (let z : ⊥ = omega (arith, rw v at (field-count r (fields w) c e), rw g at (field-count q (fields w) d f)) in z)))
+    (λ e′. rw e′)))
 
 line-bytes : (ranged : Bool) (l : Line) (c : Cell) → cellOfLine ranged l ≡ some c → cellOfBytes ranged (l .bytes) ≡ some c
 unfolding cellOfLine
 line-bytes ranged l c e =
     let o = then-out (only (ended l) (fields (l .bytes))) (cellOfFields ranged) c e in
-    let p = only-out (ended l) (fields (l .bytes)) (o .0) (o .1) in
-    ap (cellOfFields ranged) (p .1) ∙ o .2
+    ap (cellOfFields ranged) (only-out (ended l) (fields (l .bytes)) (o .0) (o .1) .1) ∙ o .2
 
 -- what one line gives
 record First (ranged : Bool) (k : ℕ) (before : List Cell) (l : Line) (ls : List Line) (cs : List Cell) : Type 0 where
@@ -71,15 +69,10 @@ cell-line : (ranged : Bool) (k : ℕ) (before : List Cell) (ls : List Line) (cs 
     → (c : Cell) → List·Memᴰ c cs → (l : Line) × List·Memᴰ l ls × (cellOfBytes ranged (l .bytes) ≡ some c)
 unfolding readCells
 cell-line ranged k before [] cs e c m = absurd (List·Memᴰ·not-nil (subst (λ (xs : List Cell). List·Memᴰ c xs) (sym (holds-once e)) m))
-cell-line ranged k before (l ∷ ls) cs e c m = go (subst (λ (xs : List Cell). List·Memᴰ c xs) (sym (s .isList)) m) (cell-line ranged (suc k) (s .first ∷ before) ls (s .rest) (s .isRest) c)
-  where
-    s : First ranged k before l ls cs
-    s = first-line ranged k before l ls cs e
-
-    go : List·Memᴰ c (s .first ∷ s .rest) → (List·Memᴰ c (s .rest) → (l : Line) × List·Memᴰ l ls × (cellOfBytes ranged (l .bytes) ≡ some c))
-        → (x : Line) × List·Memᴰ x (l ∷ ls) × (cellOfBytes ranged (x .bytes) ≡ some c)
-    go (List·Memᴰ·head q) later = (l, List·Memᴰ·head refl, s .isFirst ∙ ap some (sym q))
-    go (List·Memᴰ·tail i) later = let r = later i in (r .0, List·Memᴰ·tail (r .1), r .2)
+cell-line ranged k before (l ∷ ls) cs e c m =
+    let s = first-line ranged k before l ls cs e in
+    by-member (rw (s .isList) m) (λ q. (l, List·Memᴰ·head refl, s .isFirst ∙ ap some (sym q)))
+    (λ i. let r = (cell-line ranged (suc k) (s .first ∷ before) ls (s .rest) (s .isRest) c) i in (r .0, List·Memᴰ·tail (r .1), r .2))
 
 line-cell : (ranged : Bool) (k : ℕ) (before : List Cell) (ls : List Line) (cs : List Cell) → readCells ranged k before ls ≡ holds cs
     → (l : Line) → List·Memᴰ l ls → (c : Cell) × List·Memᴰ c cs × (cellOfBytes ranged (l .bytes) ≡ some c)
@@ -92,8 +85,7 @@ line-cell ranged k before (x ∷ ls) cs e l m = go m (line-cell ranged (suc k) (
         → (c : Cell) × List·Memᴰ c cs × (cellOfBytes ranged (l .bytes) ≡ some c)
     go (List·Memᴰ·head q) later =
         (s .first, subst (λ (xs : List Cell). List·Memᴰ (s .first) xs) (s .isList) (List·Memᴰ·head refl), ap (λ (y : Line). cellOfBytes ranged (y .bytes)) q ∙ s .isFirst)
-    go (List·Memᴰ·tail i) later =
-        let r = later i in (r .0, subst (λ (xs : List Cell). List·Memᴰ (r .0) xs) (s .isList) (List·Memᴰ·tail (r .1)), r .2)
+    go (List·Memᴰ·tail i) later = let r = later i in (r .0, rw (← s .isList) (List·Memᴰ·tail (r .1)), r .2)
 
 -- the lines behind the names line
 lines-read : (ls : List Line) (cells : List Cell) → readLibraryLines ls ≡ holds cells → readCells (rangedLines ls) 0 [] (behindFirst ls) ≡ holds cells
@@ -124,7 +116,5 @@ held library library′ cells cells′ e e′ h c m =
 -- libraries of the same cell lines hold the same cells
 pub lines-cells : (library library′ : List ℕ) (cells cells′ : List Cell) → readLibrary library ≡ holds cells → readLibrary library′ ≡ holds cells′
     → SameLines library library′ → SameCells cells cells′
-lines-cells library library′ cells cells′ e e′ s c = (
-  held library library′ cells cells′ e e′ (λ x. s x .0) c,
-  held library′ library cells′ cells e′ e (λ x. s x .1) c,
-)
+lines-cells library library′ cells cells′ e e′ s c =
+    (held library library′ cells cells′ e e′ (λ x. s x .0) c, held library′ library cells′ cells e′ e (λ x. s x .1) c)

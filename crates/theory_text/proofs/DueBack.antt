@@ -10,7 +10,7 @@ use lib.Dec.{T, eqb, leb, leb→le, le→leb, not-T, lit<}
 use lib.ListN.{length, getD, drop}
 use mir.Facts.{yes-and, yes-eqb}
 use Rattle.model.specs.Base.{all, elem, keep, each, same, andThen, only}
-use Rattle.model.specs.Text.{Line, decimal, linesFrom, fields, number, numbers}
+use Rattle.model.specs.Text.{decimal, linesFrom, fields, number, numbers}
 use Rattle.model.specs.Reading.{Read, holds, next, unless, from?}
 use Rattle.model.specs.Graph.{varOf}
 use Rattle.model.specs.GraphText.{closed, Kind, howMany, defines, Item, itemLiterals, readDue, uses, definedBy, isKind, sameKind, numbersLine}
@@ -20,21 +20,20 @@ use Rattle.theory_text.proofs.Plain.{Free, above, free-append, decimal-
 use Rattle.theory_text.proofs.LineLaws.{lineOfBytes, line-first, fields-word, fields-last}
 use Rattle.theory_text.proofs.Names.{decimal-value}
 use Rattle.theory_text.proofs.Items.{head, kindsOf, defined-cons}
+use Rattle.theory_graph.proofs.Split.{by-bool}
 
 -- ---- a line of numbers
 
-number-back : (n : ℕ) → n ≤ 65535 → number (decimal n) ≡ some n
+pub number-back : (n : ℕ) → n ≤ 65535 → number (decimal n) ≡ some n
 unfolding number only
-number-back n h =
-    ap (λ (m : ℕ). only (leb m 65535 && same (decimal n) (decimal m)) m) (decimal-value n)
-    ∙ ap (λ (b : Bool). only b n)
-    (is-true (leb n 65535 && same (decimal n) (decimal n)) (yes-and (leb n 65535) (same (decimal n) (decimal n)) (le→leb n 65535 h) (same-refl (decimal n))))
+number-back n h = ap (λ (m : ℕ). only (leb m 65535 && same (decimal n) (decimal m)) m) (decimal-value n) ∙ ap (λ (b : Bool). only b n)
+    (is-true (leb n 65535 && same (decimal n) (decimal n))
+    (yes-and (leb n 65535) (same (decimal n) (decimal n)) (le→leb n 65535 h) (same-refl (decimal n))))
 
 pub numbers-back : (ns : List ℕ) → T (all (λ (n : ℕ). leb n 65535) ns) → numbers (map decimal ns) ≡ some ns
 unfolding numbers andThen all
 numbers-back [] t = refl
-numbers-back (n ∷ ns) t =
-    ap (λ (o : Option ℕ). andThen o (λ k. andThen (numbers (map decimal ns)) (λ ks. some (k ∷ ks))))
+numbers-back (n ∷ ns) t = ap (λ (o : Option ℕ). andThen o (λ k. andThen (numbers (map decimal ns)) (λ ks. some (k ∷ ks))))
     (number-back n (leb→le n 65535 (all-of (λ (k : ℕ). leb k 65535) (n ∷ ns) t n (List·Memᴰ·head refl))))
     ∙ ap (λ (o : Option (List ℕ)). andThen o (λ ks. some (n ∷ ks)))
     (numbers-back ns (all-in (λ (k : ℕ). leb k 65535) ns (λ k m. all-of (λ (j : ℕ). leb j 65535) (n ∷ ns) t k (List·Memᴰ·tail m))))
@@ -49,8 +48,7 @@ words n ns = decimal n ++ spaced ns
 pub fields-numbers : (w : List ℕ) → Free 32 w → (ns : List ℕ) → fields (w ++ spaced ns) ≡ w ∷ map decimal ns
 unfolding each
 fields-numbers w f [] = ap fields (append-nil w) ∙ fields-last w f
-fields-numbers w f (n ∷ ns) =
-    fields-word w (decimal n ++ spaced ns) f ∙ ap (λ (ws : List (List ℕ)). w ∷ ws) (fields-numbers (decimal n) (decimal-free 32 n (lit< tt)) ns)
+fields-numbers w f (n ∷ ns) = cc (fields-word w (decimal n ++ spaced ns) f, fields-numbers (decimal n) (decimal-free 32 n (lit< tt)) ns)
 
 spaced-free : (s : ℕ) → s < 32 → (ns : List ℕ) → Free s (spaced ns)
 unfolding each
@@ -63,10 +61,8 @@ words-free s h n ns = free-append s (decimal n) (spaced ns) (decimal-free s n (o
 
 pub line-ends : (n : ℕ) (ns rest : List ℕ) → numbersLine n ns ++ rest ≡ words n ns ++ (10 ∷ rest)
 unfolding numbersLine
-line-ends n ns rest =
-    append-assoc (decimal n) (spaced ns ++ (10 ∷ [])) rest
-    ∙ ap (λ (x : List ℕ). decimal n ++ x) (append-assoc (spaced ns) (10 ∷ []) rest)
-    ∙ sym (append-assoc (decimal n) (spaced ns) (10 ∷ rest))
+line-ends n ns rest = append-assoc (decimal n) (spaced ns ++ (10 ∷ [])) rest
+    ∙ ap (λ (x : List ℕ). decimal n ++ x) (append-assoc (spaced ns) (10 ∷ []) rest) ∙ sym (append-assoc (decimal n) (spaced ns) (10 ∷ rest))
 
 pub numbers-first : (at n : ℕ) (ns rest : List ℕ) → linesFrom at [] (numbersLine n ns ++ rest) ≡ lineOfBytes at (words n ns) ∷ linesFrom (at + suc (length (words n ns))) [] rest
 numbers-first at n ns rest = ap (linesFrom at []) (line-ends n ns rest) ∙ line-first at (words n ns) rest (words-free 10 (lit< tt) n ns) (words-free 13 (lit< tt) n ns)
@@ -101,13 +97,10 @@ row-back size at i small r =
     ∙ ap (λ (ws : List (List ℕ)). andThen (only (eqb (length ws) (howMany (i .kind))) ws) numbers)
     (fields-numbers (decimal (r .first)) (decimal-free 32 (r .first) (lit< tt)) (r .more))
     ∙ ap (λ (b : Bool). andThen (only b (map decimal (r .first ∷ r .more))) numbers)
-    (is-true (eqb (length (map decimal (r .first ∷ r .more))) (howMany (i .kind))) (yes-eqb (ap suc (lib.ListN.length-map (r .more) decimal) ∙ r .long)))
-    ∙ numbers-back (r .first ∷ r .more)
-    (all-in (λ (n : ℕ). leb n 65535) (r .first ∷ r .more)
-    (λ n m.
-    le→leb n 65535
-    (let q : n ≤ 2 * size + 1 = leb→le n (2 * size + 1) (all-of (λ (k : ℕ). leb k (2 * size + 1)) (i .literals) (r .low) n (subst (λ (ns : List ℕ). List·Memᴰ n ns) (sym (r .isLiterals)) m)) in
-    omega arith)))
+    (is-true (eqb (length (map decimal (r .first ∷ r .more))) (howMany (i .kind)))
+    (yes-eqb (ap suc (lib.ListN.length-map (r .more) decimal) ∙ r .long))) ∙ numbers-back (r .first ∷ r .more)
+    (all-in (λ (n : ℕ). leb n 65535) (r .first ∷ r .more) (λ n m. le→leb n 65535 (let q : n ≤ 2 * size + 1 = leb→le n (2 * size + 1)
+    (all-of (λ (k : ℕ). leb k (2 * size + 1)) (i .literals) (r .low) n (rw (r .isLiterals) m)) in omega arith)))
     ∙ ap some (sym (r .isLiterals))
 
 -- the lines of such items read back, if they define nothing twice
@@ -116,45 +109,30 @@ pub rows-back : (end size : ℕ) → size ≤ 4095 → (at : ℕ) (before : List
 unfolding readDue each itemsAt next unless from?
 rows-back end size small at before [] rows once new = refl
 rows-back end size small at before (i ∷ is) rows once new =
+    let n = getD (i .literals) 0 0 in
+    let ns = drop 1 (i .literals) in
+    let row = rows i (List·Memᴰ·head refl) in
+    let behind = linesFrom (at + suc (length (words n ns))) [] (each itemLine is) in
+    let read : List ℕ → Read (List Item) = λ ls. unless
+    (all (λ (k : ℕ). leb k (2 * size + 1)) ls && (not (defines (i .kind)) || (eqb (getD ls 0 0 % 2) 0 && not (eqb (getD ls 0 0) 0)))) 12 at
+    (unless (not (defines (i .kind) && elem (varOf (getD ls 0 0)) before)) 13 at (next
+    (readDue (closed false) end size (cond (defines (i .kind)) (varOf (getD ls 0 0) ∷ before) before) (kindsOf is) behind)
+    (λ js. holds (record { kind = i .kind; offset = at; literals = ls } ∷ js)))) in
+    let rest = next (readDue (closed false) end size (cond (defines (i .kind)) (head i ∷ before) before) (kindsOf is) behind)
+    (λ js. holds (record { kind = i .kind; offset = at; literals = i .literals } ∷ js)) in
     ap (readDue (closed false) end size before (i .kind ∷ kindsOf is)) (numbers-first at n ns (each itemLine is))
     ∙ ap (λ (o : Option (List ℕ)). next (from? o 11 at) read) (row-back size at i small row)
     ∙ ap (λ (b : Bool). unless b 12 at (unless (not (defines (i .kind) && elem (head i) before)) 13 at rest))
     (is-true (all (λ (k : ℕ). leb k (2 * size + 1)) (i .literals) && (not (defines (i .kind)) || (eqb (n % 2) 0 && not (eqb n 0)))) (yes-and (all (λ (k : ℕ). leb k (2 * size + 1)) (i .literals)) (not (defines (i .kind)) || (eqb (n % 2) 0 && not (eqb n 0))) (row .low) (row .even)))
-    ∙ ap (λ (b : Bool). unless b 13 at rest) (is-true (not (defines (i .kind) && elem (head i) before)) (is-new (defines (i .kind)) refl))
+    ∙ ap (λ (b : Bool). unless b 13 at rest) (is-true (not (defines (i .kind) && elem (head i) before)) (by-bool (defines (i .kind)) (λ d.
+    rw d (not-T (elem (head i) before) (λ t. new (head i)
+    (subst (λ (xs : List ℕ). List·Memᴰ (head i) xs) (sym (defined-cons true i is d)) (List·Memᴰ·head refl))
+    (elem-out (head i) before (is-true (elem (head i) before) t))))) (λ e. rw e tt)))
     ∙ ap (λ (r : Read (List Item)). next r (λ js. holds (record { kind = i .kind; offset = at; literals = i .literals } ∷ js)))
     (rows-back end size small (at + suc (length (words n ns))) (cond (defines (i .kind)) (head i ∷ before) before) is (λ j m. rows j (List·Memᴰ·tail m)) (later (defines (i .kind)) refl .0) (later (defines (i .kind)) refl .1))
   where
-    n : ℕ
-    n = getD (i .literals) 0 0
-
-    ns : List ℕ
-    ns = drop 1 (i .literals)
-
-    row : Row size i
-    row = rows i (List·Memᴰ·head refl)
-
-    behind : List Line
-    behind = linesFrom (at + suc (length (words n ns))) [] (each itemLine is)
-
-    read : List ℕ → Read (List Item)
-    read ls =
-        unless (all (λ (k : ℕ). leb k (2 * size + 1)) ls && (not (defines (i .kind)) || (eqb (getD ls 0 0 % 2) 0 && not (eqb (getD ls 0 0) 0)))) 12 at
-        (unless (not (defines (i .kind) && elem (varOf (getD ls 0 0)) before)) 13 at
-        (next (readDue (closed false) end size (cond (defines (i .kind)) (varOf (getD ls 0 0) ∷ before) before) (kindsOf is) behind) (λ js. holds (record { kind = i .kind; offset = at; literals = ls } ∷ js))))
-
-    rest : Read (List Item)
-    rest = next (readDue (closed false) end size (cond (defines (i .kind)) (head i ∷ before) before) (kindsOf is) behind) (λ js. holds (record { kind = i .kind; offset = at; literals = i .literals } ∷ js))
-
-    is-new : (b : Bool) → defines (i .kind) ≡ b → T (not (b && elem (head i) before))
-    is-new true d =
-        not-T (elem (head i) before)
-        (λ t. new (head i) (subst (λ (xs : List ℕ). List·Memᴰ (head i) xs) (sym (defined-cons true i is d)) (List·Memᴰ·head refl)) (elem-out (head i) before (is-true (elem (head i) before) t)))
-    is-new false d = tt
-
     later : (b : Bool) → defines (i .kind) ≡ b → Distinct (definedBy is) × ((x : ℕ) → List·Memᴰ x (definedBy is) → ¬ List·Memᴰ x (cond b (head i ∷ before) before))
-    later true d =
-        let o : Distinct (head i ∷ definedBy is) = subst Distinct (defined-cons true i is d) once in
-        (o .1, (λ x m k. either x m k))
+    later true d = (subst Distinct (defined-cons true i is d) once .1, (λ x m k. either x m k))
       where
         either : (x : ℕ) → List·Memᴰ x (definedBy is) → ¬ List·Memᴰ x (head i ∷ before)
         either x m (List·Memᴰ·head e) = subst Distinct (defined-cons true i is d) once .0 (Memᴰ·cast (sym e) m)
@@ -169,22 +147,14 @@ module _ {B : Type 0} (f : List ℕ → B) (k : Kind) where
   pub kept-anywhere : (at : ℕ) (is : List Item) → map (λ (i : Item). f (i .literals)) (keep (isKind k) (itemsAt at is)) ≡ map (λ (i : Item). f (i .literals)) (keep (isKind k) is)
   unfolding itemsAt keep isKind
   kept-anywhere at [] = refl
-  kept-anywhere at (i ∷ is) = go (sameKind k (i .kind)) (kept-anywhere (at + suc (length (words (getD (i .literals) 0 0) (drop 1 (i .literals))))) is)
-    where
-      rest : List Item
-      rest = itemsAt (at + suc (length (words (getD (i .literals) 0 0) (drop 1 (i .literals))))) is
-
-      go : (b : Bool) → map (λ (j : Item). f (j .literals)) (keep (isKind k) rest) ≡ map (λ (j : Item). f (j .literals)) (keep (isKind k) is)
-          → map (λ (j : Item). f (j .literals)) (cond b (record { kind = i .kind; offset = at; literals = i .literals } ∷ keep (isKind k) rest) (keep (isKind k) rest))
-          ≡ map (λ (j : Item). f (j .literals)) (cond b (i ∷ keep (isKind k) is) (keep (isKind k) is))
-      go true e = ap (λ (l : List B). f (i .literals) ∷ l) e
-      go false e = e
+  kept-anywhere at (i ∷ is) = by-bool (sameKind k (i .kind))
+      (λ e. cc (kept-anywhere (at + suc (length (words (getD (i .literals) 0 0) (drop 1 (i .literals))))) is))
+      (λ q. cc (kept-anywhere (at + suc (length (words (getD (i .literals) 0 0) (drop 1 (i .literals))))) is))
 
 pub defined-anywhere : (at : ℕ) (is : List Item) → definedBy (itemsAt at is) ≡ definedBy is
 unfolding itemsAt definedBy
 defined-anywhere at [] = refl
-defined-anywhere at (i ∷ is) =
-    ap (λ (l : List ℕ). cond (defines (i .kind)) (head i ∷ l) l) (defined-anywhere (at + suc (length (words (getD (i .literals) 0 0) (drop 1 (i .literals))))) is)
+defined-anywhere at (i ∷ is) = cc (defined-anywhere (at + suc (length (words (getD (i .literals) 0 0) (drop 1 (i .literals))))) is)
 
 -- an item of these, at its place
 pub found-anywhere : (at : ℕ) (is : List Item) (i : Item) → List·Memᴰ i (itemsAt at is) → (j : Item) × List·Memᴰ j is × (uses i ≡ uses j)

@@ -9,7 +9,7 @@
 -- Assumes nothing.
 use Prim.Native.Nat.{ℕ, suc, _+_, _*_, _%_}
 use native.Mathlib.Omega.{arith}
-use mathlib.Core.Path.{_≡_, refl, sym, _∙_, ap, ap₂, subst}
+use mathlib.Core.Path.{_≡_, refl, sym, _∙_, ap, subst}
 use mathlib.Core.Logic.{inl, inr}
 use mathlib.Core.Bool.{Bool, true, false, not, cond, true≢false, _&&_, _||_}
 use mathlib.Core.Option.{Option, none, some}
@@ -36,6 +36,7 @@ use Rattle.model.specs.declared.Figures.{Figures}
 use Rattle.theory_text.proofs.Steps.{fault-never}
 use Rattle.theory_text.proofs.LineLaws.{lines-step, closing-next}
 use Rattle.theory_text.proofs.Faults.{Faults, in-holds, in-fault, header-faults, graph-faults}
+use Rattle.theory_graph.proofs.Split.{by-bool, by-option, by-read}
 
 -- ---- lines
 
@@ -45,16 +46,15 @@ record Behind (at : ℕ) (held s : List ℕ) (l : Line) (ls : List Line) : Type 
   isNext : nextOf l ≡ at + length held + long
   isRest : linesFrom (nextOf l) [] (drop long s) ≡ ls
 
-no-lines : (at : ℕ) (l : Line) (ls : List Line) → linesFrom at [] [] ≡ l ∷ ls → ⊥
+pub no-lines : (at : ℕ) (l : Line) (ls : List Line) → linesFrom at [] [] ≡ l ∷ ls → ⊥
 unfolding linesFrom
 no-lines at l ls e = nil≢cons e
 
 last-line : (at h : ℕ) (hs : List ℕ) (l : Line) (ls : List Line) → linesFrom at (h ∷ hs) [] ≡ l ∷ ls → Behind at (h ∷ hs) [] l ls
 unfolding linesFrom
 last-line at h hs l ls e =
-    let n : at + (length (reverse (h ∷ hs)) + 0) ≡ nextOf l = ap nextOf (head-eq-of-cons-eq e) in
     let r : length (reverse (h ∷ hs)) ≡ suc (length hs) = length-reverse (h ∷ hs) in
-    record { long = 0; isNext = omega (arith, n, r); isRest = tail-eq-of-cons-eq e }
+    record { long = 0; isNext = omega (arith, (ap nextOf (head-eq-of-cons-eq e)), r); isRest = tail-eq-of-cons-eq e }
 
 behind : (at : ℕ) (held s : List ℕ) (l : Line) (ls : List Line) → linesFrom at held s ≡ l ∷ ls → Behind at held s l ls
 behind at [] [] l ls e = absurd (no-lines at l ls e)
@@ -66,9 +66,7 @@ behind at held (b ∷ s) l ls e = go (eqb b 10) (sym (lines-step at held b s) �
     go true f more =
         let n : nextOf l ≡ at + suc (length held) = ap nextOf (sym (head-eq-of-cons-eq f)) ∙ closing-next at held in
         record { long = 1; isNext = omega (arith, n); isRest = ap (λ (k : ℕ). linesFrom k [] s) n ∙ tail-eq-of-cons-eq f }
-    go false f more =
-        let r = more f in
-        record { long = suc (r .long); isNext = omega (arith, r .isNext); isRest = r .isRest }
+    go false f more = record { long = suc (more f .long); isNext = omega (arith, (more f) .isNext); isRest = (more f) .isRest }
 
 lines-behind : (s : List ℕ) (l : Line) (ls : List Line) → linesFrom 0 [] s ≡ l ∷ ls → linesFrom (nextOf l) [] (drop (nextOf l) s) ≡ ls
 lines-behind s l ls e =
@@ -82,24 +80,15 @@ starts ls = map (λ (l : Line). l .offset) ls
 closing-start : (at : ℕ) (held : List ℕ) → closing at held .offset ≡ at
 unfolding closing
 closing-start at [] = refl
-closing-start at (h ∷ hs) = go (eqb h 13)
-  where
-    go : (t : Bool) → cond {A = Line} t (record { offset = at; bytes = reverse hs; ending = 2 }) (record { offset = at; bytes = reverse (h ∷ hs); ending = 1 }) .offset ≡ at
-    go true = refl
-    go false = refl
+closing-start at (h ∷ hs) = by-bool (eqb h 13) (λ e. cc) (λ q. cc)
 
 -- the first line begins where the text does, or the text ends there
 first-start : (at end : ℕ) (held s : List ℕ) → (held ≡ [] → s ≡ [] → end ≡ at) → getD (starts (linesFrom at held s)) 0 end ≡ at
 unfolding linesFrom
 first-start at end [] [] e = e refl refl
 first-start at end (h ∷ hs) [] e = refl
-first-start at end held (b ∷ s) e =
-    ap (λ (ls : List Line). getD (starts ls) 0 end) (lines-step at held b s) ∙ go (eqb b 10) (first-start at end (b ∷ held) s (λ x. absurd (cons≢nil x)))
-  where
-    go : (t : Bool) → getD (starts (linesFrom at (b ∷ held) s)) 0 end ≡ at
-        → getD (starts (cond t (closing at held ∷ linesFrom (at + suc (length held)) [] s) (linesFrom at (b ∷ held) s))) 0 end ≡ at
-    go true more = closing-start at held
-    go false more = more
+first-start at end held (b ∷ s) e = ap (λ (ls : List Line). getD (starts ls) 0 end) (lines-step at held b s)
+    ∙ by-bool (eqb b 10) (λ q. rw q (closing-start at held)) (λ p. rw p (first-start at end (b ∷ held) s (λ x. absurd (cons≢nil x))))
 
 start-zero : (s : List ℕ) → lineStart s 0 ≡ 0
 unfolding lineStart
@@ -117,18 +106,15 @@ pair-from s t n [] [] e f g = noLines (inl (n + 0, sym (f 0), sym (g 0)))
 pair-from s t n [] (m ∷ ms) e f g = absurd (nil≢cons e)
 pair-from s t n (l ∷ ls) [] e f g = absurd (cons≢nil e)
 pair-from s t n (l ∷ ls) (m ∷ ms) e f g =
+    let on : (i : ℕ) → n + suc i ≡ suc n + i = λ i. omega arith in
     aLine (head-eq-of-cons-eq e) (inl (n + 0, sym (f 0), sym (g 0)))
     (pair-from s t (suc n) ls ms (tail-eq-of-cons-eq e) (λ i. f (suc i) ∙ ap (lineStart s) (on i)) (λ i. g (suc i) ∙ ap (lineStart t) (on i)))
-  where
-    on : (i : ℕ) → n + suc i ≡ suc n + i
-    on i = omega arith
 
 pair-lines : (s t : List ℕ) → Alike s t → Paired (SamePlace s t) (length s) (length t) (linesFrom 0 [] s) (linesFrom 0 [] t)
 unfolding lineStart
-pair-lines s t e = pair-from s t 0 (linesFrom 0 [] s) (linesFrom 0 [] t) e (λ i. ap (lineStart s) (none i)) (λ i. ap (lineStart t) (none i))
-  where
-    none : (i : ℕ) → i ≡ 0 + i
-    none i = omega arith
+pair-lines s t e =
+    let none : (i : ℕ) → i ≡ 0 + i = λ i. omega arith in
+    pair-from s t 0 (linesFrom 0 [] s) (linesFrom 0 [] t) e (λ i. ap (lineStart s) (none i)) (λ i. ap (lineStart t) (none i))
 
 -- ---- readings that fare alike
 
@@ -141,19 +127,11 @@ module _ (P : ℕ → ℕ → ℕ → Type 0) where
   fares-unless : {A B : Type 0} (R : A → B → Type 0) (t u : Bool) (n k j : ℕ) (r : Read A) (q : Read B) → t ≡ u → P n k j → Fares R P r q
       → Fares R P (unless t n k r) (unless u n j q)
   unfolding unless
-  fares-unless R t u n k j r q e p f = subst (λ (v : Bool). Fares R P (unless t n k r) (unless v n j q)) e (go t)
-    where
-      go : (v : Bool) → Fares R P (unless v n k r) (unless v n j q)
-      go true = f
-      go false = bothFault p
+  fares-unless R t u n k j r q e p f = rw (← e) (by-bool t (λ z. rw z f) (λ w. rw w (bothFault p)))
 
   fares-from : {A : Type 0} (o p : Option A) (n k j : ℕ) → o ≡ p → P n k j → Fares _≡_ P (from? o n k) (from? p n j)
   unfolding from?
-  fares-from {A} o p n k j e q = subst (λ (x : Option A). Fares _≡_ P (from? o n k) (from? x n j)) e (go o)
-    where
-      go : (x : Option A) → Fares _≡_ P (from? x n k) (from? x n j)
-      go none = bothFault q
-      go (some a) = bothHold refl
+  fares-from {A} o p n k j e q = rw (← e) (by-option o (λ r. rw r (bothFault q)) (λ a z. rw z (bothHold refl)))
 
   fares-next : {A B C D : Type 0} (R : A → B → Type 0) (S : C → D → Type 0) (r : Read A) (q : Read B) (f : A → Read C) (g : B → Read D)
       → Fares R P r q → ((a : A) (b : B) → R a b → Fares S P (f a) (g b)) → Fares S P (next r f) (next q g)
@@ -187,11 +165,6 @@ longer-shown : (l m : Line) → shown l ≡ shown m → isLonger l ≡ isLonger 
 unfolding isLonger shown
 longer-shown l m e = ap (λ (p : List ℕ × Bool). same (p .0) (text "cell pins table area d0 d1 d2 d3 l0 l1 l2 l3")) e
 
-names-shown : (l m : Line) → shown l ≡ shown m → (ended l && (isShorter l || isLonger l)) ≡ (ended m && (isShorter m || isLonger m))
-unfolding isShorter isLonger shown
-names-shown l m e =
-    ap (λ (p : List ℕ × Bool). p .1 && (same (p .0) (text "cell pins table area d0 d1 d2 d3") || same (p .0) (text "cell pins table area d0 d1 d2 d3 l0 l1 l2 l3"))) e
-
 -- places of lines are places of refusals 2 to 6 and 27
 module _ (At : ℕ → ℕ → Type 0) (P : ℕ → ℕ → ℕ → Type 0) (put : (n : ℕ) → ofLibrary n ≡ true → (k j : ℕ) → At k j → P n k j) where
   same-cells : (ranged : Bool) (end bound k : ℕ) (before : List Cell) (ls ms : List Line) → Paired At end bound ls ms
@@ -204,12 +177,9 @@ module _ (At : ℕ → ℕ → Type 0) (P : ℕ → ℕ → ℕ → Type 0) (put
       (fares-from P (cellOfLine ranged l) (cellOfLine ranged m) 4 (l .offset) (m .offset) (cell-shown ranged l m e) (put 4 refl (l .offset) (m .offset) a))
       (λ c d q. subst (λ (x : Cell). Fares _≡_ P (read ls (l .offset) c) (read ms (m .offset) x)) q (of c (same-cells ranged end bound (suc k) (c ∷ before) ls ms more))))
     where
-      rest : List Line → Cell → Read (List Cell)
-      rest xs c = next (readCells ranged (suc k) (c ∷ before) xs) (λ cs. holds (c ∷ cs))
-
       read : List Line → ℕ → Cell → Read (List Cell)
-      read xs at c =
-          unless (not (any (λ (b : Cell). same (nameOf c) (nameOf b)) before)) 5 at (unless (isClean c) 6 at (unless (noLower (c .lows) (c .delays)) 27 at (rest xs c)))
+      read xs at c = unless (not (any (λ (b : Cell). same (nameOf c) (nameOf b)) before)) 5 at (unless (isClean c) 6 at
+          (unless (noLower (c .lows) (c .delays)) 27 at (next (readCells ranged (suc k) (c ∷ before) xs) (λ cs. holds (c ∷ cs)))))
 
       of : (c : Cell) → Fares _≡_ P (readCells ranged (suc k) (c ∷ before) ls) (readCells ranged (suc k) (c ∷ before) ms) → Fares _≡_ P (read ls (l .offset) c) (read ms (m .offset) c)
       of c f =
@@ -223,9 +193,10 @@ module _ (At : ℕ → ℕ → Type 0) (P : ℕ → ℕ → ℕ → Type 0) (put
   same-lines : At 0 0 → (end bound : ℕ) (ls ms : List Line) → Paired At end bound ls ms → Fares _≡_ P (readLibraryLines ls) (readLibraryLines ms)
   unfolding readLibraryLines shown
   same-lines z end bound [] [] (noLines a) = bothFault (put 2 refl 0 0 z)
-  same-lines z end bound (l ∷ ls) (m ∷ ms) (aLine e a more) =
-      fares-unless P _≡_ (ended l && (isShorter l || isLonger l)) (ended m && (isShorter m || isLonger m)) 2 0 0 _ _ (names-shown l m e) (put 2 refl 0 0 z)
-      (subst (λ (r : Bool). Fares _≡_ P (readCells (isLonger l) 0 [] ls) (readCells r 0 [] ms)) (longer-shown l m e) (same-cells (isLonger l) end bound 0 [] ls ms more))
+  same-lines z end bound (l ∷ ls) (m ∷ ms) (aLine e a more) = fares-unless P _≡_ (ended l && (isShorter l || isLonger l))
+      (ended m && (isShorter m || isLonger m)) 2 0 0 _ _ (unfold isShorter isLonger in ap (λ (p : List ℕ × Bool). p .1 &&
+      (same (p .0) (text "cell pins table area d0 d1 d2 d3") || same (p .0) (text "cell pins table area d0 d1 d2 d3 l0 l1 l2 l3"))) e)
+      (put 2 refl 0 0 z) (rw (← longer-shown l m e) (same-cells (isLonger l) end bound 0 [] ls ms more))
 
 -- whether the delays are ranges, by what is shown of the lines
 same-ranged : (s t : List ℕ) → Alike s t → isRanged s ≡ isRanged t
@@ -240,22 +211,16 @@ same-ranged s t e = by-shown (linesFrom 0 [] s) ∙ ap firstLonger e ∙ sym (by
     by-shown [] = refl
     by-shown (l ∷ ls) = refl
 
-same-library : (s t : List ℕ) (P : ℕ → ℕ → ℕ → Type 0) → ((n : ℕ) → ofLibrary n ≡ true → (k j : ℕ) → SamePlace s t k j → P n k j) → Alike s t → Fares _≡_ P (readLibrary s) (readLibrary t)
-unfolding readLibrary
-same-library s t P put e =
-    same-lines (SamePlace s t) P put (inl (0, start-zero s, start-zero t)) (length s) (length t) (linesFrom 0 [] s) (linesFrom 0 [] t) (pair-lines s t e)
-
 -- and 30 hangs on the cells
 same-listed : (paired : Bool) (s t : List ℕ) (P : ℕ → ℕ → ℕ → Type 0) → ((n : ℕ) → ofLibrary n ≡ true → (k j : ℕ) → SamePlace s t k j → P n k j) → Alike s t
     → Fares _≡_ P (readListed paired s) (readListed paired t)
 unfolding readListed
 same-listed paired s t P put e =
-    fares-next P _≡_ _≡_ (readLibrary s) (readLibrary t) judge judge (same-library s t P put e)
+    let judge : List Cell → Read (List Cell) = λ cs. unless (leb (length (cellsFor paired cs)) 256) 30 0 (holds cs) in
+    fares-next P _≡_ _≡_ (readLibrary s) (readLibrary t) judge judge (unfold readLibrary in same-lines (SamePlace s t) P put
+    (inl (0, start-zero s, start-zero t)) (length s) (length t) (linesFrom 0 [] s) (linesFrom 0 [] t) (pair-lines s t e))
     (λ cs ds q. subst (λ (x : List Cell). Fares _≡_ P (judge cs) (judge x)) q
     (fares-unless P _≡_ (leb (length (cellsFor paired cs)) 256) (leb (length (cellsFor paired cs)) 256) 30 0 0 (holds cs) (holds cs) refl (put 30 refl 0 0 (inl (0, start-zero s, start-zero t))) (bothHold refl)))
-  where
-    judge : List Cell → Read (List Cell)
-    judge cs = unless (leb (length (cellsFor paired cs)) 256) 30 0 (holds cs)
 
 -- ---- the due lines
 
@@ -264,10 +229,6 @@ data SameItems (At : ℕ → ℕ → Type 0) : List Item → List Item → Type 
   nothing : SameItems At [] []
   another : (k : Kind) (o p : ℕ) (ns : List ℕ) {is js : List Item} → At o p → SameItems At is js
       → SameItems At (record { kind = k; offset = o; literals = ns } ∷ is) (record { kind = k; offset = p; literals = ns } ∷ js)
-
-literals-shown : (k : Kind) (l m : Line) → shown l ≡ shown m → itemLiterals (closed false) k l ≡ itemLiterals (closed false) k m
-unfolding itemLiterals shown
-literals-shown k l m e = ap (λ (p : List ℕ × Bool). andThen (only (p .1 && eqb (length (fields (p .0))) (howMany k)) (fields (p .0))) numbers) e
 
 same-defined : (At : ℕ → ℕ → Type 0) {is js : List Item} → SameItems At is js → definedBy is ≡ definedBy js
 unfolding definedBy
@@ -279,24 +240,13 @@ same-kept : {A : Type 0} (At : ℕ → ℕ → Type 0) (f : Kind → List ℕ �
     → map (λ (i : Item). f (i .kind) (i .literals)) (keep (isKind j) is) ≡ map (λ (i : Item). f (i .kind) (i .literals)) (keep (isKind j) js)
 unfolding keep isKind
 same-kept At f j nothing = refl
-same-kept {A} At f j (another k o p ns {is} {js} a r) = go (sameKind j k) (same-kept At f j r)
-  where
-    the : List Item → List A
-    the xs = map (λ (i : Item). f (i .kind) (i .literals)) xs
-
-    go : (t : Bool) → the (keep (isKind j) is) ≡ the (keep (isKind j) js)
-        → the (cond t (record { kind = k; offset = o; literals = ns } ∷ keep (isKind j) is) (keep (isKind j) is))
-        ≡ the (cond t (record { kind = k; offset = p; literals = ns } ∷ keep (isKind j) js) (keep (isKind j) js))
-    go true e = ap (λ (xs : List A). f k ns ∷ xs) e
-    go false e = e
+same-kept {A} At f j (another k o p ns {is} {js} a r) = by-bool (sameKind j k) (λ e. cc (same-kept At f j r)) (λ q. cc (same-kept At f j r))
 
 same-graphs : (At : ℕ → ℕ → Type 0) (size : ℕ) {is js : List Item} → SameItems At is js → graphOf size is ≡ graphOf size js
 unfolding graphOf
 same-graphs At size r =
-    let a = same-kept At (λ k ns. varOf (getD ns 0 0)) anInput r in
-    let b = same-kept At (λ k ns. getD ns 0 0) anOutput r in
     let c = same-kept {A = And} At (λ k ns. record { var = varOf (getD ns 0 0); left = getD ns 1 0; right = getD ns 2 0 }) anAnd r in
-    rw (a, b, c)
+    rw ((same-kept At (λ k ns. varOf (getD ns 0 0)) anInput r), (same-kept At (λ k ns. getD ns 0 0) anOutput r), c)
 
 -- places of lines are places of the refusals from 7 on
 module _ (At : ℕ → ℕ → Type 0) (P : ℕ → ℕ → ℕ → Type 0) (put : (n : ℕ) → (ofLibrary n || ofArrivals n) ≡ false → (k j : ℕ) → At k j → P n k j) where
@@ -305,10 +255,12 @@ module _ (At : ℕ → ℕ → Type 0) (P : ℕ → ℕ → ℕ → Type 0) (put
   unfolding readDue
   same-due end bound size before [] ls ms e = bothHold nothing
   same-due end bound size before (k ∷ ks) [] [] (noLines a) = bothFault (put 11 refl end bound a)
-  same-due end bound size before (k ∷ ks) (l ∷ ls) (m ∷ ms) (aLine e a more) =
-      fares-next P _≡_ (SameItems At) (from? (itemLiterals (closed false) k l) 11 (l .offset)) (from? (itemLiterals (closed false) k m) 11 (m .offset)) (after end ls (l .offset)) (after bound ms (m .offset))
-      (fares-from P (itemLiterals (closed false) k l) (itemLiterals (closed false) k m) 11 (l .offset) (m .offset) (literals-shown k l m e) (put 11 refl (l .offset) (m .offset) a))
-      (λ ns ms₁ q. subst (λ (xs : List ℕ). Fares (SameItems At) P (after end ls (l .offset) ns) (after bound ms (m .offset) xs)) q (of ns (same-due end bound size (known ns) ks ls ms more)))
+  same-due end bound size before (k ∷ ks) (l ∷ ls) (m ∷ ms) (aLine e a more) = fares-next P _≡_ (SameItems At)
+      (from? (itemLiterals (closed false) k l) 11 (l .offset)) (from? (itemLiterals (closed false) k m) 11 (m .offset))
+      (after end ls (l .offset)) (after bound ms (m .offset)) (fares-from P (itemLiterals (closed false) k l)
+      (itemLiterals (closed false) k m) 11 (l .offset) (m .offset) (unfold itemLiterals shown in ap
+      (λ (p : List ℕ × Bool). andThen (only (p .1 && eqb (length (fields (p .0))) (howMany k)) (fields (p .0))) numbers) e)
+      (put 11 refl (l .offset) (m .offset) a)) (λ ns ms₁ q. rw (← q) (of ns (same-due end bound size (known ns) ks ls ms more)))
     where
       known : List ℕ → List ℕ
       known ns = cond (defines k) (varOf (getD ns 0 0) ∷ before) before
@@ -321,9 +273,8 @@ module _ (At : ℕ → ℕ → Type 0) (P : ℕ → ℕ → ℕ → Type 0) (put
 
       after : ℕ → List Line → ℕ → List ℕ → Read (List Item)
       after limit rest at ns =
-          unless (inRange ns) 12 at
-          (unless (isNew ns) 13 at
-          (next (readDue (closed false) limit size (known ns) ks rest) (λ is. holds (record { kind = k; offset = at; literals = ns } ∷ is))))
+          unless (inRange ns) 12 at (unless (isNew ns) 13 at (next (readDue (closed false) limit size (known ns) ks rest)
+          (λ is. holds (record { kind = k; offset = at; literals = ns } ∷ is))))
 
       of : (ns : List ℕ) → Fares (SameItems At) P (readDue (closed false) end size (known ns) ks ls) (readDue (closed false) bound size (known ns) ks ms)
           → Fares (SameItems At) P (after end ls (l .offset) ns) (after bound ms (m .offset) ns)
@@ -344,9 +295,8 @@ module _ (At : ℕ → ℕ → Type 0) (P : ℕ → ℕ → ℕ → Type 0) (put
   -- the graph of items that are the same
   then-graph : (size : ℕ) (is js : List Item) → SameItems At is js
       → Fares _≡_ P (next (checkUses (definedBy is) is) (λ xs. holds (graphOf size xs))) (next (checkUses (definedBy js) js) (λ xs. holds (graphOf size xs)))
-  then-graph size is js q =
-      subst (λ (ds : List ℕ). Fares _≡_ P (next (checkUses (definedBy is) is) (λ xs. holds (graphOf size xs))) (next (checkUses ds js) (λ xs. holds (graphOf size xs)))) (same-defined At q)
-      (fares-next P (SameItems At) _≡_ (checkUses (definedBy is) is) (checkUses (definedBy is) js) (λ xs. holds (graphOf size xs)) (λ xs. holds (graphOf size xs)) (same-uses (definedBy is) q)
+  then-graph size is js q = rw (← same-defined At q) (fares-next P (SameItems At) _≡_ (checkUses (definedBy is) is)
+      (checkUses (definedBy is) js) (λ xs. holds (graphOf size xs)) (λ xs. holds (graphOf size xs)) (same-uses (definedBy is) q)
       (λ xs ys p. bothHold (same-graphs At size p)))
 
 -- ---- the header
@@ -364,16 +314,17 @@ headerBy p n =
 
 header-by : (l : Line) (ls : List Line) → same (firstWord (l ∷ ls)) (text "aig") ≡ false → headerOf (l ∷ ls) ≡ headerBy (shown l) (nextOf l)
 unfolding headerOf headerBy shown firstWord
-header-by l ls e =
-    ap (λ (b : Bool).
-    andThen (only (closed b l && (eqb (length (fields (l .bytes))) 6 && (b || same (getD (fields (l .bytes)) 0 []) (text "aag")))) (drop 1 (fields (l .bytes)))) (λ vs.
-    andThen (numbers vs) (λ ns. some (headerOfNumbers b (nextOf l) ns)))) e
+header-by l ls e = ap (λ (b : Bool). andThen (only
+    (closed b l && (eqb (length (fields (l .bytes))) 6 && (b || same (getD (fields (l .bytes)) 0 []) (text "aag"))))
+    (drop 1 (fields (l .bytes)))) (λ vs. andThen (numbers vs) (λ ns. some (headerOfNumbers b (nextOf l) ns)))) e
 
 module _ (At : ℕ → ℕ → Type 0) (P : ℕ → ℕ → ℕ → Type 0) (put : (n : ℕ) → (ofLibrary n || ofArrivals n) ≡ false → (k j : ℕ) → At k j → P n k j) (s t : List ℕ) (z : At 0 0) where
   same-first : (p : List ℕ × Bool) (n q : ℕ) → Paired At (length s) (length t) (linesFrom n [] (drop n s)) (linesFrom q [] (drop q t))
       → Fares (Headers At s t) P (from? (headerBy p n) 7 0) (from? (headerBy p q) 7 0)
   unfolding headerBy andThen from?
-  same-first p n q b = go (only (p .1 && (eqb (length (fields (p .0))) 6 && same (getD (fields (p .0)) 0 []) (text "aag"))) (drop 1 (fields (p .0))))
+  same-first p n q b = by-option
+      (only (p .1 && (eqb (length (fields (p .0))) 6 && same (getD (fields (p .0)) 0 []) (text "aag"))) (drop 1 (fields (p .0))))
+      (λ e. rw e (bothFault (put 7 refl 0 0 z))) (λ vs r. rw r (of (numbers vs)))
     where
       made : ℕ → Option (List ℕ) → Option Header
       made i o = andThen o (λ ns. some (headerOfNumbers false i ns))
@@ -382,16 +333,11 @@ module _ (At : ℕ → ℕ → Type 0) (P : ℕ → ℕ → ℕ → Type 0) (put
       of none = bothFault (put 7 refl 0 0 z)
       of (some ns) = bothHold (headers n q ns b)
 
-      go : (o : Option (List (List ℕ))) → Fares (Headers At s t) P (from? (andThen o (λ vs. made n (numbers vs))) 7 0) (from? (andThen o (λ vs. made q (numbers vs))) 7 0)
-      go none = bothFault (put 7 refl 0 0 z)
-      go (some vs) = of (numbers vs)
-
   same-tests : (h k : Header) → Headers At s t h k
       → Fares (Headers At s t) P (unless (eqb (h .latches) 0) 8 0 (unless (inLimits h) 9 0 (unless (inSequence h) 19 0 (holds h))))
       (unless (eqb (k .latches) 0) 8 0 (unless (inLimits k) 9 0 (unless (inSequence k) 19 0 (holds k))))
   unfolding headerOfNumbers inLimits inSequence
-  same-tests h k r =
-      fares-unless P (Headers At s t) (eqb (h .latches) 0) (eqb (k .latches) 0) 8 0 0 _ _ (latches r) (put 8 refl 0 0 z)
+  same-tests h k r = fares-unless P (Headers At s t) (eqb (h .latches) 0) (eqb (k .latches) 0) 8 0 0 _ _ (latches r) (put 8 refl 0 0 z)
       (fares-unless P (Headers At s t) (inLimits h) (inLimits k) 9 0 0 _ _ (limits r) (put 9 refl 0 0 z)
       (fares-unless P (Headers At s t) (inSequence h) (inSequence k) 19 0 0 _ _ (sequence r) (put 19 refl 0 0 z) (bothHold r)))
     where
@@ -406,9 +352,8 @@ module _ (At : ℕ → ℕ → Type 0) (P : ℕ → ℕ → ℕ → Type 0) (put
 
   same-header : Paired At (length s) (length t) (linesFrom 0 [] s) (linesFrom 0 [] t) → isBinaryText s ≡ false → Fares (Headers At s t) P (readHeader s) (readHeader t)
   unfolding readHeader isBinaryText
-  same-header b a =
-      fares-next P (Headers At s t) (Headers At s t) (from? (headerOf (linesFrom 0 [] s)) 7 0) (from? (headerOf (linesFrom 0 [] t)) 7 0) _ _
-      (go (linesFrom 0 [] s) refl (linesFrom 0 [] t) refl b a) same-tests
+  same-header b a = fares-next P (Headers At s t) (Headers At s t) (from? (headerOf (linesFrom 0 [] s)) 7 0)
+      (from? (headerOf (linesFrom 0 [] t)) 7 0) _ _ (go (linesFrom 0 [] s) refl (linesFrom 0 [] t) refl b a) same-tests
     where
       nowhere : Fares (Headers At s t) P (from? (headerOf []) 7 0) (from? (headerOf []) 7 0)
       nowhere = unfold headerOf from? in bothFault (put 7 refl 0 0 z)
@@ -420,31 +365,22 @@ module _ (At : ℕ → ℕ → Type 0) (P : ℕ → ℕ → ℕ → Type 0) (put
           → same (firstWord ls) (text "aig") ≡ false → Fares (Headers At s t) P (from? (headerOf ls) 7 0) (from? (headerOf ms) 7 0)
       go [] x [] y (noLines u) f = nowhere
       go (l ∷ ls) x (m ∷ ms) y (aLine e u more) f =
-          let first : headerOf (l ∷ ls) ≡ headerBy (shown l) (nextOf l) = header-by l ls f in
-          let g : same (firstWord (m ∷ ms)) (text "aig") ≡ false = ap (λ (w : List ℕ). same w (text "aig")) (sym (word l m ls ms e)) ∙ f in
-          let second : headerOf (m ∷ ms) ≡ headerBy (shown l) (nextOf m) = header-by m ms g ∙ ap (λ (p : List ℕ × Bool). headerBy p (nextOf m)) (sym e) in
-          let rest : Paired At (length s) (length t) (linesFrom (nextOf l) [] (drop (nextOf l) s)) (linesFrom (nextOf m) [] (drop (nextOf m) t)) =
-          subst (λ (xs : List Line). Paired At (length s) (length t) xs (linesFrom (nextOf m) [] (drop (nextOf m) t))) (sym (lines-behind s l ls x))
-          (subst (λ (xs : List Line). Paired At (length s) (length t) ls xs) (sym (lines-behind t m ms y)) more) in
-          subst (λ (o : Option Header). Fares (Headers At s t) P (from? o 7 0) (from? (headerOf (m ∷ ms)) 7 0)) (sym first)
-          (subst (λ (o : Option Header). Fares (Headers At s t) P (from? (headerBy (shown l) (nextOf l)) 7 0) (from? o 7 0)) (sym second) (same-first (shown l) (nextOf l) (nextOf m) rest))
+          rw (header-by l ls f) (rw (header-by m ms (ap (λ (w : List ℕ). same w (text "aig")) (sym (word l m ls ms e)) ∙ f)
+          ∙ ap (λ (p : List ℕ × Bool). headerBy p (nextOf m)) (sym e))
+          (same-first (shown l) (nextOf l) (nextOf m) (rw (lines-behind s l ls x) (rw (lines-behind t m ms y) more))))
 
   -- ---- the graph
   same-graph : (h k : Header) → Headers At s t h k → Fares _≡_ P (readGraph s h) (readGraph t k)
   same-graph h k r = of r
     where
-      items : (n q : ℕ) (ns : List ℕ) → Paired At (length s) (length t) (linesFrom n [] (drop n s)) (linesFrom q [] (drop q t))
-          → Fares (SameItems At) P (readItems s (headerOfNumbers false n ns)) (readItems t (headerOfNumbers false q ns))
-      items n q ns b = unfold readItems headerOfNumbers due in same-due At P put (length s) (length t) (getD ns 0 0) [] (due (headerOfNumbers false n ns)) _ _ b
-
       size : (n q : ℕ) (ns : List ℕ) → headerOfNumbers false n ns .size ≡ headerOfNumbers false q ns .size
       size n q ns = unfold headerOfNumbers in refl
 
       of : {h₁ k₁ : Header} → Headers At s t h₁ k₁ → Fares _≡_ P (readGraph s h₁) (readGraph t k₁)
-      of (headers n q ns b) = unfold readGraph in
-          fares-next P (SameItems At) _≡_ (readItems s (headerOfNumbers false n ns)) (readItems t (headerOfNumbers false q ns)) _ _ (items n q ns b)
-          (λ is js e. subst (λ (m : ℕ). Fares _≡_ P (next (checkUses (definedBy is) is) (λ xs. holds (graphOf (headerOfNumbers false n ns .size) xs))) (next (checkUses (definedBy js) js) (λ xs. holds (graphOf m xs))))
-          (size n q ns) (then-graph At P put (headerOfNumbers false n ns .size) is js e))
+      of (headers n q ns b) = unfold readGraph in fares-next P (SameItems At) _≡_ (readItems s (headerOfNumbers false n ns))
+          (readItems t (headerOfNumbers false q ns)) _ _ (unfold readItems headerOfNumbers due in same-due At P put (length s) (length t)
+          (getD ns 0 0) [] (due (headerOfNumbers false n ns)) _ _ b)
+          (λ is js e. rw (← size n q ns) (then-graph At P put (headerOfNumbers false n ns .size) is js e))
 
 -- ---- the arrivals
 
@@ -458,18 +394,16 @@ module _ (At : ℕ → ℕ → Type 0) (P : ℕ → ℕ → ℕ → Type 0) (put
   same-late : (end bound inputs : ℕ) (before : List ℕ) (ls ms : List Line) → Paired At end bound ls ms → Fares _≡_ P (readLate inputs before ls) (readLate inputs before ms)
   unfolding readLate
   same-late end bound inputs before [] [] (noLines a) = bothHold refl
-  same-late end bound inputs before (l ∷ ls) (m ∷ ms) (aLine e a more) =
-      fares-next P _≡_ _≡_ (from? (lateNumbers l) 25 (l .offset)) (from? (lateNumbers m) 25 (m .offset)) (read ls (l .offset)) (read ms (m .offset))
+  same-late end bound inputs before (l ∷ ls) (m ∷ ms) (aLine e a more) = fares-next P _≡_ _≡_ (from? (lateNumbers l) 25 (l .offset))
+      (from? (lateNumbers m) 25 (m .offset)) (read ls (l .offset)) (read ms (m .offset))
       (fares-from P (lateNumbers l) (lateNumbers m) 25 (l .offset) (m .offset) (late-shown l m e) (put 25 refl (l .offset) (m .offset) a))
-      (λ ns os q.
-      subst (λ (x : List ℕ). Fares _≡_ P (read ls (l .offset) ns) (read ms (m .offset) x)) q (of ns (same-late end bound inputs (getD ns 0 0 ∷ before) ls ms more)))
+      (λ ns os q. rw (← q) (of ns (same-late end bound inputs (getD ns 0 0 ∷ before) ls ms more)))
     where
       late : List ℕ → Late
       late ns = record { index = getD ns 0 0; arrival = getD ns 1 0 }
 
       read : List Line → ℕ → List ℕ → Read (List Late)
-      read xs at ns =
-          unless (ltb (getD ns 0 0) inputs && not (elem (getD ns 0 0) before)) 26 at
+      read xs at ns = unless (ltb (getD ns 0 0) inputs && not (elem (getD ns 0 0) before)) 26 at
           (next (readLate inputs (getD ns 0 0 ∷ before) xs) (λ es. holds (late ns ∷ es)))
 
       of : (ns : List ℕ) → Fares _≡_ P (readLate inputs (getD ns 0 0 ∷ before) ls) (readLate inputs (getD ns 0 0 ∷ before) ms) → Fares _≡_ P (read ls (l .offset) ns) (read ms (m .offset) ns)
@@ -485,11 +419,6 @@ module _ (At : ℕ → ℕ → Type 0) (P : ℕ → ℕ → ℕ → Type 0) (put
   same-late-lines end bound inputs (l ∷ ls) (m ∷ ms) (aLine e a more) =
       fares-unless P _≡_ (ended l && same (l .bytes) (text "input arrival")) (ended m && same (m .bytes) (text "input arrival")) 25 (l .offset) (m .offset) _ _
       (ap (λ (p : List ℕ × Bool). p .1 && same (p .0) (text "input arrival")) e) (put 25 refl (l .offset) (m .offset) a) (same-late end bound inputs [] ls ms more)
-
-same-arrivals : (s t : List ℕ) (P : ℕ → ℕ → ℕ → Type 0) → ((n : ℕ) → (not (ofLibrary n) && ofArrivals n) ≡ true → (k j : ℕ) → SamePlace s t k j → P n k j) → Alike s t
-    → (inputs : ℕ) → Fares _≡_ P (readArrivals inputs s) (readArrivals inputs t)
-unfolding readArrivals
-same-arrivals s t P put e inputs = same-late-lines (SamePlace s t) P put (length s) (length t) inputs (linesFrom 0 [] s) (linesFrom 0 [] t) (pair-lines s t e)
 
 -- ---- the texts of two calls
 
@@ -508,21 +437,13 @@ module _ (c d : Call) (alike : AlikeTexts c d) where
 
   in-graph : (n : ℕ) → (ofLibrary n || ofArrivals n) ≡ false → (k j : ℕ) → SamePlace (c .graph) (d .graph) k j → Places n k j
   unfolding atFault Places
-  in-graph n e k j p = go (ofLibrary n) (ofArrivals n) e
-    where
-      go : (a b : Bool) → (a || b) ≡ false → SamePlace (pick a b c) (pick a b d) k j
-      go true b q = absurd (true≢false q)
-      go false true q = absurd (true≢false q)
-      go false false q = p
+  in-graph n e k j p = by-bool (ofLibrary n) (λ q. rw q (absurd (true≢false (rw q at e))))
+      (λ r. rw r (by-bool (ofArrivals n) (λ z. rw z (absurd (true≢false (rw z at (rw r at e))))) (λ w. rw w p)))
 
   in-arrivals : (n : ℕ) → (not (ofLibrary n) && ofArrivals n) ≡ true → (k j : ℕ) → SamePlace (c .arrivals) (d .arrivals) k j → Places n k j
   unfolding atFault Places
-  in-arrivals n e k j p = go (ofLibrary n) (ofArrivals n) e
-    where
-      go : (a b : Bool) → (not a && b) ≡ true → SamePlace (pick a b c) (pick a b d) k j
-      go true b q = absurd (true≢false (sym q))
-      go false true q = p
-      go false false q = absurd (true≢false (sym q))
+  in-arrivals n e k j p = by-bool (ofLibrary n) (λ q. rw q (absurd (true≢false (sym (rw q at e)))))
+      (λ r. rw r (by-bool (ofArrivals n) (λ z. rw z p) (λ w. rw w (absurd (true≢false (sym (rw w at (rw r at e))))))))
 
   -- what is read behind the graph, for so many inputs
   timed : Bool → Bool → List ℕ → List Cell → ℕ → Graph → Read Design
@@ -542,10 +463,10 @@ module _ (c d : Call) (alike : AlikeTexts c d) where
 
   same-timed : (cells : List Cell) (inputs : ℕ) (x y : Graph) → x ≡ y → Fares _≡_ Places (timed (c .paired) (isRanged (c .library)) (c .arrivals) cells inputs x) (timed (c .paired) (isRanged (c .library)) (d .arrivals) cells inputs y)
   unfolding timed
-  same-timed cells inputs x y e =
-      fares-next Places _≡_ _≡_ (readArrivals inputs (c .arrivals)) (readArrivals inputs (d .arrivals)) _ _
-      (same-arrivals (c .arrivals) (d .arrivals) Places in-arrivals (alike .arrivals) inputs)
-      (λ es fs q. bothHold (ap₂ (λ (g : Graph) (xs : List Late). record { listed = cells; cells = cellsFor (c .paired) cells; ranged = isRanged (c .library); graph = timedBy g xs }) e q))
+  same-timed cells inputs x y e = fares-next Places _≡_ _≡_ (readArrivals inputs (c .arrivals)) (readArrivals inputs (d .arrivals)) _ _
+      (unfold readArrivals in same-late-lines (SamePlace (c .arrivals) (d .arrivals)) Places in-arrivals (length (c .arrivals))
+      (length (d .arrivals)) inputs (linesFrom 0 [] (c .arrivals)) (linesFrom 0 [] (d .arrivals))
+      (pair-lines (c .arrivals) (d .arrivals) (alike .arrivals))) (λ es fs q. bothHold (cc))
 
   one-graph : c .graph ≡ d .graph → (cells : List Cell) → Fares _≡_ Places (behindLibrary (c .paired) (isRanged (c .library)) (c .graph) (c .arrivals) (c .words) cells) (behindLibrary (c .paired) (isRanged (c .library)) (d .graph) (d .arrivals) (c .words) cells)
   unfolding behindLibrary behindHeader
@@ -568,6 +489,7 @@ module _ (c d : Call) (alike : AlikeTexts c d) where
       → Fares _≡_ Places (behindLibrary (c .paired) (isRanged (c .library)) (c .graph) (c .arrivals) (c .words) cells) (behindLibrary (c .paired) (isRanged (c .library)) (d .graph) (d .arrivals) (c .words) cells)
   unfolding behindLibrary behindHeader
   two-graphs a cells =
+      let zero-place : SamePlace (c .graph) (d .graph) 0 0 = inl (0, start-zero (c .graph), start-zero (d .graph)) in
       fares-next Places (Headers At (c .graph) (d .graph)) _≡_ (readHeader (c .graph)) (readHeader (d .graph)) _ _
       (same-header At Places in-graph (c .graph) (d .graph) zero-place (pair-lines (c .graph) (d .graph) (alike .graphs)) a)
       (λ h k r.
@@ -578,23 +500,11 @@ module _ (c d : Call) (alike : AlikeTexts c d) where
       At : ℕ → ℕ → Type 0
       At = SamePlace (c .graph) (d .graph)
 
-      zero-place : SamePlace (c .graph) (d .graph) 0 0
-      zero-place = inl (0, start-zero (c .graph), start-zero (d .graph))
-
       needs : {h k : Header} → Headers At (c .graph) (d .graph) h k → leb (need (h .size) (h .outputs)) (c .words) ≡ leb (need (k .size) (k .outputs)) (c .words)
       needs (headers n q ns b) = unfold headerOfNumbers in refl
 
       counts : {h k : Header} → Headers At (c .graph) (d .graph) h k → h .inputs ≡ k .inputs
       counts (headers n q ns b) = unfold headerOfNumbers in refl
-
-  same-behind : (cells : List Cell) → Fares _≡_ Places (behindLibrary (c .paired) (isRanged (c .library)) (c .graph) (c .arrivals) (c .words) cells) (behindLibrary (c .paired) (isRanged (c .library)) (d .graph) (d .arrivals) (d .words) cells)
-  same-behind cells =
-      subst (λ (n : ℕ). Fares _≡_ Places (behindLibrary (c .paired) (isRanged (c .library)) (c .graph) (c .arrivals) (c .words) cells) (behindLibrary (c .paired) (isRanged (c .library)) (d .graph) (d .arrivals) n cells)) (alike .words)
-      (go (isBinaryText (c .graph)) refl)
-    where
-      go : (b : Bool) → isBinaryText (c .graph) ≡ b → Fares _≡_ Places (behindLibrary (c .paired) (isRanged (c .library)) (c .graph) (c .arrivals) (c .words) cells) (behindLibrary (c .paired) (isRanged (c .library)) (d .graph) (d .arrivals) (c .words) cells)
-      go true e = one-graph (alike .binary e) cells
-      go false e = two-graphs e cells
 
   as-one : Fares _≡_ Places (readTexts c) (textsToo (c .paired) (isRanged (c .library)))
   unfolding readTexts behindLibrary behindHeader timed textsToo unless
@@ -608,7 +518,10 @@ module _ (c d : Call) (alike : AlikeTexts c d) where
       rw (a, b, s, e, f, t)
       (fares-next Places _≡_ _≡_ (readListed (c .paired) (c .library)) (readListed (c .paired) (d .library)) (behindLibrary (c .paired) (isRanged (c .library)) (c .graph) (c .arrivals) (c .words)) (behindLibrary (c .paired) (isRanged (c .library)) (d .graph) (d .arrivals) (d .words))
       (same-listed (c .paired) (c .library) (d .library) Places in-library (alike .libraries))
-      (λ x y q. subst (λ (z : List Cell). Fares _≡_ Places (behindLibrary (c .paired) (isRanged (c .library)) (c .graph) (c .arrivals) (c .words) x) (behindLibrary (c .paired) (isRanged (c .library)) (d .graph) (d .arrivals) (d .words) z)) q (same-behind x)))
+      (λ x y q. subst (λ (z : List Cell). Fares _≡_ Places (behindLibrary (c .paired) (isRanged (c .library)) (c .graph) (c .arrivals) (c .words) x) (behindLibrary (c .paired) (isRanged (c .library)) (d .graph) (d .arrivals) (d .words) z)) q (
+      subst (λ (n : ℕ). Fares _≡_ Places (behindLibrary (c .paired) (isRanged (c .library)) (c .graph) (c .arrivals) (c .words) x)
+      (behindLibrary (c .paired) (isRanged (c .library)) (d .graph) (d .arrivals) n x)) (alike .words)
+      (by-bool (isBinaryText (c .graph)) (λ e. one-graph (alike .binary e) x) (λ q. two-graphs q x)))))
 
   same-texts : Fares _≡_ Places (readTexts c) (readTexts d)
   unfolding readTexts behindLibrary behindHeader timed textsToo
@@ -631,24 +544,13 @@ module _ (c d : Call) (alike : AlikeTexts c d) where
 
   same-printed : (t : List ℕ) (f : Figures) → mapTexts c ≡ mapped t f → mapTexts d ≡ mapped t f
   unfolding mapTexts mapDesign
-  same-printed t f e = go (readTexts c) refl e
-    where
-      go : (r : Read Design) → readTexts c ≡ r → mapDesign (c .bytes) r ≡ mapped t f → mapTexts d ≡ mapped t f
-      go (holds x) q p = sym (same-outcome x q) ∙ e
-      go (fault n k) q p = absurd (never-mapped p)
+  same-printed t f e = by-read (readTexts c) (λ x q. sym (same-outcome x q) ∙ e) (λ n k p. absurd (never-mapped (rw p at e)))
 
   same-refusal : (n k : ℕ) → mapTexts c ≡ refused n k → (j : ℕ) × (mapTexts d ≡ refused n j)
   unfolding mapTexts mapDesign returnedBy
-  same-refusal n k e = go (readTexts c) refl e
-    where
-      go : (r : Read Design) → readTexts c ≡ r → mapDesign (c .bytes) r ≡ refused n k → (j : ℕ) × (mapTexts d ≡ refused n j)
-      go (holds x) q p = (k, sym (same-outcome x q) ∙ e)
-      go (fault m i) q p =
-          let o = same-place m i q in
-          let number : m ≡ n = ap (λ (x : Outcome). returnedBy x .number) p in (
-            o .0,
-            ap (mapDesign (d .bytes)) (o .1) ∙ ap (λ (x : ℕ). refused x (o .0)) number,
-          )
+  same-refusal n k e = by-read (readTexts c) (λ x q. (k, sym (same-outcome x q) ∙ e)) (λ m i p. let o = same-place m i p in
+      let number : m ≡ n = ap (λ (x : Outcome). returnedBy x .number) (rw p at e) in
+      (o .0, ap (mapDesign (d .bytes)) (o .1) ∙ ap (λ (x : ℕ). refused x (o .0)) number))
 
   pub same-but-ends : SameButEnds c d
   unfolding Places

@@ -21,6 +21,7 @@ use Rattle.model.specs.declared.Cell.{Cell}
 use Rattle.model.specs.declared.Header.{Header}
 use Rattle.theory_text.proofs.Steps.{holds-once, fault-never, unless-out, from-out, next-out, then-out}
 use Rattle.theory_text.proofs.LineLaws.{lines-step, closing-next}
+use Rattle.theory_graph.proofs.Split.{by-bool, by-list, by-member}
 
 -- the number and the place of a refusal, if there is one
 pub record Faults {A : Type 0} (P : ℕ → ℕ → Type 0) (r : Read A) : Type 0 where
@@ -85,8 +86,7 @@ less-inside isFirst bytes at h n p e =
     let a = next-out (difference at (drop at bytes)) _ p e in
     let b = unless-out (not (isFirst && eqb (a .0 .number) 0) && leb (a .0 .number) n) 21 at _ p (a .2) in
     let q : a .0 .behind ≡ p .behind = ap (λ (x : Passed). x .behind) (holds-once (b .1)) in
-    let i : a .0 .behind ≤ at + length (drop at bytes) = difference-inside at (drop at bytes) (a .0) (a .1) in
-    omega (arith, length-drop at bytes)
+    omega (arith, difference-inside at (drop at bytes) (a .0) (a .1), length-drop at bytes)
 
 -- and so does a line
 pub lines-inside : (at : ℕ) (held bs : List ℕ) (l : Line) → List·Memᴰ l (linesFrom at held bs) → nextOf l ≤ at + (length held + length bs)
@@ -96,19 +96,16 @@ lines-inside at (h ∷ hs) [] l (List·Memᴰ·head e) =
     subst (λ (x : Line). nextOf x ≤ at + (length (h ∷ hs) + 0)) (sym e) (let q : length (reverse (h ∷ hs)) ≡ length (h ∷ hs) = length-reverse (h ∷ hs) in omega arith)
 lines-inside at (h ∷ hs) [] l (List·Memᴰ·tail m) = absurd (List·Memᴰ·not-nil m)
 lines-inside at held (b ∷ bs) l m =
-    go (eqb b 10) (subst (λ (ls : List Line). List·Memᴰ l ls) (lines-step at held b bs) m) (lines-inside (at + suc (length held)) [] bs l) (lines-inside at (b ∷ held) bs l)
-  where
-    head-or : List·Memᴰ l (closing at held ∷ linesFrom (at + suc (length held)) [] bs)
-        → (List·Memᴰ l (linesFrom (at + suc (length held)) [] bs) → nextOf l ≤ at + suc (length held) + (0 + length bs)) → nextOf l ≤ at + (length held + suc (length bs))
-    head-or (List·Memᴰ·head e) y =
-        subst (λ (x : Line). nextOf x ≤ at + (length held + suc (length bs))) (sym e) (let q : nextOf (closing at held) ≡ at + suc (length held) = closing-next at held in omega arith)
-    head-or (List·Memᴰ·tail n) y = omega (arith, y n)
-
-    go : (t : Bool) → List·Memᴰ l (cond t (closing at held ∷ linesFrom (at + suc (length held)) [] bs) (linesFrom at (b ∷ held) bs))
-        → (List·Memᴰ l (linesFrom (at + suc (length held)) [] bs) → nextOf l ≤ at + suc (length held) + (0 + length bs))
-        → (List·Memᴰ l (linesFrom at (b ∷ held) bs) → nextOf l ≤ at + (suc (length held) + length bs)) → nextOf l ≤ at + (length held + suc (length bs))
-    go true n y z = head-or n y
-    go false n y z = omega (arith, z n)
+    by-bool (eqb b 10) (λ e. by-member (rw e at (subst (λ (ls : List Line). List·Memᴰ l ls) (lines-step at held b bs) m)) (λ q.
+    subst (λ (x : Line). nextOf x ≤ at + (length held + suc (length bs))) (sym q) (let q : nextOf (closing at held) ≡ at + suc
+    (length held) = closing-next at held in omega (arith, lines-inside (at + suc (length held)) [] bs l)))
+    (λ n. omega (arith, lines-inside (at + suc (length held)) [] bs l, (lines-inside (at + suc (length held)) [] bs l) n))) (λ q. omega (
+      arith,
+      lines-inside (at + suc (length held)) [] bs l,
+      lines-inside at
+          (b ∷ held) bs l,
+      (lines-inside at (b ∷ held) bs l) (rw q at (subst (λ (ls : List Line). List·Memᴰ l ls) (lines-step at held b bs) m)),
+    ))
 
 pub behind-inside : (end at n : ℕ) (ls : List Line) → at ≤ end → ((l : Line) → List·Memᴰ l ls → nextOf l ≤ end) → behindLines at n ls ≤ end
 unfolding behindLines
@@ -122,10 +119,8 @@ unfolding readHeader headerOf headerOfNumbers from?
 header-inside bytes h e =
     let a = next-out (from? (headerOf (linesFrom 0 [] bytes)) 7 0) _ h e in
     let k = a .0 in
-    let b = unless-out (eqb (k .latches) 0) 8 0 _ h (a .2) in
-    let c = unless-out (inLimits k) 9 0 _ h (b .1) in
-    let d = unless-out (inSequence k) 19 0 (holds k) h (c .1) in
-    let q : k .next ≡ h .next = ap (λ (x : Header). x .next) (holds-once (d .1)) in
+    let c = unless-out (inLimits k) 9 0 _ h (unless-out (eqb (k .latches) 0) 8 0 _ h (a .2) .1) in
+    let q : k .next ≡ h .next = ap (λ (x : Header). x .next) (holds-once (unless-out (inSequence k) 19 0 (holds k) h (c .1) .1)) in
     omega (arith, first (linesFrom 0 [] bytes) (λ l m. lines-inside 0 [] bytes l m) k (a .1))
   where
     first : (ls : List Line) → ((l : Line) → List·Memᴰ l ls → nextOf l ≤ 0 + (0 + length bytes)) → (k : Header) → from? (headerOf ls) 7 0 ≡ holds k → k .next ≤ length bytes
@@ -147,34 +142,24 @@ module _ (P : ℕ → ℕ → Type 0) where
   unfolding readCells
   cells-faults p3 p4 p5 p6 p27 ranged k before [] = in-holds P []
   cells-faults p3 p4 p5 p6 p27 ranged k before (l ∷ ls) =
+      let rest : Cell → Read (List Cell) = λ c. next (readCells ranged (suc k) (c ∷ before) ls) (λ cs. holds (c ∷ cs)) in
+      let range : Cell → Read (List Cell) = λ c. unless (noLower (c .lows) (c .delays)) 27 (l .offset) (rest c) in
+      let clean : Cell → Read (List Cell) = λ c. unless (isClean c) 6 (l .offset) (range c) in
+      let read : Cell → Read (List Cell) = λ c. unless (not (any (λ (d : Cell). same (nameOf c) (nameOf d)) before)) 5 (l .offset)
+      (clean c) in
       in-unless P (ltb k 32) 3 (l .offset) (next (from? (cellOfLine ranged l) 4 (l .offset)) read) (λ _. p3 (l .offset))
-      (in-next P (from? (cellOfLine ranged l) 4 (l .offset)) read (in-from P (cellOfLine ranged l) 4 (l .offset) (p4 (l .offset)))
-      (λ c e.
+      (in-next P (from? (cellOfLine ranged l) 4 (l .offset)) read (in-from P (cellOfLine ranged l) 4 (l .offset) (p4 (l .offset))) (λ c e.
       in-unless P (not (any (λ (d : Cell). same (nameOf c) (nameOf d)) before)) 5 (l .offset) (clean c) (λ _. p5 (l .offset))
-      (in-unless P (isClean c) 6 (l .offset) (range c) (λ _. p6 (l .offset))
-      (in-unless P (noLower (c .lows) (c .delays)) 27 (l .offset) (rest c) (λ _. p27 (l .offset))
-      (in-next P (readCells ranged (suc k) (c ∷ before) ls) (λ cs. holds (c ∷ cs)) (cells-faults p3 p4 p5 p6 p27 ranged (suc k) (c ∷ before) ls) (λ cs _. in-holds P (c ∷ cs)))))))
-    where
-      rest : Cell → Read (List Cell)
-      rest c = next (readCells ranged (suc k) (c ∷ before) ls) (λ cs. holds (c ∷ cs))
-
-      range : Cell → Read (List Cell)
-      range c = unless (noLower (c .lows) (c .delays)) 27 (l .offset) (rest c)
-
-      clean : Cell → Read (List Cell)
-      clean c = unless (isClean c) 6 (l .offset) (range c)
-
-      read : Cell → Read (List Cell)
-      read c = unless (not (any (λ (d : Cell). same (nameOf c) (nameOf d)) before)) 5 (l .offset) (clean c)
+      (in-unless P (isClean c) 6 (l .offset) (range c) (λ _. p6 (l .offset)) (in-unless P (noLower (c .lows) (c .delays)) 27 (l .offset)
+      (rest c) (λ _. p27 (l .offset)) (in-next P (readCells ranged (suc k) (c ∷ before) ls) (λ cs. holds (c ∷ cs))
+      (cells-faults p3 p4 p5 p6 p27 ranged (suc k) (c ∷ before) ls) (λ cs _. in-holds P (c ∷ cs)))))))
 
   -- 2 to 6 and 27
   pub library-faults : P 2 0 → ((k : ℕ) → P 3 k) → ((k : ℕ) → P 4 k) → ((k : ℕ) → P 5 k) → ((k : ℕ) → P 6 k) → ((k : ℕ) → P 27 k) → (s : List ℕ) → Faults P (readLibrary s)
   unfolding readLibrary readLibraryLines
-  library-faults p2 p3 p4 p5 p6 p27 s = go (linesFrom 0 [] s)
-    where
-      go : (ls : List Line) → Faults P (readLibraryLines ls)
-      go [] = in-fault P 2 0 p2
-      go (l ∷ ls) = in-unless P (ended l && (isShorter l || isLonger l)) 2 0 (readCells (isLonger l) 0 [] ls) (λ _. p2) (cells-faults p3 p4 p5 p6 p27 (isLonger l) 0 [] ls)
+  library-faults p2 p3 p4 p5 p6 p27 s = by-list (linesFrom 0 [] s) (λ e. rw e (in-fault P 2 0 p2)) (λ l ls q. rw q (in-unless P
+      (ended l && (isShorter l || isLonger l)) 2 0 (readCells (isLonger l) 0 [] ls) (λ _. p2)
+      (cells-faults p3 p4 p5 p6 p27 (isLonger l) 0 [] ls)))
 
   -- 2 to 6, 27 and 30
   pub listed-faults : P 2 0 → ((k : ℕ) → P 3 k) → ((k : ℕ) → P 4 k) → ((k : ℕ) → P 5 k) → ((k : ℕ) → P 6 k) → ((k : ℕ) → P 27 k) → P 30 0 → (paired : Bool) (s : List ℕ) → Faults P (readListed paired s)
@@ -188,37 +173,29 @@ module _ (P : ℕ → ℕ → Type 0) where
   unfolding readLate
   late-faults p25 p26 inputs before [] = in-holds P []
   late-faults p25 p26 inputs before (l ∷ ls) =
+      let late : List ℕ → Late = λ ns. record { index = getD ns 0 0; arrival = getD ns 1 0 } in
+      let rest : List ℕ → Read (List Late) = λ ns. next (readLate inputs (getD ns 0 0 ∷ before) ls) (λ es. holds (late ns ∷ es)) in
+      let read : List ℕ → Read (List Late) = λ ns. unless (ltb (getD ns 0 0) inputs && not (elem (getD ns 0 0) before)) 26 (l .offset)
+      (rest ns) in
       in-next P (from? (lateNumbers l) 25 (l .offset)) read (in-from P (lateNumbers l) 25 (l .offset) (p25 (l .offset)))
       (λ ns _.
       in-unless P (ltb (getD ns 0 0) inputs && not (elem (getD ns 0 0) before)) 26 (l .offset) (rest ns) (λ _. p26 (l .offset))
       (in-next P (readLate inputs (getD ns 0 0 ∷ before) ls) (λ es. holds (late ns ∷ es)) (late-faults p25 p26 inputs (getD ns 0 0 ∷ before) ls) (λ es _. in-holds P (late ns ∷ es))))
-    where
-      late : List ℕ → Late
-      late ns = record { index = getD ns 0 0; arrival = getD ns 1 0 }
-
-      rest : List ℕ → Read (List Late)
-      rest ns = next (readLate inputs (getD ns 0 0 ∷ before) ls) (λ es. holds (late ns ∷ es))
-
-      read : List ℕ → Read (List Late)
-      read ns = unless (ltb (getD ns 0 0) inputs && not (elem (getD ns 0 0) before)) 26 (l .offset) (rest ns)
 
   pub arrivals-faults : ((k : ℕ) → P 25 k) → ((k : ℕ) → P 26 k) → (inputs : ℕ) (s : List ℕ) → Faults P (readArrivals inputs s)
   unfolding readArrivals readLateLines
-  arrivals-faults p25 p26 inputs s = go (linesFrom 0 [] s)
-    where
-      go : (ls : List Line) → Faults P (readLateLines inputs ls)
-      go [] = in-holds P []
-      go (l ∷ ls) = in-unless P (ended l && same (l .bytes) (text "input arrival")) 25 (l .offset) (readLate inputs [] ls) (λ _. p25 (l .offset)) (late-faults p25 p26 inputs [] ls)
+  arrivals-faults p25 p26 inputs s = by-list (linesFrom 0 [] s) (λ e. rw e (in-holds P [])) (λ l ls q. rw q (in-unless P
+      (ended l && same (l .bytes) (text "input arrival")) 25 (l .offset) (readLate inputs [] ls) (λ _. p25 (l .offset))
+      (late-faults p25 p26 inputs [] ls)))
 
   -- 7 to 9 and 19
   pub header-faults : P 7 0 → P 8 0 → P 9 0 → P 19 0 → (s : List ℕ) → Faults P (readHeader s)
   unfolding readHeader
-  header-faults p7 p8 p9 p19 s =
-      in-next P (from? (headerOf (linesFrom 0 [] s)) 7 0) (λ h. unless (eqb (h .latches) 0) 8 0 (unless (inLimits h) 9 0 (unless (inSequence h) 19 0 (holds h))))
-      (in-from P (headerOf (linesFrom 0 [] s)) 7 0 p7)
-      (λ h _.
-      in-unless P (eqb (h .latches) 0) 8 0 (unless (inLimits h) 9 0 (unless (inSequence h) 19 0 (holds h))) (λ _. p8)
-      (in-unless P (inLimits h) 9 0 (unless (inSequence h) 19 0 (holds h)) (λ _. p9) (in-unless P (inSequence h) 19 0 (holds h) (λ _. p19) (in-holds P h))))
+  header-faults p7 p8 p9 p19 s = in-next P (from? (headerOf (linesFrom 0 [] s)) 7 0)
+      (λ h. unless (eqb (h .latches) 0) 8 0 (unless (inLimits h) 9 0 (unless (inSequence h) 19 0 (holds h))))
+      (in-from P (headerOf (linesFrom 0 [] s)) 7 0 p7) (λ h _. in-unless P (eqb (h .latches) 0) 8 0
+      (unless (inLimits h) 9 0 (unless (inSequence h) 19 0 (holds h))) (λ _. p8) (in-unless P (inLimits h) 9 0
+      (unless (inSequence h) 19 0 (holds h)) (λ _. p9) (in-unless P (inSequence h) 19 0 (holds h) (λ _. p19) (in-holds P h))))
 
   -- 11 to 13, of which 13 is for lines that define
   pub due-faults : ((k : ℕ) → P 11 k) → ((k : ℕ) → P 12 k) → (isClosed : Line → Bool) (end size : ℕ) (before : List ℕ) (ks : List Kind) (ls : List Line)
@@ -227,37 +204,20 @@ module _ (P : ℕ → ℕ → Type 0) where
   due-faults p11 p12 isClosed end size before [] ls p13 = in-holds P []
   due-faults p11 p12 isClosed end size before (k ∷ ks) [] p13 = in-fault P 11 end (p11 end)
   due-faults p11 p12 isClosed end size before (k ∷ ks) (l ∷ ls) p13 =
-      in-next P (from? (itemLiterals isClosed k l) 11 (l .offset)) twelve (in-from P (itemLiterals isClosed k l) 11 (l .offset) (p11 (l .offset)))
-      (λ ns _.
-      in-unless P (inRange ns) 12 (l .offset) (thirteen ns) (λ _. p12 (l .offset))
-      (in-unless P (isNew ns) 13 (l .offset) (rest ns) (λ e. p13 k (List·Memᴰ·head refl) (defining (defines k) (elem (varOf (getD ns 0 0)) before) e) (l .offset))
-      (in-next P (readDue isClosed end size (known ns) ks ls) (λ is. holds (item ns ∷ is)) (due-faults p11 p12 isClosed end size (known ns) ks ls (λ j m. p13 j (List·Memᴰ·tail m)))
-      (λ is _. in-holds P (item ns ∷ is)))))
-    where
-      inRange : List ℕ → Bool
-      inRange ns = all (λ (n : ℕ). leb n (2 * size + 1)) ns && (not (defines k) || (eqb (getD ns 0 0 % 2) 0 && not (eqb (getD ns 0 0) 0)))
-
-      isNew : List ℕ → Bool
-      isNew ns = not (defines k && elem (varOf (getD ns 0 0)) before)
-
-      known : List ℕ → List ℕ
-      known ns = cond (defines k) (varOf (getD ns 0 0) ∷ before) before
-
-      item : List ℕ → Item
-      item ns = record { kind = k; offset = l .offset; literals = ns }
-
-      rest : List ℕ → Read (List Item)
-      rest ns = next (readDue isClosed end size (known ns) ks ls) (λ is. holds (item ns ∷ is))
-
-      thirteen : List ℕ → Read (List Item)
-      thirteen ns = unless (isNew ns) 13 (l .offset) (rest ns)
-
-      twelve : List ℕ → Read (List Item)
-      twelve ns = unless (inRange ns) 12 (l .offset) (thirteen ns)
-
-      defining : (b c : Bool) → not (b && c) ≡ false → b ≡ true
-      defining true c e = refl
-      defining false c e = absurd (false≢true (sym e))
+      let inRange : List ℕ → Bool = λ ns. all (λ (n : ℕ). leb n (2 * size + 1)) ns &&
+      (not (defines k) || (eqb (getD ns 0 0 % 2) 0 && not (eqb (getD ns 0 0) 0))) in
+      let isNew : List ℕ → Bool = λ ns. not (defines k && elem (varOf (getD ns 0 0)) before) in
+      let known : List ℕ → List ℕ = λ ns. cond (defines k) (varOf (getD ns 0 0) ∷ before) before in
+      let item : List ℕ → Item = λ ns. record { kind = k; offset = l .offset; literals = ns } in
+      let rest : List ℕ → Read (List Item) = λ ns. next (readDue isClosed end size (known ns) ks ls) (λ is. holds (item ns ∷ is)) in
+      let thirteen : List ℕ → Read (List Item) = λ ns. unless (isNew ns) 13 (l .offset) (rest ns) in
+      let twelve : List ℕ → Read (List Item) = λ ns. unless (inRange ns) 12 (l .offset) (thirteen ns) in
+      in-next P (from? (itemLiterals isClosed k l) 11 (l .offset)) twelve
+      (in-from P (itemLiterals isClosed k l) 11 (l .offset) (p11 (l .offset))) (λ ns _. in-unless P (inRange ns) 12 (l .offset)
+      (thirteen ns) (λ _. p12 (l .offset)) (in-unless P (isNew ns) 13 (l .offset) (rest ns)
+      (λ e. p13 k (List·Memᴰ·head refl) (by-bool (defines k) (λ q. rw q) (λ p. rw p (absurd (false≢true (sym (rw p at e)))))) (l .offset))
+      (in-next P (readDue isClosed end size (known ns) ks ls) (λ is. holds (item ns ∷ is))
+      (due-faults p11 p12 isClosed end size (known ns) ks ls (λ j m. p13 j (List·Memᴰ·tail m))) (λ is _. in-holds P (item ns ∷ is)))))
 
   -- 20 and 21, at places of which more is known, if that holds of each place where the next difference begins
   module _ (bytes : List ℕ) (At : ℕ → Type 0) (on : (isFirst : Bool) (at : ℕ) → At at → (n : ℕ) (p : Passed) → lessBy isFirst bytes at n ≡ holds p → At (p .behind))
@@ -267,33 +227,25 @@ module _ (P : ℕ → ℕ → Type 0) where
     difference-faults at h [] = in-fault P 20 at (p20 at h)
     difference-faults at h (b ∷ []) =
         in-unless P (ltb b 128) 20 at (holds (record { number = b; behind = at + 1 })) (λ _. p20 at h) (in-holds P (record { number = b; behind = at + 1 }))
-    difference-faults at h (b ∷ c ∷ bs) = go (ltb b 128)
-      where
-        two : Passed
-        two = record { number = b - 128 + 128 * c; behind = at + 2 }
-
-        go : (t : Bool) → Faults P (cond t (holds (record { number = b; behind = at + 1 })) (unless (ltb c 128) 20 at (holds two)))
-        go true = in-holds P (record { number = b; behind = at + 1 })
-        go false = in-unless P (ltb c 128) 20 at (holds two) (λ _. p20 at h) (in-holds P two)
+    difference-faults at h (b ∷ c ∷ bs) =
+        let two : Passed = record { number = b - 128 + 128 * c; behind = at + 2 } in
+        by-bool (ltb b 128) (λ e. rw e (in-holds P (record { number = b; behind = at + 1 })))
+        (λ q. rw q (in-unless P (ltb c 128) 20 at (holds two) (λ _. p20 at h) (in-holds P two)))
 
     less-faults : (isFirst : Bool) (at : ℕ) → At at → (n : ℕ) → Faults P (lessBy isFirst bytes at n)
     unfolding lessBy
-    less-faults isFirst at h n =
-        in-next P (difference at (drop at bytes)) _ (difference-faults at h (drop at bytes))
-        (λ d _.
-        in-unless P (not (isFirst && eqb (d .number) 0) && leb (d .number) n) 21 at (holds (record { number = n - d .number; behind = d .behind })) (λ _. p21 at h)
+    less-faults isFirst at h n = in-next P (difference at (drop at bytes)) _ (difference-faults at h (drop at bytes)) (λ d _.
+        in-unless P (not (isFirst && eqb (d .number) 0) && leb (d .number) n) 21 at
+        (holds (record { number = n - d .number; behind = d .behind })) (λ _. p21 at h)
         (in-holds P (record { number = n - d .number; behind = d .behind })))
 
     pub ands-faults : (at : ℕ) → At at → (left n : ℕ) → Faults P (readAnds bytes at left n)
     unfolding readAnds
     ands-faults at h left zero = in-holds P []
-    ands-faults at h left (suc n) =
-        in-next P (lessBy true bytes at left) _ (less-faults true at h left)
-        (λ a e.
-        let i = on true at h left a e in
-        in-next P (lessBy false bytes (a .behind) (a .number)) _ (less-faults false (a .behind) i (a .number))
-        (λ b f.
-        in-next P (readAnds bytes (b .behind) (left + 2) n) _ (ands-faults (b .behind) (on false (a .behind) i (a .number) b f) (left + 2) n)
+    ands-faults at h left (suc n) = in-next P (lessBy true bytes at left) _ (less-faults true at h left) (λ a e.
+        let i = on true at h left a e in in-next P (lessBy false bytes (a .behind) (a .number)) _
+        (less-faults false (a .behind) i (a .number)) (λ b f. in-next P (readAnds bytes (b .behind) (left + 2) n) _
+        (ands-faults (b .behind) (on false (a .behind) i (a .number) b f) (left + 2) n)
         (λ is _. in-holds P (record { kind = anAnd; offset = at; literals = left ∷ a .number ∷ b .number ∷ [] } ∷ is))))
 
   uses-faults : ((k : ℕ) → P 14 k) → (known : List ℕ) (is : List Item) → Faults P (checkUses known is)
@@ -308,18 +260,12 @@ module _ (P : ℕ → ℕ → Type 0) where
       → (bytes : List ℕ) (h : Header) → Faults P (readGraph bytes h)
   unfolding readGraph readItems readBinary
   graph-faults p11 p12 p13 p14 p20 p21 bytes h =
-      in-next P (readItems bytes h) _ (items (h .binary))
+      let ls = linesFrom (h .next) [] (drop (h .next) bytes) in
+      in-next P (readItems bytes h) _ (by-bool (h .binary) (λ e. rw e (in-next P
+      (readDue (closed true) (length bytes) (h .size) [] (replicate (h .outputs) anOutput) ls) _
+      (due-faults p11 p12 (closed true) (length bytes) (h .size) [] (replicate (h .outputs) anOutput) ls (λ k m d. p13)) (λ os _. in-next P
+      (readAnds bytes (behindLines (h .next) (h .outputs) ls) (2 * suc (h .inputs)) (h .ands)) _ (ands-faults bytes (λ k. Unit {0})
+      (λ f at u n p e. tt) (λ k u. p20 k) (λ k u. p21 k) (behindLines (h .next) (h .outputs) ls) tt (2 * suc (h .inputs)) (h .ands))
+      (λ gs _. in-holds P (inputItems h ++ (os ++ gs))))))
+      (λ q. rw q (due-faults p11 p12 (closed false) (length bytes) (h .size) [] (due h) ls (λ k m d. p13))))
       (λ is _. in-next P (checkUses (definedBy is) is) (λ js. holds (graphOf (h .size) js)) (uses-faults p14 (definedBy is) is) (λ js _. in-holds P (graphOf (h .size) js)))
-    where
-      ls : List Line
-      ls = linesFrom (h .next) [] (drop (h .next) bytes)
-
-      items : (b : Bool) → Faults P (cond b (readBinary bytes h) (readDue (closed false) (length bytes) (h .size) [] (due h) ls))
-      items true =
-          in-next P (readDue (closed true) (length bytes) (h .size) [] (replicate (h .outputs) anOutput) ls) _
-          (due-faults p11 p12 (closed true) (length bytes) (h .size) [] (replicate (h .outputs) anOutput) ls (λ k m d. p13))
-          (λ os _.
-          in-next P (readAnds bytes (behindLines (h .next) (h .outputs) ls) (2 * suc (h .inputs)) (h .ands)) _
-          (ands-faults bytes (λ k. Unit {0}) (λ f at u n p e. tt) (λ k u. p20 k) (λ k u. p21 k) (behindLines (h .next) (h .outputs) ls) tt (2 * suc (h .inputs)) (h .ands))
-          (λ gs _. in-holds P (inputItems h ++ (os ++ gs))))
-      items false = due-faults p11 p12 (closed false) (length bytes) (h .size) [] (due h) ls (λ k m d. p13)

@@ -2,9 +2,9 @@
 use Prim.Native.Nat.{ℕ, zero, suc, _^_, _≤_}
 use native.Mathlib.Nat.{le-refl, le-of-suc-le-suc, not-suc-le-zero}
 use native.Mathlib.Omega.{arith}
-use mathlib.Core.Path.{_≡_, refl, sym, _∙_, ap, ap₂, subst}
+use mathlib.Core.Path.{_≡_, refl, _∙_, ap, ap₂, subst}
 use mathlib.Core.Bool.{Bool, true, false, not, _&&_, _||_}
-use mathlib.Core.Option.{Option, none, some}
+use mathlib.Core.Option.{Option, some}
 use mathlib.Core.List.{List, [], _∷_}
 use lib.Dec.{T, eqb, leb, ltb, le→leb}
 use lib.ListN.{length, getD, take, drop, length-drop}
@@ -12,7 +12,7 @@ use mir.Facts.{and-yes, eqb-yes}
 use Rattle.model.specs.Base.{all, any, same, andThen, only}
 use Rattle.model.specs.Limits.{need}
 use Rattle.model.specs.Text.{Line, ended, linesFrom, fields, numbers, hexTable, isName}
-use Rattle.model.specs.Reading.{Read, holds, fault, next, unless, from?}
+use Rattle.model.specs.Reading.{Read, holds, next, unless, from?}
 use Rattle.model.specs.Cells.{nameOf}
 use Rattle.model.specs.Graph.{Graph}
 use Rattle.model.specs.LibraryText.{nameBytes, cellOfFields, cellOfLine, isClean, noLower, isShorter, readCells, readLibraryLines, rangedLines, readLibrary, isRanged}
@@ -22,13 +22,14 @@ use Rattle.model.specs.GraphText.{readHeader, readGraph}
 use Rattle.model.specs.ArrivalsText.{readArrivals, timedBy}
 use Rattle.model.specs.Netlist.{Outcome, refused, mapped, mapGraph}
 use Rattle.model.specs.Timing.{followed}
-use Rattle.model.specs.Mapper.{Call, Design, short, readListed, readTexts, within, mapDesign, mapTexts}
+use Rattle.model.specs.Mapper.{Call, Design, short, readListed, readTexts, mapDesign, mapTexts}
 use Rattle.model.specs.Demands.{readFormer, formerOutcome, Former}
 use Rattle.model.specs.declared.Cell.{Cell}
 use Rattle.theory_graph.proofs.Lists.{is-true}
 use Rattle.theory_text.proofs.Steps.{from-out, then-out, only-out, numbers-length}
 use Rattle.theory_text.proofs.ReadTexts.{texts-read, listed-plain}
 use Rattle.theory_text.proofs.Arrivals.{next-same}
+use Rattle.theory_graph.proofs.Split.{by-bool, by-option, by-read}
 
 -- ---- a line
 
@@ -51,17 +52,13 @@ module _ (ws : List (List ℕ)) where
   unfolding cellOfFields formerFields andThen only
   fields-former = go (eqb (length ws) 8 && isName (getD ws 0 [])) (λ t. eqb-yes (and-yes (eqb (length ws) 8) (isName (getD ws 0 [])) t .0))
     where
-      read : length ws ≡ 8 → (o : Option (List ℕ)) → numbers (getD ws 1 [] ∷ drop 3 ws) ≡ o → andThen o (λ ns. tabled ns (take 4 (drop 2 ns))) ≡ andThen o (λ ns. tabled ns (drop 2 ns))
-      read eight none e = refl
-      read eight (some ns) e =
-          let six : length ns ≡ suc (length (drop 3 ws)) = numbers-length (getD ws 1 [] ∷ drop 3 ws) ns e in
-          ap (tabled ns) (take-whole 4 (drop 2 ns) (omega (arith, six, length-drop 3 ws, length-drop 2 ns)))
-
       go : (b : Bool) → (T b → length ws ≡ 8)
           → andThen (only b ws) (λ _. andThen (numbers (getD ws 1 [] ∷ drop 3 ws)) (λ ns. tabled ns (take 4 (drop 2 ns))))
           ≡ andThen (only b ws) (λ _. andThen (numbers (getD ws 1 [] ∷ drop 3 ws)) (λ ns. tabled ns (drop 2 ns)))
       go false h = refl
-      go true h = read (h tt) (numbers (getD ws 1 [] ∷ drop 3 ws)) refl
+      go true h = by-option (numbers (getD ws 1 [] ∷ drop 3 ws)) (λ e. rw e) (λ ns q. rw q (let six : length ns ≡ suc
+          (length (drop 3 ws)) = numbers-length (getD ws 1 [] ∷ drop 3 ws) ns q in ap (tabled ns)
+          (take-whole 4 (drop 2 ns) (omega (arith, h tt, six, length-drop 3 ws, length-drop 2 ns)))))
 
   -- whose lowest delays are its delays
   fields-lows : (c : Cell) → formerFields ws ≡ some c → c .lows ≡ c .delays
@@ -75,15 +72,7 @@ module _ (ws : List (List ℕ)) where
 
 line-former : (l : Line) → cellOfLine false l ≡ formerLine l
 unfolding cellOfLine formerLine andThen only
-line-former l = go (ended l)
-  where
-    go : (b : Bool) → andThen (only b (fields (l .bytes))) (cellOfFields false) ≡ andThen (only b (fields (l .bytes))) formerFields
-    go true = fields-former (fields (l .bytes))
-    go false = refl
-
-line-lows : (l : Line) (c : Cell) → formerLine l ≡ some c → c .lows ≡ c .delays
-unfolding formerLine
-line-lows l c e = let o = then-out (only (ended l) (fields (l .bytes))) formerFields c e in fields-lows (o .0) c (o .2)
+line-former l = by-bool (ended l) (λ e. cc (fields-former (fields (l .bytes)))) (λ q. cc)
 
 -- ---- the lines
 
@@ -91,11 +80,7 @@ clean-former : (c : Cell) → c .lows ≡ c .delays → isClean c ≡ formerClea
 unfolding isClean formerClean
 clean-former c e =
     ap (λ (ls : List ℕ). ltb (c .table) (2 ^ 2 ^ c .pins) && (all (eqb 0) (drop (c .pins) (c .delays)) && all (eqb 0) (drop (c .pins) ls))) e
-    ∙ ap (λ (b : Bool). ltb (c .table) (2 ^ 2 ^ c .pins) && b) (twice (all (eqb 0) (drop (c .pins) (c .delays))))
-  where
-    twice : (b : Bool) → (b && b) ≡ b
-    twice true = refl
-    twice false = refl
+    ∙ ap (λ (b : Bool). ltb (c .table) (2 ^ 2 ^ c .pins) && b) (by-bool (all (eqb 0) (drop (c .pins) (c .delays))) (λ q. cc) (λ p. cc))
 
 -- no lowest delay is over itself
 pub none-lower : (ds : List ℕ) → noLower ds ds ≡ true
@@ -108,7 +93,9 @@ unfolding readCells formerCells unless
 cells-former k before [] = refl
 cells-former k before (l ∷ ls) =
     ap (λ (o : Option Cell). unless (ltb k 32) 3 (l .offset) (next (from? o 4 (l .offset)) now′)) (line-former l)
-    ∙ ap (unless (ltb k 32) 3 (l .offset)) (next-same (from? (formerLine l) 4 (l .offset)) now′ was (λ c e. at c (line-lows l c (from-out (formerLine l) 4 (l .offset) c e)) (cells-former (suc k) (c ∷ before) ls)))
+    ∙ ap (unless (ltb k 32) 3 (l .offset)) (next-same (from? (formerLine l) 4 (l .offset)) now′ was (λ c e. at c (unfold formerLine in
+    let o = then-out (only (ended l) (fields (l .bytes))) formerFields c (from-out (formerLine l) 4 (l .offset) c e) in fields-lows (o .0) c
+    (o .2)) (cells-former (suc k) (c ∷ before) ls)))
   where
     new : Cell → Bool
     new c = not (any (λ (d : Cell). same (nameOf c) (nameOf d)) before)
@@ -120,22 +107,14 @@ cells-former k before (l ∷ ls) =
     was c = unless (new c) 5 (l .offset) (unless (formerClean c) 6 (l .offset) (next (formerCells (suc k) (c ∷ before) ls) (λ cs. holds (c ∷ cs))))
 
     at : (c : Cell) → c .lows ≡ c .delays → readCells false (suc k) (c ∷ before) ls ≡ formerCells (suc k) (c ∷ before) ls → now′ c ≡ was c
-    at c e ih =
-        let a : isClean c ≡ formerClean c = clean-former c e in
-        let b : noLower (c .lows) (c .delays) ≡ true = ap (λ (ds : List ℕ). noLower ds (c .delays)) e ∙ none-lower (c .delays) in
-        rw (a, b, ih) refl
+    at c e ih = rw ((clean-former c e), (ap (λ (ds : List ℕ). noLower ds (c .delays)) e ∙ none-lower (c .delays)), ih) refl
 
 lines-former : (ls : List Line) → rangedLines ls ≡ false → readLibraryLines ls ≡ formerLines ls
 unfolding readLibraryLines formerLines rangedLines isShorter
 lines-former [] e = refl
-lines-former (l ∷ ls) e =
-    ap (λ (b : Bool). unless (ended l && (isShorter l || b)) 2 0 (readCells b 0 [] ls)) e
-    ∙ ap (λ (b : Bool). unless (ended l && b) 2 0 (readCells false 0 [] ls)) (or-false (isShorter l))
+lines-former (l ∷ ls) e = ap (λ (b : Bool). unless (ended l && (isShorter l || b)) 2 0 (readCells b 0 [] ls)) e
+    ∙ ap (λ (b : Bool). unless (ended l && b) 2 0 (readCells false 0 [] ls)) (by-bool (isShorter l) (λ q. cc) (λ p. cc))
     ∙ ap (unless (ended l && isShorter l) 2 0) (cells-former 0 [] ls)
-  where
-    or-false : (b : Bool) → (b || false) ≡ b
-    or-false true = refl
-    or-false false = refl
 
 library-former : (s : List ℕ) → isRanged s ≡ false → readLibrary s ≡ formerLibrary s
 unfolding readLibrary formerLibrary isRanged
@@ -146,29 +125,22 @@ library-former s e = lines-former (linesFrom 0 [] s) e
 reads-former : (c : Call) → c .paired ≡ false → isRanged (c .library) ≡ false → readTexts c ≡ readFormer c
 unfolding readTexts cellsFor
 reads-former c p e =
+    let behind : Bool → Bool → List Cell → Read Design = λ b r cells. next (readHeader (c .graph)) (λ h.
+    unless (leb (need (h .size) (h .outputs)) (c .words)) 10 0 (next (readGraph (c .graph) h) (λ g.
+    next (readArrivals (h .inputs) (c .arrivals))
+    (λ es. holds (record { listed = cells; cells = cellsFor b cells; ranged = r; graph = timedBy g es }))))) in
     ap₂ (λ (b r : Bool). unless (short c) 1 0 (next (readListed b (c .library)) (behind b r))) p e
     ∙ ap (λ (r : Read (List Cell)). unless (short c) 1 0 (next r (behind false false))) (listed-plain (c .library) ∙ library-former (c .library) e)
-  where
-    behind : Bool → Bool → List Cell → Read Design
-    behind b r cells =
-        next (readHeader (c .graph)) (λ h.
-        unless (leb (need (h .size) (h .outputs)) (c .words)) 10 0
-        (next (readGraph (c .graph) h) (λ g.
-        next (readArrivals (h .inputs) (c .arrivals)) (λ es. holds (record { listed = cells; cells = cellsFor b cells; ranged = r; graph = timedBy g es })))))
 
 outcome-former : (c : Call) → c .paired ≡ false → isRanged (c .library) ≡ false → mapTexts c ≡ formerOutcome (c .bytes) (readFormer c)
 unfolding mapTexts mapDesign formerOutcome followed
-outcome-former c p e = go (readTexts c) refl ∙ ap (formerOutcome (c .bytes)) (reads-former c p e)
+outcome-former c p e = by-read (readTexts c)
+    (λ d r. cc (texts-read c d r .isRange, unfollowed (d .cells) (d .graph) (mapGraph (d .listed) (d .cells) (d .graph)))) (λ n k q. cc)
+    ∙ ap (formerOutcome (c .bytes)) (reads-former c p e)
   where
     unfollowed : (cells : List Cell) (g : Graph) (o : Outcome) → followed false cells g o ≡ o
     unfollowed cells g (refused n k) = refl
     unfollowed cells g (mapped t f) = refl
-
-    go : (r : Read Design) → readTexts c ≡ r → mapDesign (c .bytes) r ≡ formerOutcome (c .bytes) r
-    go (fault n k) q = refl
-    go (holds d) q =
-        ap (λ (b : Bool). within (c .bytes) (followed b (d .cells) (d .graph) (mapGraph (d .listed) (d .cells) (d .graph)))) (sym (texts-read c d q .isRange) ∙ e)
-        ∙ ap (within (c .bytes)) (unfollowed (d .cells) (d .graph) (mapGraph (d .listed) (d .cells) (d .graph)))
 
 pub demand-former : (c : Call) → Former c
 demand-former c = record { reads = reads-former c; outcome = outcome-former c }

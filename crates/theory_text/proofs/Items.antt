@@ -2,7 +2,7 @@
 use Prim.Native.Nat.{ℕ, _+_, _*_, _/_, _%_, _≤_, _<_}
 use native.Mathlib.Omega.{arith}
 use mathlib.Core.Path.{_≡_, refl, sym, _∙_, ap, ap₂, subst}
-use mathlib.Core.Logic.{_⊎_, inl, inr}
+use mathlib.Core.Logic.{_⊎_, inl, inr, ⊎-elim}
 use mathlib.Core.Bool.{Bool, true, false, not, cond, _&&_, _||_}
 use mathlib.Core.List.{List, [], _∷_, map, List·Memᴰ, List·Memᴰ·head, List·Memᴰ·tail, List·Memᴰ·not-nil, List·Memᴰ·cases-cons}
 use lib.Dec.{T, eqb, leb, leb→le, T-not}
@@ -79,15 +79,10 @@ unfolding readDue
 due-good isClosed end size before [] ls is e i m = absurd (List·Memᴰ·not-nil (subst (λ (js : List Item). List·Memᴰ i js) (sym (holds-once e)) m))
 due-good isClosed end size before (k ∷ ks) [] is e i m = absurd (fault-never e)
 due-good isClosed end size before (k ∷ ks) (l ∷ ls) is e i m =
-    go (List·Memᴰ·cases-cons (subst (λ (js : List Item). List·Memᴰ i js) (sym (s .isList)) m))
+    let s = due-step isClosed end size before k ks l ls is e in
+    ⊎-elim (λ q. subst (Good size) (sym q) (s .isGood))
     (due-good isClosed end size (cond (defines k) (head (s .item) ∷ before) before) ks ls (s .rest) (s .isRest) i)
-  where
-    s : Step isClosed end size before k ks ls is
-    s = due-step isClosed end size before k ks l ls is e
-
-    go : (i ≡ s .item) ⊎ List·Memᴰ i (s .rest) → (List·Memᴰ i (s .rest) → Good size i) → Good size i
-    go (inl q) later = subst (Good size) (sym q) (s .isGood)
-    go (inr n) later = later n
+    (List·Memᴰ·cases-cons (subst (λ (js : List Item). List·Memᴰ i js) (sym (s .isList)) m))
 
 -- a variable that is defined: new, not 0, and in range
 pub record Fresh (size : ℕ) (before : List ℕ) (x : ℕ) : Type 0 where
@@ -97,27 +92,25 @@ pub record Fresh (size : ℕ) (before : List ℕ) (x : ℕ) : Type 0 where
 
 step-fresh : (isClosed : Line → Bool) (end size : ℕ) (before : List ℕ) (k : Kind) (ks : List Kind) (ls : List Line) (is : List Item) (s : Step isClosed end size before k ks ls is) → defines k ≡ true → Fresh size before (head (s .item))
 unfolding varOf defines howMany
-step-fresh isClosed end size before k ks ls is s d = record {
-  isNew = λ m. T-not (elem (head (s .item)) before) (subst (λ (b : Bool). T (not (b && elem (head (s .item)) before))) d (s .isNew)) (elem-T (head (s .item)) before m);
-  nonzero = λ e. let h : getD (s .item .literals) 0 0 / 2 ≡ 0 = e in
-      eqb-no (and-yes (eqb (getD (s .item .literals) 0 0 % 2) 0) (not (eqb (getD (s .item .literals) 0 0) 0)) even .1)
-      (let r : getD (s .item .literals) 0 0 % 2 ≡ 0 = eqb-yes (and-yes (eqb (getD (s .item .literals) 0 0 % 2) 0) (not (eqb (getD (s .item .literals) 0 0) 0)) even .0) in
-      let q : getD (s .item .literals) 0 0 ≡ 0 = omega arith in q);
-  small = let q : getD (s .item .literals) 0 0 ≤ 2 * size + 1 =
-      leb→le (getD (s .item .literals) 0 0) (2 * size + 1)
-      (all-of (λ (n : ℕ). leb n (2 * size + 1)) (s .item .literals) (s .isGood .low) (getD (s .item .literals) 0 0) (getD-in (s .item .literals) 0 0 some-there)) in omega arith;
-}
+step-fresh isClosed end size before k ks ls is s d =
+    let even = subst (λ (b : Bool). T (not b || (eqb (getD (s .item .literals) 0 0 % 2) 0 && not (eqb (getD (s .item .literals) 0 0) 0)))) d
+    (s .isEven) in
+    let some-there : 0 < length (s .item .literals) = omega (arith, many (s .item .kind), s .isGood .long) in
+    record {
+      isNew = λ m. T-not (elem (head (s .item)) before) (subst (λ (b : Bool). T (not (b && elem (head (s .item)) before))) d (s .isNew)) (elem-T (head (s .item)) before m);
+      nonzero = λ e. let h : getD (s .item .literals) 0 0 / 2 ≡ 0 = e in
+          eqb-no (and-yes (eqb (getD (s .item .literals) 0 0 % 2) 0) (not (eqb (getD (s .item .literals) 0 0) 0)) even .1)
+          (let r : getD (s .item .literals) 0 0 % 2 ≡ 0 = eqb-yes (and-yes (eqb (getD (s .item .literals) 0 0 % 2) 0) (not (eqb (getD (s .item .literals) 0 0) 0)) even .0) in
+          let q : getD (s .item .literals) 0 0 ≡ 0 = omega arith in q);
+      small = let q : getD (s .item .literals) 0 0 ≤ 2 * size + 1 =
+          leb→le (getD (s .item .literals) 0 0) (2 * size + 1)
+          (all-of (λ (n : ℕ). leb n (2 * size + 1)) (s .item .literals) (s .isGood .low) (getD (s .item .literals) 0 0) (getD-in (s .item .literals) 0 0 some-there)) in omega arith;
+    }
   where
-    even : T (eqb (getD (s .item .literals) 0 0 % 2) 0 && not (eqb (getD (s .item .literals) 0 0) 0))
-    even = subst (λ (b : Bool). T (not b || (eqb (getD (s .item .literals) 0 0 % 2) 0 && not (eqb (getD (s .item .literals) 0 0) 0)))) d (s .isEven)
-
     many : (j : Kind) → 0 < howMany j
     many anInput = omega arith
     many anOutput = omega arith
     many anAnd = omega arith
-
-    some-there : 0 < length (s .item .literals)
-    some-there = omega (arith, many (s .item .kind), s .isGood .long)
 
 -- an item that defines, or one that doesn't
 pub defined-cons : (b : Bool) (i : Item) (is : List Item) → defines (i .kind) ≡ b → definedBy (i ∷ is) ≡ cond b (head i ∷ definedBy is) (definedBy is)
@@ -127,11 +120,9 @@ defined-cons b i is e = ap (λ (t : Bool). cond t (head i ∷ definedBy is) (def
 due-fresh : (isClosed : Line → Bool) (end size : ℕ) (before : List ℕ) (ks : List Kind) (ls : List Line) (is : List Item) → readDue isClosed end size before ks ls ≡ holds is
     → ((x : ℕ) → List·Memᴰ x (definedBy is) → Fresh size before x) × Distinct (definedBy is)
 unfolding readDue definedBy
-due-fresh isClosed end size before [] ls is e =
-    subst (λ (js : List Item). ((x : ℕ) → List·Memᴰ x (definedBy js) → Fresh size before x) × Distinct (definedBy js)) (holds-once e) ((λ x m. absurd (List·Memᴰ·not-nil m)), tt)
+due-fresh isClosed end size before [] ls is e = rw (← holds-once e) ((λ x m. absurd (List·Memᴰ·not-nil m)), tt)
 due-fresh isClosed end size before (k ∷ ks) [] is e = absurd (fault-never e)
-due-fresh isClosed end size before (k ∷ ks) (l ∷ ls) is e =
-    subst (λ (js : List Item). ((x : ℕ) → List·Memᴰ x (definedBy js) → Fresh size before x) × Distinct (definedBy js)) (s .isList)
+due-fresh isClosed end size before (k ∷ ks) (l ∷ ls) is e = rw (← s .isList)
     (go (defines k) refl (due-fresh isClosed end size (cond (defines k) (head (s .item) ∷ before) before) ks ls (s .rest) (s .isRest)))
   where
     s : Step isClosed end size before k ks ls is
@@ -152,9 +143,7 @@ due-fresh isClosed end size before (k ∷ ks) (l ∷ ls) is e =
         first : (x : ℕ) → (x ≡ head (s .item)) ⊎ List·Memᴰ x (definedBy (s .rest)) → (List·Memᴰ x (definedBy (s .rest)) → Fresh size (head (s .item) ∷ before) x) → Fresh size before x
         first x (inl q) later = subst (Fresh size before) (sym q) (step-fresh isClosed end size before k ks ls is s d)
         first x (inr m) later = wider (later m)
-    go false d r =
-        subst (Both before) (sym (defined-cons false (s .item) (s .rest) (ap defines (s .isKind′) ∙ d)))
-        (subst (λ (t : Bool). Both (cond t (head (s .item) ∷ before) before) (definedBy (s .rest))) d r)
+    go false d r = rw (defined-cons false (s .item) (s .rest) (ap defines (s .isKind′) ∙ d)) (rw d at r)
 
 -- ---- what is known of lines that were read, however they were read
 

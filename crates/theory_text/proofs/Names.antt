@@ -20,6 +20,7 @@ use Rattle.theory_graph.proofs.Lists.{same-refl, all-of}
 use Rattle.theory_graph.proofs.Literals.{lit-whole}
 use Rattle.theory_graph.specs.Accepted.{cellFits, libraryFits}
 use Rattle.theory_text.proofs.ReadBack.{lineOf, line-drives, line-fed, line-pins}
+use Rattle.theory_graph.proofs.Split.{by-bool}
 
 -- ---- the library finds a cell by its name
 
@@ -28,10 +29,9 @@ pub library-first : (c : Cell) (cs : List Cell) → T (libraryFits (c ∷ cs)) �
 unfolding libraryFits
 library-first c cs t = and-yes (cellFits c) (all (λ (d : Cell). not (same (nameOf c) (nameOf d))) cs && libraryFits cs) t .0
 
-library-rest : (c : Cell) (cs : List Cell) → T (libraryFits (c ∷ cs)) → T (all (λ (d : Cell). not (same (nameOf c) (nameOf d))) cs) × T (libraryFits cs)
+pub library-rest : (c : Cell) (cs : List Cell) → T (libraryFits (c ∷ cs)) → T (all (λ (d : Cell). not (same (nameOf c) (nameOf d))) cs) × T (libraryFits cs)
 unfolding libraryFits
-library-rest c cs t =
-    and-yes (all (λ (d : Cell). not (same (nameOf c) (nameOf d))) cs) (libraryFits cs)
+library-rest c cs t = and-yes (all (λ (d : Cell). not (same (nameOf c) (nameOf d))) cs) (libraryFits cs)
     (and-yes (cellFits c) (all (λ (d : Cell). not (same (nameOf c) (nameOf d))) cs && libraryFits cs) t .1)
 
 -- each cell of a library that fits is of the form
@@ -57,17 +57,11 @@ cell-form c t =
 -- the library finds a cell by its name
 pub named-cell : (cells : List Cell) → T (libraryFits cells) → (c : Cell) → List·Memᴰ c cells → named cells (nameOf c) ≡ c
 unfolding named
-named-cell (d ∷ cs) t c (List·Memᴰ·head e) = go (same (nameOf d) (nameOf c)) (subst (λ (x : Cell). T (same (nameOf d) (nameOf x))) (sym e) (same-refl (nameOf d)))
-  where
-    go : (b : Bool) → T b → cond b d (named cs (nameOf c)) ≡ c
-    go true u = sym e
-    go false u = absurd u
-named-cell (d ∷ cs) t c (List·Memᴰ·tail m) =
-    go (same (nameOf d) (nameOf c)) (all-of (λ (x : Cell). not (same (nameOf d) (nameOf x))) cs (library-rest d cs t .0) c m) (named-cell cs (library-rest d cs t .1) c m)
-  where
-    go : (b : Bool) → T (not b) → named cs (nameOf c) ≡ c → cond b d (named cs (nameOf c)) ≡ c
-    go true u e = absurd u
-    go false u e = e
+named-cell (d ∷ cs) t c (List·Memᴰ·head e) = by-bool (same (nameOf d) (nameOf c)) (λ q. rw q (sym e))
+    (λ p. rw p (absurd (rw p at (subst (λ (x : Cell). T (same (nameOf d) (nameOf x))) (sym e) (same-refl (nameOf d))))))
+named-cell (d ∷ cs) t c (List·Memᴰ·tail m) = by-bool (same (nameOf d) (nameOf c))
+    (λ e. rw e (absurd (rw e at (all-of (λ (x : Cell). not (same (nameOf d) (nameOf x))) cs (library-rest d cs t .0) c m))))
+    (λ q. rw q (named-cell cs (library-rest d cs t .1) c m))
 
 -- ---- the line of a gate whose cell is listed, with as many nets as the cell has pins
 
@@ -102,13 +96,10 @@ digits-value (suc fuel) n after h = go (ltb n 10) (nltb→le n 10) (digits-value
     small : 0 * 10 + (48 + n - 48) ≡ n
     small = omega arith
 
-    whole : n / 10 * 10 + (48 + n % 10 - 48) ≡ n
-    whole = omega arith
-
     go : (b : Bool) → (T (not b) → 10 ≤ n) → (n / 10 < fuel → asDigits 0 (digits fuel (n / 10) ((48 + n % 10) ∷ after)) ≡ asDigits (n / 10) ((48 + n % 10) ∷ after))
         → asDigits 0 (cond b ((48 + n) ∷ after) (digits fuel (n / 10) ((48 + n % 10) ∷ after))) ≡ asDigits n after
     go true u more = ap (λ (k : ℕ). asDigits k after) small
-    go false u more = more (let q : 10 ≤ n = u tt in omega arith) ∙ ap (λ (k : ℕ). asDigits k after) whole
+    go false u more = more (let q : 10 ≤ n = u tt in omega arith) ∙ ap (λ (k : ℕ). asDigits k after) (omega arith)
 
 -- a number written in decimal reads as itself
 pub decimal-value : (n : ℕ) → asDigits 0 (decimal n) ≡ n
@@ -118,10 +109,8 @@ decimal-value n = digits-value (suc n) n [] (le-refl (suc n))
 -- no two nets share a name
 pub net-once : (l k : ℕ) → netName l ≡ netName k → l ≡ k
 unfolding netName
-net-once l k e =
-    sym (lit-whole l)
-    ∙ ap₂ literal (phase (negated l) (negated k) (head-eq-of-cons-eq e)) (sym (decimal-value (varOf l)) ∙ ap (asDigits 0) (tail-eq-of-cons-eq e) ∙ decimal-value (varOf k))
-    ∙ lit-whole k
+net-once l k e = sym (lit-whole l) ∙ ap₂ literal (phase (negated l) (negated k) (head-eq-of-cons-eq e))
+    (cc (decimal-value (varOf l), tail-eq-of-cons-eq e, decimal-value (varOf k))) ∙ lit-whole k
   where
     phase : (a b : Bool) → _≡_ {A = ℕ} (cond a 109 112) (cond b 109 112) → a ≡ b
     phase true true h = refl

@@ -19,6 +19,7 @@ use Rattle.model.specs.Demands.{choiceText, choiceFigures, printedText}
 use Rattle.model.specs.declared.Cell.{Cell}
 use Rattle.model.specs.declared.Phase.{Phase}
 use Rattle.model.specs.declared.Figures.{Figures}
+use Rattle.theory_graph.proofs.Split.{by-bool, by-list}
 
 isMapped : Outcome → Bool
 isMapped (refused n k) = false
@@ -57,34 +58,24 @@ outputs-present phase k (x ∷ ls) e l m = go (absent (phase x .source)) refl e 
 module _ (listed cells : List Cell) (g : Graph) (t : List ℕ) (f : Figures) where
   from-choice : mapGraph listed cells g ≡ mapped t f → FromChoice listed cells g t f
   unfolding mapGraph mapPlaced mapCut mapChosen printed chosen lowest smaller textOf figuresIn
-  from-choice e = places (unplaced g) refl e
+  from-choice e = by-list (unplaced g) (λ p. by-list (crowded g)
+      (λ c. outs p c (uncovered (chosen cells g) 0 (g .outputs)) refl (rw c at (rw p at e)))
+      (λ v vs q. absurd (refused-never (rw q at (rw p at e))))) (λ u us q. absurd (none-lowest u (lowest us) (rw q at e)))
     where
       outs : unplaced g ≡ [] → crowded g ≡ [] → (us : List ℕ) → uncovered (chosen cells g) 0 (g .outputs) ≡ us → printed listed cells g (chosen cells g) us ≡ mapped t f → FromChoice listed cells g t f
       outs p c [] q h =
           record { placed = p; few = c; covered = outputs-present (chosen cells g) 0 (g .outputs) q; isText = sym (ap textOf h); areFigures = sym (ap (figuresIn f) h) }
       outs p c (k ∷ ks) q h = absurd (refused-never h)
 
-      cuts : unplaced g ≡ [] → (vs : List ℕ) → crowded g ≡ vs → mapCut listed cells g vs ≡ mapped t f → FromChoice listed cells g t f
-      cuts p [] c h = outs p c (uncovered (chosen cells g) 0 (g .outputs)) refl h
-      cuts p (v ∷ vs) c h = absurd (refused-never h)
-
       none-lowest : (u : ℕ) (o : Option ℕ) → ¬ (mapPlaced listed cells g (smaller u o) ≡ mapped t f)
       none-lowest u none h = refused-never h
       none-lowest u (some w) h = refused-never h
-
-      places : (us : List ℕ) → unplaced g ≡ us → mapPlaced listed cells g (lowest us) ≡ mapped t f → FromChoice listed cells g t f
-      places [] p h = cuts p (crowded g) refl h
-      places (u ∷ us) p h = absurd (none-lowest u (lowest us) h)
 
 -- a netlist that fits is the graph's
 within-mapped : (bytes : ℕ) (o : Outcome) (t : List ℕ) (f : Figures) → within bytes o ≡ mapped t f → o ≡ mapped t f
 unfolding within
 within-mapped bytes (refused n k) t f e = absurd (refused-never e)
-within-mapped bytes (mapped u h) t f e = go (leb (length u) bytes) e
-  where
-    go : (b : Bool) → cond b (mapped u h) (refused 18 (length u)) ≡ mapped t f → mapped u h ≡ mapped t f
-    go true q = q
-    go false q = absurd (refused-never q)
+within-mapped bytes (mapped u h) t f e = by-bool (leb (length u) bytes) (λ q. rw q at e) (λ p. absurd (refused-never (rw p at e)))
 
 -- the netlist is the graph's, and the timing lines follow it where delays are ranges
 pub record FromDesign (ranged : Bool) (listed cells : List Cell) (g : Graph) (t : List ℕ) (f : Figures) : Type 0 where
@@ -112,6 +103,5 @@ module _ (c : Call) (d : Design) (e : readTexts c ≡ holds d) where
   outcome-is = ap (mapDesign (c .bytes)) e
 
   pub printed-choice : (t : List ℕ) (f : Figures) → mapTexts c ≡ mapped t f → FromDesign (d .ranged) (d .listed) (d .cells) (d .graph) t f
-  printed-choice t f h =
-      from-design (d .ranged) (d .listed) (d .cells) (d .graph) t f
-      (within-mapped (c .bytes) (followed (d .ranged) (d .cells) (d .graph) (mapGraph (d .listed) (d .cells) (d .graph))) t f (sym outcome-is ∙ h))
+  printed-choice t f h = from-design (d .ranged) (d .listed) (d .cells) (d .graph) t f (within-mapped (c .bytes)
+      (followed (d .ranged) (d .cells) (d .graph) (mapGraph (d .listed) (d .cells) (d .graph))) t f (sym outcome-is ∙ h))

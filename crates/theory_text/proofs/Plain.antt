@@ -2,17 +2,18 @@
 use Prim.Native.Nat.{ℕ, zero, suc, _+_, _/_, _%_, _≤_, _<_}
 use native.Mathlib.Omega.{arith}
 use mathlib.Core.Path.{_≡_}
-use mathlib.Core.Logic.{_⊎_, inl, inr}
-use mathlib.Core.Bool.{Bool, true, false, cond, _&&_, _||_}
-use mathlib.Core.List.{List, [], _∷_, _++_}
+use mathlib.Core.Logic.{⊎-elim}
+use mathlib.Core.Bool.{false, _&&_, _||_}
+use mathlib.Core.List.{List, [], _∷_, _++_, map, reverse, reverse-cons}
 use lib.Dec.{T, eqb, leb, leb→le, ltb, lit<}
 use lib.ListN.{length}
 use mir.Facts.{and-yes, or-yes, eqb-yes, no-eqb}
 use Rattle.theory_graph.proofs.Lists.{is-false}
-use Rattle.model.specs.Base.{all}
+use Rattle.model.specs.Base.{all, each}
 use Rattle.model.specs.Text.{digits, decimal, between, isLetter, isNameByte, isName}
 use Rattle.model.specs.Graph.{negated, varOf}
-use Rattle.model.specs.Netlist.{Net, ofPhase, ofPair, netName, label}
+use Rattle.model.specs.Netlist.{Net, ofPhase, ofPair, netName, label, outName}
+use Rattle.theory_graph.proofs.Split.{by-bool}
 
 -- the byte s is not in the list
 abbrev pub Free : ℕ → List ℕ → Type 0
@@ -29,12 +30,8 @@ free-append s (x ∷ xs) ys a b = (a .0, free-append s xs ys (a .1) b)
 digits-free : (s fuel n : ℕ) (after : List ℕ) → s < 48 → Free s after → Free s (digits fuel n after)
 unfolding digits
 digits-free s zero n after h f = f
-digits-free s (suc fuel) n after h f =
-    go (ltb n 10) (digits-free s fuel (n / 10) ((48 + n % 10) ∷ after) h (above s (48 + n % 10) (omega arith), f))
-  where
-    go : (b : Bool) → Free s (digits fuel (n / 10) ((48 + n % 10) ∷ after)) → Free s (cond b ((48 + n) ∷ after) (digits fuel (n / 10) ((48 + n % 10) ∷ after)))
-    go true more = (above s (48 + n) (omega arith), f)
-    go false more = more
+digits-free s (suc fuel) n after h f = by-bool (ltb n 10) (λ e. rw e (above s (48 + n) (omega arith), f))
+    (λ q. rw q (digits-free s fuel (n / 10) ((48 + n % 10) ∷ after) h (above s (48 + n % 10) (omega arith), f)))
 
 pub decimal-free : (s n : ℕ) → s < 48 → Free s (decimal n)
 unfolding decimal
@@ -42,16 +39,38 @@ decimal-free s n h = digits-free s (suc n) n [] h tt
 
 pub net-free : (s l : ℕ) → s < 48 → Free s (netName l)
 unfolding netName
-net-free s l h = (go (negated l), decimal-free s (varOf l) h)
-  where
-    go : (b : Bool) → eqb (cond b 109 112) s ≡ false
-    go true = above s 109 (omega arith)
-    go false = above s 112 (omega arith)
+net-free s l h =
+    ((by-bool (negated l) (λ e. cc (above s 109 (omega arith))) (λ q. cc (above s 112 (omega arith)))), decimal-free s (varOf l) h)
 
 pub label-free : (s : ℕ) (n : Net) → s < 48 → Free s (label n)
 unfolding label
 label-free s (ofPhase l) h = net-free s l h
 label-free s (ofPair l) h = (above s 115 (omega arith), net-free s l h)
+
+-- no space and no line end stands in the word
+abbrev pub Clear : List ℕ → Type 0
+Clear w = (s : ℕ) → s < 48 → Free s w
+
+abbrev pub Clears : List (List ℕ) → Type 0
+Clears [] = Unit {0}
+Clears (w ∷ ws) = Clear w × Clears ws
+
+pub clears-map : {A : Type 0} (f : A → List ℕ) → ((x : A) → Clear (f x)) → (xs : List A) → Clears (map f xs)
+clears-map f h [] = tt
+clears-map f h (x ∷ xs) = (h x, clears-map f h xs)
+
+pub spaced-free : (s : ℕ) → s < 48 → eqb 32 s ≡ false → (ws : List (List ℕ)) → Clears ws → Free s (each (λ (n : List ℕ). 32 ∷ n) ws)
+unfolding each
+spaced-free s h e [] c = tt
+spaced-free s h e (w ∷ ws) c = (e, free-append s w (each (λ (n : List ℕ). 32 ∷ n) ws) (c .0 s h) (spaced-free s h e ws (c .1)))
+
+pub out-clear : (k : ℕ) → Clear (outName k)
+unfolding outName
+out-clear k s h = (above s 111 (omega arith), decimal-free s k h)
+
+pub free-reverse : (s : ℕ) (xs : List ℕ) → Free s xs → Free s (reverse xs)
+free-reverse s [] f = tt
+free-reverse s (x ∷ xs) f = rw reverse-cons (free-append s (reverse xs) (x ∷ []) (free-reverse s xs (f .1)) (f .0, tt))
 
 -- ---- a cell's name
 
@@ -65,29 +84,28 @@ at-least low high b t = leb→le low b (and-yes (leb low b) (leb b high) t .0)
 
 letter-high : (b : ℕ) → T (isLetter b) → 48 ≤ b
 unfolding isLetter
-letter-high b t = go (or-yes (between 65 90 b) (between 97 122 b) t)
-  where
-    go : T (between 65 90 b) ⊎ T (between 97 122 b) → 48 ≤ b
-    go (inl h) = omega (arith, at-least 65 90 b h)
-    go (inr h) = omega (arith, at-least 97 122 b h)
+letter-high b t = ⊎-elim (λ h. omega (arith, at-least 65 90 b h)) (λ q. omega (arith, at-least 97 122 b q))
+    (or-yes (between 65 90 b) (between 97 122 b) t)
 
 byte-high : (b : ℕ) → T (isNameByte b) → 48 ≤ b
 unfolding isNameByte
-byte-high b t = go (or-yes (isLetter b) (between 48 57 b || eqb b 95) t)
-  where
-    rest : T (between 48 57 b) ⊎ T (eqb b 95) → 48 ≤ b
-    rest (inl h) = at-least 48 57 b h
-    rest (inr h) = let e : b ≡ 95 = eqb-yes h in omega arith
-
-    go : T (isLetter b) ⊎ T (between 48 57 b || eqb b 95) → 48 ≤ b
-    go (inl h) = letter-high b h
-    go (inr h) = rest (or-yes (between 48 57 b) (eqb b 95) h)
+byte-high b t = ⊎-elim (letter-high b)
+    (λ q. ⊎-elim (at-least 48 57 b) (λ e. let e : b ≡ 95 = eqb-yes e in omega arith) (or-yes (between 48 57 b) (eqb b 95) q))
+    (or-yes (isLetter b) (between 48 57 b || eqb b 95) t)
 
 pub bytes-free : (s : ℕ) (bs : List ℕ) → s < 48 → T (all isNameByte bs) → Free s bs
 unfolding all
 bytes-free s [] h t = tt
 bytes-free s (b ∷ bs) h t =
     let p = and-yes (isNameByte b) (all isNameByte bs) t in (above s b (omega (arith, byte-high b (p .0))), bytes-free s bs h (p .1))
+
+pub name-clear : (w : List ℕ) → T (isName w) → Clear w
+unfolding isName isNameByte all
+name-clear [] t s h = absurd t
+name-clear (b ∷ bs) t s h =
+    let p = and-yes (isLetter b) (all isNameByte bs && leb (length bs) 7) t in
+    let q = and-yes (all isNameByte bs) (leb (length bs) 7) (p .1) in
+    bytes-free s (b ∷ bs) h (by-bool (isLetter b) (λ e. rw e (q .0)) (λ r. rw r (absurd (rw r at (p .0)))))
 
 pub name-plain : (w : List ℕ) → T (isName w) → Plain w
 unfolding isName

@@ -66,8 +66,7 @@ names-words : (keyword : List ℕ) → Plain keyword → (names : List (List ℕ
 unfolding namesOf
 names-words keyword (plain {b = b} {w = w} f h) [] ps = ap (parts 32) (append-nil (b ∷ w)) ∙ parts-last 32 b w f
 names-words keyword (plain {b = b} {w = w} f h) (n ∷ ns) ps =
-    parts-line 32 (b ∷ w) (n ++ each (λ (m : List ℕ). 32 ∷ m) ns) f
-    ∙ ap (λ (xs : List (List ℕ)). (b ∷ w) ∷ xs) (names-words n (ps .0) ns (ps .1))
+    cc (parts-line 32 (b ∷ w) (n ++ each (λ (m : List ℕ). 32 ∷ m) ns) f, names-words n (ps .0) ns (ps .1))
 
 names-free : (keyword : List ℕ) → Plain keyword → (names : List (List ℕ)) → Plains names → Free 10 (namesOf keyword names)
 unfolding namesOf
@@ -81,9 +80,7 @@ names-free keyword p names ps = free-append 10 keyword (each (λ (n : List ℕ).
 names-line : (keyword : List ℕ) → Plain keyword → (names : List (List ℕ)) → Plains names → (rest : List ℕ)
     → parts 10 (namesLine keyword names ++ rest) ≡ namesOf keyword names ∷ parts 10 rest
 unfolding namesLine namesOf text
-names-line keyword p names ps rest =
-    ap (parts 10)
-    (append-assoc keyword (each (λ (n : List ℕ). 32 ∷ n) names ++ text "\n") rest
+names-line keyword p names ps rest = ap (parts 10) (append-assoc keyword (each (λ (n : List ℕ). 32 ∷ n) names ++ text "\n") rest
     ∙ ap (λ (x : List ℕ). keyword ++ x) (append-assoc (each (λ (n : List ℕ). 32 ∷ n) names) (text "\n") rest)
     ∙ sym (append-assoc keyword (each (λ (n : List ℕ). 32 ∷ n) names) (10 ∷ rest)))
     ∙ parts-line 10 (namesOf keyword names) rest (names-free keyword p names ps)
@@ -115,8 +112,7 @@ pins-words : (c : ℕ) (w : List ℕ) → Free 32 (c ∷ w) → (b : ℕ) → 48
     → parts 32 ((c ∷ w) ++ (pinWords b ls ++ pinWords 79 (o ∷ []))) ≡ (c ∷ w) ∷ pinWs b ls o
 unfolding pinWords pinWs
 pins-words c w f b h [] o =
-    parts-line 32 (c ∷ w) (79 ∷ 61 ∷ label o ++ []) f
-    ∙ ap (λ (n : List ℕ). (c ∷ w) ∷ parts 32 (79 ∷ 61 ∷ n)) (append-nil (label o))
+    parts-line 32 (c ∷ w) (79 ∷ 61 ∷ label o ++ []) f ∙ ap (λ (n : List ℕ). (c ∷ w) ∷ parts 32 (79 ∷ 61 ∷ n)) (append-nil (label o))
     ∙ ap (λ (ps : List (List ℕ)). (c ∷ w) ∷ ps) (parts-last 32 79 (61 ∷ label o) (word-free 32 79 o (lit< tt) (lit< tt)))
 pins-words c w f b h (l ∷ ls) o =
     ap (λ (n : List ℕ). parts 32 ((c ∷ w) ++ (32 ∷ b ∷ 61 ∷ n))) (append-assoc (label l) (pinWords (suc b) ls) (pinWords 79 (o ∷ [])))
@@ -136,16 +132,12 @@ bindingsFrom b (l ∷ ls) o = record { pin = b ∷ []; net = label l } ∷ bindi
 
 read-binding : (b : ℕ) (l : Net) → 61 < b → binding (b ∷ 61 ∷ label l) ≡ some (record { pin = b ∷ []; net = label l })
 unfolding binding andThen longer
-read-binding b l h =
-    ap (λ (t : Bool). cond t (some (record { pin = []; net = 61 ∷ label l })) (some (record { pin = b ∷ []; net = label l }))) (above 61 b h)
+read-binding b l h = cc (above 61 b h)
 
 read-bindings : (b : ℕ) → 61 < b → (ls : List Net) (o : Net) → bindingsOf (pinWs b ls o) ≡ some (bindingsFrom b ls o)
 unfolding bindingsOf pinWs andThen bindingsFrom
-read-bindings b h [] o =
-    ap (λ (x : Option Binding). andThen x (λ p. some (p ∷ []))) (read-binding 79 o (lit< tt))
-read-bindings b h (l ∷ ls) o =
-    ap (λ (x : Option Binding). andThen x (λ p. andThen (bindingsOf (pinWs (suc b) ls o)) (λ ps. some (p ∷ ps)))) (read-binding b l h)
-    ∙ ap (λ (x : Option (List Binding)). andThen x (λ ps. some (record { pin = b ∷ []; net = label l } ∷ ps))) (read-bindings (suc b) (omega arith) ls o)
+read-bindings b h [] o = cc
+read-bindings b h (l ∷ ls) o = cc (read-binding b l h, read-bindings (suc b) (omega arith) ls o)
 
 -- what a gate prints, as it is read
 unfoldable pub lineOf : Gate → GateLine
@@ -159,8 +151,7 @@ body name ls o = text ".gate " ++ (name ++ (pinWords 65 ls ++ pinWords 79 (o ∷
 
 read-gate : (name : List ℕ) → Plain name → (ls : List Net) (o : Net) → readGate (body name ls o) ≡ some (record { cell = name; bindings = bindingsFrom 65 ls o })
 unfolding readGate wordsAfter afterWord body text same only andThen gateOf
-read-gate name (plain {b = b} {w = w} f h) ls o =
-    ap (λ (ps : List (List ℕ)). andThen (afterWord (text ".gate") ps) gateOf)
+read-gate name (plain {b = b} {w = w} f h) ls o = ap (λ (ps : List (List ℕ)). andThen (afterWord (text ".gate") ps) gateOf)
     (parts-line 32 (text ".gate") (name ++ (pinWords 65 ls ++ pinWords 79 (o ∷ []))) (refl, (refl, (refl, (refl, (refl, tt)))))
     ∙ ap (λ (ps : List (List ℕ)). text ".gate" ∷ ps) (pins-words b w f 65 (lit< tt) ls o))
     ∙ ap (λ (x : Option (List Binding)). andThen x (λ ps. some (record { cell = b ∷ w; bindings = ps }))) (read-bindings 65 (lit< tt) ls o)
@@ -197,11 +188,9 @@ bodyOf t = body (nameOf (t .cell)) (t .pins) (t .net)
 -- a gate's line is its body and a line end
 pub gate-line : (t : Gate) (rest : List ℕ) → gateLine t ++ rest ≡ bodyOf t ++ (10 ∷ rest)
 unfolding gateLine bodyOf body text
-gate-line t rest =
-    ap (λ (x : List ℕ). text ".gate " ++ x)
+gate-line t rest = ap (λ (x : List ℕ). text ".gate " ++ x)
     (append-assoc (nameOf (t .cell)) (pinWords 65 (t .pins) ++ (pinWords 79 (t .net ∷ []) ++ text "\n")) rest
-    ∙ ap (λ (x : List ℕ). nameOf (t .cell) ++ x)
-    (append-assoc (pinWords 65 (t .pins)) (pinWords 79 (t .net ∷ []) ++ text "\n") rest
+    ∙ ap (λ (x : List ℕ). nameOf (t .cell) ++ x) (append-assoc (pinWords 65 (t .pins)) (pinWords 79 (t .net ∷ []) ++ text "\n") rest
     ∙ ap (λ (x : List ℕ). pinWords 65 (t .pins) ++ x) (append-assoc (pinWords 79 (t .net ∷ [])) (text "\n") rest)
     ∙ sym (append-assoc (pinWords 65 (t .pins)) (pinWords 79 (t .net ∷ [])) (10 ∷ rest)))
     ∙ sym (append-assoc (nameOf (t .cell)) (pinWords 65 (t .pins) ++ pinWords 79 (t .net ∷ [])) (10 ∷ rest)))
@@ -235,12 +224,9 @@ wireBodies k (l ∷ ls) = wireBody k l ∷ text "1 1" ∷ wireBodies (suc k) ls
 
 pub wire-line : (k l : ℕ) (rest : List ℕ) → wireLine k l ++ rest ≡ wireBody k l ++ (10 ∷ text "1 1" ++ (10 ∷ rest))
 unfolding wireLine wireBody namesOf each text
-wire-line k l rest =
-    ap (λ (x : List ℕ). text ".names " ++ x)
-    (append-assoc (netName l) (32 ∷ outName k ++ text "\n1 1\n") rest
+wire-line k l rest = ap (λ (x : List ℕ). text ".names " ++ x) (append-assoc (netName l) (32 ∷ outName k ++ text "\n1 1\n") rest
     ∙ ap (λ (x : List ℕ). netName l ++ (32 ∷ x))
-    (append-assoc (outName k) (text "\n1 1\n") rest
-    ∙ ap (λ (x : List ℕ). x ++ (text "\n1 1\n" ++ rest)) (sym (append-nil (outName k))))
+    (append-assoc (outName k) (text "\n1 1\n") rest ∙ ap (λ (x : List ℕ). x ++ (text "\n1 1\n" ++ rest)) (sym (append-nil (outName k))))
     ∙ sym (append-assoc (netName l) (32 ∷ outName k ++ []) (text "\n1 1\n" ++ rest)))
 
 wire-lines : (k : ℕ) (ls rest : List ℕ) → parts 10 (wireLines k ls ++ rest) ≡ wireBodies k ls ++ parts 10 rest
@@ -286,7 +272,7 @@ no-gate : (k l : ℕ) → readGate (wireBody k l) ≡ none
 unfolding readGate wordsAfter afterWord same text only andThen
 no-gate k l = ap (λ (ps : List (List ℕ)). andThen (afterWord (text ".gate") ps) gateOf) (wire-words k l)
 
-no-gate-end : readGate (text ".end") ≡ none
+pub no-gate-end : readGate (text ".end") ≡ none
 unfolding readGate wordsAfter afterWord parts split onto same text only andThen
 no-gate-end = refl
 
@@ -334,9 +320,8 @@ figures-free f =
 -- the lines of the printed text, and more behind them
 unfoldable pub linesOf : Graph → List Gate → Figures → List (List ℕ) → List (List ℕ)
 unfolding text namesOf bodyOf wireBodies figuresLine
-linesOf g ts f more =
-    text ".model top" ∷ namesOf (text ".inputs") (inputNames g) ∷ namesOf (text ".outputs") (outputNames g)
-    ∷ map bodyOf ts ++ (wireBodies 0 (g .outputs) ++ (text ".end" ∷ figuresLine f ∷ more))
+linesOf g ts f more = text ".model top" ∷ namesOf (text ".inputs") (inputNames g) ∷ namesOf (text ".outputs")
+    (outputNames g) ∷ map bodyOf ts ++ (wireBodies 0 (g .outputs) ++ (text ".end" ∷ figuresLine f ∷ more))
 
 -- texts one after the other, and a last one
 chain : List (List ℕ) → List ℕ → List ℕ
@@ -359,55 +344,37 @@ pub text-lines : (g : Graph) (ts : List Gate) (f : Figures) (after : List ℕ) �
     → parts 10 (netlistText g ts f ++ after) ≡ linesOf g ts f (parts 10 after)
 unfolding netlistText linesOf figuresLine text parts split onto chain
 text-lines g ts f after h =
-    ap (parts 10) (chain-after (text ".model top\n" ∷ namesLine (text ".inputs") (inputNames g) ∷ namesLine (text ".outputs") (outputNames g) ∷ each gateLine ts ∷ wireLines 0 (g .outputs)
-    ∷ text ".end\n# gates " ∷ decimal (f .gates) ∷ text " area " ∷ decimal (f .area) ∷ text " arrival " ∷ decimal (f .arrival) ∷ []) (text "\n") after)
-    ∙ ap (λ (ps : List (List ℕ)). text ".model top" ∷ ps)
-    (names-line (text ".inputs") inputs-plain (inputNames g) (inputs-fit g) after-inputs
+    let figures-line : List ℕ = text "# gates " ++ (decimal (f .gates) ++
+    (text " area " ++ (decimal (f .area) ++ (text " arrival " ++ (decimal (f .arrival) ++ (text "\n" ++ after)))))) in
+    let after-wires : List ℕ = text ".end\n" ++ figures-line in
+    let after-gates : List ℕ = wireLines 0 (g .outputs) ++ after-wires in
+    let after-outputs : List ℕ = each gateLine ts ++ after-gates in
+    let ended : figures-line ≡ figuresLine f ++ (text "\n" ++ after) = sym (simp append-assoc) in
+    ap (parts 10) (chain-after (text ".model top\n" ∷ namesLine (text ".inputs") (inputNames g) ∷ namesLine (text ".outputs")
+    (outputNames g) ∷ each gateLine ts ∷ wireLines 0 (g .outputs) ∷ text ".end\n# gates " ∷ decimal (f .gates) ∷ text " area " ∷ decimal
+    (f .area) ∷ text " arrival " ∷ decimal (f .arrival) ∷ []) (text "\n") after) ∙ ap (λ (ps : List (List ℕ)). text ".model top" ∷ ps)
+    (names-line (text ".inputs") inputs-plain (inputNames g) (inputs-fit g) (namesLine (text ".outputs") (outputNames g) ++ after-outputs)
     ∙ ap (λ (ps : List (List ℕ)). namesOf (text ".inputs") (inputNames g) ∷ ps)
     (names-line (text ".outputs") outputs-plain (outputNames g) (outputs-fit g) after-outputs
-    ∙ ap (λ (ps : List (List ℕ)). namesOf (text ".outputs") (outputNames g) ∷ ps)
-    (gate-lines ts h after-gates
-    ∙ ap (λ (ps : List (List ℕ)). map bodyOf ts ++ ps)
-    (wire-lines 0 (g .outputs) after-wires ∙ ap (λ (ps : List (List ℕ)). wireBodies 0 (g .outputs) ++ (text ".end" ∷ ps)) last))))
-  where
-    figures-line : List ℕ
-    figures-line = text "# gates " ++ (decimal (f .gates) ++ (text " area " ++ (decimal (f .area) ++ (text " arrival " ++ (decimal (f .arrival) ++ (text "\n" ++ after))))))
-
-    after-wires : List ℕ
-    after-wires = text ".end\n" ++ figures-line
-
-    after-gates : List ℕ
-    after-gates = wireLines 0 (g .outputs) ++ after-wires
-
-    after-outputs : List ℕ
-    after-outputs = each gateLine ts ++ after-gates
-
-    after-inputs : List ℕ
-    after-inputs = namesLine (text ".outputs") (outputNames g) ++ after-outputs
-
-    ended : figures-line ≡ figuresLine f ++ (text "\n" ++ after)
-    ended = sym (simp append-assoc)
-
-    last : parts 10 figures-line ≡ figuresLine f ∷ parts 10 after
-    last = ap (parts 10) ended ∙ parts-line 10 (figuresLine f) after (figures-free f)
+    ∙ ap (λ (ps : List (List ℕ)). namesOf (text ".outputs") (outputNames g) ∷ ps) (gate-lines ts h after-gates
+    ∙ ap (λ (ps : List (List ℕ)). map bodyOf ts ++ ps) (wire-lines 0 (g .outputs) after-wires
+    ∙ ap (λ (ps : List (List ℕ)). wireBodies 0 (g .outputs) ++ (text ".end" ∷ ps))
+    (ap (parts 10) ended ∙ parts-line 10 (figuresLine f) after (figures-free f))))))
 
 -- the printed text reads back, whatever follows its `# gates` line
 pub read-back : (g : Graph) (ts : List Gate) (f : Figures) (after : List ℕ) → ((t : Gate) → List·Memᴰ t ts → T (isName (nameOf (t .cell))))
     → readBlif (netlistText g ts f ++ after) ≡ some (blifOf g ts)
 unfolding readBlif blifOf readLines linesOf wordsAfter afterWord same only text andThen
 read-back g ts f after h =
+    let lines : List (List ℕ) = map bodyOf ts ++ (wireBodies 0 (g .outputs) ++ (text ".end" ∷ figuresLine f ∷ parts 10 after)) in
+    let model : List (List ℕ) → List (List ℕ) → Body → Option Blif = λ is os b. some
+    (record { inputs = is; outputs = os; gates = b .gates; wires = b .wires }) in
     ap readLines (text-lines g ts f after h)
     ∙ ap (λ (ps : List (List ℕ)). andThen (afterWord (text ".inputs") ps) (λ is. andThen (wordsAfter (text ".outputs") (namesOf (text ".outputs") (outputNames g))) (λ os. andThen (readBody lines) (model is os))))
     (names-words (text ".inputs") inputs-plain (inputNames g) (inputs-fit g))
     ∙ ap (λ (ps : List (List ℕ)). andThen (afterWord (text ".outputs") ps) (λ os. andThen (readBody lines) (model (inputNames g) os)))
     (names-words (text ".outputs") outputs-plain (outputNames g) (outputs-fit g))
     ∙ ap (λ (b : Option Body). andThen b (model (inputNames g) (outputNames g))) (read-body ts h 0 (g .outputs) (figuresLine f ∷ parts 10 after))
-  where
-    lines : List (List ℕ)
-    lines = map bodyOf ts ++ (wireBodies 0 (g .outputs) ++ (text ".end" ∷ figuresLine f ∷ parts 10 after))
-
-    model : List (List ℕ) → List (List ℕ) → Body → Option Blif
-    model is os b = some (record { inputs = is; outputs = os; gates = b .gates; wires = b .wires })
 
 -- ---- what a gate line says
 
@@ -416,19 +383,18 @@ pins-from : (i b : ℕ) → b ≡ 65 + i → (ls : List Net) (o : Net)
     → map (λ (p : Binding). p .pin) (bindingsFrom b ls o) ≡ map (λ (j : ℕ). (65 + j) ∷ []) (from i (length ls)) ++ (outputName ∷ [])
 unfolding bindingsFrom from
 pins-from i b e [] o = refl
-pins-from i b e (l ∷ ls) o =
-    ap₂ (λ (c : ℕ) (ps : List (List ℕ)). (c ∷ []) ∷ ps) e (pins-from (suc i) (suc b) (omega arith) ls o)
+pins-from i b e (l ∷ ls) o = cc (pins-from (suc i) (suc b) (omega arith) ls o)
 
 pub line-pins : (t : Gate) → map (λ (p : Binding). p .pin) (lineOf t .bindings) ≡ pinNames (length (t .pins)) ++ (outputName ∷ [])
 unfolding lineOf pinNames below
 line-pins t = pins-from 0 65 refl (t .pins) (t .net)
 
 -- a pin that is bound first, and one that is bound later
-at-first : (b c : ℕ) → b ≡ c → (net : List ℕ) (ps : List Binding) → netAt (record { pin = b ∷ []; net = net } ∷ ps) (c ∷ []) ≡ net
+pub at-first : (b c : ℕ) → b ≡ c → (net : List ℕ) (ps : List Binding) → netAt (record { pin = b ∷ []; net = net } ∷ ps) (c ∷ []) ≡ net
 unfolding netAt same
 at-first b c e net ps = ap (λ (t : Bool). cond (t && true) net (netAt ps (c ∷ []))) (is-true (eqb b c) (yes-eqb e))
 
-at-later : (b c : ℕ) → ¬ (b ≡ c) → (net : List ℕ) (ps : List Binding) → netAt (record { pin = b ∷ []; net = net } ∷ ps) (c ∷ []) ≡ netAt ps (c ∷ [])
+pub at-later : (b c : ℕ) → ¬ (b ≡ c) → (net : List ℕ) (ps : List Binding) → netAt (record { pin = b ∷ []; net = net } ∷ ps) (c ∷ []) ≡ netAt ps (c ∷ [])
 unfolding netAt same
 at-later b c d net ps = ap (λ (t : Bool). cond (t && true) net (netAt ps (c ∷ []))) (is-false (eqb b c) (no-eqb d))
 
@@ -449,18 +415,15 @@ unfolding bindingsFrom from
 fed-from i b e [] o = refl
 fed-from i b e (l ∷ ls) o =
     ap₂ (λ (n : List ℕ) (ns : List (List ℕ)). n ∷ ns) (at-first b (65 + i) e (label l) (bindingsFrom (suc b) ls o))
-    (map-same (λ (j : ℕ). netAt (bindingsFrom b (l ∷ ls) o) ((65 + j) ∷ [])) (λ (j : ℕ). netAt (bindingsFrom (suc b) ls o) ((65 + j) ∷ [])) (from (suc i) (length ls)) later
+    (map-same (λ (j : ℕ). netAt (bindingsFrom b (l ∷ ls) o) ((65 + j) ∷ [])) (λ (j : ℕ). netAt (bindingsFrom (suc b) ls o) ((65 + j) ∷ [])) (from (suc i) (length ls))
+    (λ j m. at-later b (65 + j) (let d : ¬ (b ≡ 65 + j) = λ q. omega (arith, from-low (length ls) (suc i) j m) in d) (label l)
+    (bindingsFrom (suc b) ls o))
     ∙ fed-from (suc i) (suc b) (omega arith) ls o)
-  where
-    later : (j : ℕ) → List·Memᴰ j (from (suc i) (length ls)) → netAt (bindingsFrom b (l ∷ ls) o) ((65 + j) ∷ []) ≡ netAt (bindingsFrom (suc b) ls o) ((65 + j) ∷ [])
-    later j m =
-        at-later b (65 + j) (let d : ¬ (b ≡ 65 + j) = λ q. omega (arith, from-low (length ls) (suc i) j m) in d) (label l) (bindingsFrom (suc b) ls o)
 
 -- the nets of a gate's pins feed its line, where the library has the gate's cell by its name
 pub line-fed : (cells : List Cell) (t : Gate) → named cells (nameOf (t .cell)) ≡ t .cell → t .cell .pins ≡ length (t .pins) → fedBy cells (lineOf t) ≡ map label (t .pins)
 unfolding lineOf fedBy pinNames below
-line-fed cells t e n =
-    ap (λ (c : Cell). map (netAt (bindingsFrom 65 (t .pins) (t .net))) (pinNames (c .pins))) e
+line-fed cells t e n = ap (λ (c : Cell). map (netAt (bindingsFrom 65 (t .pins) (t .net))) (pinNames (c .pins))) e
     ∙ ap (λ (k : ℕ). map (netAt (bindingsFrom 65 (t .pins) (t .net))) (pinNames k)) n
     ∙ map-map (netAt (bindingsFrom 65 (t .pins) (t .net))) (λ (j : ℕ). (65 + j) ∷ []) (from 0 (length (t .pins)))
     ∙ fed-from 0 65 refl (t .pins) (t .net)

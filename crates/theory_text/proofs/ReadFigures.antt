@@ -4,7 +4,7 @@ use native.Mathlib.Nat.{le-refl, not-suc-le-zero}
 use native.Mathlib.Omega.{arith}
 use mathlib.Core.Path.{_≡_, refl, sym, _∙_, ap, ap₂}
 use mathlib.Core.Bool.{Bool, true, false, not, cond, _&&_}
-use mathlib.Core.Option.{Option, none, some}
+use mathlib.Core.Option.{none, some}
 use mathlib.Core.List.{List, [], _∷_, _++_, map, List·Memᴰ}
 use lib.Dec.{T, ltb, ltb→lt, leb, le→leb, nltb→le, lit<}
 use Rattle.model.specs.Base.{same, andThen, only}
@@ -24,8 +24,7 @@ use Rattle.theory_text.proofs.ReadBack.{body, bodyOf, figuresLine, name
 -- one digit more
 digit-more : (m d : ℕ) (bs : List ℕ) → d < 10 → digitsFrom m ((48 + d) ∷ bs) ≡ digitsFrom (m * 10 + d) bs
 unfolding digitsFrom andThen only between
-digit-more m d bs h =
-    ap₂ (λ (a b : Bool). andThen (only (a && b) (48 + d - 48)) (λ e. digitsFrom (m * 10 + e) bs))
+digit-more m d bs h = ap₂ (λ (a b : Bool). andThen (only (a && b) (48 + d - 48)) (λ e. digitsFrom (m * 10 + e) bs))
     (is-true (leb 48 (48 + d)) (le→leb 48 (48 + d) (omega arith))) (is-true (leb (48 + d) 57) (le→leb (48 + d) 57 (omega arith)))
     ∙ ap (λ (e : ℕ). digitsFrom (m * 10 + e) bs) (let q : 48 + d - 48 ≡ d = omega arith in q)
 
@@ -39,9 +38,7 @@ digits-read (suc fuel) n after h = go (ltb n 10) (ltb→lt n 10) (nltb→le n 10
         → (n / 10 < fuel → digitsFrom 0 (digits fuel (n / 10) ((48 + n % 10) ∷ after)) ≡ digitsFrom (n / 10) ((48 + n % 10) ∷ after))
         → digitsFrom 0 (cond b ((48 + n) ∷ after) (digits fuel (n / 10) ((48 + n % 10) ∷ after))) ≡ digitsFrom n after
     go true y u more = digit-more 0 n after (y tt) ∙ ap (λ (k : ℕ). digitsFrom k after) (let q : 0 * 10 + n ≡ n = omega arith in q)
-    go false y u more =
-        more (let q : 10 ≤ n = u tt in omega arith)
-        ∙ digit-more (n / 10) (n % 10) after (omega arith)
+    go false y u more = more (let q : 10 ≤ n = u tt in omega arith) ∙ digit-more (n / 10) (n % 10) after (omega arith)
         ∙ ap (λ (k : ℕ). digitsFrom k after) (let q : n / 10 * 10 + n % 10 ≡ n = omega arith in q)
 
 -- "without leading zeros"
@@ -86,12 +83,7 @@ figure-words f =
 
 line-figures : (f : Figures) → readFigureWords (fields (figuresLine f)) ≡ some f
 unfolding readFigureWords andThen only same text
-line-figures f =
-    ap readFigureWords (figure-words f)
-    ∙ ap (λ (o : Option ℕ). andThen o (λ n. andThen (figure (decimal (f .area))) (λ a. andThen (figure (decimal (f .arrival))) (λ t. some (record { gates = n; area = a; arrival = t })))))
-    (figure-back (f .gates))
-    ∙ ap (λ (o : Option ℕ). andThen o (λ a. andThen (figure (decimal (f .arrival))) (λ t. some (record { gates = f .gates; area = a; arrival = t })))) (figure-back (f .area))
-    ∙ ap (λ (o : Option ℕ). andThen o (λ t. some (record { gates = f .gates; area = f .area; arrival = t }))) (figure-back (f .arrival))
+line-figures f = cc (figure-words f, figure-back (f .gates), figure-back (f .area), figure-back (f .arrival))
 
 -- ---- behind the end
 
@@ -113,9 +105,7 @@ pub figures-back : (g : Graph) (ts : List Gate) (f : Figures) (after : List ℕ)
     → readFigures (netlistText g ts f ++ after) ≡ some f
 unfolding readFigures linesOf namesOf behindEnd wireBodies same text andThen
 figures-back g ts f after h =
-    ap (λ (ls : List (List ℕ)). andThen (behindEnd ls) (λ l. readFigureWords (fields l))) (text-lines g ts f after h)
-    ∙ ap (λ (o : Option (List ℕ)). andThen o (λ l. readFigureWords (fields l))) (go ts (g .outputs) (behind-gates ts (g .outputs) (figuresLine f) (parts 10 after)))
-    ∙ line-figures f
+    cc (text-lines g ts f after h, go ts (g .outputs) (behind-gates ts (g .outputs) (figuresLine f) (parts 10 after)), line-figures f)
   where
     -- the first three lines are not the end, and a line follows each of them
     go : (us : List Gate) (outs : List ℕ) → behindEnd (map bodyOf us ++ (wireBodies 0 outs ++ (text ".end" ∷ figuresLine f ∷ parts 10 after))) ≡ some (figuresLine f)

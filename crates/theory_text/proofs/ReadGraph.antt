@@ -3,17 +3,17 @@ use Prim.Native.Nat.{ℕ, zero, suc, _+_, _*_, _≤_, _<_}
 use native.Mathlib.Nat.{le-of-suc-le-suc, not-suc-le-zero}
 use native.Mathlib.Omega.{arith}
 use mathlib.Core.Path.{_≡_, refl, sym, _∙_, ap, ap₂, subst}
-use mathlib.Core.Logic.{_⊎_, inl, inr}
+use mathlib.Core.Logic.{⊎-elim}
 use mathlib.Core.Bool.{Bool, true, false, not, cond, _&&_, _||_, false≢true}
-use mathlib.Core.List.{List, [], _∷_, _++_, map, List·Memᴰ, List·Memᴰ·head, List·Memᴰ·tail, List·Memᴰ·not-nil, List·Memᴰ·cases-cons, List·Memᴰ·append-cases, List·Memᴰ·eq-of-singleton, Memᴰ·cast, cons≢nil, nil≢cons, head-eq-of-cons-eq, tail-eq-of-cons-eq}
+use mathlib.Core.List.{List, [], _∷_, _++_, map, List·Memᴰ, List·Memᴰ·not-nil, List·Memᴰ·cases-cons, List·Memᴰ·append-cases, List·Memᴰ·eq-of-singleton, Memᴰ·cast, cons≢nil, nil≢cons, head-eq-of-cons-eq, tail-eq-of-cons-eq}
 use lib.Dec.{T, eqb, leb, leb→le, le→leb, lit<, not-T}
 use lib.ListN.{length, getD, drop, replicate, length-append, length-map}
 use mir.Facts.{and-yes, yes-and, eqb-yes, leb-yes}
 use Rattle.model.specs.Base.{all, elem, keep, each}
-use Rattle.model.specs.Text.{Line, linesFrom}
+use Rattle.model.specs.Text.{linesFrom}
 use Rattle.model.specs.Reading.{holds, next, from?}
 use Rattle.model.specs.Graph.{And, Graph, varOf, unplaced, andVars}
-use Rattle.model.specs.GraphText.{closed, headerOf, inLimits, inSequence, readHeader, Kind, anInput, anOutput, anAnd, howMany, defines, due, Item, readDue, readBinary, readItems, uses, definedBy, checkUses, sameKind, isKind, graphOf, readGraph}
+use Rattle.model.specs.GraphText.{closed, headerOf, inLimits, inSequence, readHeader, Kind, anInput, anOutput, anAnd, howMany, defines, due, Item, readItems, uses, definedBy, checkUses, sameKind, isKind, graphOf, readGraph}
 use Rattle.model.specs.Demands.{Distinct}
 use Rattle.model.specs.declared.Header.{Header}
 use Rattle.theory_graph.proofs.Lists.{map-out, keep-out, each-out, elem-out, map-map, getD-in, all-of, all-in, is-true, keep-append}
@@ -22,6 +22,7 @@ use Rattle.theory_text.specs.Fits.{LowLiterals, GraphFits}
 use Rattle.theory_text.proofs.Steps.{holds-once, unless-out, next-out}
 use Rattle.theory_text.proofs.Items.{head, Good, defined-cons, kindsOf, Lawful, due-lawful}
 use Rattle.theory_text.proofs.Binary.{binary-parts, binary-lawful}
+use Rattle.theory_graph.proofs.Split.{by-bool, by-list, by-nat, by-member}
 
 -- the AND of a line
 abbrev pub andOf : Item → And
@@ -74,9 +75,7 @@ of-all zero o a is e = let r = of-outputs o a is e in ap (λ (xs : List ℕ). xs
 of-all (suc n) o a [] e = absurd (nil≢cons e)
 of-all (suc n) o a (i ∷ is) e =
     let k : i .kind ≡ anInput = head-eq-of-cons-eq e in
-    ap₂ (λ (xs ys : List Item). map head xs ++ map head ys) (keep-of anInput anInput i is k) (keep-of anAnd anInput i is k)
-    ∙ ap (λ (xs : List ℕ). head i ∷ xs) (of-all n o a is (tail-eq-of-cons-eq e))
-    ∙ sym (defined-of anInput i is k)
+    cc (keep-of anInput anInput i is k, keep-of anAnd anInput i is k, of-all n o a is (tail-eq-of-cons-eq e), defined-of anInput i is k)
 
 -- ---- uses
 
@@ -85,17 +84,11 @@ pub uses-out : (known : List ℕ) (is js : List Item) → checkUses known is ≡
 unfolding checkUses
 uses-out known [] js e = (holds-once e, (λ i m. absurd (List·Memᴰ·not-nil m)))
 uses-out known (i ∷ is) js e =
-    let a = unless-out (all (λ (l : ℕ). elem (varOf l) (0 ∷ known)) (uses i)) 14 (i .offset) (next (checkUses known is) (λ ks. holds (i ∷ ks))) js e in
+    let a = unless-out (all (λ (l : ℕ). elem (varOf l) (0 ∷ known)) (uses i)) 14 (i .offset)
+    (next (checkUses known is) (λ ks. holds (i ∷ ks))) js e in
     let b = next-out (checkUses known is) (λ ks. holds (i ∷ ks)) js (a .1) in
-    let r = uses-out known is (b .0) (b .1) in (
-      ap (λ (ks : List Item). i ∷ ks) (r .0) ∙ holds-once (b .2),
-      (λ j m. go (a .0) (r .1) j (List·Memᴰ·cases-cons m)),
-    )
-  where
-    go : T (all (λ (l : ℕ). elem (varOf l) (0 ∷ known)) (uses i)) → ((j : Item) → List·Memᴰ j is → T (all (λ (l : ℕ). elem (varOf l) (0 ∷ known)) (uses j)))
-        → (j : Item) → (j ≡ i) ⊎ List·Memᴰ j is → T (all (λ (l : ℕ). elem (varOf l) (0 ∷ known)) (uses j))
-    go t later j (inl q) = subst (λ (x : Item). T (all (λ (l : ℕ). elem (varOf l) (0 ∷ known)) (uses x))) (sym q) t
-    go t later j (inr m) = later j m
+    let r = uses-out known is (b .0) (b .1) in
+    (ap (λ (ks : List Item). i ∷ ks) (r .0) ∙ holds-once (b .2), (λ j m. ⊎-elim (λ q. rw q (a .0)) ((r .1) j) (List·Memᴰ·cases-cons m)))
 
 pub kind-is : (k j : Kind) → T (sameKind k j) → j ≡ k
 unfolding sameKind
@@ -109,7 +102,7 @@ kind-is anAnd anInput t = absurd t
 kind-is anAnd anOutput t = absurd t
 kind-is anAnd anAnd t = refl
 
-once-distinct : (xs : List ℕ) → Distinct xs → T (distinct xs)
+pub once-distinct : (xs : List ℕ) → Distinct xs → T (distinct xs)
 unfolding distinct
 once-distinct [] h = tt
 once-distinct (x ∷ xs) h =
@@ -118,16 +111,11 @@ once-distinct (x ∷ xs) h =
 -- a line's literal after those that it defines is one that it uses
 use-in : (i : Item) (k : Kind) → i .kind ≡ k → length (i .literals) ≡ howMany k → (n : ℕ) → n < howMany k → (defines k ≡ true → 0 < n) → List·Memᴰ (getD (i .literals) n 0) (uses i)
 unfolding uses
-use-in i k e h n b later =
-    subst (λ (j : Kind). List·Memᴰ (getD (i .literals) n 0) (cond (defines j) (drop 1 (i .literals)) (i .literals))) (sym e) (go (defines k) (i .literals) (omega arith) later n b)
+use-in i k e h n b later = rw e (go (defines k) (i .literals) (omega arith) later n b)
   where
     go : (d : Bool) (ns : List ℕ) → n < length ns → (d ≡ true → 0 < n) → (m : ℕ) → m < howMany k → List·Memᴰ (getD ns n 0) (cond d (drop 1 ns) ns)
-    go true ns q z m r = skip ns n q (z refl)
-      where
-        skip : (xs : List ℕ) (p : ℕ) → p < length xs → 0 < p → List·Memᴰ (getD xs p 0) (drop 1 xs)
-        skip [] p u v = absurd (not-suc-le-zero u)
-        skip (x ∷ xs) zero u v = absurd (not-suc-le-zero v)
-        skip (x ∷ xs) (suc p) u v = getD-in xs p 0 (le-of-suc-le-suc u)
+    go true ns q z m r = by-list ns (λ e. rw e (absurd (not-suc-le-zero (rw e at q)))) (λ x xs p. rw p (by-nat n
+        (λ w. rw w (absurd (not-suc-le-zero (rw w at (z refl))))) (λ u v. rw v (getD-in xs u 0 (le-of-suc-le-suc (rw v at (rw p at q)))))))
     go false ns q z m r = getD-in ns n 0 q
 
 -- ---- the graph
@@ -154,10 +142,7 @@ module _ (h : Header) (is : List Item) (lawful : Lawful h is)
 
   vars : whole .inputs ++ andVars whole ≡ definedBy is
   unfolding graphOf due
-  vars =
-      ap (λ (xs : List ℕ). ins is ++ xs)
-      (map-map (λ (a : And). a .var) andOf (keep (isKind anAnd) is))
-      ∙ of-all (h .inputs) (h .outputs) (h .ands) is (lawful .kinds)
+  vars = cc (map-map (λ (a : And). a .var) andOf (keep (isKind anAnd) is), of-all (h .inputs) (h .outputs) (h .ands) is (lawful .kinds))
 
   -- a literal that a line of kind k has at place n is of a variable that is defined, or 0
   known : (k : Kind) (i : Item) → List·Memᴰ i (keep (isKind k) is) → (n : ℕ) → n < howMany k → (defines k ≡ true → 0 < n)
@@ -166,70 +151,45 @@ module _ (h : Header) (is : List Item) (lawful : Lawful h is)
   known k i m n b later =
       let o = keep-out (isKind k) is m in
       let e : i .kind ≡ k = kind-is k (i .kind) (o .1) in
-      let long : length (i .literals) ≡ howMany k = lawful .good i (o .0) .long ∙ ap howMany e in
-      let t : T (elem (varOf (getD (i .literals) n 0)) (0 ∷ definedBy is)) =
-      all-of (λ (l : ℕ). elem (varOf l) (0 ∷ definedBy is)) (uses i) (used i (o .0)) (getD (i .literals) n 0) (use-in i k e long n b later) in
-      subst (λ (xs : List ℕ). List·Memᴰ (varOf (getD (i .literals) n 0)) (0 ∷ xs)) (sym vars)
-      (elem-out (varOf (getD (i .literals) n 0)) (0 ∷ definedBy is) (is-true (elem (varOf (getD (i .literals) n 0)) (0 ∷ definedBy is)) t))
+      rw vars (elem-out (varOf (getD (i .literals) n 0)) (0 ∷ definedBy is)
+      (is-true (elem (varOf (getD (i .literals) n 0)) (0 ∷ definedBy is)) (all-of (λ (l : ℕ). elem (varOf l) (0 ∷ definedBy is)) (uses i)
+      (used i (o .0)) (getD (i .literals) n 0) (use-in i k e (lawful .good i (o .0) .long ∙ ap howMany e) n b later))))
 
   graph-is-known : Known whole
   unfolding graphOf howMany defines
   graph-is-known = record {
     once = subst (λ (xs : List ℕ). Distinct (0 ∷ xs)) (sym vars) ((λ m. lawful .fresh 0 m .nonzero refl), lawful .once);
     inRange = λ v m. lawful .fresh v (subst (λ (xs : List ℕ). List·Memᴰ v xs) vars m) .small;
-    used = λ l m. either l (List·Memᴰ·append-cases (whole .outputs) m);
+    used = λ l m. (⊎-elim (λ q. let q = map-out (λ (i : Item). getD (i .literals) 0 0) (keep (isKind anOutput) is) q in Memᴰ·cast
+        (ap varOf (q .2)) (known anOutput (q .0) (q .1) 0 (lit< tt) (λ e. absurd (false≢true e))))
+        (λ e. of-and l (each-out (λ (a : And). a .left ∷ a .right ∷ []) (whole .ands) e)) (List·Memᴰ·append-cases (whole .outputs) m));
   }
     where
-      two : (i : Item) → List·Memᴰ i (keep (isKind anAnd) is) → (l : ℕ) → List·Memᴰ l (getD (i .literals) 1 0 ∷ getD (i .literals) 2 0 ∷ [])
-          → List·Memᴰ (varOf l) (0 ∷ whole .inputs ++ andVars whole)
-      two i m l (List·Memᴰ·head q) = Memᴰ·cast (ap varOf q) (known anAnd i m 1 (lit< tt) (λ e. lit< tt))
-      two i m l (List·Memᴰ·tail n) = Memᴰ·cast (ap varOf (List·Memᴰ·eq-of-singleton n)) (known anAnd i m 2 (lit< tt) (λ e. lit< tt))
-
       of-and : (l : ℕ) → (a : And) × List·Memᴰ a (whole .ands) × List·Memᴰ l (a .left ∷ a .right ∷ []) → List·Memᴰ (varOf l) (0 ∷ whole .inputs ++ andVars whole)
       of-and l o =
           let q = map-out andOf (keep (isKind anAnd) is) (o .1) in
-          two (q .0) (q .1) l (subst (λ (a : And). List·Memᴰ l (a .left ∷ a .right ∷ [])) (q .2) (o .2))
-
-      either : (l : ℕ) → List·Memᴰ l (whole .outputs) ⊎ List·Memᴰ l (each (λ (a : And). a .left ∷ a .right ∷ []) (whole .ands)) → List·Memᴰ (varOf l) (0 ∷ whole .inputs ++ andVars whole)
-      either l (inl m) =
-          let q = map-out (λ (i : Item). getD (i .literals) 0 0) (keep (isKind anOutput) is) m in
-          Memᴰ·cast (ap varOf (q .2)) (known anOutput (q .0) (q .1) 0 (lit< tt) (λ e. absurd (false≢true e)))
-      either l (inr m) = of-and l (each-out (λ (a : And). a .left ∷ a .right ∷ []) (whole .ands) m)
+          by-member (rw (q .2) at (o .2)) (λ e. Memᴰ·cast (ap varOf e) (known anAnd (q .0) (q .1) 1 (lit< tt) (λ e. lit< tt)))
+          (λ n. Memᴰ·cast (ap varOf (List·Memᴰ·eq-of-singleton n)) (known anAnd (q .0) (q .1) 2 (lit< tt) (λ e. lit< tt)))
 
 -- ---- how many lines there are of each kind
 
 keep-replicate : (p : Kind → Bool) (n : ℕ) (k : Kind) → length (keep p (replicate n k)) ≡ cond (p k) n 0
 unfolding keep
-keep-replicate p zero k = go (p k)
-  where
-    go : (b : Bool) → _≡_ {A = ℕ} 0 (cond b 0 0)
-    go true = refl
-    go false = refl
-keep-replicate p (suc n) k = go (p k) (keep-replicate p n k)
-  where
-    go : (b : Bool) → length (keep p (replicate n k)) ≡ cond b n 0 → length (cond b (k ∷ keep p (replicate n k)) (keep p (replicate n k))) ≡ cond b (suc n) 0
-    go true e = ap suc e
-    go false e = e
+keep-replicate p zero k = by-bool (p k) (λ e. cc) (λ q. cc)
+keep-replicate p (suc n) k = by-bool (p k) (λ e. rw e (ap suc (rw e at (keep-replicate p n k))))
+    (λ q. rw q (rw q at (keep-replicate p n k)))
 
 count-kinds : (k : Kind) (is : List Item) → length (keep (isKind k) is) ≡ length (keep (sameKind k) (kindsOf is))
 unfolding keep isKind
 count-kinds k [] = refl
-count-kinds k (i ∷ is) = go (sameKind k (i .kind)) (count-kinds k is)
-  where
-    go : (b : Bool) → length (keep (isKind k) is) ≡ length (keep (sameKind k) (kindsOf is))
-        → length (cond b (i ∷ keep (isKind k) is) (keep (isKind k) is)) ≡ length (cond b (i .kind ∷ keep (sameKind k) (kindsOf is)) (keep (sameKind k) (kindsOf is)))
-    go true e = ap suc e
-    go false e = e
+count-kinds k (i ∷ is) = by-bool (sameKind k (i .kind)) (λ e. cc (count-kinds k is)) (λ q. cc (count-kinds k is))
 
 count-due : (k : Kind) (h : Header) (is : List Item) → Lawful h is
     → length (keep (isKind k) is) ≡ cond (sameKind k anInput) (h .inputs) 0 + (cond (sameKind k anOutput) (h .outputs) 0 + cond (sameKind k anAnd) (h .ands) 0)
 unfolding due
-count-due k h is e =
-    count-kinds k is
-    ∙ ap (λ (ks : List Kind). length (keep (sameKind k) ks)) (e .kinds)
+count-due k h is e = count-kinds k is ∙ ap (λ (ks : List Kind). length (keep (sameKind k) ks)) (e .kinds)
     ∙ both (replicate (h .inputs) anInput) (replicate (h .outputs) anOutput ++ replicate (h .ands) anAnd)
-    ∙ ap₂ _+_ (keep-replicate (sameKind k) (h .inputs) anInput)
-    (both (replicate (h .outputs) anOutput) (replicate (h .ands) anAnd)
+    ∙ ap₂ _+_ (keep-replicate (sameKind k) (h .inputs) anInput) (both (replicate (h .outputs) anOutput) (replicate (h .ands) anAnd)
     ∙ ap₂ _+_ (keep-replicate (sameKind k) (h .outputs) anOutput) (keep-replicate (sameKind k) (h .ands) anAnd))
   where
     both : (xs ys : List Kind) → length (keep (sameKind k) (xs ++ ys)) ≡ length (keep (sameKind k) xs) + length (keep (sameKind k) ys)
@@ -237,9 +197,8 @@ count-due k h is e =
 
 -- a literal of a line is at most 2M+1
 low-literal : (size : ℕ) (i : Item) → Good size i → (n : ℕ) → n < howMany (i .kind) → getD (i .literals) n 0 ≤ 2 * size + 1
-low-literal size i good n h =
-    leb→le (getD (i .literals) n 0) (2 * size + 1)
-    (all-of (λ (m : ℕ). leb m (2 * size + 1)) (i .literals) (good .low) (getD (i .literals) n 0) (getD-in (i .literals) n 0 (omega (arith, good .long))))
+low-literal size i good n h = leb→le (getD (i .literals) n 0) (2 * size + 1) (all-of (λ (m : ℕ). leb m (2 * size + 1)) (i .literals)
+    (good .low) (getD (i .literals) n 0) (getD-in (i .literals) n 0 (omega (arith, good .long))))
 
 -- ---- the header
 
@@ -255,18 +214,17 @@ pub header-fits : (bytes : List ℕ) (h : Header) → readHeader bytes ≡ holds
 unfolding readHeader inLimits inSequence
 header-fits bytes h e =
     let a = next-out (from? (headerOf (linesFrom 0 [] bytes)) 7 0) _ h e in
-    let k = a .0 in
-    let b = unless-out (eqb (k .latches) 0) 8 0 _ h (a .2) in
-    let c = unless-out (inLimits k) 9 0 _ h (b .1) in
-    let d = unless-out (inSequence k) 19 0 (holds k) h (c .1) in
-    let p = and-yes (leb (k .size) 4095) (leb (k .outputs) 4096 && leb (k .inputs + k .ands) (k .size)) (c .0) in
-    let q = and-yes (leb (k .outputs) 4096) (leb (k .inputs + k .ands) (k .size)) (p .1) in
+    let b = unless-out (eqb ((a .0) .latches) 0) 8 0 _ h (a .2) in
+    let c = unless-out (inLimits (a .0)) 9 0 _ h (b .1) in
+    let d = unless-out (inSequence (a .0)) 19 0 (holds (a .0)) h (c .1) in
+    let p = and-yes (leb ((a .0) .size) 4095) (leb ((a .0) .outputs) 4096 && leb ((a .0) .inputs + (a .0) .ands) ((a .0) .size)) (c .0) in
+    let q = and-yes (leb ((a .0) .outputs) 4096) (leb ((a .0) .inputs + (a .0) .ands) ((a .0) .size)) (p .1) in
     subst HeaderFits (holds-once (d .1)) (record {
       latches = eqb-yes (b .0);
       size = leb-yes (p .0);
       outputs = leb-yes (q .0);
       variables = leb-yes (q .1);
-      sequence = λ f. eqb-yes (subst (λ (x : Bool). T (not x || eqb (k .size) (k .inputs + k .ands))) f (d .0));
+      sequence = λ f. eqb-yes (subst (λ (x : Bool). T (not x || eqb ((a .0) .size) ((a .0) .inputs + (a .0) .ands))) f (d .0));
     })
 
 -- ---- the text
@@ -281,14 +239,8 @@ record Lines (bytes : List ℕ) (h : Header) (g : Graph) : Type 0 where
 -- lines are lawful in either form
 items-lawful : (bytes : List ℕ) (h : Header) (is : List Item) → h .inputs + h .ands ≤ h .size → readItems bytes h ≡ holds is → Lawful h is
 unfolding readItems
-items-lawful bytes h is fit e = go (h .binary) e
-  where
-    ls : List Line
-    ls = linesFrom (h .next) [] (drop (h .next) bytes)
-
-    go : (b : Bool) → cond b (readBinary bytes h) (readDue (closed false) (length bytes) (h .size) [] (due h) ls) ≡ holds is → Lawful h is
-    go true q = binary-lawful bytes h is (binary-parts bytes h is q) fit
-    go false q = due-lawful (closed false) (length bytes) h ls is q
+items-lawful bytes h is fit e = by-bool (h .binary) (λ q. binary-lawful bytes h is (binary-parts bytes h is (rw q at e)) fit)
+    (λ p. due-lawful (closed false) (length bytes) h (linesFrom (h .next) [] (drop (h .next) bytes)) is (rw p at e))
 
 graph-lines : (bytes : List ℕ) (h : Header) (g : Graph) → readHeader bytes ≡ holds h → readGraph bytes h ≡ holds g → Lines bytes h g
 unfolding readGraph
@@ -319,16 +271,15 @@ pub record Counted (h : Header) (g : Graph) : Type 0 where
 
 pub graph-counted : (bytes : List ℕ) (h : Header) (g : Graph) → readHeader bytes ≡ holds h → readGraph bytes h ≡ holds g → Counted h g
 unfolding graphOf sameKind
-graph-counted bytes h g d e = subst (Counted h) (s .isGraph) (record {
-  size = refl;
-  inputs = length-map (keep (isKind anInput) (s .items)) head ∙ (let q = count-due anInput h (s .items) (s .isLawful) in omega (arith, q));
-  outputs = length-map (keep (isKind anOutput) (s .items)) (λ (i : Item). getD (i .literals) 0 0) ∙ (let q = count-due anOutput h (s .items) (s .isLawful) in omega (arith, q));
-  ands = length-map (keep (isKind anAnd) (s .items)) andOf
-      ∙ (let q = count-due anAnd h (s .items) (s .isLawful) in omega (arith, q));
-})
-  where
-    s : Lines bytes h g
-    s = graph-lines bytes h g d e
+graph-counted bytes h g d e =
+    let s = graph-lines bytes h g d e in
+    subst (Counted h) (s .isGraph) (record {
+      size = refl;
+      inputs = length-map (keep (isKind anInput) (s .items)) head ∙ (let q = count-due anInput h (s .items) (s .isLawful) in omega (arith, q));
+      outputs = length-map (keep (isKind anOutput) (s .items)) (λ (i : Item). getD (i .literals) 0 0) ∙ (let q = count-due anOutput h (s .items) (s .isLawful) in omega (arith, q));
+      ands = length-map (keep (isKind anAnd) (s .items)) andOf
+          ∙ (let q = count-due anAnd h (s .items) (s .isLawful) in omega (arith, q));
+    })
 
 -- a graph's text says nothing of arrivals: every input arrives at 0
 pub graph-untimed : (bytes : List ℕ) (h : Header) (g : Graph) → readGraph bytes h ≡ holds g → (λ (v : ℕ). 0) ≡ g .late
@@ -340,23 +291,17 @@ graph-untimed bytes h g e =
 
 pub graph-low : (bytes : List ℕ) (h : Header) (g : Graph) → readHeader bytes ≡ holds h → readGraph bytes h ≡ holds g → LowLiterals g
 unfolding graphOf howMany
-graph-low bytes h g d e = subst LowLiterals (s .isGraph) (record {
-  outputs = λ l m. let q = map-out (λ (i : Item). getD (i .literals) 0 0) (keep (isKind anOutput) (s .items)) m in
-      subst (λ (n : ℕ). n ≤ 2 * h .size + 1) (sym (q .2)) (low anOutput (q .0) (q .1) 0 (lit< tt));
-  lefts = λ a m. let q = map-out andOf (keep (isKind anAnd) (s .items)) m in
-      subst (λ (b : And). b .left ≤ 2 * h .size + 1) (sym (q .2)) (low anAnd (q .0) (q .1) 1 (lit< tt));
-  rights = λ a m. let q = map-out andOf (keep (isKind anAnd) (s .items)) m in
-      subst (λ (b : And). b .right ≤ 2 * h .size + 1) (sym (q .2)) (low anAnd (q .0) (q .1) 2 (lit< tt));
-})
-  where
-    s : Lines bytes h g
-    s = graph-lines bytes h g d e
-
-    low : (k : Kind) (i : Item) → List·Memᴰ i (keep (isKind k) (s .items)) → (n : ℕ) → n < howMany k → getD (i .literals) n 0 ≤ 2 * h .size + 1
-    low k i m n b =
-        let o = keep-out (isKind k) (s .items) m in
-        low-literal (h .size) i (s .isLawful .good i (o .0)) n
-        (subst (λ (j : Kind). n < howMany j) (sym (kind-is k (i .kind) (o .1))) b)
+graph-low bytes h g d e =
+    let s = graph-lines bytes h g d e in
+    let low : (k : Kind) (i : Item) → List·Memᴰ i (keep (isKind k) (s .items)) → (n : ℕ) → n < howMany k → getD
+    (i .literals) n 0 ≤ 2 * h .size + 1 = λ k i m n b. let o = keep-out (isKind k) (s .items) m in low-literal (h .size) i
+    (s .isLawful .good i (o .0)) n (rw (kind-is k (i .kind) (o .1)) b) in
+    rw (← s .isGraph) (record {
+      outputs = λ l m. let q = map-out (λ (i : Item). getD (i .literals) 0 0) (keep (isKind anOutput) (s .items)) m in rw (q .2)
+          (low anOutput (q .0) (q .1) 0 (lit< tt));
+      lefts = λ a m. let q = map-out andOf (keep (isKind anAnd) (s .items)) m in rw (q .2) (low anAnd (q .0) (q .1) 1 (lit< tt));
+      rights = λ a m. let q = map-out andOf (keep (isKind anAnd) (s .items)) m in rw (q .2) (low anAnd (q .0) (q .1) 2 (lit< tt));
+    })
 
 pub graph-fits : (bytes : List ℕ) (h : Header) (g : Graph) → readHeader bytes ≡ holds h → readGraph bytes h ≡ holds g → GraphFits g
 graph-fits bytes h g d e =

@@ -19,6 +19,7 @@ use Rattle.theory_graph.proofs.Lists.{same-eq, same-refl, any-each, getD-in, al
 use Rattle.theory_graph.specs.Accepted.{cellFits, libraryFits}
 use Rattle.theory_text.proofs.Steps.{holds-once, fault-never, unless-out, from-out, next-out, then-out, only-out, numbers-length, numbers-small}
 use Rattle.theory_text.proofs.Plain.{name-short}
+use Rattle.theory_graph.proofs.Split.{by-member, by-bool}
 
 -- ---- a cell
 
@@ -54,63 +55,50 @@ pub record Written (c : Cell) : Type 0 where
 
 made-written : (ranged : Bool) (ws : List (List ℕ)) (ns : List ℕ) (table : ℕ) → length ws ≡ cond ranged 12 8 → T (isName (getD ws 0 [])) → numbers (getD ws 1 [] ∷ drop 3 ws) ≡ some ns → T (leb (getD ns 0 0) 4)
     → Written (made ranged ws ns table)
-made-written ranged ws ns table eight named read few = record {
-  isNamed = subst (λ (w : List ℕ). T (isName w)) (sym (made-name ranged ws ns table)) named;
-  padded = ap nameBytes (sym (made-name ranged ws ns table));
-  len = ap length (sym (made-name ranged ws ns table));
-  short = name-short (getD ws 0 []) named;
-  pins = leb-yes few;
-  area = small (getD ns 1 0) (getD-in ns 1 0 (omega (arith, many)));
-  four = four-left (drop 2 ns) (omega (arith, many, length-drop 2 ns));
-  delays = λ d m. small d (behind 2 ns d (front 4 (drop 2 ns) d m));
-  fourLows = lows-four ranged count;
-  lows = λ d m. small d (behind (cond ranged 6 2) ns d m);
-}
+made-written ranged ws ns table eight named read few =
+    let front : (k : ℕ) (xs : List ℕ) (d : ℕ) → List·Memᴰ d (take k xs) → List·Memᴰ d xs = λ k xs d m. subst
+    (λ (ys : List ℕ). List·Memᴰ d ys) (take-append-drop k xs) (Memᴰ·append-left (drop k xs) m) in
+    let behind : (k : ℕ) (xs : List ℕ) (d : ℕ) → List·Memᴰ d (drop k xs) → List·Memᴰ d xs = λ k xs d m. subst
+    (λ (ys : List ℕ). List·Memᴰ d ys) (take-append-drop k xs) (Memᴰ·append-right (take k xs) m) in
+    let four-left : (xs : List ℕ) → 4 ≤ length xs → length (take 4 xs) ≡ 4 = λ xs h. omega (arith, length-take 4 xs) in
+    let small = numbers-small (getD ws 1 [] ∷ drop 3 ws) ns read in
+    record {
+      isNamed = subst (λ (w : List ℕ). T (isName w)) (sym (made-name ranged ws ns table)) named;
+      padded = ap nameBytes (sym (made-name ranged ws ns table));
+      len = ap length (sym (made-name ranged ws ns table));
+      short = name-short (getD ws 0 []) named;
+      pins = leb-yes few;
+      area = small (getD ns 1 0) (getD-in ns 1 0 (omega (arith, many)));
+      four = four-left (drop 2 ns) (omega (arith, many, length-drop 2 ns));
+      delays = λ d m. small d (behind 2 ns d (front 4 (drop 2 ns) d m));
+      fourLows = lows-four ranged count;
+      lows = λ d m. small d (behind (cond ranged 6 2) ns d m);
+    }
   where
-    front : (k : ℕ) (xs : List ℕ) (d : ℕ) → List·Memᴰ d (take k xs) → List·Memᴰ d xs
-    front k xs d m = subst (λ (ys : List ℕ). List·Memᴰ d ys) (take-append-drop k xs) (Memᴰ·append-left (drop k xs) m)
-
-    behind : (k : ℕ) (xs : List ℕ) (d : ℕ) → List·Memᴰ d (drop k xs) → List·Memᴰ d xs
-    behind k xs d m = subst (λ (ys : List ℕ). List·Memᴰ d ys) (take-append-drop k xs) (Memᴰ·append-right (take k xs) m)
-
-    four-left : (xs : List ℕ) → 4 ≤ length xs → length (take 4 xs) ≡ 4
-    four-left xs h = omega (arith, length-take 4 xs)
-
     count : length ns ≡ cond ranged 10 6
-    count = let q : length ns ≡ suc (length (drop 3 ws)) = numbers-length (getD ws 1 [] ∷ drop 3 ws) ns read in fields-left ranged eight q (length-drop 3 ws)
-      where
-        fields-left : (r : Bool) → length ws ≡ cond r 12 8 → length ns ≡ suc (length (drop 3 ws)) → length (drop 3 ws) ≡ length ws - 3 → length ns ≡ cond r 10 6
-        fields-left true e q d = omega arith
-        fields-left false e q d = omega arith
+    count = let q : length ns ≡ suc (length (drop 3 ws)) = numbers-length (getD ws 1 [] ∷ drop 3 ws) ns read in by-bool ranged
+        (λ e. rw e (omega (arith, rw e at eight, length-drop 3 ws))) (λ p. rw p (omega (arith, rw p at eight, length-drop 3 ws)))
 
     many : 6 ≤ length ns
-    many = go ranged count
-      where
-        go : (r : Bool) → length ns ≡ cond r 10 6 → 6 ≤ length ns
-        go true e = omega arith
-        go false e = omega arith
+    many = by-bool ranged (λ e. omega (arith, rw e at count)) (λ q. omega (arith, rw q at count))
 
     lows-four : (r : Bool) → length ns ≡ cond r 10 6 → length (drop (cond r 6 2) ns) ≡ 4
     lows-four true e = omega (arith, length-drop 6 ns)
     lows-four false e = omega (arith, length-drop 2 ns)
 
-    small : (n : ℕ) → List·Memᴰ n ns → n ≤ 65535
-    small = numbers-small (getD ws 1 [] ∷ drop 3 ws) ns read
-
-fields-written : (ranged : Bool) (ws : List (List ℕ)) (c : Cell) → cellOfFields ranged ws ≡ some c → Written c
-unfolding cellOfFields
-fields-written ranged ws c e =
-    let a = then-out (only (eqb (length ws) (cond ranged 12 8) && isName (getD ws 0 [])) ws)
-    (λ _. andThen (numbers (getD ws 1 [] ∷ drop 3 ws)) (λ ns. andThen (hexTable (getD ws 2 [])) (λ table. only (leb (getD ns 0 0) 4) (made ranged ws ns table)))) c e in
-    let p = and-yes (eqb (length ws) (cond ranged 12 8)) (isName (getD ws 0 [])) (only-out (eqb (length ws) (cond ranged 12 8) && isName (getD ws 0 [])) ws (a .0) (a .1) .0) in
-    let b = then-out (numbers (getD ws 1 [] ∷ drop 3 ws)) (λ ns. andThen (hexTable (getD ws 2 [])) (λ table. only (leb (getD ns 0 0) 4) (made ranged ws ns table))) c (a .2) in
-    let d = then-out (hexTable (getD ws 2 [])) (λ table. only (leb (getD (b .0) 0 0) 4) (made ranged ws (b .0) table)) c (b .2) in
-    let t = only-out (leb (getD (b .0) 0 0) 4) (made ranged ws (b .0) (d .0)) c (d .2) in
-    subst Written (t .1) (made-written ranged ws (b .0) (d .0) (eqb-yes (p .0)) (p .1) (b .1) (t .0))
-
 line-written : (ranged : Bool) (l : Line) (c : Cell) → cellOfLine ranged l ≡ some c → Written c
 unfolding cellOfLine
-line-written ranged l c e = let o = then-out (only (ended l) (fields (l .bytes))) (cellOfFields ranged) c e in fields-written ranged (o .0) c (o .2)
+line-written ranged l c e = let o = then-out (only (ended l) (fields (l .bytes))) (cellOfFields ranged) c e in unfold cellOfFields in
+    let a = then-out (only (eqb (length (o .0)) (cond ranged 12 8) && isName (getD (o .0) 0 [])) (o .0)) (λ _.
+    andThen (numbers (getD (o .0) 1 [] ∷ drop 3 (o .0)))
+    (λ ns. andThen (hexTable (getD (o .0) 2 [])) (λ table. only (leb (getD ns 0 0) 4) (made ranged (o .0) ns table)))) c (o .2) in
+    let p = and-yes (eqb (length (o .0)) (cond ranged 12 8)) (isName (getD (o .0) 0 []))
+    (only-out (eqb (length (o .0)) (cond ranged 12 8) && isName (getD (o .0) 0 [])) (o .0) (a .0) (a .1) .0) in let b = then-out
+    (numbers (getD (o .0) 1 [] ∷ drop 3 (o .0)))
+    (λ ns. andThen (hexTable (getD (o .0) 2 [])) (λ table. only (leb (getD ns 0 0) 4) (made ranged (o .0) ns table))) c (a .2) in
+    let d = then-out (hexTable (getD (o .0) 2 [])) (λ table. only (leb (getD (b .0) 0 0) 4) (made ranged (o .0) (b .0) table)) c (b .2) in
+    let t = only-out (leb (getD (b .0) 0 0) 4) (made ranged (o .0) (b .0) (d .0)) c (d .2) in subst Written (t .1)
+    (made-written ranged (o .0) (b .0) (d .0) (eqb-yes (p .0)) (p .1) (b .1) (t .0))
 
 written-fits : (c : Cell) → Written c → T (isClean c) → T (cellFits c)
 unfolding isClean cellFits
@@ -156,15 +144,12 @@ read-new : (ranged : Bool) (k : ℕ) (before : List Cell) (ls : List Line) (cs :
     → (b d : Cell) → List·Memᴰ b before → List·Memᴰ d cs → T (not (same (nameOf b) (nameOf d)))
 unfolding readCells
 read-new ranged k before [] cs e b d m n = absurd (List·Memᴰ·not-nil (subst (λ (xs : List Cell). List·Memᴰ d xs) (sym (holds-once e)) n))
-read-new ranged k before (l ∷ ls) cs e b d m n = go (subst (λ (xs : List Cell). List·Memᴰ d xs) (sym (s .isList)) n) (read-new ranged (suc k) (s .first ∷ before) ls (s .rest) (s .isRest) b d (List·Memᴰ·tail m))
-  where
-    s : Step ranged k before l ls cs
-    s = read-step ranged k before l ls cs e
-
-    go : List·Memᴰ d (s .first ∷ s .rest) → (List·Memᴰ d (s .rest) → T (not (same (nameOf b) (nameOf d)))) → T (not (same (nameOf b) (nameOf d)))
-    go (List·Memᴰ·head q) later =
-        subst (λ (x : Cell). T (not (same (nameOf b) (nameOf x)))) (sym q) (swap (nameOf (s .first)) (nameOf b) (any-not (λ (x : Cell). same (nameOf (s .first)) (nameOf x)) before (s .isNew) b m))
-    go (List·Memᴰ·tail i) later = later i
+read-new ranged k before (l ∷ ls) cs e b d m n =
+    let s = read-step ranged k before l ls cs e in
+    by-member (subst (λ (xs : List Cell). List·Memᴰ d xs) (sym (s .isList)) n) (λ q.
+    subst (λ (x : Cell). T (not (same (nameOf b) (nameOf x)))) (sym q)
+    (swap (nameOf (s .first)) (nameOf b) (any-not (λ (x : Cell). same (nameOf (s .first)) (nameOf x)) before (s .isNew) b m)))
+    (read-new ranged (suc k) (s .first ∷ before) ls (s .rest) (s .isRest) b d (List·Memᴰ·tail m))
 
 read-fits : (ranged : Bool) (k : ℕ) (before : List Cell) (ls : List Line) (cs : List Cell) → readCells ranged k before ls ≡ holds cs → T (libraryFits cs)
 unfolding readCells libraryFits
@@ -180,14 +165,10 @@ read-fits ranged k before (l ∷ ls) cs e =
 read-written : (ranged : Bool) (k : ℕ) (before : List Cell) (ls : List Line) (cs : List Cell) → readCells ranged k before ls ≡ holds cs → (c : Cell) → List·Memᴰ c cs → Written c × T (isClean c)
 unfolding readCells
 read-written ranged k before [] cs e c m = absurd (List·Memᴰ·not-nil (subst (λ (xs : List Cell). List·Memᴰ c xs) (sym (holds-once e)) m))
-read-written ranged k before (l ∷ ls) cs e c m = go (subst (λ (xs : List Cell). List·Memᴰ c xs) (sym (s .isList)) m) (read-written ranged (suc k) (s .first ∷ before) ls (s .rest) (s .isRest) c)
-  where
-    s : Step ranged k before l ls cs
-    s = read-step ranged k before l ls cs e
-
-    go : List·Memᴰ c (s .first ∷ s .rest) → (List·Memᴰ c (s .rest) → Written c × T (isClean c)) → Written c × T (isClean c)
-    go (List·Memᴰ·head q) later = subst (λ (x : Cell). Written x × T (isClean x)) (sym q) (s .isWritten, s .isClean′)
-    go (List·Memᴰ·tail i) later = later i
+read-written ranged k before (l ∷ ls) cs e c m =
+    let s = read-step ranged k before l ls cs e in
+    by-member (rw (s .isList) m) (λ q. rw q (s .isWritten, s .isClean′))
+    (read-written ranged (suc k) (s .first ∷ before) ls (s .rest) (s .isRest) c)
 
 -- "No cells and 32 cells are accepted."
 read-few : (ranged : Bool) (k : ℕ) (before : List Cell) (ls : List Line) (cs : List Cell) → k ≤ 32 → readCells ranged k before ls ≡ holds cs → k + length cs ≤ 32
@@ -226,14 +207,11 @@ library-written bytes cells e = let q = library-lines (linesFrom 0 [] bytes) cel
 read-ranged : (ranged : Bool) (k : ℕ) (before : List Cell) (ls : List Line) (cs : List Cell) → readCells ranged k before ls ≡ holds cs → (c : Cell) → List·Memᴰ c cs → T (noLower (c .lows) (c .delays))
 unfolding readCells
 read-ranged ranged k before [] cs e c m = absurd (List·Memᴰ·not-nil (subst (λ (xs : List Cell). List·Memᴰ c xs) (sym (holds-once e)) m))
-read-ranged ranged k before (l ∷ ls) cs e c m = go (subst (λ (xs : List Cell). List·Memᴰ c xs) (sym (s .isList)) m) (read-ranged ranged (suc k) (s .first ∷ before) ls (s .rest) (s .isRest) c)
-  where
-    s : Step ranged k before l ls cs
-    s = read-step ranged k before l ls cs e
-
-    go : List·Memᴰ c (s .first ∷ s .rest) → (List·Memᴰ c (s .rest) → T (noLower (c .lows) (c .delays))) → T (noLower (c .lows) (c .delays))
-    go (List·Memᴰ·head q) later = subst (λ (x : Cell). T (noLower (x .lows) (x .delays))) (sym q) (s .isRange)
-    go (List·Memᴰ·tail i) later = later i
+read-ranged ranged k before (l ∷ ls) cs e c m =
+    let s = read-step ranged k before l ls cs e in
+    by-member (subst (λ (xs : List Cell). List·Memᴰ c xs) (sym (s .isList)) m)
+    (λ q. subst (λ (x : Cell). T (noLower (x .lows) (x .delays))) (sym q) (s .isRange))
+    (read-ranged ranged (suc k) (s .first ∷ before) ls (s .rest) (s .isRest) c)
 
 pub library-ranged : (bytes : List ℕ) (cells : List Cell) → readLibrary bytes ≡ holds cells → (c : Cell) → List·Memᴰ c cells → T (noLower (c .lows) (c .delays))
 unfolding readLibrary

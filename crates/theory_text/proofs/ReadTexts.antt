@@ -8,7 +8,7 @@ use lib.Dec.{T, leb, le→leb}
 use lib.ListN.{length}
 use mir.Facts.{and-yes, leb-yes}
 use Rattle.model.specs.Limits.{need}
-use Rattle.model.specs.Reading.{Read, holds, fault, next, unless}
+use Rattle.model.specs.Reading.{holds, next, unless}
 use Rattle.model.specs.LibraryText.{readLibrary, isRanged, isClean, noLower}
 use Rattle.model.specs.Pairs.{cellsFor}
 use Rattle.model.specs.GraphText.{readHeader, readGraph}
@@ -24,6 +24,7 @@ use Rattle.theory_text.proofs.Steps.{holds-once, unless-out, next-out}
 use Rattle.theory_text.proofs.ReadLibrary.{Written, library-fits, library-few, library-written, library-ranged}
 use Rattle.theory_text.specs.Fits.{GraphFits}
 use Rattle.theory_text.proofs.ReadGraph.{graph-accepted, graph-fits}
+use Rattle.theory_graph.proofs.Split.{by-read}
 
 -- the listed cells were read, and with their pairs, where these are wanted, they are few enough
 pub listed-read : (paired : Bool) (s : List ℕ) (cells : List Cell) → readListed paired s ≡ holds cells → (readLibrary s ≡ holds cells) × (length (cellsFor paired cells) ≤ 256)
@@ -36,13 +37,8 @@ listed-read paired s cells e =
 -- where no pairs are wanted a library's text holds what it lists, which are 32 cells at most
 pub listed-plain : (s : List ℕ) → readListed false s ≡ readLibrary s
 unfolding readListed cellsFor next unless
-listed-plain s = go (readLibrary s) refl
-  where
-    go : (r : Read (List Cell)) → readLibrary s ≡ r → next r (λ cells. unless (leb (length cells) 256) 30 0 (holds cells)) ≡ r
-    go (fault n k) e = refl
-    go (holds cs) e =
-        let few : length cs ≤ 32 = library-few s cs e in
-        ap (λ (b : Bool). unless b 30 0 (holds cs)) (is-true (leb (length cs) 256) (le→leb (length cs) 256 (omega arith)))
+listed-plain s = by-read (readLibrary s) (λ cs q. rw q (let few : length cs ≤ 32 = library-few s cs q in ap
+    (λ (b : Bool). unless b 30 0 (holds cs)) (is-true (leb (length cs) 256) (le→leb (length cs) 256 (omega arith))))) (λ n k e. rw e)
 
 -- the texts were read: the library's, the header's, the graph's, which is the design's but for its arrivals, with words enough, and the arrivals'
 pub record Texts (c : Call) (d : Design) : Type 0 where

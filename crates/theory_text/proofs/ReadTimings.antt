@@ -1,7 +1,7 @@
 -- The `# timing` lines behind the printed netlist say the arrivals that were printed. Assumes nothing.
 use Prim.Native.Nat.{ℕ, suc, _<_}
 use mathlib.Core.Path.{_≡_, refl, sym, _∙_, ap}
-use mathlib.Core.Option.{Option, some}
+use mathlib.Core.Option.{some}
 use mathlib.Core.List.{List, [], _∷_, _++_, map, List·Memᴰ, append-assoc}
 use native.Mathlib.Omega.{arith}
 use lib.Dec.{T, lit<}
@@ -11,7 +11,7 @@ use Rattle.model.specs.Cells.{nameOf}
 use Rattle.model.specs.Graph.{Graph}
 use Rattle.model.specs.Netlist.{Gate, outName, netlistText}
 use Rattle.model.specs.Timing.{timingLines}
-use Rattle.model.specs.Blif.{figure, TimingLine, readTimingWords, readTimingLines, behindFigures, readTimings}
+use Rattle.model.specs.Blif.{TimingLine, readTimingWords, readTimingLines, behindFigures, readTimings}
 use Rattle.model.specs.declared.Figures.{Figures}
 use Rattle.theory_text.proofs.Plain.{Free, above, free-append, decimal-free}
 use Rattle.theory_text.proofs.LineLaws.{fields-word, fields-last}
@@ -37,11 +37,10 @@ timing-free k low high =
 
 timing-words : (k low high : ℕ) → fields (timingBody k low high) ≡ text "#" ∷ text "timing" ∷ outName k ∷ decimal low ∷ decimal high ∷ []
 unfolding timingBody text fields split onto
-timing-words k low high =
-    ap (λ (ps : List (List ℕ)). text "#" ∷ text "timing" ∷ ps)
-    (fields-word (outName k) (decimal low ++ (32 ∷ decimal high)) (out-free 32 k (lit< tt))
-    ∙ ap (λ (ps : List (List ℕ)). outName k ∷ ps)
-    (fields-word (decimal low) (decimal high) (decimal-free 32 low (lit< tt)) ∙ ap (λ (ps : List (List ℕ)). decimal low ∷ ps) (fields-last (decimal high) (decimal-free 32 high (lit< tt)))))
+timing-words k low high = ap (λ (ps : List (List ℕ)). text "#" ∷ text "timing" ∷ ps)
+    (fields-word (outName k) (decimal low ++ (32 ∷ decimal high)) (out-free 32 k (lit< tt)) ∙ ap (λ (ps : List (List ℕ)). outName k ∷ ps)
+    (fields-word (decimal low) (decimal high) (decimal-free 32 low (lit< tt))
+    ∙ ap (λ (ps : List (List ℕ)). decimal low ∷ ps) (fields-last (decimal high) (decimal-free 32 high (lit< tt)))))
 
 -- what the line says
 abbrev sayingOf : ℕ → ℕ → ℕ → TimingLine
@@ -49,10 +48,7 @@ sayingOf k low high = record { output = outName k; low = low; high = high }
 
 timing-said : (k low high : ℕ) → readTimingWords (fields (timingBody k low high)) ≡ some (sayingOf k low high)
 unfolding readTimingWords andThen only same text
-timing-said k low high =
-    ap readTimingWords (timing-words k low high)
-    ∙ ap (λ (o : Option ℕ). andThen o (λ a. andThen (figure (decimal high)) (λ b. some (sayingOf k a b)))) (figure-back low)
-    ∙ ap (λ (o : Option ℕ). andThen o (λ b. some (sayingOf k low b))) (figure-back high)
+timing-said k low high = cc (timing-words k low high, figure-back low, figure-back high)
 
 -- ---- the lines
 
@@ -70,18 +66,15 @@ module _ (low high : ℕ → ℕ) where
   unfolding timingLines timingBody bodies text parts
   timing-lines k [] = refl
   timing-lines k (l ∷ ls) =
+      let ended : timingLines low high k (l ∷ ls) ≡ timingBody k (low l) (high l) ++ (10 ∷ timingLines low high (suc k) ls) = sym
+      (simp append-assoc) in
       ap (parts 10) ended ∙ parts-line 10 (timingBody k (low l) (high l)) (timingLines low high (suc k) ls) (timing-free k (low l) (high l))
       ∙ ap (λ (ps : List (List ℕ)). timingBody k (low l) (high l) ∷ ps) (timing-lines (suc k) ls)
-    where
-      ended : timingLines low high k (l ∷ ls) ≡ timingBody k (low l) (high l) ++ (10 ∷ timingLines low high (suc k) ls)
-      ended = sym (simp append-assoc)
 
   lines-said : (k : ℕ) (ls : List ℕ) → readTimingLines (bodies k ls) ≡ some (timingsFrom k ls)
   unfolding readTimingLines bodies timingsFrom andThen
   lines-said k [] = refl
-  lines-said k (l ∷ ls) =
-      ap (λ (o : Option TimingLine). andThen o (λ x. andThen (readTimingLines (bodies (suc k) ls)) (λ xs. some (x ∷ xs)))) (timing-said k (low l) (high l))
-      ∙ ap (λ (o : Option (List TimingLine)). andThen o (λ xs. some (sayingOf k (low l) (high l) ∷ xs))) (lines-said (suc k) ls)
+  lines-said k (l ∷ ls) = cc (timing-said k (low l) (high l), lines-said (suc k) ls)
 
 -- ---- behind the `# gates` line
 
@@ -103,8 +96,7 @@ behind-back : (g : Graph) (ts : List Gate) (f : Figures) (after : List ℕ) → 
     → readTimings (netlistText g ts f ++ after) ≡ readTimingLines (parts 10 after)
 unfolding readTimings linesOf namesOf behindFigures wireBodies same text
 behind-back g ts f after h =
-    ap (λ (ls : List (List ℕ)). readTimingLines (behindFigures ls)) (text-lines g ts f after h)
-    ∙ ap readTimingLines (go ts (g .outputs) (behind-gates ts (g .outputs) (figuresLine f) (parts 10 after)))
+    cc (text-lines g ts f after h, go ts (g .outputs) (behind-gates ts (g .outputs) (figuresLine f) (parts 10 after)))
   where
     -- the first three lines are not the end, and a line follows each of them
     go : (us : List Gate) (outs : List ℕ) → behindFigures (map bodyOf us ++ (wireBodies 0 outs ++ (text ".end" ∷ figuresLine f ∷ parts 10 after))) ≡ parts 10 after

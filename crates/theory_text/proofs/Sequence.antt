@@ -3,15 +3,15 @@
 use Prim.Native.Nat.{ℕ, zero, suc, _+_, _*_, _≤_, _<_}
 use native.Mathlib.Omega.{arith}
 use mathlib.Core.Path.{_≡_, refl, sym, _∙_, ap, subst}
-use mathlib.Core.Logic.{_⊎_, inl, inr}
-use mathlib.Core.Bool.{Bool, true, false, cond, false≢true}
+use mathlib.Core.Logic.{⊎-elim}
+use mathlib.Core.Bool.{true, false≢true}
 use mathlib.Core.List.{List, [], _∷_, _++_, map, List·Memᴰ, List·Memᴰ·head, List·Memᴰ·tail, List·Memᴰ·not-nil, List·Memᴰ·append-cases}
 use lib.ListN.{length, getD, drop, replicate, length-drop}
 use Rattle.model.specs.Base.{from, keep}
-use Rattle.model.specs.Text.{Line, linesFrom}
+use Rattle.model.specs.Text.{linesFrom}
 use Rattle.model.specs.Reading.{holds, fault, next}
 use Rattle.model.specs.Graph.{And, Graph}
-use Rattle.model.specs.GraphText.{closed, readHeader, Kind, anInput, anOutput, anAnd, defines, due, Item, readDue, readAnds, behindLines, inputItems, readBinary, readItems, definedBy, checkUses, sameKind, isKind, graphOf, readGraph}
+use Rattle.model.specs.GraphText.{closed, readHeader, Kind, anInput, anOutput, anAnd, defines, Item, readDue, readAnds, behindLines, inputItems, readBinary, readItems, definedBy, checkUses, sameKind, isKind, graphOf, readGraph}
 use Rattle.model.specs.declared.Header.{Header}
 use Rattle.theory_graph.proofs.Lists.{map-in, map-out, keep-out}
 use Rattle.theory_text.proofs.Steps.{holds-once, next-out}
@@ -33,8 +33,7 @@ pub record Falling (a : And) : Type 0 where
 module _ (bytes : List ℕ) (h : Header) (isHeader : readHeader bytes ≡ holds h) (isBinary : h .binary ≡ true) where
   items-are : readItems bytes h ≡ readBinary bytes h
   unfolding readItems
-  items-are =
-      ap (λ (b : Bool). cond b (readBinary bytes h) (readDue (closed false) (length bytes) (h .size) [] (due h) (linesFrom (h .next) [] (drop (h .next) bytes)))) isBinary
+  items-are = cc
 
   parts : (is : List Item) → readItems bytes h ≡ holds is → Binary bytes h is
   parts is e = binary-parts bytes h is (sym items-are ∙ e)
@@ -42,64 +41,44 @@ module _ (bytes : List ℕ) (h : Header) (isHeader : readHeader bytes ≡ holds 
   -- what stands behind the header begins in the text, and so do the ANDs
   pub ands-inside : behindLines (h .next) (h .outputs) (linesFrom (h .next) [] (drop (h .next) bytes)) ≤ length bytes
   ands-inside =
+      let next-inside = header-inside bytes h isHeader in
       behind-inside (length bytes) (h .next) (h .outputs) (linesFrom (h .next) [] (drop (h .next) bytes)) next-inside
       (λ l m. omega (arith, lines-inside (h .next) [] (drop (h .next) bytes) l m, length-drop (h .next) bytes, next-inside))
-    where
-      next-inside : h .next ≤ length bytes
-      next-inside = header-inside bytes h isHeader
 
   -- 13 is not asked of an output line, and no use is undefined: 14 does not come. 20 and 21 have places in the text, or its length
   pub binary-faults : (P : ℕ → ℕ → Type 0) → ((k : ℕ) → P 11 k) → ((k : ℕ) → P 12 k) → ((k : ℕ) → k ≤ length bytes → P 20 k) → ((k : ℕ) → k ≤ length bytes → P 21 k)
       → Faults P (readGraph bytes h)
   unfolding readGraph readBinary defines
   binary-faults P p11 p12 p20 p21 =
-      in-next P (readItems bytes h) _
-      (subst (Faults P) (sym items-are)
-      (in-next P (readDue (closed true) (length bytes) (h .size) [] (replicate (h .outputs) anOutput) ls) _
-      (due-faults P p11 p12 (closed true) (length bytes) (h .size) [] (replicate (h .outputs) anOutput) ls
-      (λ k m d. absurd (false≢true (sym (ap defines (replicate-is (h .outputs) anOutput k m)) ∙ d))))
-      (λ os _.
-      in-next P (readAnds bytes (behindLines (h .next) (h .outputs) ls) (2 * suc (h .inputs)) (h .ands)) _
-      (ands-faults P bytes (λ k. k ≤ length bytes) (λ isFirst. less-inside isFirst bytes) p20 p21 (behindLines (h .next) (h .outputs) ls) ands-inside (2 * suc (h .inputs)) (h .ands))
-      (λ gs _. in-holds P (inputItems h ++ (os ++ gs))))))
-      (λ is e.
-      in-next P (checkUses (definedBy is) is) (λ js. holds (graphOf (h .size) js))
-      (subst (Faults P) (sym (binary-used bytes h is (parts is e) (header-fits bytes h isHeader .sequence isBinary))) (in-holds P is))
+      let ls = linesFrom (h .next) [] (drop (h .next) bytes) in
+      in-next P (readItems bytes h) _ (rw items-are (in-next P
+      (readDue (closed true) (length bytes) (h .size) [] (replicate (h .outputs) anOutput) ls) _ (due-faults P p11 p12 (closed true)
+      (length bytes) (h .size) [] (replicate (h .outputs) anOutput) ls
+      (λ k m d. absurd (false≢true (cc (replicate-is (h .outputs) anOutput k m))))) (λ os _. in-next P
+      (readAnds bytes (behindLines (h .next) (h .outputs) ls) (2 * suc (h .inputs)) (h .ands)) _ (ands-faults P bytes
+      (λ k. k ≤ length bytes) (λ isFirst. less-inside isFirst bytes) p20 p21 (behindLines (h .next) (h .outputs) ls) ands-inside
+      (2 * suc (h .inputs)) (h .ands)) (λ gs _. in-holds P (inputItems h ++ (os ++ gs)))))) (λ is e. in-next P (checkUses (definedBy is) is)
+      (λ js. holds (graphOf (h .size) js))
+      (rw (binary-used bytes h is (parts is e) (header-fits bytes h isHeader .sequence isBinary)) (in-holds P is))
       (λ js _. in-holds P (graphOf (h .size) js)))
-    where
-      ls : List Line
-      ls = linesFrom (h .next) [] (drop (h .next) bytes)
 
   -- "the text ends before its end": a difference of which no byte stands has the text's length as its place
   pub missing-at-end : (k : ℕ) → readGraph bytes h ≡ fault 20 k → drop k bytes ≡ [] → k ≡ length bytes
   missing-at-end k e z =
+      let eleven : ¬ (_≡_ {A = ℕ} 11 20) = λ q. omega arith in
+      let twelve : ¬ (_≡_ {A = ℕ} 12 20) = λ q. omega arith in
       let low : k ≤ length bytes = binary-faults (λ n j. n ≡ 20 → j ≤ length bytes) (λ j q. absurd (eleven q)) (λ j q. absurd (twelve q)) (λ j i q. i) (λ j i q. i) .has 20 k e refl in
       let none : length (drop k bytes) ≡ 0 = ap length z in
       omega (arith, length-drop k bytes)
-    where
-      eleven : ¬ (_≡_ {A = ℕ} 11 20)
-      eleven q = omega arith
-
-      twelve : ¬ (_≡_ {A = ℕ} 12 20)
-      twelve q = omega arith
 
   -- an AND that is read, and not an input or an output
   and-turn : (is : List Item) → Binary bytes h is → (i : Item) → List·Memᴰ i is → i .kind ≡ anAnd → InTurn (suc (h .inputs)) (suc (h .inputs) + h .ands) i
   unfolding inputItems defines sameKind
-  and-turn is s i m k = first (List·Memᴰ·append-cases (inputItems h) (subst (λ (js : List Item). List·Memᴰ i js) (sym (s .isItems)) m))
-    where
-      second : List·Memᴰ i (s .outs) ⊎ List·Memᴰ i (s .gates) → InTurn (suc (h .inputs)) (suc (h .inputs) + h .ands) i
-      second (inl n) =
-          let q : i .kind ≡ anOutput =
-          replicate-is (h .outputs) anOutput (i .kind) (subst (λ (ks : List Kind). List·Memᴰ (i .kind) ks) (outs-kinds bytes h is s) (map-in (λ (j : Item). j .kind) n)) in
-          absurd (false≢true (ap defines (sym q ∙ k)))
-      second (inr n) = binary-turns bytes h is s i n
-
-      first : List·Memᴰ i (inputItems h) ⊎ List·Memᴰ i (s .outs ++ s .gates) → InTurn (suc (h .inputs)) (suc (h .inputs) + h .ands) i
-      first (inl n) =
-          let o = map-out (λ (v : ℕ). record { kind = anInput; offset = h .next; literals = 2 * v ∷ [] }) (from 1 (h .inputs)) n in
-          absurd (false≢true (ap (sameKind anAnd) (sym (ap (λ (j : Item). j .kind) (o .2)) ∙ k)))
-      first (inr n) = second (List·Memᴰ·append-cases (s .outs) n)
+  and-turn is s i m k =
+      ⊎-elim (λ n. let o = map-out (λ (v : ℕ). record { kind = anInput; offset = h .next; literals = 2 * v ∷ [] }) (from 1 (h .inputs)) n in
+      absurd (false≢true (cc (o .2)))) (λ q. ⊎-elim (λ q. let q : i .kind ≡ anOutput = replicate-is (h .outputs) anOutput (i .kind)
+      (rw (← outs-kinds bytes h is s) (map-in (λ (j : Item). j .kind) q)) in absurd (false≢true (ap defines (sym q ∙ k))))
+      (binary-turns bytes h is s i) (List·Memᴰ·append-cases (s .outs) q)) (List·Memᴰ·append-cases (inputItems h) (rw (s .isItems) m))
 
   -- "left minus first operand and first minus second"
   pub binary-falls : (g : Graph) → readGraph bytes h ≡ holds g → (a : And) → List·Memᴰ a (g .ands) → Falling a

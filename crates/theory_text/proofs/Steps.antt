@@ -3,13 +3,14 @@ use Prim.Native.Nat.{ℕ, suc, _≤_}
 use mathlib.Core.Path.{_≡_, refl, sym, _∙_, ap, subst}
 use mathlib.Core.Bool.{Bool, true, false, _&&_, false≢true}
 use mathlib.Core.Option.{Option, none, some}
-use mathlib.Core.List.{List, [], _∷_, List·Memᴰ, List·Memᴰ·head, List·Memᴰ·tail, List·Memᴰ·not-nil}
+use mathlib.Core.List.{List, [], _∷_, List·Memᴰ, List·Memᴰ·not-nil}
 use lib.Dec.{T, leb}
 use lib.ListN.{length}
 use mir.Facts.{and-yes, leb-yes}
 use Rattle.model.specs.Base.{same, andThen, only}
 use Rattle.model.specs.Text.{asDigits, decimal, number, numbers}
 use Rattle.model.specs.Reading.{Read, holds, fault, next, unless, from?}
+use Rattle.theory_graph.proofs.Split.{by-member}
 
 module _ {A : Type 0} where
   isHeld : Read A → Bool
@@ -57,6 +58,11 @@ unfolding only isSome
 only-out true x a e = (tt, cc)
 only-out false x a e = absurd (false≢true (ap isSome e))
 
+pub only-yes : {A : Type 0} (b : Bool) (a : A) → T b → only b a ≡ some a
+unfolding only
+only-yes true a t = refl
+only-yes false a t = absurd t
+
 -- ---- numbers
 
 pub numbers-length : (ws : List (List ℕ)) (ns : List ℕ) → numbers ws ≡ some ns → length ns ≡ length ws
@@ -65,7 +71,6 @@ numbers-length [] ns e = let q : _≡_ {A = List ℕ} [] ns = cc in ap length (s
 numbers-length (w ∷ ws) ns e =
     let a = then-out (number w) (λ n. andThen (numbers ws) (λ ms. some (n ∷ ms))) ns e in
     let b = then-out (numbers ws) (λ ms. some (a .0 ∷ ms)) ns (a .2) in
-    let h : some (a .0 ∷ b .0) ≡ some ns = b .2 in
     let q : a .0 ∷ b .0 ≡ ns = cc in
     ap length (sym q) ∙ ap suc (numbers-length ws (b .0) (b .1))
 
@@ -82,10 +87,5 @@ numbers-small [] ns e n m = let q : _≡_ {A = List ℕ} [] ns = cc in absurd (L
 numbers-small (w ∷ ws) ns e n m =
     let a = then-out (number w) (λ k. andThen (numbers ws) (λ ks. some (k ∷ ks))) ns e in
     let b = then-out (numbers ws) (λ ks. some (a .0 ∷ ks)) ns (a .2) in
-    let h : some (a .0 ∷ b .0) ≡ some ns = b .2 in
     let q : a .0 ∷ b .0 ≡ ns = cc in
-    go (a .0) (b .0) (number-small w (a .0) (a .1)) (numbers-small ws (b .0) (b .1) n) (subst (λ (xs : List ℕ). List·Memᴰ n xs) (sym q) m)
-  where
-    go : (k : ℕ) (ks : List ℕ) → k ≤ 65535 → (List·Memᴰ n ks → n ≤ 65535) → List·Memᴰ n (k ∷ ks) → n ≤ 65535
-    go k ks h later (List·Memᴰ·head e) = subst (λ (x : ℕ). x ≤ 65535) (sym e) h
-    go k ks h later (List·Memᴰ·tail i) = later i
+    by-member (rw q m) (λ p. rw p (number-small w (a .0) (a .1))) (numbers-small ws (b .0) (b .1) n)

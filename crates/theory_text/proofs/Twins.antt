@@ -5,10 +5,10 @@
 use Prim.Native.Nat.{ℕ, suc, _+_, _*_, _%_, _≤_}
 use native.Mathlib.Omega.{arith}
 use mathlib.Core.Path.{_≡_, refl, sym, _∙_, ap, ap₂, subst, fun-ext}
-use mathlib.Core.Logic.{_⊎_, inl, inr}
+use mathlib.Core.Logic.{_⊎_, inl, inr, ⊎-elim}
 use mathlib.Core.Bool.{Bool, true, false, not, cond, _&&_, _||_}
 use mathlib.Core.Option.{Option, some}
-use mathlib.Core.List.{List, [], _∷_, _++_, map, append-assoc, append-nil, map-append, List·Memᴰ, List·Memᴰ·head, List·Memᴰ·tail, List·Memᴰ·not-nil, List·Memᴰ·append-cases, Memᴰ·append-left, Memᴰ·append-right, Memᴰ·cast}
+use mathlib.Core.List.{List, [], _∷_, _++_, map, append-assoc, append-nil, map-append, List·Memᴰ, List·Memᴰ·not-nil, List·Memᴰ·append-cases, Memᴰ·append-left, Memᴰ·append-right, Memᴰ·cast}
 use lib.Dec.{T, eqb, leb, le→leb, lit<}
 use lib.ListN.{length, getD, drop, replicate}
 use mir.Facts.{yes-and, yes-eqb, no-eqb}
@@ -29,8 +29,9 @@ use Rattle.theory_text.proofs.LineLaws.{lineOfBytes, line-first, fields
 use Rattle.theory_text.proofs.Items.{head, kindsOf, defined-cons}
 use Rattle.theory_text.proofs.Binary.{defined-append, uses-in}
 use Rattle.theory_text.specs.Fits.{GraphFits}
-use Rattle.theory_text.proofs.ReadGraph.{Known, graph-known, graph-fits, Counted, graph-counted, graph-untimed, keep-of}
+use Rattle.theory_text.proofs.ReadGraph.{Known, graph-known, graph-fits, graph-counted, graph-untimed, keep-of}
 use Rattle.theory_text.proofs.DueBack.{numbers-back, words, fields-numbers, words-free, line-ends, itemLine, itemsAt, Row, rows-back, kept-anywhere, defined-anywhere, found-anywhere}
+use Rattle.theory_graph.proofs.Split.{by-bool, by-member}
 
 -- ---- the lines of a graph
 
@@ -63,17 +64,9 @@ kinds-are row k e (x ∷ xs) = ap₂ (λ (a : Kind) (b : List Kind). a ∷ b) (e
 
 kept-are : {A : Type 0} (row : A → Item) (k j : Kind) → ((x : A) → row x .kind ≡ j) → (xs : List A) → keep (isKind k) (map row xs) ≡ cond (sameKind k j) (map row xs) []
 unfolding keep
-kept-are row k j e [] = go (sameKind k j)
-  where
-    go : (b : Bool) → _≡_ {A = List Item} [] (cond b [] [])
-    go true = refl
-    go false = refl
-kept-are row k j e (x ∷ xs) = keep-of k j (row x) (map row xs) (e x) ∙ go (sameKind k j) (kept-are row k j e xs)
-  where
-    go : (b : Bool) → keep (isKind k) (map row xs) ≡ cond b (map row xs) []
-        → cond b (row x ∷ keep (isKind k) (map row xs)) (keep (isKind k) (map row xs)) ≡ cond b (row x ∷ map row xs) []
-    go true q = ap (λ (l : List Item). row x ∷ l) q
-    go false q = q
+kept-are row k j e [] = by-bool (sameKind k j) (λ q. cc) (λ p. cc)
+kept-are row k j e (x ∷ xs) = keep-of k j (row x) (map row xs) (e x) ∙ by-bool (sameKind k j)
+    (λ q. rw q (ap (λ (l : List Item). row x ∷ l) (rw q at (kept-are row k j e xs)))) (λ p. rw p (rw p at (kept-are row k j e xs)))
 
 defined-are : {A : Type 0} (row : A → Item) (var : A → ℕ) → ((x : A) → defines (row x .kind) ≡ true) → ((x : A) → head (row x) ≡ var x) → (xs : List A) → definedBy (map row xs) ≡ map var xs
 unfolding definedBy
@@ -101,12 +94,10 @@ module _ (g : Graph) (fits : GraphFits g) (known : Known g) (untimed : (λ (v : 
 
   vars : definedBy rows ≡ g .inputs ++ andVars g
   unfolding defines
-  vars =
-      defined-append (map inputRow (g .inputs)) (map outputRow (g .outputs) ++ map andRow (g .ands))
-      ∙ ap₂ (λ (xs ys : List ℕ). xs ++ ys)
+  vars = defined-append (map inputRow (g .inputs)) (map outputRow (g .outputs) ++ map andRow (g .ands)) ∙ ap₂ (λ (xs ys : List ℕ). xs ++ ys)
       (defined-are inputRow (λ (v : ℕ). v) (λ v. refl) twice-var (g .inputs) ∙ map-id (g .inputs))
-      (defined-append (map outputRow (g .outputs)) (map andRow (g .ands))
-      ∙ ap₂ (λ (xs ys : List ℕ). xs ++ ys) (undefined-are (g .outputs)) (defined-are andRow (λ (a : And). a .var) (λ a. refl) (λ a. twice-var (a .var)) (g .ands)))
+      (defined-append (map outputRow (g .outputs)) (map andRow (g .ands)) ∙ ap₂ (λ (xs ys : List ℕ). xs ++ ys) (undefined-are (g .outputs))
+      (defined-are andRow (λ (a : And). a .var) (λ a. refl) (λ a. twice-var (a .var)) (g .ands)))
 
   -- a variable that is defined is not 0
   nonzero : (v : ℕ) → List·Memᴰ v (g .inputs ++ andVars g) → ¬ (v ≡ 0)
@@ -114,8 +105,7 @@ module _ (g : Graph) (fits : GraphFits g) (known : Known g) (untimed : (λ (v : 
 
   -- and its literal can be written
   even-row : (v : ℕ) → List·Memᴰ v (g .inputs ++ andVars g) → T (eqb (2 * v % 2) 0 && not (eqb (2 * v) 0))
-  even-row v m =
-      yes-and (eqb (2 * v % 2) 0) (not (eqb (2 * v) 0)) (yes-eqb (let q : 2 * v % 2 ≡ 0 = omega arith in q))
+  even-row v m = yes-and (eqb (2 * v % 2) 0) (not (eqb (2 * v) 0)) (yes-eqb (let q : 2 * v % 2 ≡ 0 = omega arith in q))
       (no-eqb (let z : ¬ (2 * v ≡ 0) = λ e. nonzero v m (let q : v ≡ 0 = omega arith in q) in z))
 
   low-var : (v : ℕ) → List·Memᴰ v (g .inputs ++ andVars g) → T (leb (2 * v) (2 * g .size + 1))
@@ -130,104 +120,72 @@ module _ (g : Graph) (fits : GraphFits g) (known : Known g) (untimed : (λ (v : 
           let d : List·Memᴰ v (g .inputs ++ andVars g) = Memᴰ·append-left (andVars g) n in
           record { first = 2 * v; more = []; isLiterals = refl; long = refl; low = yes-and (leb (2 * v) (2 * g .size + 1)) true (low-var v d) tt; even = even-row v d }
 
-      output : (l : ℕ) → List·Memᴰ l (g .outputs) → Row (g .size) (outputRow l)
-      output l n =
-          record {
-            first = l;
-            more = [];
-            isLiterals = refl;
-            long = refl;
-            low = yes-and (leb l (2 * g .size + 1)) true (le→leb l (2 * g .size + 1) (fits .low .outputs l n)) tt;
-            even = tt;
-          }
-
-      gate : (a : And) → List·Memᴰ a (g .ands) → Row (g .size) (andRow a)
-      gate a n =
-          let d : List·Memᴰ (a .var) (g .inputs ++ andVars g) = Memᴰ·append-right (g .inputs) (map-in (λ (b : And). b .var) n) in
-          record {
-            first = 2 * a .var;
-            more = a .left ∷ a .right ∷ [];
-            isLiterals = refl;
-            long = refl;
-            low = yes-and (leb (2 * a .var) (2 * g .size + 1)) _ (low-var (a .var) d)
-                (yes-and (leb (a .left) (2 * g .size + 1)) _ (le→leb (a .left) (2 * g .size + 1) (fits .low .lefts a n))
-                (yes-and (leb (a .right) (2 * g .size + 1)) true (le→leb (a .right) (2 * g .size + 1) (fits .low .rights a n)) tt));
-            even = even-row (a .var) d;
-          }
-
-      second : List·Memᴰ i (map outputRow (g .outputs)) ⊎ List·Memᴰ i (map andRow (g .ands)) → Row (g .size) i
-      second (inl n) = let o = map-out outputRow (g .outputs) n in subst (Row (g .size)) (sym (o .2)) (output (o .0) (o .1))
-      second (inr n) = let o = map-out andRow (g .ands) n in subst (Row (g .size)) (sym (o .2)) (gate (o .0) (o .1))
-
       first : List·Memᴰ i (map inputRow (g .inputs)) ⊎ List·Memᴰ i (map outputRow (g .outputs) ++ map andRow (g .ands)) → Row (g .size) i
       first (inl n) = let o = map-out inputRow (g .inputs) n in subst (Row (g .size)) (sym (o .2)) (input (o .0) (o .1))
-      first (inr n) = second (List·Memᴰ·append-cases (map outputRow (g .outputs)) n)
+      first (inr n) = ⊎-elim (λ q. let o = map-out outputRow (g .outputs) q in rw (o .2) (record {
+        first = (o .0);
+        more = [];
+        isLiterals = refl;
+        long = refl;
+        low = yes-and (leb (o .0) (2 * g .size + 1)) true (le→leb (o .0) (2 * g .size + 1) (fits .low .outputs (o .0) (o .1))) tt;
+        even = tt;
+      })) (λ e. let o = map-out andRow (g .ands) e in rw (o .2) (let d : List·Memᴰ ((o .0) .var)
+          (g .inputs ++ andVars g) = Memᴰ·append-right (g .inputs) (map-in (λ (b : And). b .var) (o .1)) in record {
+            first = 2 * (o .0) .var;
+            more = (o .0) .left ∷ (o .0) .right ∷ [];
+            isLiterals = refl;
+            long = refl;
+            low = yes-and (leb (2 * (o .0) .var) (2 * g .size + 1)) _ (low-var ((o .0) .var) d)
+                (yes-and (leb ((o .0) .left) (2 * g .size + 1)) _ (le→leb ((o .0) .left) (2 * g .size + 1) (fits .low .lefts (o .0) (o .1)))
+                (yes-and (leb ((o .0) .right) (2 * g .size + 1)) true
+                (le→leb ((o .0) .right) (2 * g .size + 1) (fits .low .rights (o .0) (o .1))) tt));
+            even = even-row ((o .0) .var) d;
+          })) (List·Memᴰ·append-cases (map outputRow (g .outputs)) n)
 
   -- what a line of the graph uses is defined
   row-uses : (i : Item) → List·Memᴰ i rows → (l : ℕ) → List·Memᴰ l (uses i) → List·Memᴰ (varOf l) (0 ∷ g .inputs ++ andVars g)
   unfolding uses defines
-  row-uses i m l n = first (List·Memᴰ·append-cases (map inputRow (g .inputs)) m)
+  row-uses i m l n = ⊎-elim (λ k. let o = map-out inputRow (g .inputs) k in absurd (List·Memᴰ·not-nil (at (inputRow (o .0)) (o .2))))
+      (λ q. ⊎-elim (λ k. let o = map-out outputRow (g .outputs) k in known .used l (Memᴰ·append-left
+      (each (λ (a : And). a .left ∷ a .right ∷ []) (g .ands))
+      (by-member (at (outputRow (o .0)) (o .2)) (λ e. Memᴰ·cast e (o .1)) (λ q. absurd (List·Memᴰ·not-nil q))))) (λ e.
+      let o = map-out andRow (g .ands) e in known .used l
+      (Memᴰ·append-right (g .outputs) (each-in (λ (a : And). a .left ∷ a .right ∷ []) (o .1) (at (andRow (o .0)) (o .2)))))
+      (List·Memᴰ·append-cases (map outputRow (g .outputs)) q)) (List·Memᴰ·append-cases (map inputRow (g .inputs)) m)
     where
       at : (j : Item) → i ≡ j → List·Memᴰ l (uses j)
       at j e = subst (λ (x : Item). List·Memᴰ l (uses x)) e n
 
-      second : List·Memᴰ i (map outputRow (g .outputs)) ⊎ List·Memᴰ i (map andRow (g .ands)) → List·Memᴰ (varOf l) (0 ∷ g .inputs ++ andVars g)
-      second (inl k) =
-          let o = map-out outputRow (g .outputs) k in
-          known .used l (Memᴰ·append-left (each (λ (a : And). a .left ∷ a .right ∷ []) (g .ands)) (one (o .0) (o .1) (at (outputRow (o .0)) (o .2))))
-        where
-          one : (x : ℕ) → List·Memᴰ x (g .outputs) → List·Memᴰ l (x ∷ []) → List·Memᴰ l (g .outputs)
-          one x p (List·Memᴰ·head e) = Memᴰ·cast e p
-          one x p (List·Memᴰ·tail q) = absurd (List·Memᴰ·not-nil q)
-      second (inr k) =
-          let o = map-out andRow (g .ands) k in
-          known .used l (Memᴰ·append-right (g .outputs) (each-in (λ (a : And). a .left ∷ a .right ∷ []) (o .1) (at (andRow (o .0)) (o .2))))
-
-      first : List·Memᴰ i (map inputRow (g .inputs)) ⊎ List·Memᴰ i (map outputRow (g .outputs) ++ map andRow (g .ands)) → List·Memᴰ (varOf l) (0 ∷ g .inputs ++ andVars g)
-      first (inl k) = let o = map-out inputRow (g .inputs) k in absurd (List·Memᴰ·not-nil (at (inputRow (o .0)) (o .2)))
-      first (inr k) = second (List·Memᴰ·append-cases (map outputRow (g .outputs)) k)
-
   -- the lines pass 14
   rows-used : (at : ℕ) → checkUses (definedBy (itemsAt at rows)) (itemsAt at rows) ≡ holds (itemsAt at rows)
-  rows-used at =
-      uses-in (definedBy (itemsAt at rows)) (itemsAt at rows)
-      (λ i m.
-      all-in (λ (l : ℕ). elem (varOf l) (0 ∷ definedBy (itemsAt at rows))) (uses i)
-      (λ l n.
-      let f = found-anywhere at rows i m in
-      elem-T (varOf l) (0 ∷ definedBy (itemsAt at rows))
-      (subst (λ (xs : List ℕ). List·Memᴰ (varOf l) (0 ∷ xs)) (sym (defined-anywhere at rows ∙ vars)) (row-uses (f .0) (f .1) l (subst (λ (ls : List ℕ). List·Memᴰ l ls) (f .2) n)))))
+  rows-used at = uses-in (definedBy (itemsAt at rows)) (itemsAt at rows) (λ i m.
+      all-in (λ (l : ℕ). elem (varOf l) (0 ∷ definedBy (itemsAt at rows))) (uses i) (λ l n. let f = found-anywhere at rows i m in elem-T
+      (varOf l) (0 ∷ definedBy (itemsAt at rows)) (rw (defined-anywhere at rows ∙ vars) (row-uses (f .0) (f .1) l (rw (← f .2) n)))))
 
   -- and give the graph
   kept : (k : Kind) → keep (isKind k) rows
       ≡ cond (sameKind k anInput) (map inputRow (g .inputs)) [] ++ (cond (sameKind k anOutput) (map outputRow (g .outputs)) [] ++ cond (sameKind k anAnd) (map andRow (g .ands)) [])
-  kept k =
-      keep-append (isKind k) (map inputRow (g .inputs)) (map outputRow (g .outputs) ++ map andRow (g .ands))
+  kept k = keep-append (isKind k) (map inputRow (g .inputs)) (map outputRow (g .outputs) ++ map andRow (g .ands))
       ∙ ap₂ (λ (xs ys : List Item). xs ++ ys) (kept-are inputRow k anInput (λ v. refl) (g .inputs))
-      (keep-append (isKind k) (map outputRow (g .outputs)) (map andRow (g .ands))
-      ∙ ap₂ (λ (xs ys : List Item). xs ++ ys) (kept-are outputRow k anOutput (λ l. refl) (g .outputs)) (kept-are andRow k anAnd (λ a. refl) (g .ands)))
+      (keep-append (isKind k) (map outputRow (g .outputs)) (map andRow (g .ands)) ∙ ap₂ (λ (xs ys : List Item). xs ++ ys)
+      (kept-are outputRow k anOutput (λ l. refl) (g .outputs)) (kept-are andRow k anAnd (λ a. refl) (g .ands)))
 
   rows-graph : (at : ℕ) → graphOf (g .size) (itemsAt at rows) ≡ g
   unfolding graphOf sameKind
-  rows-graph at = made (ins at) (outs at) (ands at)
+  rows-graph at =
+      let outs : (k : ℕ) → map (λ (i : Item). getD (i .literals) 0 0)
+      (keep (isKind anOutput) (itemsAt k rows)) ≡ g .outputs = λ k. kept-anywhere (λ (ns : List ℕ). getD ns 0 0) anOutput k rows
+      ∙ ap (map (λ (i : Item). getD (i .literals) 0 0)) (kept anOutput ∙ append-nil (map outputRow (g .outputs)))
+      ∙ map-map (λ (i : Item). getD (i .literals) 0 0) outputRow (g .outputs) ∙ map-id (g .outputs) in
+      made (ins at) (outs at) (ands at)
     where
       ins : (k : ℕ) → map (λ (i : Item). varOf (getD (i .literals) 0 0)) (keep (isKind anInput) (itemsAt k rows)) ≡ g .inputs
-      ins k =
-          kept-anywhere (λ (ns : List ℕ). varOf (getD ns 0 0)) anInput k rows
-          ∙ ap (map head) (kept anInput ∙ append-nil (map inputRow (g .inputs)))
-          ∙ map-map head inputRow (g .inputs)
-          ∙ back (g .inputs)
+      ins k = kept-anywhere (λ (ns : List ℕ). varOf (getD ns 0 0)) anInput k rows
+          ∙ ap (map head) (kept anInput ∙ append-nil (map inputRow (g .inputs))) ∙ map-map head inputRow (g .inputs) ∙ back (g .inputs)
         where
           back : (vs : List ℕ) → map (λ (v : ℕ). varOf (2 * v)) vs ≡ vs
           back [] = refl
           back (v ∷ vs) = ap₂ (λ (a : ℕ) (b : List ℕ). a ∷ b) (twice-var v) (back vs)
-
-      outs : (k : ℕ) → map (λ (i : Item). getD (i .literals) 0 0) (keep (isKind anOutput) (itemsAt k rows)) ≡ g .outputs
-      outs k =
-          kept-anywhere (λ (ns : List ℕ). getD ns 0 0) anOutput k rows
-          ∙ ap (map (λ (i : Item). getD (i .literals) 0 0)) (kept anOutput ∙ append-nil (map outputRow (g .outputs)))
-          ∙ map-map (λ (i : Item). getD (i .literals) 0 0) outputRow (g .outputs)
-          ∙ map-id (g .outputs)
 
       ands : (k : ℕ) → map (λ (i : Item). record { var = varOf (getD (i .literals) 0 0); left = getD (i .literals) 1 0; right = getD (i .literals) 2 0 }) (keep (isKind anAnd) (itemsAt k rows)) ≡ g .ands
       ands k =
@@ -264,15 +222,11 @@ module _ (g : Graph) (fits : GraphFits g) (known : Known g) (untimed : (λ (v : 
   unfolding asciiText text
   text-is =
       ap (λ (x : List ℕ). 97 ∷ 97 ∷ 103 ∷ 32 ∷ x)
-      (ap (λ (x : List ℕ). numbersLine (g .size) counts ++ x) lines ∙ line-ends (g .size) counts (each itemLine rows))
-    where
-      lines : each (λ (v : ℕ). numbersLine (2 * v) []) (g .inputs)
-          ++ (each (λ (l : ℕ). numbersLine l []) (g .outputs) ++ each (λ (a : And). numbersLine (2 * a .var) (a .left ∷ a .right ∷ [])) (g .ands))
-          ≡ each itemLine rows
-      lines =
-          ap₂ (λ (x y : List ℕ). x ++ y) (each-map inputRow (g .inputs))
-          (ap₂ (λ (x y : List ℕ). x ++ y) (each-map outputRow (g .outputs)) (each-map andRow (g .ands)) ∙ sym (each-append (map outputRow (g .outputs)) (map andRow (g .ands))))
-          ∙ sym (each-append (map inputRow (g .inputs)) (map outputRow (g .outputs) ++ map andRow (g .ands)))
+      (ap (λ (x : List ℕ). numbersLine (g .size) counts ++ x) (ap₂ (λ (x y : List ℕ). x ++ y) (each-map inputRow (g .inputs)) (ap₂
+      (λ (x y : List ℕ). x ++ y) (each-map outputRow (g .outputs)) (each-map andRow (g .ands)) ∙ sym
+      (each-append (map outputRow (g .outputs)) (map andRow (g .ands)))) ∙ sym
+      (each-append (map inputRow (g .inputs)) (map outputRow (g .outputs) ++ map andRow (g .ands)))) ∙ line-ends (g .size) counts
+      (each itemLine rows))
 
   -- the header's line, and those behind it
   head-line : linesFrom 0 [] (asciiText g) ≡ lineOfBytes 0 headBytes ∷ linesFrom (0 + suc (length headBytes)) [] (each itemLine rows)
@@ -280,53 +234,37 @@ module _ (g : Graph) (fits : GraphFits g) (known : Known g) (untimed : (λ (v : 
 
   few : T (all (λ (n : ℕ). leb n 65535) (g .size ∷ counts))
   unfolding all
-  few =
-      yes-and (leb (g .size) 65535) _ (le→leb (g .size) 65535 (omega (arith, fits .size)))
-      (yes-and (leb (length (g .inputs)) 65535) _ (le→leb (length (g .inputs)) 65535 (omega (arith, fits .size, fits .variables)))
-      (yes-and (leb (length (g .outputs)) 65535) _ (le→leb (length (g .outputs)) 65535 (omega (arith, fits .outputs)))
+  few = yes-and (leb (g .size) 65535) _ (le→leb (g .size) 65535 (omega (arith, fits .size))) (yes-and (leb (length (g .inputs)) 65535) _
+      (le→leb (length (g .inputs)) 65535 (omega (arith, fits .size, fits .variables))) (yes-and (leb (length (g .outputs)) 65535) _
+      (le→leb (length (g .outputs)) 65535 (omega (arith, fits .outputs)))
       (yes-and (leb (length (g .ands)) 65535) true (le→leb (length (g .ands)) 65535 (omega (arith, fits .size, fits .variables))) tt)))
-
-  header-is : (ls : List Line) → headerOf (lineOfBytes 0 headBytes ∷ ls) ≡ some twinHeader
-  unfolding headerOf andThen only same text
-  header-is ls =
-      ap made (fields-word (97 ∷ 97 ∷ 103 ∷ []) (words (g .size) counts) (refl, (refl, (refl, tt)))
-      ∙ ap (λ (ws : List (List ℕ)). (97 ∷ 97 ∷ 103 ∷ []) ∷ ws) (fields-numbers (decimal (g .size)) (decimal-free 32 (g .size) (lit< tt)) counts))
-      ∙ ap (λ (o : Option (List ℕ)). andThen o (λ ns. some (headerOfNumbers false (nextOf (lineOfBytes 0 headBytes)) ns))) (numbers-back (g .size ∷ counts) few)
-    where
-      made : List (List ℕ) → Option Header
-      made ws =
-          let binary = same (getD ws 0 []) (text "aig") in
-          andThen (only (closed binary (lineOfBytes 0 headBytes) && (eqb (length ws) 6 && (binary || same (getD ws 0 []) (text "aag")))) (drop 1 ws)) (λ vs.
-          andThen (numbers vs) (λ ns. some (headerOfNumbers binary (nextOf (lineOfBytes 0 headBytes)) ns)))
 
   twin-header : readHeader (asciiText g) ≡ holds twinHeader
   unfolding readHeader next unless from? inLimits inSequence headerOfNumbers
   twin-header =
+      let rest : Header → Read Header = λ h. unless (eqb (h .latches) 0) 8 0
+      (unless (inLimits h) 9 0 (unless (inSequence h) 19 0 (holds h))) in
       ap (λ (ls : List Line). next (from? (headerOf ls) 7 0) rest) head-line
-      ∙ ap (λ (o : Option Header). next (from? o 7 0) rest) (header-is (linesFrom (0 + suc (length headBytes)) [] (each itemLine rows)))
+      ∙ ap (λ (o : Option Header). next (from? o 7 0) rest) (unfold headerOf andThen only same text in let made : List (List ℕ)
+      → Option Header = λ ws. let binary = same (getD ws 0 []) (text "aig") in andThen
+      (only (closed binary (lineOfBytes 0 headBytes) && (eqb (length ws) 6 && (binary || same (getD ws 0 []) (text "aag")))) (drop 1 ws))
+      (λ vs. andThen (numbers vs) (λ ns. some (headerOfNumbers binary (nextOf (lineOfBytes 0 headBytes)) ns))) in ap made
+      (fields-word (97 ∷ 97 ∷ 103 ∷ []) (words (g .size) counts) (refl, (refl, (refl, tt)))
+      ∙ ap (λ (ws : List (List ℕ)). (97 ∷ 97 ∷ 103 ∷ []) ∷ ws)
+      (fields-numbers (decimal (g .size)) (decimal-free 32 (g .size) (lit< tt)) counts)) ∙ ap
+      (λ (o : Option (List ℕ)). andThen o (λ ns. some (headerOfNumbers false (nextOf (lineOfBytes 0 headBytes)) ns)))
+      (numbers-back (g .size ∷ counts) few))
       ∙ ap (λ (b : Bool). unless b 9 0 (holds twinHeader))
       (is-true (inLimits twinHeader)
       (yes-and (leb (g .size) 4095) _ (le→leb (g .size) 4095 (fits .size))
       (yes-and (leb (length (g .outputs)) 4096) (leb (length (g .inputs) + length (g .ands)) (g .size)) (le→leb (length (g .outputs)) 4096 (fits .outputs))
       (le→leb (length (g .inputs) + length (g .ands)) (g .size) (fits .variables)))))
-    where
-      rest : Header → Read Header
-      rest h = unless (eqb (h .latches) 0) 8 0 (unless (inLimits h) 9 0 (unless (inSequence h) 19 0 (holds h)))
-
-  twin-kinds : due twinHeader ≡ kindsOf rows
-  unfolding due headerOfNumbers
-  twin-kinds = sym (
-      map-append (λ (i : Item). i .kind) (map inputRow (g .inputs)) (map outputRow (g .outputs) ++ map andRow (g .ands))
-      ∙ ap₂ (λ (xs ys : List Kind). xs ++ ys) (kinds-are inputRow anInput (λ v. refl) (g .inputs))
-      (map-append (λ (i : Item). i .kind) (map outputRow (g .outputs)) (map andRow (g .ands))
-      ∙ ap₂ (λ (xs ys : List Kind). xs ++ ys) (kinds-are outputRow anOutput (λ l. refl) (g .outputs)) (kinds-are andRow anAnd (λ a. refl) (g .ands))))
 
   -- what stands behind the header's line
   twin-body : drop (twinHeader .next) (asciiText g) ≡ each itemLine rows
   unfolding headerOfNumbers
   twin-body =
-      ap₂ (λ (n : ℕ) (x : List ℕ). drop n x) (let q : 0 + (length headBytes + 1) ≡ suc (length headBytes) = omega arith in q) text-is
-      ∙ past headBytes (each itemLine rows)
+      cc (let q : 0 + (length headBytes + 1) ≡ suc (length headBytes) = omega arith in q, text-is, past headBytes (each itemLine rows))
     where
       past : (w rest : List ℕ) → drop (suc (length w)) (w ++ (10 ∷ rest)) ≡ rest
       past [] rest = refl
@@ -336,7 +274,11 @@ module _ (g : Graph) (fits : GraphFits g) (known : Known g) (untimed : (λ (v : 
   unfolding readGraph readItems next headerOfNumbers
   twin-graph =
       ap (λ (r : Read (List Item)). next r (λ is. next (checkUses (definedBy is) is) (λ js. holds (graphOf (g .size) js))))
-      (ap₂ (λ (ks : List Kind) (x : List ℕ). readDue (closed false) (length (asciiText g)) (g .size) [] ks (linesFrom (twinHeader .next) [] x)) twin-kinds twin-body
+      (ap₂ (λ (ks : List Kind) (x : List ℕ). readDue (closed false) (length (asciiText g)) (g .size) [] ks (linesFrom (twinHeader .next) [] x))
+      (unfold due in sym (map-append (λ (i : Item). i .kind) (map inputRow (g .inputs)) (map outputRow (g .outputs) ++ map andRow (g .ands))
+      ∙ ap₂ (λ (xs ys : List Kind). xs ++ ys) (kinds-are inputRow anInput (λ v. refl) (g .inputs))
+      (map-append (λ (i : Item). i .kind) (map outputRow (g .outputs)) (map andRow (g .ands)) ∙ ap₂ (λ (xs ys : List Kind). xs ++ ys)
+      (kinds-are outputRow anOutput (λ l. refl) (g .outputs)) (kinds-are andRow anAnd (λ a. refl) (g .ands))))) twin-body
       ∙ rows-back (length (asciiText g)) (g .size) (fits .size) (twinHeader .next) [] rows row-of (subst Distinct (sym vars) (known .once .1)) (λ x m. List·Memᴰ·not-nil))
       ∙ ap (λ (r : Read (List Item)). next r (λ js. holds (graphOf (g .size) js))) (rows-used (twinHeader .next))
       ∙ ap holds (rows-graph (twinHeader .next))
@@ -357,31 +299,17 @@ reads-by-graph : (c : Call) (g : Graph) → Means (c .graph) g → readTexts c �
     (next (readArrivals (length (g .inputs)) (c .arrivals)) (λ es. holds (designOf c cells (timedBy g es))))))
 unfolding readTexts next
 reads-by-graph c g m =
+    let h = m .header in
+    let timed : List Cell → ℕ → Graph → Read Design = λ cells inputs x. next (readArrivals inputs (c .arrivals))
+    (λ es. holds (designOf c cells (timedBy x es))) in
+    let behind : List Cell → Header → Read Design = λ cells k. unless (leb (need (k .size) (k .outputs)) (c .words)) 10 0
+    (next (readGraph (c .graph) k) (timed cells (k .inputs))) in
+    let read : List Cell → Read Design = λ cells. next (readHeader (c .graph)) (behind cells) in
+    let counted = graph-counted (c .graph) h g (m .isHeader) (m .isGraph) in
     ap (λ (b : Bool). unless b 1 0 (next (readListed (c .paired) (c .library)) read))
     (ap (λ (b : Bool). leb (length (c .library)) 65536 && (b && leb (length (c .arrivals)) 65536)) (is-true (leb (length (c .graph)) 65536) (le→leb (length (c .graph)) 65536 (m .short))))
-    ∙ ap (λ (k : List Cell → Read Design). unless (leb (length (c .library)) 65536 && leb (length (c .arrivals)) 65536) 1 0 (next (readListed (c .paired) (c .library)) k)) (fun-ext meant)
-  where
-    h : Header
-    h = m .header
-
-    timed : List Cell → ℕ → Graph → Read Design
-    timed cells inputs x = next (readArrivals inputs (c .arrivals)) (λ es. holds (designOf c cells (timedBy x es)))
-
-    behind : List Cell → Header → Read Design
-    behind cells k = unless (leb (need (k .size) (k .outputs)) (c .words)) 10 0 (next (readGraph (c .graph) k) (timed cells (k .inputs)))
-
-    read : List Cell → Read Design
-    read cells = next (readHeader (c .graph)) (behind cells)
-
-    counted : Counted h g
-    counted = graph-counted (c .graph) h g (m .isHeader) (m .isGraph)
-
-    meant : (cells : List Cell) → read cells ≡ unless (leb (need (g .size) (length (g .outputs))) (c .words)) 10 0 (timed cells (length (g .inputs)) g)
-    meant cells =
-        ap (λ (r : Read Header). next r (behind cells)) (m .isHeader)
-        ∙ ap (λ (r : Read Graph). unless (leb (need (h .size) (h .outputs)) (c .words)) 10 0 (next r (timed cells (h .inputs)))) (m .isGraph)
-        ∙ ap₂ (λ (a b : ℕ). unless (leb (need a b) (c .words)) 10 0 (timed cells (h .inputs) g)) (sym (counted .size)) (sym (counted .outputs))
-        ∙ ap (λ (i : ℕ). unless (leb (need (g .size) (length (g .outputs))) (c .words)) 10 0 (timed cells i g)) (sym (counted .inputs))
+    ∙ ap (λ (k : List Cell → Read Design). unless (leb (length (c .library)) 65536 && leb (length (c .arrivals)) 65536) 1 0 (next (readListed (c .paired) (c .library)) k)) (fun-ext
+    (λ cells. cc (m .isHeader, m .isGraph, counted .size, counted .outputs, counted .inputs)))
 
 -- two texts that mean the same graph have the same outcome
 pub means-outcome : (c : Call) (t : List ℕ) (g : Graph) → Means (c .graph) g → Means t g → mapTexts (onGraph c t) ≡ mapTexts c

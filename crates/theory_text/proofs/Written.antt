@@ -17,6 +17,7 @@ use Rattle.model.specs.Text.{Line, closing, linesFrom, shown, fields}
 use Rattle.model.specs.Demands.{Alike, firstWord}
 use Rattle.theory_text.proofs.Plain.{Free, free-append}
 use Rattle.theory_text.proofs.LineLaws.{lines-step}
+use Rattle.theory_graph.proofs.Split.{by-bool}
 
 -- ---- a text is its lines with their ends
 
@@ -34,12 +35,7 @@ lineText l = l .bytes ++ endBytes (l .ending)
 closing-text : (at : ℕ) (held : List ℕ) → lineText (closing at held) ≡ reverse held ++ (10 ∷ [])
 unfolding closing lineText endBytes
 closing-text at [] = refl
-closing-text at (h ∷ hs) = go (eqb h 13) refl
-  where
-    go : (t : Bool) → eqb h 13 ≡ t
-        → lineText (cond t (record { offset = at; bytes = reverse hs; ending = 2 }) (record { offset = at; bytes = reverse (h ∷ hs); ending = 1 })) ≡ reverse (h ∷ hs) ++ (10 ∷ [])
-    go true e = sym (ap (λ (x : List ℕ). x ++ (10 ∷ [])) (reverse-cons h hs) ∙ append-snoc (reverse hs) h (10 ∷ []) ∙ ap (λ (x : ℕ). reverse hs ++ (x ∷ 10 ∷ [])) (eqb-true h 13 e))
-    go false e = refl
+closing-text at (h ∷ hs) = by-bool (eqb h 13) (λ e. cc (reverse-cons h hs, append-snoc (reverse hs) h (10 ∷ []), eqb-true h 13 e)) (λ q. cc)
 
 held-text : (at : ℕ) (held : List ℕ) → each lineText (linesFrom at held []) ≡ reverse held ++ []
 unfolding linesFrom each lineText endBytes
@@ -49,20 +45,16 @@ held-text at (h ∷ hs) = append-nil (reverse (h ∷ hs) ++ [])
 pub lines-text : (at : ℕ) (held s : List ℕ) → each lineText (linesFrom at held s) ≡ reverse held ++ s
 lines-text at held [] = held-text at held
 lines-text at held (b ∷ s) =
-    ap (each lineText) (lines-step at held b s) ∙ go (eqb b 10) refl (lines-text (at + suc (length held)) [] s) (lines-text at (b ∷ held) s)
-  where
-    first : (x : Line) (xs : List Line) → each lineText (x ∷ xs) ≡ lineText x ++ each lineText xs
-    first x xs = unfold each in refl
-
-    go : (t : Bool) → eqb b 10 ≡ t → each lineText (linesFrom (at + suc (length held)) [] s) ≡ s → each lineText (linesFrom at (b ∷ held) s) ≡ reverse (b ∷ held) ++ s
-        → each lineText (cond t (closing at held ∷ linesFrom (at + suc (length held)) [] s) (linesFrom at (b ∷ held) s)) ≡ reverse held ++ (b ∷ s)
-    go true e next more =
-        first (closing at held) (linesFrom (at + suc (length held)) [] s)
-        ∙ ap (λ (x : List ℕ). lineText (closing at held) ++ x) next
-        ∙ ap (λ (x : List ℕ). x ++ s) (closing-text at held)
-        ∙ append-snoc (reverse held) 10 s
-        ∙ ap (λ (x : ℕ). reverse held ++ (x ∷ s)) (sym (eqb-true b 10 e))
-    go false e next more = more ∙ ap (λ (x : List ℕ). x ++ s) (reverse-cons b held) ∙ append-snoc (reverse held) b s
+    let first : (x : Line) (xs : List Line) → each lineText (x ∷ xs) ≡ lineText x ++ each lineText xs = λ x xs. unfold each in refl in
+    ap (each lineText) (lines-step at held b s) ∙ by-bool (eqb b 10) (λ e. cc (
+      first (closing at held)
+          (linesFrom (at + suc (length held)) [] s),
+      lines-text (at + suc (length held)) [] s,
+      closing-text at held,
+      append-snoc
+          (reverse held) 10 s,
+      eqb-true b 10 e,
+    )) (λ q. cc ((lines-text at (b ∷ held) s), reverse-cons b held, append-snoc (reverse held) b s))
 
 -- ---- either end behind each line
 
@@ -70,12 +62,7 @@ lines-text at held (b ∷ s) =
 shown-closing : (at b : ℕ) (held : List ℕ) → shown (closing at held) ≡ shown (closing b held)
 unfolding shown closing
 shown-closing at b [] = refl
-shown-closing at b (h ∷ hs) = go (eqb h 13)
-  where
-    go : (t : Bool) → shown (cond t (record { offset = at; bytes = reverse hs; ending = 2 }) (record { offset = at; bytes = reverse (h ∷ hs); ending = 1 }))
-        ≡ shown (cond t (record { offset = b; bytes = reverse hs; ending = 2 }) (record { offset = b; bytes = reverse (h ∷ hs); ending = 1 }))
-    go true = refl
-    go false = refl
+shown-closing at b (h ∷ hs) = by-bool (eqb h 13) (λ e. cc) (λ q. cc)
 
 shown-none : (at b : ℕ) (held : List ℕ) → map shown (linesFrom at held []) ≡ map shown (linesFrom b held [])
 unfolding linesFrom shown
@@ -84,17 +71,9 @@ shown-none at b (h ∷ hs) = refl
 
 shown-anywhere : (at b : ℕ) (held s : List ℕ) → map shown (linesFrom at held s) ≡ map shown (linesFrom b held s)
 shown-anywhere at b held [] = shown-none at b held
-shown-anywhere at b held (x ∷ s) =
-    ap (map shown) (lines-step at held x s)
-    ∙ go (eqb x 10) (shown-anywhere (at + suc (length held)) (b + suc (length held)) [] s) (shown-anywhere at b (x ∷ held) s)
-    ∙ sym (ap (map shown) (lines-step b held x s))
-  where
-    go : (t : Bool) → map shown (linesFrom (at + suc (length held)) [] s) ≡ map shown (linesFrom (b + suc (length held)) [] s)
-        → map shown (linesFrom at (x ∷ held) s) ≡ map shown (linesFrom b (x ∷ held) s)
-        → map shown (cond t (closing at held ∷ linesFrom (at + suc (length held)) [] s) (linesFrom at (x ∷ held) s))
-        ≡ map shown (cond t (closing b held ∷ linesFrom (b + suc (length held)) [] s) (linesFrom b (x ∷ held) s))
-    go true next more = ap (λ (r : List (List ℕ × Bool)). shown (closing at held) ∷ r) next ∙ ap (λ (l : List ℕ × Bool). l ∷ map shown (linesFrom (b + suc (length held)) [] s)) (shown-closing at b held)
-    go false next more = more
+shown-anywhere at b held (x ∷ s) = ap (map shown) (lines-step at held x s) ∙ by-bool (eqb x 10)
+    (λ e. rw e (cc (shown-anywhere (at + suc (length held)) (b + suc (length held)) [] s, shown-closing at b held)))
+    (λ q. rw q (shown-anywhere at b (x ∷ held) s)) ∙ sym (ap (map shown) (lines-step b held x s))
 
 -- ---- by bytes alone
 
@@ -137,8 +116,7 @@ unfolding shown closing
 shown-long at held = refl
 
 ten-next : (at : ℕ) (held r : List ℕ) → map shown (linesFrom at held (10 ∷ r)) ≡ shown (closing at held) ∷ map shown (linesFrom 0 [] r)
-ten-next at held r =
-    ap (map shown) (lines-step at held 10 r) ∙ ap (λ (x : List (List ℕ × Bool)). shown (closing at held) ∷ x) (shown-anywhere (at + suc (length held)) 0 [] r)
+ten-next at held r = cc (lines-step at held 10 r, shown-anywhere (at + suc (length held)) 0 [] r)
 
 other-next : (at b : ℕ) (held r : List ℕ) → eqb b 10 ≡ false → linesFrom at held (b ∷ r) ≡ linesFrom at (b ∷ held) r
 other-next at b held r e = lines-step at held b r ∙ rw e
@@ -147,14 +125,9 @@ one-line : (k : Bool) (at : ℕ) (held c r : List ℕ) → Free 10 c → Apart k
     → map shown (linesFrom at held (c ++ (oneEnd k ++ r))) ≡ (reverse held ++ c, true) ∷ map shown (linesFrom 0 [] r)
 unfolding oneEnd
 one-line false at held [] r p q =
-    ten-next at held r
-    ∙ ap (λ (x : List ℕ × Bool). x ∷ map shown (linesFrom 0 [] r)) (shown-short at held (ap (λ (x : List ℕ). eqb (lastByte x) 13) (sym (append-nil (reverse held))) ∙ q refl))
-    ∙ ap (λ (x : List ℕ). (x, true) ∷ map shown (linesFrom 0 [] r)) (sym (append-nil (reverse held)))
+    cc (ten-next at held r, shown-short at held (cc (append-nil (reverse held), q refl)), append-nil (reverse held))
 one-line true at held [] r p q =
-    ap (map shown) (other-next at 13 held (10 ∷ r) refl)
-    ∙ ten-next at (13 ∷ held) r
-    ∙ ap (λ (x : List ℕ × Bool). x ∷ map shown (linesFrom 0 [] r)) (shown-long at held)
-    ∙ ap (λ (x : List ℕ). (x, true) ∷ map shown (linesFrom 0 [] r)) (sym (append-nil (reverse held)))
+    cc (other-next at 13 held (10 ∷ r) refl, ten-next at (13 ∷ held) r, shown-long at held, append-nil (reverse held))
 one-line k at held (b ∷ c) r p q =
     let e : reverse (b ∷ held) ++ c ≡ reverse held ++ (b ∷ c) = ap (λ (x : List ℕ). x ++ c) (reverse-cons b held) ∙ append-snoc (reverse held) b c in
     ap (map shown) (other-next at b held (c ++ (oneEnd k ++ r)) (p .0))
@@ -163,8 +136,7 @@ one-line k at held (b ∷ c) r p q =
 
 pub either-end : {s t : List ℕ} → ButEnds s t → Alike s t
 either-end (rest w f) = refl
-either-end (line c x y f a b {s} {t} more) =
-    one-line x 0 [] c s f a ∙ ap (λ (r : List (List ℕ × Bool)). (c, true) ∷ r) (either-end more) ∙ sym (one-line y 0 [] c t f b)
+either-end (line c x y f a b {s} {t} more) = cc (one-line x 0 [] c s f a, either-end more, one-line y 0 [] c t f b)
 
 -- ---- and back
 
@@ -181,11 +153,9 @@ free-back (h ∷ hs) f = subst (Free 10) (sym (reverse-cons h hs)) (free-append 
 lined-closing : (at : ℕ) (held : List ℕ) → Free 10 held → {ls : List Line} → Lined ls → Lined (closing at held ∷ ls)
 unfolding closing lastByte
 lined-closing at [] f r = withEnd at [] false tt (λ e. refl) r
-lined-closing at (h ∷ hs) f {ls} r = go (eqb h 13) refl
-  where
-    go : (t : Bool) → eqb h 13 ≡ t → Lined (cond t (record { offset = at; bytes = reverse hs; ending = 2 }) (record { offset = at; bytes = reverse (h ∷ hs); ending = 1 }) ∷ ls)
-    go true e = withEnd at (reverse hs) true (free-back hs (f .1)) (λ i. absurd (false≢true (sym i))) r
-    go false e = withEnd at (reverse (h ∷ hs)) false (free-back (h ∷ hs) f) (λ i. ap (λ (b : ℕ). eqb b 13) (last-held h hs) ∙ e) r
+lined-closing at (h ∷ hs) f {ls} r = by-bool (eqb h 13)
+    (λ e. rw e (withEnd at (reverse hs) true (free-back hs (f .1)) (λ i. absurd (false≢true (sym i))) r))
+    (λ q. rw q (withEnd at (reverse (h ∷ hs)) false (free-back (h ∷ hs) f) (λ i. ap (λ (b : ℕ). eqb b 13) (last-held h hs) ∙ q) r))
 
 lined-none : (at : ℕ) (held : List ℕ) → Free 10 held → Lined (linesFrom at held [])
 unfolding linesFrom
@@ -194,12 +164,8 @@ lined-none at (h ∷ hs) f = unended at (reverse (h ∷ hs)) (free-back (h ∷ h
 
 lined : (at : ℕ) (held s : List ℕ) → Free 10 held → Lined (linesFrom at held s)
 lined at held [] f = lined-none at held f
-lined at held (b ∷ s) f = subst Lined (sym (lines-step at held b s)) (go (eqb b 10) refl (lined (at + suc (length held)) [] s tt) (λ e. lined at (b ∷ held) s (e, f)))
-  where
-    go : (t : Bool) → eqb b 10 ≡ t → Lined (linesFrom (at + suc (length held)) [] s) → (eqb b 10 ≡ false → Lined (linesFrom at (b ∷ held) s))
-        → Lined (cond t (closing at held ∷ linesFrom (at + suc (length held)) [] s) (linesFrom at (b ∷ held) s))
-    go true e next more = lined-closing at held f next
-    go false e next more = more e
+lined at held (b ∷ s) f = subst Lined (sym (lines-step at held b s)) (by-bool (eqb b 10)
+    (λ q. rw q (lined-closing at held f (lined (at + suc (length held)) [] s tt))) (λ p. rw p (lined at (b ∷ held) s (p, f))))
 
 end-text : (at : ℕ) (c : List ℕ) (x : Bool) (ls : List Line) → each lineText (record { offset = at; bytes = c; ending = cond x 2 1 } ∷ ls) ≡ c ++ (oneEnd x ++ each lineText ls)
 unfolding each lineText endBytes oneEnd
@@ -218,8 +184,7 @@ by-lines none (withEnd at c x f a m) e = absurd (nil≢cons e)
 by-lines (unended at c f) none e = absurd (cons≢nil e)
 by-lines (unended at c f) (unended at₁ c₁ g) e =
     let q : c ≡ c₁ = ap (λ (p : List ℕ × Bool). p .0) (head-eq-of-cons-eq e) in
-    subst (λ (w : List ℕ). ButEnds w (each lineText (record { offset = at₁; bytes = c₁; ending = 0 } ∷ []))) (sym (unended-text at c))
-    (subst (λ (w : List ℕ). ButEnds c w) (sym (unended-text at₁ c₁)) (subst (λ (w : List ℕ). ButEnds c w) q (rest c f)))
+    rw (unended-text at c) (rw (unended-text at₁ c₁) (rw (← q) (rest c f)))
 by-lines (unended at c f) (withEnd at₁ c₁ true g b m) e = absurd (false≢true (ap (λ (p : List ℕ × Bool). p .1) (head-eq-of-cons-eq e)))
 by-lines (unended at c f) (withEnd at₁ c₁ false g b m) e = absurd (false≢true (ap (λ (p : List ℕ × Bool). p .1) (head-eq-of-cons-eq e)))
 by-lines (withEnd at c x f a l) none e = absurd (cons≢nil e)
@@ -227,16 +192,10 @@ by-lines (withEnd at c true f a l) (unended at₁ c₁ g) e = absurd (false≢tr
 by-lines (withEnd at c false f a l) (unended at₁ c₁ g) e = absurd (false≢true (sym (ap (λ (p : List ℕ × Bool). p .1) (head-eq-of-cons-eq e))))
 by-lines (withEnd at c x f a {ls} l) (withEnd at₁ c₁ y g b {ls = ms} m) e =
     let q : c₁ ≡ c = sym (ap (λ (p : List ℕ × Bool). p .0) (head-eq-of-cons-eq e)) in
-    let r : ButEnds (c ++ (oneEnd x ++ each lineText ls)) (c ++ (oneEnd y ++ each lineText ms)) =
-    line c x y f a (subst (Apart y) q b) (by-lines l m (tail-eq-of-cons-eq e)) in
-    subst (λ (w : List ℕ). ButEnds w (each lineText (record { offset = at₁; bytes = c₁; ending = cond y 2 1 } ∷ ms))) (sym (end-text at c x ls))
-    (subst (λ (w : List ℕ). ButEnds (c ++ (oneEnd x ++ each lineText ls)) w) (sym (end-text at₁ c₁ y ms))
-    (subst (λ (w : List ℕ). ButEnds (c ++ (oneEnd x ++ each lineText ls)) (w ++ (oneEnd y ++ each lineText ms))) (sym q) r))
+    rw (end-text at c x ls) (rw (end-text at₁ c₁ y ms) (rw q (line c x y f a (rw q at b) (by-lines l m (tail-eq-of-cons-eq e)))))
 
 pub same-by-bytes : (s t : List ℕ) → Alike s t → ButEnds s t
-same-by-bytes s t e =
-    subst (λ (w : List ℕ). ButEnds w t) (lines-text 0 [] s)
-    (subst (λ (w : List ℕ). ButEnds (each lineText (linesFrom 0 [] s)) w) (lines-text 0 [] t) (by-lines (lined 0 [] s tt) (lined 0 [] t tt) e))
+same-by-bytes s t e = rw (← lines-text 0 [] s) (rw (← lines-text 0 [] t) (by-lines (lined 0 [] s tt) (lined 0 [] t tt) e))
 
 -- ---- the other way round
 
@@ -252,13 +211,9 @@ same-words (l ∷ ls) (m ∷ ms) e = ap (λ (p : List ℕ × Bool). getD (fields
 -- `13 13 10` and `13 10`: a line of the one byte 13, and an empty line
 pub thirteen-apart : Alike (13 ∷ 13 ∷ 10 ∷ []) (13 ∷ 10 ∷ []) → ⊥
 unfolding linesFrom closing shown
-thirteen-apart e =
-    let q : _≡_ {A = List ℕ} (13 ∷ []) [] = ap (λ (x : List ℕ × Bool). x .0) (head-eq-of-cons-eq e) in
-    cons≢nil q
+thirteen-apart e = cons≢nil (ap (λ (x : List ℕ × Bool). x .0) (head-eq-of-cons-eq e))
 
 -- a line with its end, and the same without
 pub end-apart : Alike (49 ∷ 10 ∷ []) (49 ∷ []) → ⊥
 unfolding linesFrom closing shown
-end-apart e =
-    let q : true ≡ false = ap (λ (x : List ℕ × Bool). x .1) (head-eq-of-cons-eq e) in
-    false≢true (sym q)
+end-apart e = false≢true (sym (ap (λ (x : List ℕ × Bool). x .1) (head-eq-of-cons-eq e)))
