@@ -59,8 +59,7 @@ module _ (h : Header) where
           List·getD-append (replicate (h .inputs) anInput) (replicate (h .outputs) anOutput ++ replicate (h .ands) anAnd) anAnd k (omega (arith, length-replicate (h .inputs) anInput))
           ∙ getD-replicate (h .inputs) k anInput anAnd i
       go false true x y =
-          let i : h .inputs ≤ k = ltb-false k (h .inputs) x in
-          let j : k < h .inputs + h .outputs = ltb-true k (h .inputs + h .outputs) y in
+          let i : h .inputs ≤ k = ltb-false k (h .inputs) x in let j : k < h .inputs + h .outputs = ltb-true k (h .inputs + h .outputs) y in
           behind-inputs k i
           ∙ List·getD-append (replicate (h .outputs) anOutput) (replicate (h .ands) anAnd) anAnd (k - h .inputs) (omega (arith, length-replicate (h .outputs) anOutput))
           ∙ getD-replicate (h .outputs) (k - h .inputs) anOutput anAnd (omega arith)
@@ -104,8 +103,7 @@ view-one k s at e r short = go (foundEnd s at) refl
     go : (o : Option ℕ) → foundEnd s at ≡ o → LineView s at k
     go none f = let t = one-is s at none f in broken (r ∙ t .0) (item-numbers k s at 0 e ∙ t .1)
     go (some n) f =
-        let t = one-is s at (some n) f in
-        let l : Literals = literals n 0 0 (pastEnd s at) in
+        let t = one-is s at (some n) f in let l : Literals = literals n 0 0 (pastEnd s at) in
         let ends = numbers-ended 0 s at (n ∷ []) (t .1) in
         whole l (r ∙ t .0) (item-numbers k s at 0 e ∙ t .1 ∙ ap some (sym (short l refl refl .0))) (short l refl refl .1) (ends .0) (sym (after-one s at) ∙ ends .1)
 
@@ -144,8 +142,7 @@ view-three s at = go (numbersAt 2 s at) refl
     go : (o : Option (List ℕ)) → numbersAt 2 s at ≡ o → LineView s at anAnd
     go none e = broken (rw (three-is s at, e)) (item-numbers anAnd s at 2 refl ∙ e)
     go (some ns) e =
-        let l : Literals = literals (getD ns 0 0) (getD ns 1 0) (getD ns 2 0) (afterAt 2 s at) in
-        let ends = numbers-ended 2 s at ns e in
+        let l : Literals = literals (getD ns 0 0) (getD ns 1 0) (getD ns 2 0) (afterAt 2 s at) in let ends = numbers-ended 2 s at ns e in
         whole l (rw (three-is s at, e)) (item-numbers anAnd s at 2 refl ∙ e ∙ ap some (three-long s at ns e)) tt (ends .0) (ends .1)
 
 read-one : (s : List ℕ) (at kind : ℕ) → eqb kind andKind ≡ false → lineRead s at kind ≡ oneLine s at

@@ -220,8 +220,7 @@ module _ (s : List ℕ) where
   fields-is : (ls : List Line) → headerOf (lineAt s 0 ∷ ls) ≡ andThen (only (ended (lineAt s 0) && eqb (length (fields (lineAt s 0 .bytes))) 6) (fields (lineAt s 0 .bytes))) (ofFields (headerEnds s) (nextOf (lineAt s 0)))
   unfolding headerOf aag aig
   fields-is ls =
-      let ws = fields (lineAt s 0 .bytes) in
-      let first : List ℕ = getD ws 0 [] in
+      let ws = fields (lineAt s 0 .bytes) in let first : List ℕ = getD ws 0 [] in
       ap (λ (e : Bool). andThen (only (e && (eqb (length ws) 6 && (same first aig || same first aag))) (drop 1 ws)) (λ vs. andThen (numbers vs) (λ ns. some (headerOfNumbers (same first aig) (nextOf (lineAt s 0)) ns)))) (closed-is (same first aig))
       ∙ tests (ended (lineAt s 0)) (headerEnds s (same first aig)) (eqb (length ws) 6) (same first aig || same first aag) ws (λ vs. andThen (numbers vs) (λ ns. some (headerOfNumbers (same first aig) (nextOf (lineAt s 0)) ns)))
       ∙ same-fields (headerEnds s) (ended (lineAt s 0) && eqb (length ws) 6) ws (nextOf (lineAt s 0))

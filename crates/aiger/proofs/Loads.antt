@@ -283,6 +283,5 @@ module _ (w : List ℕ) (s : List ℕ) (h : Header) where
   -- what `place` asks is what an accepted `load` leaves in the words x
   pub place-asks : (x : List ℕ) → Fit h w → verdictOf (readGraph s h) ≡ Accepted → x ≡ loadedWords w s h → Fit h x × Operands x (h .size)
   place-asks x fit e i =
-      let r = accepted-holds (readGraph s h) e in
-      let hold = load-law fit (r .0) (r .1) in
+      let r = accepted-holds (readGraph s h) e in let hold = load-law fit (r .0) (r .1) in
       (fit-length h w x fit (ap length i ∙ hold .held .long), subst (λ (y : List ℕ). Operands y (h .size)) (sym i) (holding-operands w h (loadedWords w s h) (r .0) (0 ∷ r .0 .inputs) hold))

@@ -103,8 +103,7 @@ module _ (s : List ℕ) (from m inputs : ℕ) (w₀ marks : List ℕ) (at : ℕ)
         → SoFar s from m inputs w₀ next (c .at) v
     unfolding turnRead turnPassed putAll
     so-far-more i t c e v next p q =
-        let g = judged-good s at inputs marks i t c e in
-        let x : Late = record { index = i; arrival = t } in
+        let g = judged-good s at inputs marks i t c e in let x : Late = record { index = i; arrival = t } in
         subst (λ (y : List ℕ). SoFar s from m inputs w₀ y (c .at) v) (sym q)
         (subst (SoFar s from m inputs w₀ (set marks i 1) (c .at)) (sym p)
         (record {

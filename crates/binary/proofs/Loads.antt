@@ -146,8 +146,7 @@ module _ (s : List ℕ) (h : Header) (w : List ℕ) (fit : Fit h w) where
     all-stored gs e =
         let x : List ℕ = passWords (gateTurn s h) (gateLeft s h) (h .ands) (h .inputs + h .outputs) at (withOutputs w s h) in
         let later = stored-behind h w (h .outputs) (h .ands) (h .inputs) (withOutputs w s h) x ins wires os gs (outputs-taken os isOuts .stored) (gates-outcome .taken gs e .stored) in
-        let i : h .inputs ≡ 0 + h .inputs = omega arith in
-        let j : h .inputs + (h .outputs + h .ands) ≡ dueCount h = omega arith in
+        let i : h .inputs ≡ 0 + h .inputs = omega arith in let j : h .inputs + (h .outputs + h .ands) ≡ dueCount h = omega arith in
         subst (λ (y : List ℕ). Stored h w (dueCount h) 0 y [] (nothing (h .size)) (inputItems h ++ (os ++ gs))) (sym words-are)
         (subst (λ (n : ℕ). Stored h w n 0 x [] (nothing (h .size)) (inputItems h ++ (os ++ gs))) j
         (stored-behind h w (h .inputs) (h .outputs + h .ands) 0 (withInputs w h) x [] (nothing (h .size)) (inputItems h) (os ++ gs) (inputs-taken .stored)

@@ -203,8 +203,7 @@ module _ (s : List ℕ) (h : Header) (w₀ : List ℕ) (fit : Fit h w₀) where
       go : GateView s at (2 * (k - h .outputs + 1)) → Step h w₀ (gateTurn s h) (gateLeft s h) (gatesFrom s h) n k at w before g
       go (gate-stops a b f m) = stops a b (turn-refused s h k at w a b f .0) (m n)
       go (gate-goes l f first left right m) =
-          let t = turn-gate s h k at w l f in
-          let v : l .first / 2 ≡ nextVar h k = omega arith in
+          let t = turn-gate s h k at w l f in let v : l .first / 2 ≡ nextVar h k = omega arith in
           let i : 2 * (k - h .outputs + 1) + 2 ≡ 2 * (k + 1 - h .outputs + 1) = omega arith in
           let o : k - h .outputs + 1 ≤ h .size = omega (arith, fit .lines) in
           goes l (t .0) (t .1)

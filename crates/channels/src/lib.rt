@@ -32,50 +32,30 @@ fn both(number: usize, place: usize) -> Two
 // Each channel as if alone: a pass asks nothing of what the words hold, so the second may find there what the first left. The sheet is made once for both,
 // and the words are cleared once.
 fn map_both_on(
-    graph1: &[u8],
-    arrivals1: &[u8],
+    g1: &[u8],
+    a1: &[u8],
     h1: Header,
-    graph2: &[u8],
-    arrivals2: &[u8],
+    g2: &[u8],
+    a2: &[u8],
     h2: Header,
     lib: Library,
-    codes: &[u16],
+    ks: &[u16],
     ranged: bool,
     sheet: &mut [u32],
     work: &mut [u16],
-    text1: &mut [u8],
-    text2: &mut [u8],
+    t1: &mut [u8],
+    t2: &mut [u8],
 ) -> Two
-    requires { ⌜ LibraryOk lib (now codes) × (readHeader (now graph1) ≡ holds h1) × (readHeader (now graph2) ≡ holds h2) ×
-        (need (h1 .size) (h1 .outputs) ≤ length (now work)) × (need (h2 .size) (h2 .outputs) ≤ length (now work)) × Blank (length (allOf lib (now codes)))
+    requires { ⌜ LibraryOk lib (now ks) × (readHeader (now g1) ≡ holds h1) × (readHeader (now g2) ≡ holds h2) ×
+        (need (h1 .size) (h1 .outputs) ≤ length (now work)) × (need (h2 .size) (h2 .outputs) ≤ length (now work)) × Blank (length (allOf lib (now ks)))
         (now sheet) ⌝ }
-    ensures { λ r. ⌜ PairLeft ranged lib (now (codes .entry)) (channelOf (now (graph1 .entry)) (now (arrivals1 .entry)) (now (text1 .entry)))
-        (channelOf (now (graph2 .entry)) (now (arrivals2 .entry)) (now (text2 .entry))) (holds (record { first = h1; second = h2 })) (now (work .entry))
-        (now (text1 .entry)) (now (text2 .entry)) r (now (work .exit)) (now (text1 .exit)) (now (text2 .exit)) ⌝ }
+    ensures { λ r. ⌜ PairLeft ranged lib (now (ks .entry)) (channelOf (now (g1 .entry)) (now (a1 .entry)) (now (t1 .entry)))
+        (channelOf (now (g2 .entry)) (now (a2 .entry)) (now (t2 .entry))) (holds (record { first = h1; second = h2 })) (now (work .entry))
+        (now (t1 .entry)) (now (t2 .entry)) r (now (work .exit)) (now (t1 .exit)) (now (t2 .exit)) ⌝ }
 {
-    cover::match_library(lib, codes, sheet);
-    let first = mapper::load_graph(
-        graph1,
-        arrivals1,
-        h1,
-        lib,
-        codes,
-        ranged,
-        sheet,
-        work,
-        text1,
-    );
-    let second = mapper::load_graph(
-        graph2,
-        arrivals2,
-        h2,
-        lib,
-        codes,
-        ranged,
-        sheet,
-        work,
-        text2,
-    );
+    cover::match_library(lib, ks, sheet);
+    let first = mapper::load_graph(g1, a1, h1, lib, ks, ranged, sheet, work, t1);
+    let second = mapper::load_graph(g2, a2, h2, lib, ks, ranged, sheet, work, t2);
     words::clear_all(work);
     Two {
         first: first,
@@ -83,220 +63,66 @@ fn map_both_on(
     }
 }
 
-// With no pairs, on a sheet for the listed cells.
-fn map_both_listed(
-    graph1: &[u8],
-    arrivals1: &[u8],
-    h1: Header,
-    graph2: &[u8],
-    arrivals2: &[u8],
-    h2: Header,
-    lib: Library,
-    codes: &[u16],
-    ranged: bool,
-    work: &mut [u16],
-    text1: &mut [u8],
-    text2: &mut [u8],
-) -> Two
-    requires { ⌜ LibraryOk lib (now codes) × (readHeader (now graph1) ≡ holds h1) × (readHeader (now graph2) ≡ holds h2) ×
-        (need (h1 .size) (h1 .outputs) ≤ length (now work)) × (need (h2 .size) (h2 .outputs) ≤ length (now work)) × (length (now codes) ≡ 0) ⌝ }
-    ensures { λ r. ⌜ PairLeft ranged lib (now (codes .entry)) (channelOf (now (graph1 .entry)) (now (arrivals1 .entry)) (now (text1 .entry)))
-        (channelOf (now (graph2 .entry)) (now (arrivals2 .entry)) (now (text2 .entry))) (holds (record { first = h1; second = h2 })) (now (work .entry))
-        (now (text1 .entry)) (now (text2 .entry)) r (now (work .exit)) (now (text1 .exit)) (now (text2 .exit)) ⌝ }
-{
-    let mut sheet = matching::no_sheet();
-    map_both_on(
-        graph1,
-        arrivals1,
-        h1,
-        graph2,
-        arrivals2,
-        h2,
-        lib,
-        codes,
-        ranged,
-        &mut sheet,
-        work,
-        text1,
-        text2,
-    )
-}
-
-// With pairs, on a sheet for all.
-fn map_both_joined(
-    graph1: &[u8],
-    arrivals1: &[u8],
-    h1: Header,
-    graph2: &[u8],
-    arrivals2: &[u8],
-    h2: Header,
-    lib: Library,
-    codes: &[u16],
-    ranged: bool,
-    work: &mut [u16],
-    text1: &mut [u8],
-    text2: &mut [u8],
-) -> Two
-    requires { ⌜ LibraryOk lib (now codes) × (readHeader (now graph1) ≡ holds h1) × (readHeader (now graph2) ≡ holds h2) ×
-        (need (h1 .size) (h1 .outputs) ≤ length (now work)) × (need (h2 .size) (h2 .outputs) ≤ length (now work)) ⌝ }
-    ensures { λ r. ⌜ PairLeft ranged lib (now (codes .entry)) (channelOf (now (graph1 .entry)) (now (arrivals1 .entry)) (now (text1 .entry)))
-        (channelOf (now (graph2 .entry)) (now (arrivals2 .entry)) (now (text2 .entry))) (holds (record { first = h1; second = h2 })) (now (work .entry))
-        (now (text1 .entry)) (now (text2 .entry)) r (now (work .exit)) (now (text1 .exit)) (now (text2 .exit)) ⌝ }
-{
-    let mut sheet = matching::no_paired_sheet();
-    map_both_on(
-        graph1,
-        arrivals1,
-        h1,
-        graph2,
-        arrivals2,
-        h2,
-        lib,
-        codes,
-        ranged,
-        &mut sheet,
-        work,
-        text1,
-        text2,
-    )
-}
-
-// A call without pairs does not pay for their part of the sheet.
-fn map_both(
-    graph1: &[u8],
-    arrivals1: &[u8],
-    h1: Header,
-    graph2: &[u8],
-    arrivals2: &[u8],
-    h2: Header,
-    lib: Library,
-    codes: &[u16],
-    ranged: bool,
-    work: &mut [u16],
-    text1: &mut [u8],
-    text2: &mut [u8],
-) -> Two
-    requires { ⌜ LibraryOk lib (now codes) × (readHeader (now graph1) ≡ holds h1) × (readHeader (now graph2) ≡ holds h2) ×
-        (need (h1 .size) (h1 .outputs) ≤ length (now work)) × (need (h2 .size) (h2 .outputs) ≤ length (now work)) ⌝ }
-    ensures { λ r. ⌜ PairLeft ranged lib (now (codes .entry)) (channelOf (now (graph1 .entry)) (now (arrivals1 .entry)) (now (text1 .entry)))
-        (channelOf (now (graph2 .entry)) (now (arrivals2 .entry)) (now (text2 .entry))) (holds (record { first = h1; second = h2 })) (now (work .entry))
-        (now (text1 .entry)) (now (text2 .entry)) r (now (work .exit)) (now (text1 .exit)) (now (text2 .exit)) ⌝ }
-{
-    if codes.len() == 0 {
-        return map_both_listed(
-            graph1,
-            arrivals1,
-            h1,
-            graph2,
-            arrivals2,
-            h2,
-            lib,
-            codes,
-            ranged,
-            work,
-            text1,
-            text2,
-        );
-    }
-    map_both_joined(
-        graph1,
-        arrivals1,
-        h1,
-        graph2,
-        arrivals2,
-        h2,
-        lib,
-        codes,
-        ranged,
-        work,
-        text1,
-        text2,
-    )
-}
-
 // 10: "compares the lent words with the sum of both needs".
 fn map_pair(
-    graph1: &[u8],
-    arrivals1: &[u8],
+    g1: &[u8],
+    a1: &[u8],
     h1: Header,
-    graph2: &[u8],
-    arrivals2: &[u8],
+    g2: &[u8],
+    a2: &[u8],
     h2: Header,
     lib: Library,
-    codes: &[u16],
+    ks: &[u16],
     ranged: bool,
+    sheet: &mut [u32],
     work: &mut [u16],
-    text1: &mut [u8],
-    text2: &mut [u8],
+    t1: &mut [u8],
+    t2: &mut [u8],
 ) -> Two
-    requires { ⌜ LibraryOk lib (now codes) × (readHeader (now graph1) ≡ holds h1) × (readHeader (now graph2) ≡ holds h2) ⌝ }
-    ensures { λ r. ⌜ PairLeft ranged lib (now (codes .entry)) (channelOf (now (graph1 .entry)) (now (arrivals1 .entry)) (now (text1 .entry)))
-        (channelOf (now (graph2 .entry)) (now (arrivals2 .entry)) (now (text2 .entry))) (sumFor (length (now (work .entry))) h1 h2) (now (work .entry))
-        (now (text1 .entry)) (now (text2 .entry)) r (now (work .exit)) (now (text1 .exit)) (now (text2 .exit)) ⌝ }
+    requires { ⌜ LibraryOk lib (now ks) × (readHeader (now g1) ≡ holds h1) × (readHeader (now g2) ≡ holds h2) × Blank
+        (length (allOf lib (now ks))) (now sheet) ⌝ }
+    ensures { λ r. ⌜ PairLeft ranged lib (now (ks .entry)) (channelOf (now (g1 .entry)) (now (a1 .entry)) (now (t1 .entry)))
+        (channelOf (now (g2 .entry)) (now (a2 .entry)) (now (t2 .entry))) (sumFor (length (now (work .entry))) h1 h2) (now (work .entry))
+        (now (t1 .entry)) (now (t2 .entry)) r (now (work .exit)) (now (t1 .exit)) (now (t2 .exit)) ⌝ }
 {
     let first = words::need_words(h1.size, h1.outputs);
     let second = words::need_words(h2.size, h2.outputs);
     if work.len() < first + second {
         return both(10, 0);
     }
-    map_both(
-        graph1,
-        arrivals1,
-        h1,
-        graph2,
-        arrivals2,
-        h2,
-        lib,
-        codes,
-        ranged,
-        work,
-        text1,
-        text2,
-    )
+    map_both_on(g1, a1, h1, g2, a2, h2, lib, ks, ranged, sheet, work, t1, t2)
 }
 
 // The second channel's refusals tried before 10, once the first has none: 1, 7 to 9 and 19.
 fn map_second(
-    graph1: &[u8],
-    arrivals1: &[u8],
+    g1: &[u8],
+    a1: &[u8],
     h1: Header,
-    graph2: &[u8],
-    arrivals2: &[u8],
+    g2: &[u8],
+    a2: &[u8],
     lib: Library,
-    codes: &[u16],
+    ks: &[u16],
     ranged: bool,
+    sheet: &mut [u32],
     work: &mut [u16],
-    text1: &mut [u8],
-    text2: &mut [u8],
+    t1: &mut [u8],
+    t2: &mut [u8],
 ) -> Two
-    requires { ⌜ LibraryOk lib (now codes) × (readHeader (now graph1) ≡ holds h1) ⌝ }
-    ensures { λ r. ⌜ PairLeft ranged lib (now (codes .entry)) (channelOf (now (graph1 .entry)) (now (arrivals1 .entry)) (now (text1 .entry)))
-        (channelOf (now (graph2 .entry)) (now (arrivals2 .entry)) (now (text2 .entry)))
-        (secondFor (length (now (work .entry))) (channelOf (now (graph2 .entry)) (now (arrivals2 .entry)) (now (text2 .entry))) h1) (now (work .entry))
-        (now (text1 .entry)) (now (text2 .entry)) r (now (work .exit)) (now (text1 .exit)) (now (text2 .exit)) ⌝ }
+    requires { ⌜ LibraryOk lib (now ks) × (readHeader (now g1) ≡ holds h1) × Blank (length (allOf lib (now ks))) (now sheet) ⌝ }
+    ensures { λ r. ⌜ PairLeft ranged lib (now (ks .entry)) (channelOf (now (g1 .entry)) (now (a1 .entry)) (now (t1 .entry)))
+        (channelOf (now (g2 .entry)) (now (a2 .entry)) (now (t2 .entry)))
+        (secondFor (length (now (work .entry))) (channelOf (now (g2 .entry)) (now (a2 .entry)) (now (t2 .entry))) h1) (now (work .entry))
+        (now (t1 .entry)) (now (t2 .entry)) r (now (work .exit)) (now (t1 .exit)) (now (t2 .exit)) ⌝ }
 {
-    if graph2.len() > 65536 {
+    if g2.len() > 65536 {
         return both(1, 0);
     }
-    if arrivals2.len() > 65536 {
+    if a2.len() > 65536 {
         return both(1, 0);
     }
-    match aiger::header(graph2) {
+    match aiger::header(g2) {
         HeaderAnswer::Read(h2) => {
-            map_pair(
-                graph1,
-                arrivals1,
-                h1,
-                graph2,
-                arrivals2,
-                h2,
-                lib,
-                codes,
-                ranged,
-                work,
-                text1,
-                text2,
-            )
+            map_pair(g1, a1, h1, g2, a2, h2, lib, ks, ranged, sheet, work, t1, t2)
         }
         HeaderAnswer::Refused(number, place) => both(number, place),
     }
@@ -304,39 +130,28 @@ fn map_second(
 
 // The first channel's header, 7 to 9 and 19.
 fn map_first(
-    graph1: &[u8],
-    arrivals1: &[u8],
-    graph2: &[u8],
-    arrivals2: &[u8],
+    g1: &[u8],
+    a1: &[u8],
+    g2: &[u8],
+    a2: &[u8],
     lib: Library,
-    codes: &[u16],
+    ks: &[u16],
     ranged: bool,
+    sheet: &mut [u32],
     work: &mut [u16],
-    text1: &mut [u8],
-    text2: &mut [u8],
+    t1: &mut [u8],
+    t2: &mut [u8],
 ) -> Two
-    requires { ⌜ LibraryOk lib (now codes) ⌝ }
-    ensures { λ r. ⌜ PairLeft ranged lib (now (codes .entry)) (channelOf (now (graph1 .entry)) (now (arrivals1 .entry)) (now (text1 .entry)))
-        (channelOf (now (graph2 .entry)) (now (arrivals2 .entry)) (now (text2 .entry)))
-        (firstFor (length (now (work .entry))) (channelOf (now (graph1 .entry)) (now (arrivals1 .entry)) (now (text1 .entry)))
-        (channelOf (now (graph2 .entry)) (now (arrivals2 .entry)) (now (text2 .entry)))) (now (work .entry)) (now (text1 .entry)) (now (text2 .entry)) r
-        (now (work .exit)) (now (text1 .exit)) (now (text2 .exit)) ⌝ }
+    requires { ⌜ LibraryOk lib (now ks) × Blank (length (allOf lib (now ks))) (now sheet) ⌝ }
+    ensures { λ r. ⌜ PairLeft ranged lib (now (ks .entry)) (channelOf (now (g1 .entry)) (now (a1 .entry)) (now (t1 .entry)))
+        (channelOf (now (g2 .entry)) (now (a2 .entry)) (now (t2 .entry)))
+        (firstFor (length (now (work .entry))) (channelOf (now (g1 .entry)) (now (a1 .entry)) (now (t1 .entry)))
+        (channelOf (now (g2 .entry)) (now (a2 .entry)) (now (t2 .entry)))) (now (work .entry)) (now (t1 .entry)) (now (t2 .entry)) r
+        (now (work .exit)) (now (t1 .exit)) (now (t2 .exit)) ⌝ }
 {
-    match aiger::header(graph1) {
+    match aiger::header(g1) {
         HeaderAnswer::Read(h1) => {
-            map_second(
-                graph1,
-                arrivals1,
-                h1,
-                graph2,
-                arrivals2,
-                lib,
-                codes,
-                ranged,
-                work,
-                text1,
-                text2,
-            )
+            map_second(g1, a1, h1, g2, a2, lib, ks, ranged, sheet, work, t1, t2)
         }
         HeaderAnswer::Refused(number, place) => both(number, place),
     }
@@ -344,83 +159,77 @@ fn map_first(
 
 // The listed cells and their pairs, or 30: "when cells and pairs exceed 256, after 6, place 0".
 fn map_pairs(
-    graph1: &[u8],
-    arrivals1: &[u8],
-    graph2: &[u8],
-    arrivals2: &[u8],
+    g1: &[u8],
+    a1: &[u8],
+    g2: &[u8],
+    a2: &[u8],
     lib: Library,
     ranged: bool,
     work: &mut [u16],
-    text1: &mut [u8],
-    text2: &mut [u8],
+    t1: &mut [u8],
+    t2: &mut [u8],
 ) -> Two
     requires { ⌜ LibraryRead lib ⌝ }
-    ensures { λ r. ⌜ TwoLeft true ranged lib (channelOf (now (graph1 .entry)) (now (arrivals1 .entry)) (now (text1 .entry)))
-        (channelOf (now (graph2 .entry)) (now (arrivals2 .entry)) (now (text2 .entry))) (now (work .entry)) (now (text1 .entry)) (now (text2 .entry)) r
-        (now (work .exit)) (now (text1 .exit)) (now (text2 .exit)) ⌝ }
+    ensures { λ r. ⌜ TwoLeft true ranged lib (channelOf (now (g1 .entry)) (now (a1 .entry)) (now (t1 .entry)))
+        (channelOf (now (g2 .entry)) (now (a2 .entry)) (now (t2 .entry))) (now (work .entry)) (now (t1 .entry)) (now (t2 .entry)) r
+        (now (work .exit)) (now (t1 .exit)) (now (t2 .exit)) ⌝ }
 {
-    let mut codes = [0u16; 4096];
-    let n = pairs::form(&mut codes, lib);
+    let mut ks = [0u16; 4096];
+    let n = pairs::form(&mut ks, lib);
     if lib.n + n > 256 {
         return both(30, 0);
     }
+    let mut sheet = matching::no_paired_sheet();
     map_first(
-        graph1,
-        arrivals1,
-        graph2,
-        arrivals2,
+        g1,
+        a1,
+        g2,
+        a2,
         lib,
-        &codes[..n],
+        &ks[..n],
         ranged,
+        &mut sheet,
         work,
-        text1,
-        text2,
+        t1,
+        t2,
     )
 }
 
-// The cells that both channels are mapped with: "Where a call wants them", pairs too.
+// The cells that both channels are mapped with: "Where a call wants them", pairs too. A call without pairs does not pay for their part of the sheet.
 fn map_cells(
-    graph1: &[u8],
-    arrivals1: &[u8],
-    graph2: &[u8],
-    arrivals2: &[u8],
+    g1: &[u8],
+    a1: &[u8],
+    g2: &[u8],
+    a2: &[u8],
     lib: Library,
     ranged: bool,
     paired: bool,
     work: &mut [u16],
-    text1: &mut [u8],
-    text2: &mut [u8],
+    t1: &mut [u8],
+    t2: &mut [u8],
 ) -> Two
     requires { ⌜ LibraryRead lib ⌝ }
-    ensures { λ r. ⌜ TwoLeft paired ranged lib (channelOf (now (graph1 .entry)) (now (arrivals1 .entry)) (now (text1 .entry)))
-        (channelOf (now (graph2 .entry)) (now (arrivals2 .entry)) (now (text2 .entry))) (now (work .entry)) (now (text1 .entry)) (now (text2 .entry)) r
-        (now (work .exit)) (now (text1 .exit)) (now (text2 .exit)) ⌝ }
+    ensures { λ r. ⌜ TwoLeft paired ranged lib (channelOf (now (g1 .entry)) (now (a1 .entry)) (now (t1 .entry)))
+        (channelOf (now (g2 .entry)) (now (a2 .entry)) (now (t2 .entry))) (now (work .entry)) (now (t1 .entry)) (now (t2 .entry)) r
+        (now (work .exit)) (now (t1 .exit)) (now (t2 .exit)) ⌝ }
 {
     if paired {
-        return map_pairs(
-            graph1,
-            arrivals1,
-            graph2,
-            arrivals2,
-            lib,
-            ranged,
-            work,
-            text1,
-            text2,
-        );
+        return map_pairs(g1, a1, g2, a2, lib, ranged, work, t1, t2);
     }
     let none = [0u16; 1];
+    let mut sheet = matching::no_sheet();
     map_first(
-        graph1,
-        arrivals1,
-        graph2,
-        arrivals2,
+        g1,
+        a1,
+        g2,
+        a2,
         lib,
         &none[..0],
         ranged,
+        &mut sheet,
         work,
-        text1,
-        text2,
+        t1,
+        t2,
     )
 }
 

@@ -40,8 +40,7 @@ bound-long [] (w ∷ ws) ns e = absurd (let z : _≡_ {A = ℕ} 0 1 = cc in omeg
 bound-long (b ∷ bs) [] ns e = absurd (let z : _≡_ {A = ℕ} 0 1 = cc in omega arith)
 bound-long (b ∷ bs) (w ∷ ws) ns e =
     let a = then-out (pinNet b w) (λ n. andThen (boundNets bs ws) (λ rest. some (n ∷ rest))) ns e in
-    let c = then-out (boundNets bs ws) (λ rest. some (a .0 ∷ rest)) ns (a .2) in
-    let z : a .0 ∷ c .0 ≡ ns = cc (c .2) in
+    let c = then-out (boundNets bs ws) (λ rest. some (a .0 ∷ rest)) ns (a .2) in let z : a .0 ∷ c .0 ≡ ns = cc (c .2) in
     sym (ap length z) ∙ ap suc (bound-long bs ws (c .0) (c .1))
 
 bound-nets : (bs : List ℕ) (ws ns : List (List ℕ)) → boundNets bs ws ≡ some ns → (n : List ℕ) → List·Memᴰ n ns → T (isNet n)
@@ -51,8 +50,7 @@ bound-nets [] (w ∷ ws) ns e n m = absurd (let z : _≡_ {A = ℕ} 0 1 = cc in 
 bound-nets (b ∷ bs) [] ns e n m = absurd (let z : _≡_ {A = ℕ} 0 1 = cc in omega arith)
 bound-nets (b ∷ bs) (w ∷ ws) ns e n m =
     let a = then-out (pinNet b w) (λ x. andThen (boundNets bs ws) (λ rest. some (x ∷ rest))) ns e in
-    let c = then-out (boundNets bs ws) (λ rest. some (a .0 ∷ rest)) ns (a .2) in
-    let z : a .0 ∷ c .0 ≡ ns = cc (c .2) in
+    let c = then-out (boundNets bs ws) (λ rest. some (a .0 ∷ rest)) ns (a .2) in let z : a .0 ∷ c .0 ≡ ns = cc (c .2) in
     go (a .0) (c .0) (subst T (sym (pin-named b w (a .0) (a .1))) tt) (subst (λ (xs : List (List ℕ)). List·Memᴰ n xs) (sym z) m) (bound-nets bs ws (c .0) (c .1))
   where
     go : (x : List ℕ) (xs : List (List ℕ)) → T (isNet x) → List·Memᴰ n (x ∷ xs) → ((y : List ℕ) → List·Memᴰ y xs → T (isNet y)) → T (isNet n)
@@ -85,8 +83,7 @@ module _ (cells : List Cell) (few : (c : Cell) → List·Memᴰ c cells → c .p
   fields-form at [] d e = absurd (let z : _≡_ {A = ℕ} 0 1 = cc in omega arith)
   fields-form at (k ∷ []) d e = absurd (let z : _≡_ {A = ℕ} 0 1 = cc in omega arith)
   fields-form at (k ∷ name ∷ ws) d e =
-      let a = then-out (cellNamed cells name) _ d e in
-      let c : Cell = a .0 in
+      let a = then-out (cellNamed cells name) _ d e in let c : Cell = a .0 in
       let b = then-out (boundNets (map (λ (j : ℕ). 65 + j) (from 0 (c .pins)) ++ (79 ∷ [])) ws) _ d (a .2) in
       let ns : List (List ℕ) = b .0 in
       let is : record { offset = at; table = c .table; uses = take (c .pins) ns; net = getD ns (c .pins) [] } ≡ d = cc (b .2) in

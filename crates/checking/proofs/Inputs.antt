@@ -53,8 +53,7 @@ map-at f (suc n) i (suc k) h = map-at f n (suc i) k (omega arith) ∙ ap f (let 
 -- a turn of the loop that stores them
 pub codes-more : (f : ℕ → ℕ) (codes : List ℕ) (i v : ℕ) → codes ≡ putAt (zeros 12) 0 (map f (from 0 i)) → i < 12 → v ≡ f i → set codes i v ≡ putAt (zeros 12) 0 (map f (from 0 (i + 1)))
 codes-more f codes i v e h is =
-    let long : length (map f (from 0 i)) ≡ i = map-long f i 0 in
-    let twelve : length (zeros 12) ≡ 12 = length-replicate {A = ℕ} 12 0 in
+    let long : length (map f (from 0 i)) ≡ i = map-long f i 0 in let twelve : length (zeros 12) ≡ 12 = length-replicate {A = ℕ} 12 0 in
     let at : i ≡ 0 + length (map f (from 0 i)) = omega arith in
     ap (λ (w : List ℕ). set w i v) e ∙ ap (λ (k : ℕ). set (putAt (zeros 12) 0 (map f (from 0 i))) k v) at
     ∙ put-more (zeros 12) 0 (map f (from 0 i)) v (omega arith)

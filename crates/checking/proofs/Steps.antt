@@ -349,8 +349,7 @@ module _ (library graph netlist work : List ℕ) where
           go : (r : Read (List Cell)) → readLibrary library ≡ r → libraryAnswer r .verdict ≡ Refused n k → CheckMemory library graph netlist work (Turned n k) work
           go (holds cs) q z = absurd (let x : _≡_ {A = ℕ} 0 1 = cc in omega arith)
           go (fault m j) q z =
-              let x : m ≡ n = cc in let y : j ≡ k = cc in
-              let f : readLibrary library ≡ fault n k = q ∙ (λ i. fault (x i) (y i)) in
+              let x : m ≡ n = cc in let y : j ≡ k = cc in let f : readLibrary library ≡ fault n k = q ∙ (λ i. fault (x i) (y i)) in
               memory-of (readEdited library graph netlist (length work)) (Turned n k) work refl
               (left-early (readEdited library graph netlist (length work)) n k work (entered ∙ ap (λ (r : Read (List Cell)). next r behindCells) f) (library-early library .has n k f))
 

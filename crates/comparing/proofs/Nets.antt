@@ -109,8 +109,7 @@ module _ (w : List ℕ) (h : Header) (nets : List ℕ) (n : ℕ) (refs order : L
 
   pub drivers-ready : (p : ℕ) → p < n → Readable nets refs (getD order p 0)
   drivers-ready p l =
-      let i : ℕ = getD order p 0 in
-      let s : getD order p 0 < n = ordered-in p l in
+      let i : ℕ = getD order p 0 in let s : getD order p 0 < n = ordered-in p l in
       record {
         few = omega (arith, c .bounded);
         room = omega (arith, array-long);

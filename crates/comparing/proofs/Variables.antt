@@ -143,8 +143,7 @@ module _ (w : List ℕ) (h : Header) (nets : List ℕ) (n : ℕ) (refs order : L
   and-slot : (i : ℕ) → h .inputs < i → i < placedOf h → (a : And) × List·Memᴰ a (g .ands) × (slotAt w (h .size) i ≡ a .var)
   unfolding placingOrder rest
   and-slot i l s =
-      let j : ℕ = i - 1 - length (g .inputs) in
-      let at : i ≡ suc (length (g .inputs) + j) = omega (arith, c .holding .ins) in
+      let j : ℕ = i - 1 - length (g .inputs) in let at : i ≡ suc (length (g .inputs) + j) = omega (arith, c .holding .ins) in
       let e : slotAt w (h .size) i ≡ getD rest j 0 =
       slot-is i s ∙ ap (λ (x : ℕ). getD (0 ∷ g .inputs ++ rest) x 0) at ∙ getD-append-add (g .inputs) rest j 0 in
       let fewer : j < length rest = omega (arith, placed-is, length-append (g .inputs) rest, c .holding .ins) in
@@ -155,8 +154,7 @@ module _ (w : List ℕ) (h : Header) (nets : List ℕ) (n : ℕ) (refs order : L
   slot-node : (i : ℕ) → h .inputs < i → i < placedOf h
       → node g (slotAt w (h .size) i) ≡ both (leftAt w (h .size) (slotAt w (h .size) i)) (rightAt w (h .size) (slotAt w (h .size) i))
   slot-node i l s =
-      let o = and-slot i l s in
-      let v : ℕ = slotAt w (h .size) i in
+      let o = and-slot i l s in let v : ℕ = slotAt w (h .size) i in
       let e : node g v ≡ both (o .0 .left) (o .0 .right) = ap (node g) (o .2) ∙ and-node g (c .accepted) (o .0) (o .1) in
       e ∙ sym (ap₂ both (c .holding .held .lefts v (inside i s) ∙ ap leftOf e) (c .holding .held .rights v (inside i s) ∙ ap rightOf e))
 
@@ -208,9 +206,7 @@ module _ (w : List ℕ) (h : Header) (nets : List ℕ) (n : ℕ) (refs order : L
         go : (x y : Bool) → eqb i 0 ≡ x → leb i (h .inputs) ≡ y → valueWord v ≡ cond x 0 (cond y (inputWord (i - 1) b) (andAt w (h .size) valueWord (slotAt w (h .size) i)))
         go true y e f = let z : i ≡ 0 = eqb-true i 0 e in turn-zero v (ap (slotAt w (h .size)) z ∙ first-slot (omega arith))
         go false true e f =
-            let d = eqb-false i 0 e in
-            let z : i ≤ h .inputs = leb-true i (h .inputs) f in
-            let at : i ≡ i - 1 + 1 = omega (arith, d) in
+            let d = eqb-false i 0 e in let z : i ≤ h .inputs = leb-true i (h .inputs) f in let at : i ≡ i - 1 + 1 = omega (arith, d) in
             let few : i - 1 < length (g .inputs) = omega (arith, d, c .holding .ins) in
             turn-input v (i - 1) few (ap (slotAt w (h .size)) at ∙ input-slot (i - 1) few (omega arith))
         go false false e f = turn-and v (leftAt w (h .size) v) (rightAt w (h .size) v) (slot-node i (leb-false i (h .inputs) f) l)

@@ -121,8 +121,7 @@ module _ (l : Library) (s : List ℕ) (at : ℕ) (fits : at ≤ length s) where
       let o = is-out (gateIn (cellsOf l) (lineAt s at)) k next e in
       let b = ended-out (endedByTen (lineAt s at)) k (gateOf 0 (cellsOf l) (lineAt s at .bytes)) (o .0) in
       let one : lineAt s at .ending ≡ 1 = eqb-true (lineAt s at .ending) 1 (b .0) in
-      let t = ten-line s at fits (spanAt s at) refl (omega (arith, span-long s at)) in
-      let n : spanAt s at .next ≡ next = t .past ∙ o .1 in
+      let t = ten-line s at fits (spanAt s at) refl (omega (arith, span-long s at)) in let n : spanAt s at .next ≡ next = t .past ∙ o .1 in
       let h : linesOf s at ≡ lineAt s at ∷ linesOf s next = t .here ∙ ap (λ (x : ℕ). lineAt s at ∷ linesOf s x) n in
       record {
         gates = ap (gatesIn (cellsOf l)) h ∙ gates-some (cellsOf l) (lineAt s at) (linesOf s next) k (o .0) .0;

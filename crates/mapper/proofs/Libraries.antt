@@ -18,6 +18,8 @@ use Rattle.theory.proofs.Ranges.{no-lower}
 use Rattle.words.specs.Put.{putAt}
 use Rattle.pairs.specs.Codes.{pairOfCode, pairCodes, cellsBy, Joinable}
 use Rattle.pairs.proofs.Forming.{coded-none, coded-all, numbered-none, numbered-all}
+use Rattle.pairs.proofs.Cells.{by-length}
+use Rattle.matching.specs.Sheet.{Blank}
 use Rattle.matching.specs.Variants.{Matchable}
 use Rattle.matching.proofs.Linking.{usable-library}
 use Rattle.matching.proofs.Pairing.{matchable-by}
@@ -125,6 +127,16 @@ plain-ok lib r = record { read = r; coded = coded-none lib (joinable-of lib r); 
 
 pub joined-ok : (lib : Library) → LibraryRead lib → lib .n + length (pairCodes (cellsOf lib)) ≤ 256 → LibraryOk lib (pairCodes (cellsOf lib))
 joined-ok lib r h = record { read = r; coded = coded-all lib (joinable-of lib r) h; numbered = numbered-all lib (joinable-of lib r) }
+
+-- a blank sheet for so many cells serves fewer
+blank-few : {m n : ℕ} {s : List ℕ} → n ≤ m → Blank m s → Blank n s
+blank-few h b = record { long = omega (arith, b .long); empty = b .empty }
+
+pub blank-joined : (lib : Library) (codes : List ℕ) → LibraryOk lib codes → {s : List ℕ} → Blank 256 s → Blank (length (allOf lib codes)) s
+blank-joined lib codes ok b = blank-few (all-few lib codes ok) b
+
+pub blank-listed : (lib : Library) → LibraryRead lib → {s : List ℕ} → Blank 32 s → Blank (length (allOf lib [])) s
+blank-listed lib r b = blank-few (omega (arith, by-length (cellsOf lib) [], r .usable .whole, r .usable .few)) b
 
 -- what stands first in an array once a list is written there
 pub formed-are : (xs ys : List ℕ) (n : ℕ) → n ≡ 0 + length ys → take n (putAt xs 0 ys) ≡ ys

@@ -189,86 +189,6 @@ fn map_on(
     a
 }
 
-// With no pairs, on a sheet for the listed cells.
-fn map_listed(
-    graph: &[u8],
-    arrivals: &[u8],
-    h: Header,
-    lib: Library,
-    codes: &[u16],
-    ranged: bool,
-    work: &mut [u16],
-    text: &mut [u8],
-) -> Answer
-    requires { ⌜ LibraryOk lib (now codes) × (readHeader (now graph) ≡ holds h) × (need (h .size) (h .outputs) ≤ length (now work)) ×
-        (length (now codes) ≡ 0) ⌝ }
-    ensures { λ r. ⌜ Told (graphFor ranged lib (now (codes .entry)) (now (graph .entry)) (now (arrivals .entry)) h (length (now (text .entry))))
-        (now (text .entry)) r (now (text .exit)) × (now (work .exit) ≡ replicate (length (now (work .entry))) 0) ⌝ }
-{
-    let mut sheet = matching::no_sheet();
-    map_on(
-        graph,
-        arrivals,
-        h,
-        lib,
-        codes,
-        ranged,
-        &mut sheet,
-        work,
-        text,
-    )
-}
-
-// With pairs, on a sheet for all.
-fn map_joined(
-    graph: &[u8],
-    arrivals: &[u8],
-    h: Header,
-    lib: Library,
-    codes: &[u16],
-    ranged: bool,
-    work: &mut [u16],
-    text: &mut [u8],
-) -> Answer
-    requires { ⌜ LibraryOk lib (now codes) × (readHeader (now graph) ≡ holds h) × (need (h .size) (h .outputs) ≤ length (now work)) ⌝ }
-    ensures { λ r. ⌜ Told (graphFor ranged lib (now (codes .entry)) (now (graph .entry)) (now (arrivals .entry)) h (length (now (text .entry))))
-        (now (text .entry)) r (now (text .exit)) × (now (work .exit) ≡ replicate (length (now (work .entry))) 0) ⌝ }
-{
-    let mut sheet = matching::no_paired_sheet();
-    map_on(
-        graph,
-        arrivals,
-        h,
-        lib,
-        codes,
-        ranged,
-        &mut sheet,
-        work,
-        text,
-    )
-}
-
-// A call without pairs does not pay for their part of the sheet.
-fn map_graph(
-    graph: &[u8],
-    arrivals: &[u8],
-    h: Header,
-    lib: Library,
-    codes: &[u16],
-    ranged: bool,
-    work: &mut [u16],
-    text: &mut [u8],
-) -> Answer
-    requires { ⌜ LibraryOk lib (now codes) × (readHeader (now graph) ≡ holds h) × (need (h .size) (h .outputs) ≤ length (now work)) ⌝ }
-    ensures { λ r. ⌜ Told (graphFor ranged lib (now (codes .entry)) (now (graph .entry)) (now (arrivals .entry)) h (length (now (text .entry))))
-        (now (text .entry)) r (now (text .exit)) × (now (work .exit) ≡ replicate (length (now (work .entry))) 0) ⌝ }
-{
-    if codes.len() == 0 {
-        return map_listed(graph, arrivals, h, lib, codes, ranged, work, text);
-    }
-    map_joined(graph, arrivals, h, lib, codes, ranged, work, text)
-}
-
 // The header, 7 to 9 and 19, then 10: "Work memory is unchanged by every refusal tried up to 10, and all zero after a later one and after success."
 fn map_header(
     graph: &[u8],
@@ -276,10 +196,11 @@ fn map_header(
     lib: Library,
     codes: &[u16],
     ranged: bool,
+    sheet: &mut [u32],
     work: &mut [u16],
     text: &mut [u8],
 ) -> Answer
-    requires { ⌜ LibraryOk lib (now codes) ⌝ }
+    requires { ⌜ LibraryOk lib (now codes) × Blank (length (allOf lib (now codes))) (now sheet) ⌝ }
     ensures { λ r. ⌜ Left (headerFor ranged lib (now (codes .entry)) (now (graph .entry)) (now (arrivals .entry)) (length (now (work .entry)))
         (length (now (text .entry)))) (now (work .entry)) (now (text .entry)) r (now (work .exit)) (now (text .exit)) ⌝ }
 {
@@ -288,7 +209,7 @@ fn map_header(
             if work.len() < words::need_words(h.size, h.outputs) {
                 return Answer::Refused(10, 0);
             }
-            map_graph(graph, arrivals, h, lib, codes, ranged, work, text)
+            map_on(graph, arrivals, h, lib, codes, ranged, sheet, work, text)
         }
         HeaderAnswer::Refused(number, place) => Answer::Refused(number, place),
     }
@@ -312,10 +233,20 @@ fn map_pairs(
     if lib.n + n > 256 {
         return Answer::Refused(30, 0);
     }
-    map_header(graph, arrivals, lib, &codes[..n], ranged, work, text)
+    let mut sheet = matching::no_paired_sheet();
+    map_header(
+        graph,
+        arrivals,
+        lib,
+        &codes[..n],
+        ranged,
+        &mut sheet,
+        work,
+        text,
+    )
 }
 
-// The cells that the call maps with: "Where a call wants them", pairs too.
+// The cells that the call maps with: "Where a call wants them", pairs too. A call without pairs does not pay for their part of the sheet.
 fn map_cells(
     graph: &[u8],
     arrivals: &[u8],
@@ -333,7 +264,17 @@ fn map_cells(
         return map_pairs(graph, arrivals, lib, ranged, work, text);
     }
     let none = [0u16; 1];
-    map_header(graph, arrivals, lib, &none[..0], ranged, work, text)
+    let mut sheet = matching::no_sheet();
+    map_header(
+        graph,
+        arrivals,
+        lib,
+        &none[..0],
+        ranged,
+        &mut sheet,
+        work,
+        text,
+    )
 }
 
 // A library text, a graph text in either form and an arrivals' text mapped, with pairs of cells where the call wants them: the netlist at the start of text

@@ -80,8 +80,7 @@ flip-digit (suc (suc d)) h = absurd (omega arith)
 xor-low : (x : ℕ) → (bitXor x 1 / 2 ≡ x / 2) × (eqb (bitXor x 1 % 2) 1 ≡ not (eqb (x % 2) 1))
 xor-low x =
     let e : bitXor x 1 ≡ x / 2 * 2 + differ (x % 2) 1 = xor-step x 1 ∙ ap (λ (y : ℕ). y * 2 + differ (x % 2) 1) (xor-zero-r (x / 2)) in
-    let d = flip-digit (x % 2) (omega arith) in
-    let r : bitXor x 1 % 2 ≡ differ (x % 2) 1 = omega arith in
+    let d = flip-digit (x % 2) (omega arith) in let r : bitXor x 1 % 2 ≡ differ (x % 2) 1 = omega arith in
     (omega arith, ap (λ (y : ℕ). eqb y 1) r ∙ d .1)
 
 xor-high : (x j : ℕ) → bitXor x (2 ^ suc j) ≡ bitXor (x / 2) (2 ^ j) * 2 + x % 2

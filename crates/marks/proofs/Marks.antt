@@ -89,11 +89,8 @@ module _ (s : List ℕ) (k : Marks s) (i x t : ℕ) (within : i < 64) where
     put-other : ((j : ℕ) → ¬ (j ≡ v % 64) → bit x j ≡ bit (getD s i 0) j) → (u : ℕ) → u < 4096 → ¬ (u ≡ v) → has (set (set s i x) 64 t) u ≡ has s u
     put-other rest u h d = has-is (set (set s i x) 64 t) u ∙ by-eqb (u / 64) i
         (λ e.
-        ap (λ (n : ℕ). bit (getD (set (set s i x) 64 t) n 0) (u % 64)) e
-        ∙ ap (λ (y : ℕ). bit y (u % 64)) put-at
-        ∙ rest (u % 64) (λ q. d (omega arith))
-        ∙ ap (λ (n : ℕ). bit (getD s n 0) (u % 64)) (sym e)
-        ∙ sym (has-is s u))
+        ap (λ (n : ℕ). bit (getD (set (set s i x) 64 t) n 0) (u % 64)) e ∙ ap (λ (y : ℕ). bit y (u % 64)) put-at
+        ∙ rest (u % 64) (λ q. d (omega arith)) ∙ ap (λ (n : ℕ). bit (getD s n 0) (u % 64)) (sym e) ∙ sym (has-is s u))
         (λ n. ap (λ (y : ℕ). bit y (u % 64)) (put-apart (u / 64) n (omega arith)) ∙ sym (has-is s u))
 
 -- ---- one more
@@ -202,8 +199,7 @@ module _ (s : List ℕ) (k : Marks s) where
 
     some-in : (lowestOf s < 4096) × (has s (lowestOf s) ≡ true)
     some-in =
-        let i = trailingZeros 64 (getD s 64 0) in
-        let j = trailingZeros 64 (getD s i 0) in
+        let i = trailingZeros 64 (getD s 64 0) in let j = trailingZeros 64 (getD s i 0) in
         let e : lowestOf s ≡ 64 * i + j = lowest-sum s (omega arith) in
         let a : lowestOf s / 64 ≡ i = omega (arith, first-within, block .0) in
         let b : lowestOf s % 64 ≡ j = omega (arith, first-within, block .0) in
@@ -211,11 +207,8 @@ module _ (s : List ℕ) (k : Marks s) where
 
     some-least : (u : ℕ) → u < lowestOf s → has s u ≡ false
     some-least u l =
-        let i = trailingZeros 64 (getD s 64 0) in
-        let j = trailingZeros 64 (getD s i 0) in
-        let e : lowestOf s ≡ 64 * i + j = lowest-sum s (omega arith) in
-        let w = first-within in
-        let w2 = block .0 in
+        let i = trailingZeros 64 (getD s 64 0) in let j = trailingZeros 64 (getD s i 0) in
+        let e : lowestOf s ≡ 64 * i + j = lowest-sum s (omega arith) in let w = first-within in let w2 = block .0 in
         by-eqb (u / 64) i
         (λ q. has-is s u ∙ ap (λ (n : ℕ). bit (getD s n 0) (u % 64)) q ∙ trailing-before 64 (getD s i 0) (u % 64) (omega arith))
         (λ d. empty-block u (omega arith) (trailing-before 64 (getD s 64 0) (u / 64) (omega arith)))

@@ -1,5 +1,4 @@
--- The loop that places the ANDs, a slot at a time: what the slots from here on give is what all slots give.
--- Assumes nothing.
+-- The loop that places the ANDs, a slot at a time: what the slots from here on give is what all slots give. Assumes nothing.
 use mathlib.Core.Path.{_≡_, refl, sym, ap, _∙_}
 use mathlib.Core.List.{List}
 use Prim.Native.Nat.{ℕ, suc, _+_, _-_, _≤_, _<_}

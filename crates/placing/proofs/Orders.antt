@@ -71,8 +71,7 @@ module _ (w₀ : List ℕ) (m : ℕ) (g : Graph) (sure : (a : And) → List·Mem
   ready-and : (placed : List ℕ) → ((u : ℕ) → elem u placed ≡ elem u order) → (a : And) → List·Memᴰ a (g .ands) → isReady w m (a .var) ≡ ready placed a
   unfolding isReady ready
   ready-and placed same a n =
-      let s = sure a n in
-      let l : leftAt w m (a .var) ≡ a .left = held .lefts (a .var) (s .var) ∙ ap leftOf (s .node) in
+      let s = sure a n in let l : leftAt w m (a .var) ≡ a .left = held .lefts (a .var) (s .var) ∙ ap leftOf (s .node) in
       let r : rightAt w m (a .var) ≡ a .right = held .rights (a .var) (s .var) ∙ ap rightOf (s .node) in
       rw (waiting-and a n, l, r, operand (a .left) (s .left), operand (a .right) (s .right), same (a .var), same (varOf (a .left)), same (varOf (a .right)))
 
@@ -102,8 +101,7 @@ module _ (w₀ : List ℕ) (m : ℕ) (g : Graph) (sure : (a : And) → List·Mem
     ready-out : (u : ℕ) → List·Memᴰ u readies → (u ≤ m) × (isReady w m u ≡ true)
     unfolding readies
     ready-out u n =
-        let o = map-out (λ (a : And). a .var) (keep (ready placed) (g .ands)) n in
-        let k = keep-out (ready placed) (g .ands) (o .1) in
+        let o = map-out (λ (a : And). a .var) (keep (ready placed) (g .ands)) n in let k = keep-out (ready placed) (g .ands) (o .1) in
         (omega (arith, o .2, sure (o .0) (k .0) .var), ap (isReady w m) (o .2) ∙ ready-and placed same (o .0) (k .0) ∙ is-true (ready placed (o .0)) (k .1))
 
   -- the ANDs that wait
@@ -238,14 +236,12 @@ module _ (w₀ : List ℕ) (m : ℕ) (g : Graph) (fits : Room w₀ m) (sure : (a
           ((order ++ (nextAnd w m low ∷ [])) ++ placeF n (g .ands) (nextAnd w m low ∷ placed)))
           → Placing w₀ m g (orderWords m (suc n) slot low w) (orderLow m (suc n) slot low w) (order ++ placeF (suc n) (g .ands) placed)
       go true q later =
-          let l : nextAnd w m low ≤ m = leb-true (nextAnd w m low) m q in
-          let t = order-on m n slot low w (suc n) refl l in
+          let l : nextAnd w m low ≤ m = leb-true (nextAnd w m low) m q in let t = order-on m n slot low w (suc n) refl l in
           let o : (order ++ (nextAnd w m low ∷ [])) ++ placeF n (g .ands) (nextAnd w m low ∷ placed) ≡ order ++ placeF (suc n) (g .ands) placed =
           append-snoc order (nextAnd w m low) (placeF n (g .ands) (nextAnd w m low ∷ placed)) ∙ ap (λ (x : List ℕ). order ++ x) (sym (place-some n (g .ands) placed (nextAnd w m low) (next-some w low order placed s l))) in
           rw (t .0, t .1) (subst (Placing w₀ m g (orderWords m n (slot + 1) (waitingFrom w m low) (putPlaced w m slot (nextAnd w m low))) (orderLow m n (slot + 1) (waitingFrom w m low) (putPlaced w m slot (nextAnd w m low)))) o (later l))
       go false q later =
-          let l : m < nextAnd w m low = leb-false (nextAnd w m low) m q in
-          let t = order-off m n slot low w (suc n) refl l in
+          let l : m < nextAnd w m low = leb-false (nextAnd w m low) m q in let t = order-off m n slot low w (suc n) refl l in
           rw (t .0, t .1) (stay w (waitingFrom w m low) order placed (placeF (suc n) (g .ands) placed) (went-mark w low order placed s) (place-none n (g .ands) placed (next-none w low order placed s l)))
 
 -- ---- the whole

@@ -90,8 +90,7 @@ ordered-more w m order v fits slot within small new o = record {
         by-eqb i (length order)
         (λ e. ap (placeAt (putPlaced w m (length order) v) m) (ap (λ (j : ℕ). getD (order ++ (v ∷ [])) j 0) e ∙ getD-append-seam order v [] 0) ∙ place-stored w m (length order) v fits slot within ∙ omega arith)
         (λ d.
-        let l : i < length order = omega arith in
-        let s : getD order i 0 ≤ m = small i l in
+        let l : i < length order = omega arith in let s : getD order i 0 ≤ m = small i l in
         let x : (getD order i 0 ≡ v) → ⊥ = λ e. new (subst (λ (u : ℕ). List·Memᴰ u order) e (getD-in order i 0 l)) in
         ap (placeAt (putPlaced w m (length order) v) m) (List·getD-append order (v ∷ []) 0 i l)
         ∙ placed-apart w m (length order) v fits slot within (placeAddr m (getD order i 0)) (omega arith) (λ e. x (omega arith))

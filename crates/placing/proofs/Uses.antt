@@ -109,8 +109,7 @@ module _ (op : ℕ → ℕ) (n : ℕ) (heads links : List ℕ) (s : Lists op n h
         let f : getD (set heads x k) y 0 ≡ k = ap (λ (z : ℕ). getD (set heads x k) z 0) e ∙ head-own in
         rw f (listed-own, its ∙ sym e))
         (λ d.
-        let f : getD (set heads x k) y 0 ≡ getD heads y 0 = head-apart y d in
-        let r = s .head y h (omega arith) in
+        let f : getD (set heads x k) y 0 ≡ getD heads y 0 = head-apart y d in let r = s .head y h (omega arith) in
         rw f (listed-old (getD heads y 0) (r .0), r .1));
     headed = λ o l. by-eqb (op o) x
         (λ q.
@@ -325,8 +324,7 @@ module _ (m : ℕ) (w : List ℕ) (scan : ℕ) (heads links marks : List ℕ) (v
   waking-start f ms s k without same = record {
     sound = k;
     only = λ u h e.
-        let d = without u h e in
-        let r = n .ready .only u h (sym (same u h d) ∙ e) in
+        let d = without u h e in let r = n .ready .only u h (sym (same u h d) ∙ e) in
         (r .0, ready-more w m i v fits slot within u (omega (arith, s .under, s .lists .upto (2 * u) (r .0 .left))) d (r .1));
     all = λ u h b e free. by-eqb u v
         (λ q. absurd (true-false (ap (isReady (putPlaced w m i v) m) (sym q) ∙ e) (not-ready (putPlaced w m i v) m v (placed-waits w m i v fits slot within))))

@@ -32,11 +32,8 @@ module _ (s : List ℕ) (t : Tally) where
   pub round-trip : RoundTrip s t
   unfolding stored
   round-trip n lg la lo =
-      let a = putAt s 0 (t .gates) in
-      let b = putAt a 32 (t .areas) in
-      let c = putAt b 64 (t .occurs) in
-      let d = putAt c 96 (t .netlists ∷ []) in
-      let na : length a ≡ 97 = length-put s 0 (t .gates) (omega arith) ∙ n in
+      let a = putAt s 0 (t .gates) in let b = putAt a 32 (t .areas) in let c = putAt b 64 (t .occurs) in
+      let d = putAt c 96 (t .netlists ∷ []) in let na : length a ≡ 97 = length-put s 0 (t .gates) (omega arith) ∙ n in
       let nb : length b ≡ 97 = length-put a 32 (t .areas) (omega arith) ∙ na in
       let nc : length c ≡ 97 = length-put b 64 (t .occurs) (omega arith) ∙ nb in
       let nd : length d ≡ 97 = length-put c 96 (t .netlists ∷ []) (omega arith) ∙ nc in

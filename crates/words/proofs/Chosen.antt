@@ -103,8 +103,7 @@ phase-back (Matched m) n f =
     ap (λ (k : ℕ). kindSource k ((512 + m .cell) % 256) (matchWord m)) kind ∙ ap Matched (match-back m f) in
     λ i. record { source = e i; arrival = halves n i }
 phase-back (Inverted c) n f =
-    let kind : (768 + c) / 256 ≡ 3 = omega arith in
-    let cell : (768 + c) % 256 ≡ c = omega arith in
+    let kind : (768 + c) / 256 ≡ 3 = omega arith in let cell : (768 + c) % 256 ≡ c = omega arith in
     λ i. record { source = kindSource (kind i) (cell i) 0; arrival = halves n i }
 phase-back Nothing n f = λ i. record { source = Nothing; arrival = halves n i }
 
@@ -121,10 +120,8 @@ phase-apart w at vs fits j h = read-apart phaseIn 4 phase-of-words w at vs fits 
 pub phase-none : (w : List ℕ) (at : ℕ) → ((k : ℕ) → k < 4 → getD w (at + k) 0 ≡ 0) → phaseIn w at ≡ noPhase
 unfolding phaseIn noPhase
 phase-none w at h =
-    let e₀ : getD w at 0 ≡ 0 = simp add-zero at (h 0 (omega arith)) in
-    let e₁ : getD w (at + 1) 0 ≡ 0 = h 1 (omega arith) in
-    let e₂ : getD w (at + 2) 0 ≡ 0 = h 2 (omega arith) in
-    let e₃ : getD w (at + 3) 0 ≡ 0 = h 3 (omega arith) in
+    let e₀ : getD w at 0 ≡ 0 = simp add-zero at (h 0 (omega arith)) in let e₁ : getD w (at + 1) 0 ≡ 0 = h 1 (omega arith) in
+    let e₂ : getD w (at + 2) 0 ≡ 0 = h 2 (omega arith) in let e₃ : getD w (at + 3) 0 ≡ 0 = h 3 (omega arith) in
     λ i. record { source = sourceOf (e₀ i) (e₁ i); arrival = e₂ i + e₃ i * 65536 }
 
 -- ---- needed phases
@@ -136,8 +133,7 @@ bit-of x y e = by (eqb (x % 2) 1) refl
     by : (t : Bool) → eqb (x % 2) 1 ≡ t → x % 2 ≡ y % 2
     by true d = omega (arith, eqb-true (x % 2) 1 d, eqb-true (y % 2) 1 (sym e ∙ d))
     by false d =
-        let a : x % 2 ≡ 1 → ⊥ = eqb-false (x % 2) 1 d in
-        let b : y % 2 ≡ 1 → ⊥ = eqb-false (y % 2) 1 (sym e ∙ d) in
+        let a : x % 2 ≡ 1 → ⊥ = eqb-false (x % 2) 1 d in let b : y % 2 ≡ 1 → ⊥ = eqb-false (y % 2) 1 (sym e ∙ d) in
         omega arith
 
 -- a mark is seen, and the other bit stays

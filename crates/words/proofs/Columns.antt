@@ -226,8 +226,7 @@ module _ (m c v k : ℕ) (column : c < 5) (inside : v ≤ m) (few : k < cutLimit
 
   pub cut-words-apart : (d u j : ℕ) → d < 5 → u ≤ m → j < cutLimit → (c ≡ d → v ≡ u → k ≡ j → ⊥) → cutAddr m c v k ≡ cutAddr m d u j → ⊥
   cut-words-apart d u j other within low n e =
-      let o = of-cut m c v k column in
-      let p = of-cut m d u j other in
+      let o = of-cut m c v k column in let p = of-cut m d u j other in
       never-meet m 0 (cutColumn c) (cutColumn d) v k u j (o .listed inside few) (p .listed within low)
       (λ same. n (let r : rank (cutColumn c) ≡ rank (cutColumn d) = ap rank same in omega (arith, r, o .number, p .number))) .apart 0 0
       (omega (arith, o .one)) (omega (arith, p .one)) (omega (arith, o .place, p .place, e))

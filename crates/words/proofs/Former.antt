@@ -86,8 +86,7 @@ whence-behind m i h =
 whence-cut : (m v k c : ℕ) → v ≤ m → k < cutLimit → c < 5 → whence m (formerAddr m v k + c) ≡ cutAddr m c v k
 unfolding whence
 whence-cut m v k c inside few h =
-    let i : ℕ = formerAddr m v k + c in
-    let column : (i - listsFrom m) % 5 ≡ c = omega arith in
+    let i : ℕ = formerAddr m v k + c in let column : (i - listsFrom m) % 5 ≡ c = omega arith in
     let row : (i - listsFrom m) / 5 ≡ cutLimit * v + k = omega arith in
     ap (λ (b : Bool). cond b i (cond (ltb i (listsTo m)) (inColumn m (i - listsFrom m)) i)) (le-ltb i (listsFrom m) (omega arith))
     ∙ ap (λ (b : Bool). cond b (inColumn m (i - listsFrom m)) i) (lt-ltb i (listsTo m) (omega arith))
@@ -177,19 +176,15 @@ module _ (w : List ℕ) (m v k : ℕ) (ws : List ℕ) (fits : Room w m) (inside 
       other : (u ≡ v → j ≡ k → ⊥)
           → getD (putCut w m v k ws) (cutAddr m c u j) 0 ≡ getD (putAt (former m w) (formerAddr m v k) ws) (formerAddr m u j + c) 0
       other n =
-          word-stays w m v k ws fits inside few five u j within low n c h
-          ∙ sym (cut-word m w fits u j within low c h)
-          ∙ sym
+          word-stays w m v k ws fits inside few five u j within low n c h ∙ sym (cut-word m w fits u j within low c h) ∙ sym
           (get-apart (former m w) (formerAddr m v k) ws fits-former (formerAddr m u j + c)
           (λ d b e. let same : u ≡ v = omega arith in n same (omega arith)))
 
       by : (s : Bool) → eqb u v ≡ s → (t : Bool) → eqb j k ≡ t
           → getD (putCut w m v k ws) (cutAddr m c u j) 0 ≡ getD (putAt (former m w) (formerAddr m v k) ws) (formerAddr m u j + c) 0
       by true e true f =
-          let a : u ≡ v = eqb-true u v e in
-          let b : j ≡ k = eqb-true j k f in
-          (λ i. getD (putCut w m v k ws) (cutAddr m c (a i) (b i)) 0)
-          ∙ word-stored w m v k ws fits inside few five c h
+          let a : u ≡ v = eqb-true u v e in let b : j ≡ k = eqb-true j k f in
+          (λ i. getD (putCut w m v k ws) (cutAddr m c (a i) (b i)) 0) ∙ word-stored w m v k ws fits inside few five c h
           ∙ sym (get-put (former m w) (formerAddr m v k) ws fits-former c (omega (arith, five)))
           ∙ sym (λ i. getD (putAt (former m w) (formerAddr m v k) ws) (formerAddr m (a i) (b i) + c) 0)
       by true e false f = other (λ a. eqb-false j k f)
@@ -240,8 +235,7 @@ module _ (w : List ℕ) (m at : ℕ) (vs : List ℕ) (fits : Room w m) (room : a
   -- a word of the lists
   kept-word : (i : ℕ) → listsFrom m ≤ i → i < listsTo m → i < length w → getD (former m (putAt w at vs)) i 0 ≡ getD (putAt (former m w) at vs) i 0
   kept-word i a b l =
-      let o = in-lists m i a b in
-      let to : ℕ = cutAddr m (o .column) (o .variable) (o .number) in
+      let o = in-lists m i a b in let to : ℕ = cutAddr m (o .column) (o .variable) (o .number) in
       let from : listsFrom m ≤ to = cut-from m (o .column) (o .variable) (o .number) (o .five) (o .within) (o .low) in
       let below : to < listsTo m = cut-to m (o .column) (o .variable) (o .number) (o .five) (o .within) (o .low) in
       ap (λ (x : ℕ). getD (former m (putAt w at vs)) x 0) (o .here)

@@ -60,11 +60,9 @@ put-same v w at vs size fits i same = by (ltb i at) refl (ltb i (at + length vs)
         let l : i < at = ltb-true i at e in
         get-put-below v at vs fits-v i l ∙ same ∙ sym (get-put-below w at vs fits i l)
     by false e true f =
-        let l : at ≤ i = ltb-false i at e in
-        let g : i < at + length vs = ltb-true i (at + length vs) f in
+        let l : at ≤ i = ltb-false i at e in let g : i < at + length vs = ltb-true i (at + length vs) f in
         let here : i ≡ at + (i - at) = omega arith in
-        ap (λ (j : ℕ). getD (putAt v at vs) j 0) here
-        ∙ get-put v at vs fits-v (i - at) (omega arith)
+        ap (λ (j : ℕ). getD (putAt v at vs) j 0) here ∙ get-put v at vs fits-v (i - at) (omega arith)
         ∙ sym (ap (λ (j : ℕ). getD (putAt w at vs) j 0) here ∙ get-put w at vs fits (i - at) (omega arith))
     by false e false f =
         let g : at + length vs ≤ i = ltb-false i (at + length vs) f in
@@ -97,10 +95,8 @@ module _ (w : List ℕ) (at : ℕ) (vs : List ℕ) (fits : at + length vs ≤ le
 -- a word among zeros that were put
 pub zero-put : (w : List ℕ) (at n : ℕ) → at + n ≤ length w → (i : ℕ) → at ≤ i → i < at + n → getD (putAt w at (zeros n)) i 0 ≡ 0
 zero-put w at n h i a b =
-    let l : length (zeros n) ≡ n = length-replicate n 0 in
-    let e : at + (i - at) ≡ i = omega arith in
-    ap (λ (j : ℕ). getD (putAt w at (zeros n)) j 0) (sym e)
-    ∙ get-put w at (zeros n) (omega arith) (i - at) (omega arith)
+    let l : length (zeros n) ≡ n = length-replicate n 0 in let e : at + (i - at) ≡ i = omega arith in
+    ap (λ (j : ℕ). getD (putAt w at (zeros n)) j 0) (sym e) ∙ get-put w at (zeros n) (omega arith) (i - at) (omega arith)
     ∙ getD-replicate n (i - at) 0 0 (omega arith)
 
 -- a record that is read out of the n words from a place on, and of nothing else
@@ -110,15 +106,12 @@ pub record OfWords {A : Type 0} (read : List ℕ → ℕ → A) (n : ℕ) : Type
 module _ {A : Type 0} (read : List ℕ → ℕ → A) (n : ℕ) (r : OfWords read n) (w : List ℕ) (at : ℕ) (vs : List ℕ) (fits : at + length vs ≤ length w) where
   pub read-put : length vs ≡ n → read (putAt w at vs) at ≡ read vs 0
   read-put e =
-      r .local (putAt w at vs) at
-      ∙ ap (λ (k : ℕ). read (take k (drop at (putAt w at vs))) 0) (sym e)
+      r .local (putAt w at vs) at ∙ ap (λ (k : ℕ). read (take k (drop at (putAt w at vs))) 0) (sym e)
       ∙ ap (λ (x : List ℕ). read x 0) (part-put w at vs fits)
 
   pub read-apart : (j : ℕ) → Apart j n at (length vs) → read (putAt w at vs) j ≡ read w j
   read-apart j h =
-      r .local (putAt w at vs) j
-      ∙ ap (λ (x : List ℕ). read x 0) (part-apart w at vs fits j n h)
-      ∙ sym (r .local w j)
+      r .local (putAt w at vs) j ∙ ap (λ (x : List ℕ). read x 0) (part-apart w at vs fits j n h) ∙ sym (r .local w j)
 
 -- a record that is the same where its n words are is read out of them
 pub of-words : {A : Type 0} (read : List ℕ → ℕ → A) (n : ℕ)

@@ -44,11 +44,8 @@ length-words c = ap suc (length-padded c)
 pub same-cut : (f g : ℕ → ℕ) → ((c : ℕ) → c < 5 → f c ≡ g c) → cutBy f ≡ cutBy g
 unfolding cutBy
 same-cut f g h =
-    let e₀ : f 0 ≡ g 0 = h 0 (omega arith) in
-    let e₁ : f 1 ≡ g 1 = h 1 (omega arith) in
-    let e₂ : f 2 ≡ g 2 = h 2 (omega arith) in
-    let e₃ : f 3 ≡ g 3 = h 3 (omega arith) in
-    let e₄ : f 4 ≡ g 4 = h 4 (omega arith) in
+    let e₀ : f 0 ≡ g 0 = h 0 (omega arith) in let e₁ : f 1 ≡ g 1 = h 1 (omega arith) in let e₂ : f 2 ≡ g 2 = h 2 (omega arith) in
+    let e₃ : f 3 ≡ g 3 = h 3 (omega arith) in let e₄ : f 4 ≡ g 4 = h 4 (omega arith) in
     λ i. record { leaves = e₁ i ∷ e₂ i ∷ e₃ i ∷ e₄ i ∷ []; count = e₀ i }
 
 -- the words of a cut read back
@@ -93,15 +90,12 @@ pub five-stores : (w : List ℕ) (m v k at next : ℕ) (ws : List ℕ) → at �
     ≡ putCut w m v k ws
 unfolding putCut putFrom
 five-stores w m v k at next ws e n five =
-    let e₁ : at + next ≡ cutAddr m 1 v k = omega arith in
-    let e₂ : at + 2 * next ≡ cutAddr m 2 v k = omega arith in
-    let e₃ : at + 3 * next ≡ cutAddr m 3 v k = omega arith in
-    let e₄ : at + 4 * next ≡ cutAddr m 4 v k = omega arith in
+    let e₁ : at + next ≡ cutAddr m 1 v k = omega arith in let e₂ : at + 2 * next ≡ cutAddr m 2 v k = omega arith in
+    let e₃ : at + 3 * next ≡ cutAddr m 3 v k = omega arith in let e₄ : at + 4 * next ≡ cutAddr m 4 v k = omega arith in
     (λ i.
     putAt
     (putAt (putAt (putAt (putAt w (e i) (getD ws 0 0 ∷ [])) (e₁ i) (getD ws 1 0 ∷ [])) (e₂ i) (getD ws 2 0 ∷ [])) (e₃ i) (getD ws 3 0 ∷ []))
-    (e₄ i) (getD ws 4 0 ∷ []))
-    ∙ ap (putCut w m v k) (sym (five-words ws five))
+    (e₄ i) (getD ws 4 0 ∷ [])) ∙ ap (putCut w m v k) (sym (five-words ws five))
 
 -- words stored for cut k of v, one in each column of the cuts from number c on
 module _ (m v k : ℕ) (inside : v ≤ m) (few : k < cutLimit) where
@@ -119,8 +113,7 @@ module _ (m v k : ℕ) (inside : v ≤ m) (few : k < cutLimit) where
   from-length w c [] fits h = refl
   from-length w c (x ∷ ws) fits h =
       let here : c < 5 = omega arith in
-      from-length (putAt w (cutAddr m c v k) (x ∷ [])) (suc c) ws (room-more w c x fits here) (omega arith)
-      ∙ length-word w c x fits here
+      from-length (putAt w (cutAddr m c v k) (x ∷ [])) (suc c) ws (room-more w c x fits here) (omega arith) ∙ length-word w c x fits here
 
   -- a word that none of them is
   from-apart : (w : List ℕ) (c : ℕ) (ws : List ℕ) → Room w m → c + length ws ≤ 5 → (i : ℕ)
@@ -138,15 +131,13 @@ module _ (m v k : ℕ) (inside : v ≤ m) (few : k < cutLimit) where
   unfolding putFrom
   from-stored w c [] fits h j l = absurd (not-suc-le-zero l)
   from-stored w c (x ∷ ws) fits h zero l =
-      let here : c < 5 = omega arith in
-      let w′ : List ℕ = putAt w (cutAddr m c v k) (x ∷ []) in
+      let here : c < 5 = omega arith in let w′ : List ℕ = putAt w (cutAddr m c v k) (x ∷ []) in
       ap (λ (d : ℕ). getD (putFrom w′ m (suc c) v k ws) (cutAddr m d v k) 0) (add-zero c)
       ∙ from-apart w′ (suc c) ws (room-more w c x fits here) (omega arith) (cutAddr m c v k)
       (λ d a b. cut-words-apart m c v k here inside few d v k b inside few (λ e s t. omega arith))
       ∙ word-put w (cutAddr m c v k) x (room-word w c fits here)
   from-stored w c (x ∷ ws) fits h (suc j) l =
-      let here : c < 5 = omega arith in
-      let w′ : List ℕ = putAt w (cutAddr m c v k) (x ∷ []) in
+      let here : c < 5 = omega arith in let w′ : List ℕ = putAt w (cutAddr m c v k) (x ∷ []) in
       let e : c + suc j ≡ suc c + j = omega arith in
       ap (λ (d : ℕ). getD (putFrom w′ m (suc c) v k ws) (cutAddr m d v k) 0) e
       ∙ from-stored w′ (suc c) ws (room-more w c x fits here) (omega arith) j (le-of-suc-le-suc l)
@@ -199,8 +190,7 @@ pub cuts-more : (w : List ℕ) (m v k : ℕ) (wss : List (List ℕ)) (ws : List 
 unfolding putCuts
 cuts-more w m v k [] ws = ap (λ (j : ℕ). putCut w m v j ws) (add-zero k)
 cuts-more w m v k (us ∷ wss) ws =
-    let w′ : List ℕ = putCut w m v k us in
-    let e : k + suc (length wss) ≡ suc k + length wss = omega arith in
+    let w′ : List ℕ = putCut w m v k us in let e : k + suc (length wss) ≡ suc k + length wss = omega arith in
     ap (λ (j : ℕ). putCut (putCuts w′ m v (suc k) wss) m v j ws) e ∙ cuts-more w′ m v (suc k) wss ws
 
 -- out is w with the cuts cs stored as those of v from number k on
@@ -239,8 +229,7 @@ module _ (w : List ℕ) (m v k : ℕ) (c : List ℕ) (cs : List (List ℕ)) (fit
     where
       at : (j : ℕ) → j < length (c ∷ cs) → cutOf out m v (k + j) ≡ cutIn (cutWords (getD (c ∷ cs) j []))
       at zero h =
-          ap (cutOf out m v) (add-zero k)
-          ∙ rest .other v k inside few (λ e. omega arith)
+          ap (cutOf out m v) (add-zero k) ∙ rest .other v k inside few (λ e. omega arith)
           ∙ cut-stored w m v k (cutWords c) fits inside few five
       at (suc j) h =
           let e : k + suc j ≡ suc k + j = omega arith in
@@ -252,8 +241,7 @@ unfolding putCuts begun
 cuts-put w m v k [] fits inside few =
     record { long = refl; before = λ i h. refl; behind = λ i h. refl; other = λ u j h l n. refl; stored = λ j h. absurd (not-suc-le-zero h) }
 cuts-put w m v k (c ∷ cs) fits inside few =
-    let here : k < cutLimit = omega arith in
-    let w′ : List ℕ = putCut w m v k (cutWords c) in
+    let here : k < cutLimit = omega arith in let w′ : List ℕ = putCut w m v k (cutWords c) in
     then-rest w m v k c cs fits inside here (putCuts w′ m v (suc k) (map cutWords cs))
     (cuts-put w′ m v (suc k) cs (room-begun w m v k c cs fits inside here) inside (omega arith))
 
@@ -383,8 +371,7 @@ module _ (w : List ℕ) (m v : ℕ) (cs : List (List ℕ)) (fits : Room w m) (in
   pub put-list-cuts : AllGood cs → cutsAt (putList w m v cs) m v ≡ cs
   unfolding cutsAt
   put-list-cuts good =
-      ap (leavesFrom (putList w m v cs) m v 0) put-list-count
-      ∙ list-is (putList w m v cs) m v 0 cs
+      ap (leavesFrom (putList w m v cs) m v 0) put-list-count ∙ list-is (putList w m v cs) m v 0 cs
       (λ k h. ap leavesOf (done .stored k h) ∙ words-back (getD cs k []) (good-get cs k good h .0))
 
   pub put-list-sound : AllGood cs → Sound (putList w m v cs) m v
@@ -394,8 +381,7 @@ module _ (w : List ℕ) (m v : ℕ) (cs : List (List ℕ)) (fits : Room w m) (in
         few = omega (arith, put-list-count);
         narrow =
             λ k h.
-            let l : k < length cs = omega (arith, put-list-count) in
-            let here : k ≡ 0 + k = omega arith in
+            let l : k < length cs = omega (arith, put-list-count) in let here : k ≡ 0 + k = omega arith in
             let e : cutOf (putList w m v cs) m v k .count ≡ length (getD cs k []) =
             ap (λ (j : ℕ). cutOf (putList w m v cs) m v j .count) here ∙ ap (λ (c : Cut). c .count) (done .stored k l) in
             omega (arith, good-get cs k good l .0);

@@ -1,5 +1,4 @@
--- `aiger::all_known` meets its contract.
--- Assumes nothing.
+-- `aiger::all_known` meets its contract. Assumes nothing.
 use mathlib.Core.Path.{sym, _∙_}
 use borrow.Author.Tests.{not-true, not-false}
 use Rattle.aiger.specs.Lines.{wordsKnown}
@@ -7,16 +6,12 @@ use borrow.Author.Needs.{needs}
 use Rattle.aiger.proofs.all_known.Statement.{statement}
 use Rattle.aiger.proofs.all_known.Tie as tie
 
-returns : tie.Need-returns
-unfolding wordsKnown
-returns c = rw (sym (c .before .outputs-known .ensures) ∙ not-true _ (c .if1 .taken))
-
 returns-2 : tie.Need-returns-2
 unfolding wordsKnown
 returns-2 c = rw (sym (c .before .before .outputs-known .ensures) ∙ not-false _ (c .before .if1 .left)) (c .ands-known .ensures)
 
 pub all-known-spec : {M : Type 1} → statement M
-all-known-spec =
-    tie.close
-    (tie.spec
-    (λ c κs. search needs) returns (λ c κs. search needs) returns-2)
+unfolding wordsKnown
+all-known-spec = tie.close (tie.spec
+    (λ c κs. search needs) (λ c. rw (sym (c .before .outputs-known .ensures) ∙ not-true _ (c .if1 .taken))) (λ c κs. search needs)
+    returns-2)

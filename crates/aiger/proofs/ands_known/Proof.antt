@@ -16,20 +16,13 @@ Inv-loop work m v₀ v = Passing (operandsKnown work m) (m + 1) v
 abbrev μ-loop : tie.MeasureT-loop
 μ-loop work m v₀ v = m + 1 - v
 
-loop-holds : tie.Need-loop-holds Inv-loop μ-loop
-loop-holds c = passing-first _ _
-
 returns : tie.Need-returns Inv-loop μ-loop
 returns c = sym (passing-stop _ _ _ (c .before .before .before .loop .inv) (omega arith) (sym (c .before .operands-known .ensures) ∙ not-true _ (c .if1 .taken)))
 
 loop-again : tie.Need-loop-again Inv-loop μ-loop
 loop-again c = passing-on _ _ _ (c .before .before .before .loop .inv) (omega arith) (sym (c .before .operands-known .ensures) ∙ not-false _ (c .if1 .left))
 
-returns-2 : tie.Need-returns-2 Inv-loop μ-loop
-returns-2 c = sym (passing-end _ _ _ (c .before .loop .inv) (omega arith))
-
 pub ands-known-spec : {M : Type 1} → statement M
-ands-known-spec =
-    tie.close
-    (tie.spec
-    Inv-loop μ-loop loop-holds (λ c κs. search needs) returns (λ c. search needs) (λ c. search needs) loop-again returns-2)
+ands-known-spec = tie.close (tie.spec
+    Inv-loop μ-loop (λ c. passing-first _ _) (λ c κs. search needs) returns (λ c. search needs) (λ c. search needs) loop-again
+    (λ c. sym (passing-end _ _ _ (c .before .loop .inv) (omega arith))))

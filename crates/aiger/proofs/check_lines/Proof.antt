@@ -14,29 +14,18 @@ Inv-loop s work h count at₀ k₀ at k = Left s h work k at
 abbrev μ-loop : tie.MeasureT-loop
 μ-loop s work h count at₀ k₀ at k = dueCount h - k
 
-loop-holds : tie.Need-loop-holds Inv-loop μ-loop
-loop-holds c = left-first _ _ _
-
 returns : tie.Need-returns Inv-loop μ-loop
 returns c =
-    let at-check-at = c .before .before .before in
-    let at-loop-test = at-check-at .before in
-    let at-loop = at-loop-test .before in
+    let at-check-at = c .before .before .before in let at-loop-test = at-check-at .before in let at-loop = at-loop-test .before in
     left-stop _ _ _ _ _ (at-loop .loop .inv) (at-loop-test .loop-test .taken) _ _ (sym (at-check-at .check-at .ensures) ∙ c .before .n .given .1)
 
 loop-again : tie.Need-loop-again Inv-loop μ-loop
 loop-again c =
-    let at-check-at = c .before .before .before in
-    let at-loop-test = at-check-at .before in
-    let at-loop = at-loop-test .before in
+    let at-check-at = c .before .before .before in let at-loop-test = at-check-at .before in let at-loop = at-loop-test .before in
     left-on _ _ _ _ _ (at-loop .loop .inv) (at-loop-test .loop-test .taken) _ (sym (at-check-at .check-at .ensures) ∙ c .before .next .given .1)
 
-returns-2 : tie.Need-returns-2 Inv-loop μ-loop
-returns-2 c = left-end _ _ _ _ _ (c .before .loop .inv) (c .loop-test .left)
-
 pub check-lines-spec : {M : Type 1} → statement M
-check-lines-spec =
-    tie.close
-    (tie.spec
-    Inv-loop μ-loop (λ c. search needs) (λ c. search needs) loop-holds (λ c κs. search needs) (λ c. search needs) (λ c. search needs) returns
-    (λ c. search needs) (λ c. search needs) loop-again returns-2)
+check-lines-spec = tie.close (tie.spec
+    Inv-loop μ-loop (λ c. search needs) (λ c. search needs) (λ c. left-first _ _ _) (λ c κs. search needs) (λ c. search needs)
+    (λ c. search needs) returns (λ c. search needs) (λ c. search needs) loop-again
+    (λ c. left-end _ _ _ _ _ (c .before .loop .inv) (c .loop-test .left)))

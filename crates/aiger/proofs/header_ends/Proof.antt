@@ -1,5 +1,4 @@
--- `aiger::header_ends` meets its contract: the first line's end is of one byte.
--- Assumes nothing.
+-- `aiger::header_ends` meets its contract: the first line's end is of one byte. Assumes nothing.
 use mathlib.Core.Path.{sym, ap, _∙_}
 use borrow.Author.Needs.{needs}
 use Rattle.aiger.specs.Lines.{headerEnds}
@@ -7,16 +6,10 @@ use Rattle.aiger.proofs.Head.{first-from, first-ten, either-end}
 use Rattle.aiger.proofs.header_ends.Statement.{statement}
 use Rattle.aiger.proofs.header_ends.Tie as tie
 
-sub-result : tie.Need-sub-result
-sub-result c = first-from _ _ (c .before .line .ensures)
-
 returns : tie.Need-returns
 returns c = first-ten _ _ (c .before .line .ensures) ∙ ap (headerEnds _) (sym (c .before .before .if1 .taken))
 
-returns-2 : tie.Need-returns-2
-returns-2 c = sym (ap (headerEnds _) (c .if1 .left) ∙ either-end _)
-
 pub header-ends-spec : {M : Type 1} → statement M
-header-ends-spec = tie.close
-    (tie.spec
-    (λ c κs. search needs) sub-result returns returns-2)
+header-ends-spec = tie.close (tie.spec
+    (λ c κs. search needs) (λ c. first-from _ _ (c .before .line .ensures)) returns
+    (λ c. sym (ap (headerEnds _) (c .if1 .left) ∙ either-end _)))

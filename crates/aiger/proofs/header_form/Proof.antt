@@ -1,34 +1,24 @@
--- `aiger::header_form` meets its contract: each return knows what the reads that led there found.
--- Assumes nothing.
+-- `aiger::header_form` meets its contract: each return knows what the reads that led there found. Assumes nothing.
 use mathlib.Core.Path.{sym, _∙_}
 use Rattle.aiger.specs.Lines.{formAt}
 use borrow.Author.Needs.{needs}
 use Rattle.aiger.proofs.header_form.Statement.{statement}
 use Rattle.aiger.proofs.header_form.Tie as tie
 
-enum-told : tie.Need-enum-told
-enum-told c = search needs
-
 returns : tie.Need-returns
 unfolding formAt
 returns c =
-    let at-ends = c .before .before in
-    let at-binary = at-ends .before .before in
+    let at-ends = c .before .before in let at-binary = at-ends .before .before in
     rw (sym (at-binary .before .before .tag .ensures) ∙ at-binary .binary .given .1, sym (at-ends .header-ends .ensures) ∙ c .before .if1 .taken) (c .header-numbers .ensures)
 
 returns-2 : tie.Need-returns-2
 unfolding formAt
 returns-2 c =
-    let at-ends = c .before in
-    let at-binary = at-ends .before .before in
+    let at-ends = c .before in let at-binary = at-ends .before .before in
     rw (sym (at-binary .before .before .tag .ensures) ∙ at-binary .binary .given .1, sym (at-ends .header-ends .ensures) ∙ c .if1 .left)
 
-returns-3 : tie.Need-returns-3
-unfolding formAt
-returns-3 c = rw (sym (c .before .before .tag .ensures) ∙ c .enum-told .given .1)
-
 pub header-form-spec : {M : Type 1} → statement M
-header-form-spec =
-    tie.close
-    (tie.spec
-    (λ c κs. search needs) (λ c. search needs) (λ c κs. search needs) (λ c κs. search needs) enum-told returns returns-2 returns-3)
+unfolding formAt
+header-form-spec = tie.close (tie.spec
+    (λ c κs. search needs) (λ c. search needs) (λ c κs. search needs) (λ c κs. search needs) (λ c. search needs) returns returns-2
+    (λ c. rw (sym (c .before .before .tag .ensures) ∙ c .enum-told .given .1)))

@@ -1,13 +1,9 @@
--- `aiger::in_limits` meets its contract: the tests of 9, one by one.
--- Assumes nothing.
+-- `aiger::in_limits` meets its contract: the tests of 9, one by one. Assumes nothing.
 use mathlib.Core.Path.{sym}
 use native.Mathlib.Omega.{arith}
 use Rattle.aiger.proofs.Head.{limits-size, limits-outputs, limits-inputs, limits-ands}
 use Rattle.aiger.proofs.in_limits.Statement.{statement}
 use Rattle.aiger.proofs.in_limits.Tie as tie
-
-returns : tie.Need-returns
-returns c = sym (limits-size (c .before .before .args .h) (omega arith))
 
 returns-2 : tie.Need-returns-2
 returns-2 c = sym (limits-outputs (c .before .before .before .before .args .h) (omega arith) (omega arith))
@@ -19,4 +15,4 @@ returns-4 : tie.Need-returns-4
 returns-4 c = sym (limits-ands (c .before .before .before .before .before .before .before .before .args .h) (omega arith) (omega arith) (omega arith))
 
 pub in-limits-spec : {M : Type 1} → statement M
-in-limits-spec = tie.close (tie.spec returns returns-2 returns-3 returns-4)
+in-limits-spec = tie.close (tie.spec (λ c. sym (limits-size (c .before .before .args .h) (omega arith))) returns-2 returns-3 returns-4)

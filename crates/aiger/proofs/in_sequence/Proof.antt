@@ -1,5 +1,4 @@
--- `aiger::in_sequence` meets its contract.
--- Assumes nothing.
+-- `aiger::in_sequence` meets its contract. Assumes nothing.
 use Rattle.model.specs.GraphText.{inSequence}
 use borrow.Author.Needs.{needs}
 use Rattle.aiger.proofs.in_sequence.Statement.{statement}
@@ -9,11 +8,6 @@ returns : tie.Need-returns
 unfolding inSequence
 returns c = rw (c .before .before .if1 .taken)
 
-returns-2 : tie.Need-returns-2
-unfolding inSequence
-returns-2 c = rw (c .if1 .left)
-
 pub in-sequence-spec : {M : Type 1} → statement M
-in-sequence-spec = tie.close
-    (tie.spec
-    (λ c. search needs) returns returns-2)
+unfolding inSequence
+in-sequence-spec = tie.close (tie.spec (λ c. search needs) returns (λ c. rw (c .if1 .left)))

@@ -15,9 +15,6 @@ Inv-loop work h i₀ i = Passing (outputKnown work (h .size)) (h .outputs) i
 abbrev μ-loop : tie.MeasureT-loop
 μ-loop work h i₀ i = h .outputs - i
 
-loop-holds : tie.Need-loop-holds Inv-loop μ-loop
-loop-holds c = passing-first _ _
-
 returns : tie.Need-returns Inv-loop μ-loop
 returns c =
     let at-test = c .before .before in
@@ -28,11 +25,7 @@ loop-again c =
     let at-test = c .before .before in
     passing-on _ _ _ (at-test .before .before .loop .inv) (at-test .if1 .taken) (sym (c .before .output-known .ensures) ∙ not-false _ (c .if2 .left))
 
-returns-2 : tie.Need-returns-2 Inv-loop μ-loop
-returns-2 c = sym (passing-end _ _ _ (c .before .before .loop .inv) (c .if1 .left))
-
 pub outputs-known-spec : {M : Type 1} → statement M
-outputs-known-spec =
-    tie.close
-    (tie.spec
-    Inv-loop μ-loop loop-holds (λ c κs. search needs) returns (λ c. search needs) (λ c. search needs) loop-again returns-2)
+outputs-known-spec = tie.close (tie.spec
+    Inv-loop μ-loop (λ c. passing-first _ _) (λ c κs. search needs) returns (λ c. search needs) (λ c. search needs) loop-again
+    (λ c. sym (passing-end _ _ _ (c .before .before .loop .inv) (c .if1 .left))))

@@ -1,20 +1,12 @@
--- `aiger::read_line` meets its contract.
--- Assumes nothing.
+-- `aiger::read_line` meets its contract. Assumes nothing.
 use borrow.Author.Tests.{eq-eqb, ne-eqb}
 use Rattle.aiger.specs.Lines.{lineRead}
 use borrow.Author.Needs.{needs}
 use Rattle.aiger.proofs.read_line.Statement.{statement}
 use Rattle.aiger.proofs.read_line.Tie as tie
 
-returns : tie.Need-returns
-unfolding lineRead
-returns c = rw (eq-eqb _ _ (c .before .if1 .taken)) (c .read-and .ensures)
-
-returns-2 : tie.Need-returns-2
-unfolding lineRead
-returns-2 c = rw (ne-eqb _ _ (c .before .if1 .left)) (c .read-one .ensures)
-
 pub read-line-spec : {M : Type 1} → statement M
-read-line-spec = tie.close
-    (tie.spec
-    (λ c κs. search needs) (λ c κs. search needs) returns returns-2)
+unfolding lineRead
+read-line-spec = tie.close (tie.spec
+    (λ c κs. search needs) (λ c κs. search needs) (λ c. rw (eq-eqb _ _ (c .before .if1 .taken)) (c .read-and .ensures))
+    (λ c. rw (ne-eqb _ _ (c .before .if1 .left)) (c .read-one .ensures)))

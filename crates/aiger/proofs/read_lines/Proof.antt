@@ -16,35 +16,25 @@ Inv-loop s work₀ h count at₀ k₀ work at k = Rest s h work₀ k at work
 abbrev μ-loop : tie.MeasureT-loop
 μ-loop s work₀ h count at₀ k₀ work at k = dueCount h - k
 
-loop-holds : tie.Need-loop-holds Inv-loop μ-loop
-loop-holds c = rest-first _ _ _
-
 turn-at-requires : tie.Need-turn-at-requires Inv-loop μ-loop
 turn-at-requires c κs =
-    let at-loop = c .before .before in
-    let start = at-loop .before .before .before .before .before in
+    let at-loop = c .before .before in let start = at-loop .before .before .before .before .before in
     (fit-length (start .args .h) (start .args .work .now) _ (start .pre) (at-loop .loop .inv .long), omega arith)
 
 returns : tie.Need-returns Inv-loop μ-loop
 returns c =
-    let at-turn-at = c .before .before .before .before .before in
-    let at-loop-test = at-turn-at .before .before in
+    let at-turn-at = c .before .before .before .before .before in let at-loop-test = at-turn-at .before .before in
     let at-loop = at-loop-test .before in
     rest-stop _ _ _ _ _ _ (at-loop .loop .inv) (at-loop-test .loop-test .taken) _ _ _ (sym (at-turn-at .turn-at .ensures .0) ∙ c .before .n .given .1) (at-turn-at .turn-at .ensures .1)
 
 loop-again : tie.Need-loop-again Inv-loop μ-loop
 loop-again c =
-    let at-turn-at = c .before .before .before .before .before in
-    let at-loop-test = at-turn-at .before .before in
+    let at-turn-at = c .before .before .before .before .before in let at-loop-test = at-turn-at .before .before in
     let at-loop = at-loop-test .before in
     rest-on _ _ _ _ _ _ (at-loop .loop .inv) (at-loop-test .loop-test .taken) _ _ (sym (at-turn-at .turn-at .ensures .0) ∙ c .before .next .given .1) (at-turn-at .turn-at .ensures .1) (search needs)
 
-returns-2 : tie.Need-returns-2 Inv-loop μ-loop
-returns-2 c = rest-end _ _ _ _ _ _ (c .before .loop .inv) (c .loop-test .left)
-
 pub read-lines-spec : {M : Type 1} → statement M
-read-lines-spec =
-    tie.close
-    (tie.spec
-    Inv-loop μ-loop (λ c. search needs) (λ c. search needs) loop-holds turn-at-requires (λ c. search needs) (λ c. search needs) (λ c. search needs)
-    returns (λ c. search needs) (λ c. search needs) loop-again (λ c. search needs) returns-2)
+read-lines-spec = tie.close (tie.spec
+    Inv-loop μ-loop (λ c. search needs) (λ c. search needs) (λ c. rest-first _ _ _) turn-at-requires (λ c. search needs) (λ c. search needs)
+    (λ c. search needs) returns (λ c. search needs) (λ c. search needs) loop-again (λ c. search needs)
+    (λ c. rest-end _ _ _ _ _ _ (c .before .loop .inv) (c .loop-test .left)))

@@ -1,24 +1,13 @@
--- `aiger::read_one` meets its contract.
--- Assumes nothing.
+-- `aiger::read_one` meets its contract. Assumes nothing.
 use mathlib.Core.Path.{sym, _∙_}
 use Rattle.aiger.specs.Lines.{oneLine}
 use borrow.Author.Needs.{needs}
 use Rattle.aiger.proofs.read_one.Statement.{statement}
 use Rattle.aiger.proofs.read_one.Tie as tie
 
-enum-told : tie.Need-enum-told
-enum-told c = search needs
-
-returns : tie.Need-returns
-unfolding oneLine
-returns c = rw (sym (c .before .before .before .number-end .ensures) ∙ c .before .first .given .1)
-
-returns-2 : tie.Need-returns-2
-unfolding oneLine
-returns-2 c = rw (sym (c .before .before .number-end .ensures) ∙ c .enum-told .given .1)
-
 pub read-one-spec : {M : Type 1} → statement M
-read-one-spec =
-    tie.close
-    (tie.spec
-    (λ c κs. search needs) (λ c. search needs) (λ c. search needs) enum-told returns returns-2)
+unfolding oneLine
+read-one-spec = tie.close (tie.spec
+    (λ c κs. search needs) (λ c. search needs) (λ c. search needs) (λ c. search needs)
+    (λ c. rw (sym (c .before .before .before .number-end .ensures) ∙ c .before .first .given .1))
+    (λ c. rw (sym (c .before .before .number-end .ensures) ∙ c .enum-told .given .1)))

@@ -1,5 +1,4 @@
--- `aiger::tag` meets its contract: the first word's bytes are compared as a part of the text.
--- Assumes nothing.
+-- `aiger::tag` meets its contract: the first word's bytes are compared as a part of the text. Assumes nothing.
 use mathlib.Core.Path.{sym, ap, _∙_}
 use native.Mathlib.Omega.{arith}
 use Rattle.model.specs.Base.{same}
@@ -16,8 +15,7 @@ part-same-bytes-end c = omega (arith, c .field-end .ensures, end-le (c .before .
 returns : tie.Need-returns
 unfolding tagAt aig text
 returns c =
-    let at-same-bytes = c .before .before in
-    let at-field-end = at-same-bytes .before .before .before in
+    let at-same-bytes = c .before .before in let at-field-end = at-same-bytes .before .before .before in
     rw (ap (λ x. same x aig) (sym (part-is _ 0 _ (at-field-end .field-end .ensures))) ∙ sym (at-same-bytes .same-bytes .ensures) ∙ c .before .if1 .taken, sym (at-field-end .field-end .ensures)) (c .tag-behind .ensures)
 
 part-same-bytes-end-2 : tie.Need-part-same-bytes-end-2
@@ -28,27 +26,19 @@ part-same-bytes-end-2 c =
 returns-2 : tie.Need-returns-2
 unfolding tagAt aag aig text
 returns-2 c =
-    let at-same-bytes2 = c .before .before in
-    let at-if1 = at-same-bytes2 .before .before .before in
-    let at-same-bytes = at-if1 .before in
-    let at-field-end = at-same-bytes .before .before .before in
-    let part = sym (part-is _ 0 _ (at-field-end .field-end .ensures)) in
+    let at-same-bytes2 = c .before .before in let at-if1 = at-same-bytes2 .before .before .before in let at-same-bytes = at-if1 .before in
+    let at-field-end = at-same-bytes .before .before .before in let part = sym (part-is _ 0 _ (at-field-end .field-end .ensures)) in
     rw (ap (λ x. same x aig) part ∙ sym (at-same-bytes .same-bytes .ensures) ∙ at-if1 .if1 .left, ap (λ x. same x aag) part ∙ sym (at-same-bytes2 .same-bytes2 .ensures) ∙ c .before .if2 .taken, sym (at-field-end .field-end .ensures)) (c .tag-behind2 .ensures)
 
 returns-3 : tie.Need-returns-3
 unfolding tagAt aag aig text
 returns-3 c =
-    let at-same-bytes2 = c .before in
-    let at-if1 = at-same-bytes2 .before .before .before in
-    let at-same-bytes = at-if1 .before in
-    let at-field-end = at-same-bytes .before .before .before in
-    let part = sym (part-is _ 0 _ (at-field-end .field-end .ensures)) in
+    let at-same-bytes2 = c .before in let at-if1 = at-same-bytes2 .before .before .before in let at-same-bytes = at-if1 .before in
+    let part = sym (part-is _ 0 _ (at-same-bytes .before .before .before .field-end .ensures)) in
     rw (ap (λ x. same x aig) part ∙ sym (at-same-bytes .same-bytes .ensures) ∙ at-if1 .if1 .left, ap (λ x. same x aag) part ∙ sym (at-same-bytes2 .same-bytes2 .ensures) ∙ c .if2 .left)
 
 pub tag-spec : {M : Type 1} → statement M
-tag-spec =
-    tie.close
-    (tie.spec
+tag-spec = tie.close (tie.spec
     (λ c κs. search needs) (λ c. search needs) (λ c. search needs) part-same-bytes-end (λ c. search needs) (λ c κs. search needs)
     (λ c κs. search needs) returns (λ c. search needs) (λ c. search needs) part-same-bytes-end-2 (λ c. search needs) (λ c κs. search needs)
     (λ c κs. search needs) returns-2 returns-3)

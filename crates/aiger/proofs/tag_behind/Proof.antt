@@ -1,23 +1,13 @@
--- `aiger::tag_behind` meets its contract.
--- Assumes nothing.
+-- `aiger::tag_behind` meets its contract. Assumes nothing.
 use mathlib.Core.Path.{sym, _∙_}
 use Rattle.aiger.specs.Lines.{tagBehind}
 use borrow.Author.Needs.{needs}
 use Rattle.aiger.proofs.tag_behind.Statement.{statement}
 use Rattle.aiger.proofs.tag_behind.Tie as tie
 
-enum-told : tie.Need-enum-told
-enum-told c = search needs
-
-returns : tie.Need-returns
-unfolding tagBehind
-returns c = rw (sym (c .before .before .before .byte .ensures) ∙ c .before .d .given .1)
-
-returns-2 : tie.Need-returns-2
-unfolding tagBehind
-returns-2 c = rw (sym (c .before .before .byte .ensures) ∙ c .enum-told .given .1)
-
 pub tag-behind-spec : {M : Type 1} → statement M
-tag-behind-spec = tie.close
-    (tie.spec
-    (λ c κs. search needs) (λ c. search needs) enum-told returns returns-2)
+unfolding tagBehind
+tag-behind-spec = tie.close (tie.spec
+    (λ c κs. search needs) (λ c. search needs) (λ c. search needs)
+    (λ c. rw (sym (c .before .before .before .byte .ensures) ∙ c .before .d .given .1))
+    (λ c. rw (sym (c .before .before .byte .ensures) ∙ c .enum-told .given .1)))

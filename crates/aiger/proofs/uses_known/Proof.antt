@@ -1,15 +1,10 @@
--- `aiger::uses_known` meets its contract.
--- Assumes nothing.
+-- `aiger::uses_known` meets its contract. Assumes nothing.
 use mathlib.Core.Path.{sym, _∙_}
 use borrow.Author.Tests.{eq-eqb, ne-eqb, not-true, not-false}
 use Rattle.aiger.specs.Lines.{usesKnown}
 use borrow.Author.Needs.{needs}
 use Rattle.aiger.proofs.uses_known.Statement.{statement}
 use Rattle.aiger.proofs.uses_known.Tie as tie
-
-returns : tie.Need-returns
-unfolding usesKnown
-returns c = rw (eq-eqb _ _ (c .before .if1 .taken)) (c .known .ensures)
 
 returns-2 : tie.Need-returns-2
 unfolding usesKnown
@@ -18,13 +13,11 @@ returns-2 c = rw (ne-eqb _ _ (c .before .before .if1 .left), sym (c .before .kno
 returns-3 : tie.Need-returns-3
 unfolding usesKnown
 returns-3 c =
-    let at-known2 = c .before .before in
-    let at-if1 = at-known2 .before in
-    let start = at-if1 .before .before in
+    let at-known2 = c .before .before in let at-if1 = at-known2 .before in
     rw (ne-eqb _ _ (at-if1 .if1 .left), sym (at-known2 .known2 .ensures) ∙ not-false _ (c .before .if2 .left)) (c .known3 .ensures)
 
 pub uses-known-spec : {M : Type 1} → statement M
-uses-known-spec =
-    tie.close
-    (tie.spec
-    (λ c κs. search needs) returns (λ c κs. search needs) returns-2 (λ c κs. search needs) returns-3)
+unfolding usesKnown
+uses-known-spec = tie.close (tie.spec
+    (λ c κs. search needs) (λ c. rw (eq-eqb _ _ (c .before .if1 .taken)) (c .known .ensures)) (λ c κs. search needs) returns-2
+    (λ c κs. search needs) returns-3)

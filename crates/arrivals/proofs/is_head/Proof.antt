@@ -1,5 +1,4 @@
--- `arrivals::is_head` meets its contract: a line that has its end, and the part of the text that is its contents.
--- Assumes nothing.
+-- `arrivals::is_head` meets its contract: a line that has its end, and the part of the text that is its contents. Assumes nothing.
 use borrow.Author.Needs.{needs}
 use borrow.Author.Tests.{lt-ltb, le-ltb}
 use mathlib.Core.Path.{sym}
@@ -9,21 +8,12 @@ use Rattle.arrivals.specs.Reading.{headLine, isHead}
 use Rattle.arrivals.proofs.is_head.Statement.{statement}
 use Rattle.arrivals.proofs.is_head.Tie as tie
 
-returns : tie.Need-returns
-unfolding isHead
-returns c = rw (le-ltb _ _ (c .if1 .taken))
-
 slice-aggregate-same-bytes : tie.Need-slice-aggregate-same-bytes
 slice-aggregate-same-bytes c =
-    let a = c .before .before .before .before in
-    sym (length-take-le (a .args .first .stop) (a .args .s .now) (a .pre))
-
-returns-2 : tie.Need-returns-2
-unfolding isHead headLine text
-returns-2 c = rw (lt-ltb _ _ (c .before .before .before .if1 .left)) (c .same-bytes .ensures)
+    let a = c .before .before .before .before in sym (length-take-le (a .args .first .stop) (a .args .s .now) (a .pre))
 
 pub is-head-spec : {M : Type 1} → statement M
-is-head-spec =
-    tie.close
-    (tie.spec
-    returns slice-aggregate-same-bytes (λ c. search needs) (λ c κs. search needs) returns-2)
+unfolding isHead headLine text
+is-head-spec = tie.close (tie.spec
+    (λ c. rw (le-ltb _ _ (c .if1 .taken))) slice-aggregate-same-bytes (λ c. search needs) (λ c κs. search needs)
+    (λ c. rw (lt-ltb _ _ (c .before .before .before .if1 .left)) (c .same-bytes .ensures)))

@@ -1,5 +1,4 @@
--- `arrivals::judge` meets its contract: each return knows the tests that led there.
--- Assumes nothing.
+-- `arrivals::judge` meets its contract: each return knows the tests that led there. Assumes nothing.
 use borrow.Author.Needs.{needs}
 use mathlib.Core.Path.{sym, _∙_}
 use native.Mathlib.Omega.{arith}
@@ -10,25 +9,17 @@ use Rattle.arrivals.proofs.judge.Tie as tie
 
 returns : tie.Need-returns
 returns c =
-    let at-wide = c .before in
-    let at-index = at-wide .before .before in
+    let at-wide = c .before in let at-index = at-wide .before .before in
     judged-over _ _ _ _ _ _ _ (sym (at-index .before .before .read-late .ensures) ∙ at-index .index .given .1) _ (at-wide .wide .ensures) (c .if1 .taken)
-
-enum-told : tie.Need-enum-told
-enum-told c = search needs
 
 returns-2 : tie.Need-returns-2
 returns-2 c =
-    let at-if1 = c .before .before in
-    let at-wide = at-if1 .before in
-    let at-index = at-wide .before .before in
+    let at-wide = c .before .before .before in let at-index = at-wide .before .before in
     judged-fresh _ _ _ _ _ _ _ (sym (at-index .before .before .read-late .ensures) ∙ at-index .index .given .1) _ (at-wide .wide .ensures) (omega arith) (c .if2 .taken)
 
 returns-3 : tie.Need-returns-3
 returns-3 c =
-    let at-if1 = c .before .before in
-    let at-wide = at-if1 .before in
-    let at-index = at-wide .before .before in
+    let at-wide = c .before .before .before in let at-index = at-wide .before .before in
     judged-again _ _ _ _ _ _ _ (sym (at-index .before .before .read-late .ensures) ∙ at-index .index .given .1) _ (at-wide .wide .ensures) (omega arith) (c .if2 .left)
 
 returns-4 : tie.Need-returns-4
@@ -36,7 +27,6 @@ unfolding judgedAt
 returns-4 c = rw (sym (c .before .before .read-late .ensures) ∙ c .enum-told .given .1)
 
 pub judge-spec : {M : Type 1} → statement M
-judge-spec =
-    tie.close
-    (tie.spec
-    (λ c κs. search needs) (λ c. search needs) (λ c κs. search needs) returns (λ c. search needs) enum-told returns-2 returns-3 returns-4)
+judge-spec = tie.close (tie.spec
+    (λ c κs. search needs) (λ c. search needs) (λ c κs. search needs) returns (λ c. search needs) (λ c. search needs) returns-2 returns-3
+    returns-4)

@@ -1,5 +1,4 @@
--- `arrivals::read` meets its contract: no text, or the first line and then the lines from where the next begins.
--- Assumes nothing.
+-- `arrivals::read` meets its contract: no text, or the first line and then the lines from where the next begins. Assumes nothing.
 use borrow.Author.Needs.{needs}
 use mathlib.Core.Path.{_≡_, sym, ap, _∙_}
 use mathlib.Core.List.{List}
@@ -27,8 +26,7 @@ is-head-requires c κs = first-fits 0 (c .before .before .before .before .args .
 
 returns-2 : tie.Need-returns-2
 returns-2 c =
-    let at-read = c .before .before in
-    let at-head = at-read .before .before .before in
+    let at-read = c .before .before in let at-head = at-read .before .before .before in
     let args = at-head .before .before .before .before .before .args in
     let h = sym (at-head .is-head .ensures) ∙ at-read .before .before .if2 .taken in
     let r = head-read (args .h .inputs) (args .s .now) (omega arith) _ (at-head .before .line .ensures) h in
@@ -37,12 +35,9 @@ returns-2 c =
 
 returns-3 : tie.Need-returns-3
 returns-3 c =
-    let at-head = c .before in
-    let args = at-head .before .before .before .before .before .args in
+    let at-head = c .before in let args = at-head .before .before .before .before .before .args in
     told _ _ (head-not (args .h .inputs) (args .s .now) (omega arith) _ (at-head .before .line .ensures) (sym (at-head .is-head .ensures) ∙ c .if2 .left) (args .h .size) (args .work .now))
 
 pub read-spec : {M : Type 1} → statement M
-read-spec =
-    tie.close
-    (tie.spec
+read-spec = tie.close (tie.spec
     returns (λ c κs. search needs) is-head-requires (λ c κs. search needs) (λ c. search needs) returns-2 returns-3)

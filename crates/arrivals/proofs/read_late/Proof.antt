@@ -1,36 +1,24 @@
--- `arrivals::read_late` meets its contract: each return knows what the reads that led there found.
--- Assumes nothing.
+-- `arrivals::read_late` meets its contract: each return knows what the reads that led there found. Assumes nothing.
 use mathlib.Core.Path.{sym, _∙_}
 use Rattle.arrivals.specs.Reading.{entryAt}
 use borrow.Author.Needs.{needs}
 use Rattle.arrivals.proofs.read_late.Statement.{statement}
 use Rattle.arrivals.proofs.read_late.Tie as tie
 
-enum-told : tie.Need-enum-told
-enum-told c = search needs
-
 returns : tie.Need-returns
 unfolding entryAt
 returns c =
-    let at-end = c .before .before .before in
-    let at-index = at-end .before .before in
-    let at-then = at-index .before .before in
+    let at-end = c .before .before .before in let at-index = at-end .before .before in let at-then = at-index .before .before in
     rw (sym (at-then .number-then .ensures) ∙ at-index .index .given .1, sym (at-end .number-end .ensures) ∙ c .before .time .given .1)
 
 returns-2 : tie.Need-returns-2
 unfolding entryAt
 returns-2 c =
-    let at-end = c .before .before in
-    let at-index = at-end .before .before in
-    let at-then = at-index .before .before in
+    let at-end = c .before .before in let at-index = at-end .before .before in let at-then = at-index .before .before in
     rw (sym (at-then .number-then .ensures) ∙ at-index .index .given .1, sym (at-end .number-end .ensures) ∙ c .enum-told .given .1)
 
-returns-3 : tie.Need-returns-3
-unfolding entryAt
-returns-3 c = rw (sym (c .before .before .number-then .ensures) ∙ c .enum-told2 .given .1)
-
 pub read-late-spec : {M : Type 1} → statement M
-read-late-spec =
-    tie.close
-    (tie.spec
-    (λ c κs. search needs) (λ c. search needs) (λ c κs. search needs) (λ c. search needs) enum-told (λ c. search needs) returns returns-2 returns-3)
+unfolding entryAt
+read-late-spec = tie.close (tie.spec
+    (λ c κs. search needs) (λ c. search needs) (λ c κs. search needs) (λ c. search needs) (λ c. search needs) (λ c. search needs) returns
+    returns-2 (λ c. rw (sym (c .before .before .number-then .ensures) ∙ c .enum-told2 .given .1)))

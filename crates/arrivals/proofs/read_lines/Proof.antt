@@ -26,62 +26,46 @@ judge-requires c κs = let f = c .before .before .loop .inv in omega (arith, f .
 
 store-late-requires : tie.Need-store-late-requires Inv-loop μ-loop
 store-late-requires c κs =
-    let at-index = c .before .before in
-    let at-judge = at-index .before .before in
-    let f = at-judge .before .before .before .loop .inv in
+    let at-index = c .before .before in let at-judge = at-index .before .before in let f = at-judge .before .before .before .loop .inv in
     let g = judged-good _ _ _ _ _ _ _ (sym (at-judge .judge .ensures) ∙ at-index .index .given .1) in
     (f .ready .room, omega (arith, g .0, f .ready .few), f .ready .within _ (g .0))
 
 array-write-marks : tie.Need-array-write-marks Inv-loop μ-loop
 array-write-marks c =
-    let at-index = c .before .before .before .before .before .before in
-    let at-judge = at-index .before .before in
+    let at-index = c .before .before .before .before .before .before in let at-judge = at-index .before .before in
     let f = at-judge .before .before .before .loop .inv in
     let g = judged-good _ _ _ _ _ _ _ (sym (at-judge .judge .ensures) ∙ at-index .index .given .1) in
     omega (arith, c .wide .ensures, g .0, f .ready .few, f .ready .room .small)
 
 loop-less : tie.Need-loop-less Inv-loop μ-loop
 loop-less c =
-    let at-index = c .before .before .before .before .before .before in
-    let at-judge = at-index .before .before in
+    let at-index = c .before .before .before .before .before .before in let at-judge = at-index .before .before in
     let g = judged-good _ _ _ _ _ _ _ (sym (at-judge .judge .ensures) ∙ at-index .index .given .1) in
     omega (arith, g .1, at-judge .before .before .loop-test .taken)
 
 loop-again : tie.Need-loop-again Inv-loop μ-loop
 loop-again c =
-    let at-store = c .before .before .before in
-    let at-index = at-store .before .before .before in
-    let at-judge = at-index .before .before in
-    let at-loop = at-judge .before .before .before in
+    let at-store = c .before .before .before in let at-index = at-store .before .before .before in
+    let at-judge = at-index .before .before in let at-loop = at-judge .before .before .before in
     let args = at-loop .before .before .before .before .args in
     so-far-more (args .s .now) (args .from) (args .h .size) (args .h .inputs) (args .work .now) (at-loop .loop .marks) (at-loop .loop .at) (at-loop .loop .work) (at-loop .loop .inv)
     (at-judge .before .before .loop-test .taken) _ _ _ (sym (at-judge .judge .ensures) ∙ at-index .index .given .1) _ _ (at-store .store-late .ensures)
     (ap (λ (i : ℕ). set (at-loop .loop .marks) i 1) (c .wide .ensures))
 
-same-length : tie.Need-same-length Inv-loop μ-loop
-same-length c = c .before .before .before .before .before .before .loop .inv .long
-
 returns : tie.Need-returns Inv-loop μ-loop
 returns c =
-    let at-number = c .before in
-    let at-judge = at-number .before .before in
-    let at-loop = at-judge .before .before .before in
+    let at-number = c .before in let at-judge = at-number .before .before in let at-loop = at-judge .before .before .before in
     let args = at-loop .before .before .before .before .args in
     so-far-stop (args .s .now) (args .from) (args .h .size) (args .h .inputs) (args .work .now) (at-loop .loop .marks) (at-loop .loop .at) (at-loop .loop .work) (at-loop .loop .inv)
     (at-judge .before .before .loop-test .taken) _ (sym (at-judge .judge .ensures) ∙ at-number .number .given .1)
 
-same-length-2 : tie.Need-same-length-2 Inv-loop μ-loop
-same-length-2 c = c .before .loop .inv .long
-
 returns-2 : tie.Need-returns-2 Inv-loop μ-loop
 returns-2 c =
-    let at-loop = c .before in
-    let args = at-loop .before .before .before .before .args in
+    let at-loop = c .before in let args = at-loop .before .before .before .before .args in
     so-far-last (args .s .now) (args .from) (args .h .size) (args .h .inputs) (args .work .now) (at-loop .loop .marks) (at-loop .loop .at) (at-loop .loop .work) (at-loop .loop .inv) (c .loop-test .left)
 
 pub read-lines-spec : {M : Type 1} → statement M
-read-lines-spec =
-    tie.close
-    (tie.spec
-    Inv-loop μ-loop (λ c κs. search needs) loop-holds judge-requires (λ c. search needs) store-late-requires (λ c κs. search needs) array-write-marks
-    loop-less loop-again (λ c. search needs) same-length returns same-length-2 returns-2)
+read-lines-spec = tie.close (tie.spec
+    Inv-loop μ-loop (λ c κs. search needs) loop-holds judge-requires (λ c. search needs) store-late-requires (λ c κs. search needs)
+    array-write-marks loop-less loop-again (λ c. search needs) (λ c. c .before .before .before .before .before .before .loop .inv .long)
+    returns (λ c. c .before .loop .inv .long) returns-2)

@@ -1,5 +1,4 @@
--- `binary::less_by` meets its contract: each return knows the difference that was found, and the tests that led there.
--- Assumes nothing.
+-- `binary::less_by` meets its contract: each return knows the difference that was found, and the tests that led there. Assumes nothing.
 use mathlib.Core.Path.{sym, _∙_}
 use mathlib.Core.Logic.{⊎-elim}
 use borrow.Author.Tests.{ne-eqb}
@@ -19,9 +18,6 @@ returns-2 c =
     let at-d = c .before .before .before in
     less-over _ _ _ _ _ _ (sym (at-d .before .before .difference .ensures) ∙ at-d .d .given .1) (c .if3 .taken)
 
-enum-told : tie.Need-enum-told
-enum-told c = search needs
-
 returns-3 : tie.Need-returns-3
 returns-3 c =
     let at-d = c .before .before .before in
@@ -32,8 +28,6 @@ returns-4 : tie.Need-returns-4
 returns-4 c = less-broken _ _ _ _ (sym (c .before .before .difference .ensures) ∙ c .enum-told .given .1)
 
 pub less-by-spec : {M : Type 1} → statement M
-less-by-spec =
-    tie.close
-    (tie.spec
-    (λ c κs. search needs) (λ c. search needs) returns (λ c. search needs) returns-2 (λ c. search needs) (λ c. search needs) enum-told returns-3
-    returns-4)
+less-by-spec = tie.close (tie.spec
+    (λ c κs. search needs) (λ c. search needs) returns (λ c. search needs) returns-2 (λ c. search needs) (λ c. search needs)
+    (λ c. search needs) returns-3 returns-4)

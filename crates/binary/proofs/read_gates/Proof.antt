@@ -16,27 +16,21 @@ Inv-loop s from work₀ h end at₀ k₀ work at k = Rest (gateTurn s h) (gateLe
 abbrev μ-loop : tie.MeasureT-loop
 μ-loop s from work₀ h end at₀ k₀ work at k = h .inputs + h .outputs + h .ands - k
 
-loop-holds : tie.Need-loop-holds Inv-loop μ-loop
-loop-holds c = rest-first _ _ _ _ _ _
-
 gate-turn-requires : tie.Need-gate-turn-requires Inv-loop μ-loop
 gate-turn-requires c κs =
-    let at-loop = c .before .before in
-    let start = at-loop .before .before .before .before .before .before in
+    let at-loop = c .before .before in let start = at-loop .before .before .before .before .before .before in
     (fit-length (start .args .h) (start .args .work .now) _ (start .pre) (at-loop .loop .inv .long), at-loop .loop .inv .since, omega arith)
 
 returns : tie.Need-returns Inv-loop μ-loop
 returns c =
-    let at-turn = c .before .before .before .before .before in
-    let at-loop-test = at-turn .before .before in
+    let at-turn = c .before .before .before .before .before in let at-loop-test = at-turn .before .before in
     let at-loop = at-loop-test .before in
     let r = rest-stop _ _ _ _ _ _ _ _ _ (at-loop .loop .inv) (at-loop-test .loop-test .taken) _ _ _ (sym (at-turn .gate-turn .ensures .0) ∙ c .before .n .given .1) (at-turn .gate-turn .ensures .1) in
     (ap asVerdict (r .0), r .1)
 
 loop-again : tie.Need-loop-again Inv-loop μ-loop
 loop-again c =
-    let at-turn = c .before .before .before .before .before in
-    let at-loop-test = at-turn .before .before in
+    let at-turn = c .before .before .before .before .before in let at-loop-test = at-turn .before .before in
     let at-loop = at-loop-test .before in
     rest-on _ _ _ _ _ _ _ _ _ (at-loop .loop .inv) (at-loop-test .loop-test .taken) _ _ (sym (at-turn .gate-turn .ensures .0) ∙ c .before .next .given .1) (at-turn .gate-turn .ensures .1) (search needs)
 
@@ -46,8 +40,7 @@ returns-2 c =
     (ap asVerdict (r .0), r .1)
 
 pub read-gates-spec : {M : Type 1} → statement M
-read-gates-spec =
-    tie.close
-    (tie.spec
-    Inv-loop μ-loop (λ c. search needs) (λ c. search needs) (λ c. search needs) loop-holds gate-turn-requires (λ c. search needs) (λ c. search needs)
-    (λ c. search needs) returns (λ c. search needs) (λ c. search needs) loop-again (λ c. search needs) returns-2)
+read-gates-spec = tie.close (tie.spec
+    Inv-loop μ-loop (λ c. search needs) (λ c. search needs) (λ c. search needs) (λ c. rest-first _ _ _ _ _ _) gate-turn-requires
+    (λ c. search needs) (λ c. search needs) (λ c. search needs) returns (λ c. search needs) (λ c. search needs) loop-again
+    (λ c. search needs) returns-2)

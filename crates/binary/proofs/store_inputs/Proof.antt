@@ -18,30 +18,19 @@ Inv-loop work₀ h k₀ work k = Rest inputTurn (inputLeft h) (h .inputs) 0 (h .
 abbrev μ-loop : tie.MeasureT-loop
 μ-loop work₀ h k₀ work k = h .inputs - k
 
-loop-holds : tie.Need-loop-holds Inv-loop μ-loop
-loop-holds c = rest-first _ _ _ _ _ _
-
 store-line-requires : tie.Need-store-line-requires Inv-loop μ-loop
 store-line-requires c κs =
-    let at-loop = c .before .before .before .before in
-    let start = at-loop .before .before in
+    let at-loop = c .before .before .before .before in let start = at-loop .before .before in
     (fit-length (start .args .h) (start .args .work .now) _ (start .pre) (at-loop .loop .inv .long), omega arith, subst (LiteralsFit (start .args .h .size)) (sym (c .input-literals .ensures)) (record { first = omega (arith, start .pre .lines); left = omega arith; right = omega arith }))
 
 loop-again : tie.Need-loop-again Inv-loop μ-loop
 unfolding inputLeft
 loop-again c =
-    let at-store-line = c .before .before in
-    let at-input-literals = at-store-line .before in
-    let at-if1 = at-input-literals .before .before in
-    let at-loop = at-if1 .before .before in
+    let at-store-line = c .before .before in let at-input-literals = at-store-line .before in
+    let at-loop = at-input-literals .before .before .before .before in
     rest-on _ _ _ _ _ _ _ _ _ (at-loop .loop .inv) (omega arith) _ _ refl (at-store-line .store-line .ensures ∙ ap (storedLine _ _ _) (at-input-literals .input-literals .ensures)) (search needs)
 
-returns : tie.Need-returns Inv-loop μ-loop
-returns c = rest-end _ _ _ _ _ _ _ _ _ (c .before .before .loop .inv) (omega arith) .1
-
 pub store-inputs-spec : {M : Type 1} → statement M
-store-inputs-spec =
-    tie.close
-    (tie.spec
-    Inv-loop μ-loop loop-holds (λ c κs. search needs) store-line-requires (λ c. search needs) (λ c. search needs) loop-again (λ c. search needs)
-    returns)
+store-inputs-spec = tie.close (tie.spec
+    Inv-loop μ-loop (λ c. rest-first _ _ _ _ _ _) (λ c κs. search needs) store-line-requires (λ c. search needs) (λ c. search needs)
+    loop-again (λ c. search needs) (λ c. rest-end _ _ _ _ _ _ _ _ _ (c .before .before .loop .inv) (omega arith) .1))

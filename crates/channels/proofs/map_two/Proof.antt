@@ -10,67 +10,46 @@ use Rattle.channels.proofs.map_two.Statement.{statement}
 use Rattle.channels.proofs.map_two.Tie as tie
 
 returns : tie.Need-returns
-returns c =
-    let s = c .before .before .before .before .before .before .before .before .before .before .args in
-    let a = channelOf (s .graph1 .now) (s .arrivals1 .now) (s .text1 .now) in
-    let b = channelOf (s .graph2 .now) (s .arrivals2 .now) (s .text2 .now) in
-    let m = long-text (s .paired) (s .cells .now) a b (s .work .now) (s .text1 .now) (s .text2 .now) (λ x y z. omega arith) (c .both .result) (c .both .ensures) in
-    mapping-of m
+returns c = mapping-of (long-text _ _ _ _ _ _ _ (λ x y z. omega arith) _ (c .both .ensures))
 
 returns-2 : tie.Need-returns-2
-returns-2 c =
-    let s = c .before .before .before .before .before .before .before .before .before .before .before .args in
-    let a = channelOf (s .graph1 .now) (s .arrivals1 .now) (s .text1 .now) in
-    let b = channelOf (s .graph2 .now) (s .arrivals2 .now) (s .text2 .now) in
-    let m = long-text (s .paired) (s .cells .now) a b (s .work .now) (s .text1 .now) (s .text2 .now) (λ x y z. omega arith) (c .both2 .result) (c .both2 .ensures) in
-    mapping-of m
+returns-2 c = mapping-of (long-text _ _ _ _ _ _ _ (λ x y z. omega arith) _ (c .both2 .ensures))
 
 returns-3 : tie.Need-returns-3
-returns-3 c =
-    let s = c .before .before .before .before .before .before .before .before .before .before .before .before .args in
-    let a = channelOf (s .graph1 .now) (s .arrivals1 .now) (s .text1 .now) in
-    let b = channelOf (s .graph2 .now) (s .arrivals2 .now) (s .text2 .now) in
-    let m = long-text (s .paired) (s .cells .now) a b (s .work .now) (s .text1 .now) (s .text2 .now) (λ x y z. omega arith) (c .both3 .result) (c .both3 .ensures) in
-    mapping-of m
-
-enum-told : tie.Need-enum-told
-enum-told c = search needs
+returns-3 c = mapping-of (long-text _ _ _ _ _ _ _ (λ x y z. omega arith) _ (c .both3 .ensures))
 
 map-cells-requires : tie.Need-map-cells-requires
 map-cells-requires c κs =
     let t = c .before .before .before .before .before in
     let l = t .before .before .read in
-    let s = t .before .before .before .before .before .before .before .before .before .before .before .before .before .before .args in
+    let p = t .before .before .before .before .before in
+    let s = p .before .before .before .before .before .before .before .before .before .args in
     let a = channelOf (s .graph1 .now) (s .arrivals1 .now) (s .text1 .now) in
     let b = channelOf (s .graph2 .now) (s .arrivals2 .now) (s .text2 .now) in
     library-heard (s .paired) (s .cells .now) a b (s .work .now) (s .text1 .now) (s .text2 .now) (omega arith) (omega arith) (omega arith) (l .result) (l .ensures .0) (t .enum-told .given .1) .ok
 
 returns-4 : tie.Need-returns-4
 returns-4 c =
-    let h = c .before .before .before .before .before .before .map-cells in
-    let t = c .before .before .before .before .before .before .before .before .before .before .before .before in
+    let q = c .before .before .before .before .before .before in
+    let h = q .map-cells in
+    let t = q .before .before .before .before .before .before in
     let l = t .before .before .read in
-    let s = t .before .before .before .before .before .before .before .before .before .before .before .before .before .before .args in
+    let p = t .before .before .before .before .before in
+    let s = p .before .before .before .before .before .before .before .before .before .args in
     let a = channelOf (s .graph1 .now) (s .arrivals1 .now) (s .text1 .now) in
     let b = channelOf (s .graph2 .now) (s .arrivals2 .now) (s .text2 .now) in
     let r = library-heard (s .paired) (s .cells .now) a b (s .work .now) (s .text1 .now) (s .text2 .now) (omega arith) (omega arith) (omega arith) (l .result) (l .ensures .0) (t .enum-told .given .1) in
     mapping-of
-    (r .goes (h .result) (h .last .1 .1 .1 .1 .1 .1 .1 .0) (h .last .1 .1 .1 .1 .1 .1 .1 .1 .0) (h .last .1 .1 .1 .1 .1 .1 .1 .1 .1 .0) (subst (λ (x : Bool). TwoLeft (s .paired) x (l .result .library) a b (s .work .now) (s .text1 .now) (s .text2 .now) (h .result) (h .last .1 .1 .1 .1 .1 .1 .1 .0) (h .last .1 .1 .1 .1 .1 .1 .1 .1 .0) (h .last .1 .1 .1 .1 .1 .1 .1 .1 .1 .0)) (c .before .before .before .before .before .before .before .before .before .before .is-ranged .ensures) (h .ensures)))
+    (r .goes (h .result) (h .last .1 .1 .1 .1 .1 .1 .1 .0) (h .last .1 .1 .1 .1 .1 .1 .1 .1 .0) (h .last .1 .1 .1 .1 .1 .1 .1 .1 .1 .0) (subst (λ (x : Bool). TwoLeft (s .paired) x (l .result .library) a b (s .work .now) (s .text1 .now) (s .text2 .now) (h .result) (h .last .1 .1 .1 .1 .1 .1 .1 .0) (h .last .1 .1 .1 .1 .1 .1 .1 .1 .0) (h .last .1 .1 .1 .1 .1 .1 .1 .1 .1 .0)) (q .before .before .before .before .is-ranged .ensures) (h .ensures)))
 
 returns-5 : tie.Need-returns-5
 returns-5 c =
-    let at-v = c .before .before in
-    let l = at-v .before .before .read in
-    let s = at-v .before .before .before .before .before .before .before .before .before .before .before .before .before .before .args in
-    let a = channelOf (s .graph1 .now) (s .arrivals1 .now) (s .text1 .now) in
-    let b = channelOf (s .graph2 .now) (s .arrivals2 .now) (s .text2 .now) in
-    mapping-of
-    (library-stops (s .paired) (s .cells .now) a b (s .work .now) (s .text1 .now) (s .text2 .now) (omega arith) (omega arith) (omega arith) (l .result) (l .ensures .0) _ _ (at-v .v .given .1) (c .both4 .result) (c .both4 .ensures))
+    let v = c .before .before in
+    let l = v .before .before .read in
+    mapping-of (library-stops _ _ _ _ _ _ _ (omega arith) (omega arith) (omega arith) _ (l .ensures .0) _ _ (v .v .given .1) _ (c .both4 .ensures))
 
 pub map-two-spec : {M : Type 1} → statement M
-map-two-spec =
-    tie.close
-    (tie.spec
-    (λ c κs. search needs) returns (λ c κs. search needs) returns-2 (λ c κs. search needs) returns-3 (λ c κs. search needs) enum-told
-    (λ c κs. search needs) map-cells-requires (λ c. search needs) (λ c κs. search needs) (λ c. search needs) (λ c. search needs) (λ c. search needs)
-    returns-4 returns-5)
+map-two-spec = tie.close (tie.spec
+    (λ c κs. search needs) returns (λ c κs. search needs) returns-2 (λ c κs. search needs) returns-3 (λ c κs. search needs)
+    (λ c. search needs) (λ c κs. search needs) map-cells-requires (λ c. search needs) (λ c κs. search needs) (λ c. search needs)
+    (λ c. search needs) (λ c. search needs) returns-4 returns-5)

@@ -40,21 +40,15 @@ returns-3 c =
     let a = c .before .before .before .before .before .before .before .args in
     (long-text (a .cells .now) (a .graph .now) (a .netlist .now) (a .work .now) (λ x y z. omega arith), said (a .cells .now) (a .graph .now) (a .netlist .now) (length (a .work .now)))
 
-enum-told : tie.Need-enum-told
-enum-told c = search needs
-
 check-header-requires : tie.Need-check-header-requires
 check-header-requires c κs =
-    let t = c .before .before in
-    let l = t .before .before in
+    let t = c .before .before in let l = t .before .before in
     let a = l .before .before .before .before .before .before .before .before .args in
     (library-read (a .cells .now) (a .graph .now) (a .netlist .now) (a .work .now) (omega arith) (omega arith) (omega arith) (l .read .result) (l .read .ensures .0) (t .enum-told .given .1) .fitting, omega arith)
 
 returns-4 : tie.Need-returns-4
 returns-4 c =
-    let h = c .before .before in
-    let t = h .before .before .before in
-    let l = t .before .before in
+    let h = c .before .before in let t = h .before .before .before in let l = t .before .before in
     let a = l .before .before .before .before .before .before .before .before .args in (
       library-read (a .cells .now) (a .graph .now) (a .netlist .now) (a .work .now) (omega arith) (omega arith) (omega arith) (l .read .result) (l .read .ensures .0) (t .enum-told .given .1) .goes _ _ (h .check-header .ensures),
       said (a .cells .now) (a .graph .now) (a .netlist .now) (length (a .work .now)),
@@ -62,15 +56,13 @@ returns-4 c =
 
 returns-5 : tie.Need-returns-5
 returns-5 c =
-    let k = c .before in
-    let l = k .before .before in
+    let k = c .before in let l = k .before .before in
     let a = l .before .before .before .before .before .before .before .before .args in (
       library-stops (a .cells .now) (a .graph .now) (a .netlist .now) (a .work .now) (omega arith) (omega arith) (omega arith) (l .read .result) (l .read .ensures .0) _ _ (k .v .given .1),
       said (a .cells .now) (a .graph .now) (a .netlist .now) (length (a .work .now)),
     )
 
 pub check-texts-spec : {M : Type 1} → statement M
-check-texts-spec =
-    tie.close
-    (tie.spec
-    returns returns-2 returns-3 (λ c κs. search needs) enum-told check-header-requires (λ c. search needs) (λ c. search needs) returns-4 returns-5)
+check-texts-spec = tie.close (tie.spec
+    returns returns-2 returns-3 (λ c κs. search needs) (λ c. search needs) check-header-requires (λ c. search needs) (λ c. search needs)
+    returns-4 returns-5)

@@ -19,16 +19,12 @@ Inv-loop work m n codes₀ i₀ codes i = (i ≤ n) × (codes ≡ putAt (zeros 1
 abbrev μ-loop : tie.MeasureT-loop
 μ-loop work m n codes₀ i₀ codes i = n - i
 
-loop-holds : tie.Need-loop-holds Inv-loop μ-loop
-loop-holds c = let a = c .before .args in (omega arith, codes-none (inputCode (a .work .now) (a .m)))
-
 slot-requires : tie.Need-slot-requires Inv-loop μ-loop
 slot-requires c κs = let s = c .before .before .before in (s .pre .0, omega (arith, s .pre .1, c .loop-test .taken))
 
 label-code-requires : tie.Need-label-code-requires Inv-loop μ-loop
 label-code-requires c κs =
-    let l = c .before .before in
-    let k = l .before in
+    let l = c .before .before in let k = l .before in
     omega (arith, k .shared-slice-known .given (slotAddr (k .before .args .m) (l .loop .i + 1)), c .slot .ensures)
 
 mul-codes : tie.Need-mul-codes Inv-loop μ-loop
@@ -39,9 +35,7 @@ array-write-codes c = let t = c .before .before in omega (arith, t .before .befo
 
 loop-again : tie.Need-loop-again Inv-loop μ-loop
 loop-again c =
-    let t = c .before .before in
-    let l = t .before in
-    let s = l .before .before in
+    let t = c .before .before in let l = t .before in let s = l .before .before in
     let a = s .args in (
       omega arith,
       codes-more (inputCode (a .work .now) (a .m)) (l .loop .codes) (l .loop .i) (c .label-code .result) (l .loop .inv .1) (omega (arith, s .pre .2, t .loop-test .taken))
@@ -50,13 +44,10 @@ loop-again c =
 
 returns : tie.Need-returns Inv-loop μ-loop
 returns c =
-    let l = c .before in
-    let a = l .before .before .args in
+    let l = c .before in let a = l .before .before .args in
     l .loop .inv .1 ∙ ap (λ (n : ℕ). putAt (zeros 12) 0 (map (inputCode (a .work .now) (a .m)) (from 0 n))) (let z : l .loop .i ≡ a .n = omega arith in z)
 
 pub input-codes-spec : {M : Type 1} → statement M
-input-codes-spec =
-    tie.close
-    (tie.spec
-    Inv-loop μ-loop loop-holds (λ c. omega arith) slot-requires label-code-requires mul-codes array-write-codes (λ c. omega arith) (λ c. omega arith)
-    loop-again returns)
+input-codes-spec = tie.close (tie.spec
+    Inv-loop μ-loop (λ c. let a = c .before .args in (omega arith, codes-none (inputCode (a .work .now) (a .m)))) (λ c. omega arith)
+    slot-requires label-code-requires mul-codes array-write-codes (λ c. omega arith) (λ c. omega arith) loop-again returns)

@@ -15,19 +15,14 @@ Inv-loop s n₀ i₀ n i = (i ≤ length s) × (n + i ≤ length s) × (n ≡ li
 abbrev μ-loop : tie.MeasureT-loop
 μ-loop s n₀ i₀ n i = i
 
-loop-holds : tie.Need-loop-holds Inv-loop μ-loop
-loop-holds c = (omega arith, omega arith, ends-none (c .args .s .now))
-
 loop-again : tie.Need-loop-again Inv-loop μ-loop
 loop-again c =
-    let t = c .before .before in
-    let l = t .before in
+    let t = c .before .before in let l = t .before in
     (omega arith, omega arith, ends-one (l .before .args .s .now) (l .loop .i) (l .loop .n) (l .loop .inv .0) (l .loop .inv .2) (t .loop-test .taken) (c .if1 .taken))
 
 loop-again-2 : tie.Need-loop-again-2 Inv-loop μ-loop
 loop-again-2 c =
-    let t = c .before .before in
-    let l = t .before in
+    let t = c .before .before in let l = t .before in
     (omega arith, omega arith, ends-other (l .before .args .s .now) (l .loop .i) (l .loop .n) (l .loop .inv .0) (l .loop .inv .2) (t .loop-test .taken) (c .if1 .left))
 
 returns : tie.Need-returns Inv-loop μ-loop
@@ -36,8 +31,6 @@ returns c =
     (l .loop .inv .2 ∙ ap (λ (i : ℕ). lineEnds (drop i (l .before .args .s .now))) (let z : l .loop .i ≡ 0 = omega arith in z), omega arith)
 
 pub line-ends-spec : {M : Type 1} → statement M
-line-ends-spec =
-    tie.close
-    (tie.spec
-    Inv-loop μ-loop loop-holds (λ c. omega arith) (λ c. omega arith) (λ c. omega arith) (λ c. omega arith) loop-again (λ c. omega arith) loop-again-2
-    returns)
+line-ends-spec = tie.close (tie.spec
+    Inv-loop μ-loop (λ c. (omega arith, omega arith, ends-none (c .args .s .now))) (λ c. omega arith) (λ c. omega arith) (λ c. omega arith)
+    (λ c. omega arith) loop-again (λ c. omega arith) loop-again-2 returns)

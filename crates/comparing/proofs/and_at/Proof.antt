@@ -1,5 +1,4 @@
--- `comparing::and_at` meets its contract.
--- Assumes nothing.
+-- `comparing::and_at` meets its contract. Assumes nothing.
 use Rattle.comparing.specs.Filling.{andAt}
 use Rattle.settings.specs.Settings.{andWord}
 use mathlib.Core.Path.{_∙_}
@@ -12,15 +11,11 @@ use Rattle.comparing.proofs.and_at.Tie as tie
 returns : tie.Need-returns
 unfolding andAt
 returns c =
-    let right = c .before .before .before in
-    let left = right .before in
-    let a = left .before .before .args in
+    let right = c .before .before .before in let left = right .before in let a = left .before .before .args in
     c .and-word .ensures
     ∙ (λ k. andWord (left .left .ensures k) (getD (a .variables .now) (left .left .ensures k / 2) 0) (right .right .ensures k) (getD (a .variables .now) (right .right .ensures k / 2) 0))
 
 pub and-at-spec : {M : Type 1} → statement M
-and-at-spec =
-    tie.close
-    (tie.spec
+and-at-spec = tie.close (tie.spec
     (λ c κs. search needs) (λ c κs. search needs) (λ c. search needs) (λ c. search needs) (λ c. search needs) (λ c. search needs)
     (λ c κs. search needs) returns)

@@ -1,6 +1,5 @@
 -- `comparing::compare` meets its contract. The invariant: what is answered for the settings from here on is the answer, and inside a block its words are known.
--- The measure is the settings left.
--- Assumes nothing.
+-- The measure is the settings left. Assumes nothing.
 use mathlib.Core.Path.{_≡_, refl, sym, ap, _∙_}
 use mathlib.Core.List.{List}
 use mathlib.Core.Option.{Option}
@@ -29,9 +28,6 @@ abbrev μ-loop : tie.MeasureT-loop
 all-settings : (h inputs end : ℕ) → inputs ≡ h → end ≡ 2 ^ h → (wrong : ℕ → Option ℕ) → compareFrom (2 ^ inputs) 0 wrong ≡ compareFrom end 0 wrong
 all-settings h inputs end e f wrong = ap (λ (x : ℕ). compareFrom x 0 wrong) (ap (λ (x : ℕ). 2 ^ x) e ∙ sym f)
 
-settings-of-requires : tie.Need-settings-of-requires Inv-loop μ-loop
-settings-of-requires c κs = let q = c .before .before .pre .2 in omega (arith, q .few, q .holding .ins)
-
 loop-holds : tie.Need-loop-holds Inv-loop μ-loop
 loop-holds c = (
   omega arith,
@@ -45,18 +41,12 @@ reach-requires c κs =
     ((at-loop .before .before .before .before .pre, at-loop .loop .inv .1), λ g ds q. at-loop .loop .inv .2 g ds q .1)
 
 first-wrong-requires : tie.Need-first-wrong-requires Inv-loop μ-loop
-first-wrong-requires c κs =
-    let start = c .before .before .before .before .before .before .before .before in
-    (start .pre .2 .fit .outs, omega arith)
+first-wrong-requires c κs = (c .before .before .before .before .before .before .before .before .pre .2 .fit .outs, omega arith)
 
 returns : tie.Need-returns Inv-loop μ-loop
 returns c = λ g ds q.
-    let found = c .before in
-    let reached = found .before .before in
-    let at-loop = reached .before .before .before in
-    let settings = at-loop .before in
-    let a = settings .before .before .before .args in
-    let s = at-loop .loop .s in
+    let found = c .before in let reached = found .before .before in let at-loop = reached .before .before .before in
+    let settings = at-loop .before in let a = settings .before .before .before .args in let s = at-loop .loop .s in
     let wrong = wrongAt g (settled (length ds) (inputNets g) ds) in
     sym (all-settings (a .h .inputs) (length (g .inputs)) (settings .settings-of .result) (q .holding .ins) (settings .settings-of .ensures) wrong
     ∙ at-loop .loop .inv .2 g ds q .0
@@ -65,11 +55,8 @@ returns c = λ g ds q.
 
 loop-again : tie.Need-loop-again Inv-loop μ-loop
 loop-again c =
-    let found = c .before in
-    let reached = found .before .before in
-    let at-loop = reached .before .before .before in
-    let settings = at-loop .before in
-    let a = settings .before .before .before .args in
+    let found = c .before in let reached = found .before .before in let at-loop = reached .before .before .before in
+    let settings = at-loop .before in let a = settings .before .before .before .args in
     let s = at-loop .loop .s in (
       omega arith,
       reached .reach .ensures .0,
@@ -86,17 +73,13 @@ loop-again c =
 returns-2 : tie.Need-returns-2 Inv-loop μ-loop
 unfolding compareFrom
 returns-2 c = λ g ds q.
-    let at-loop = c .before in
-    let settings = at-loop .before in
-    let a = settings .before .before .before .args in
+    let at-loop = c .before in let settings = at-loop .before in let a = settings .before .before .before .args in
     let wrong = wrongAt g (settled (length ds) (inputNets g) ds) in
     sym (all-settings (a .h .inputs) (length (g .inputs)) (settings .settings-of .result) (q .holding .ins) (settings .settings-of .ensures) wrong
     ∙ at-loop .loop .inv .2 g ds q .0
     ∙ ap (λ (x : ℕ). compareFrom x (at-loop .loop .s) wrong) (let e : settings .settings-of .result - at-loop .loop .s ≡ 0 = omega arith in e))
 
 pub compare-spec : {M : Type 1} → statement M
-compare-spec =
-    tie.close
-    (tie.spec
-    Inv-loop μ-loop settings-of-requires loop-holds reach-requires first-wrong-requires returns (λ c. search needs) (λ c. omega arith) loop-again
-    returns-2)
+compare-spec = tie.close (tie.spec
+    Inv-loop μ-loop (λ c κs. let q = c .before .before .pre .2 in omega (arith, q .few, q .holding .ins)) loop-holds reach-requires
+    first-wrong-requires returns (λ c. search needs) (λ c. omega arith) loop-again returns-2)

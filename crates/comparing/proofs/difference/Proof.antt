@@ -1,5 +1,4 @@
--- `comparing::difference` meets its contract.
--- Assumes nothing.
+-- `comparing::difference` meets its contract. Assumes nothing.
 use Rattle.settings.specs.Settings.{literalWord, differences}
 use mathlib.Core.Path.{ap, _∙_}
 use Prim.Native.Nat.{ℕ, _/_}
@@ -10,13 +9,10 @@ use Rattle.comparing.proofs.difference.Tie as tie
 
 returns : tie.Need-returns
 returns c =
-    let out = c .before .before .before in
-    let a = out .before .before .args in
+    let out = c .before .before .before in let a = out .before .before .args in
     c .differing .ensures
     ∙ ap (λ (x : ℕ). differences x (a .driver)) (c .before .literal-word .ensures ∙ (λ k. literalWord (out .output .ensures k) (getD (a .variables .now) (out .output .ensures k / 2) 0)))
 
 pub difference-spec : {M : Type 1} → statement M
-difference-spec =
-    tie.close
-    (tie.spec
+difference-spec = tie.close (tie.spec
     (λ c κs. search needs) (λ c. search needs) (λ c. search needs) (λ c κs. search needs) (λ c κs. search needs) returns)

@@ -14,28 +14,22 @@ use Rattle.comparing.proofs.evaluate.Tie as tie
 
 fill-slots-requires : tie.Need-fill-slots-requires
 fill-slots-requires c κs =
-    let start = c .before .before .before .before in
-    let a = start .args in
-    let p = start .pre .0 in
+    let start = c .before .before .before .before in let a = start .args in let p = start .pre .0 in
     (subst (Slots (a .work .now) (a .h .size) (a .h .inputs)) (sym (c .before .placed .ensures)) (slots-ready (a .work .now) (a .h) (a .nets .now) (a .n) (a .refs .now) (a .order .now) (p .0) (p .1) (p .2)), search needs)
 
 fill-drivers-requires : tie.Need-fill-drivers-requires
 fill-drivers-requires c κs =
-    let start = c .before .before .before .before .before .before in
-    let a = start .args in
-    let p = start .pre .0 in
+    let start = c .before .before .before .before .before .before in let a = start .args in let p = start .pre .0 in
     (p .2 .bounded, drivers-ready (a .work .now) (a .h) (a .nets .now) (a .n) (a .refs .now) (a .order .now) (p .0) (p .1) (p .2), search needs)
 
 sub-first : tie.Need-sub-first
 sub-first c =
-    let p = c .before .before .before .before .before .before .before .before .pre .0 in
-    omega (arith, p .2 .room, p .2 .holding .outs)
+    let p = c .before .before .before .before .before .before .before .before .pre .0 in omega (arith, p .2 .room, p .2 .holding .outs)
 
 fill-differences-requires : tie.Need-fill-differences-requires
 fill-differences-requires c κs =
-    let start = c .before .before .before .before .before .before .before .before .before .before .before in
-    let a = start .args in
-    let p = start .pre .0 in
+    let q = c .before .before .before .before .before .before .before .before .before in
+    let start = q .before .before in let a = start .args in let p = start .pre .0 in
     let f = fits (a .work .now) (a .h) (a .nets .now) (a .n) (a .refs .now) (a .order .now) (p .0) (p .1) (p .2) in (
       f .room,
       f .outs,
@@ -48,13 +42,9 @@ returns : tie.Need-returns
 returns c = (
   c .fill-differences .ensures .0,
   (λ g ds q k l.
-      let filled = c .before .before .before .before .before in
-      let slots = filled .before .before in
-      let placed = slots .before .before in
-      let a = placed .before .before .before .args in
-      let n : placed .placed .result ≡ placedOf (a .h) = placed .placed .ensures in
-      let w = a .work .now in
-      let words : ℕ → ℕ = valueWord w (a .h) (a .nets .now) (a .n) (a .refs .now) (a .order .now) g ds q (a .b) in
+      let filled = c .before .before .before .before .before in let slots = filled .before .before in let placed = slots .before .before in
+      let a = placed .before .before .before .args in let n : placed .placed .result ≡ placedOf (a .h) = placed .placed .ensures in
+      let w = a .work .now in let words : ℕ → ℕ = valueWord w (a .h) (a .nets .now) (a .n) (a .refs .now) (a .order .now) g ds q (a .b) in
       c .fill-differences .ensures .1 k (omega (arith, q .holding .outs))
       ∙ output-word w (a .h) (a .nets .now) (a .n) (a .refs .now) (a .order .now) g ds q (a .b) (slots .fill-slots .last .1 .1 .1 .1 .1 .0) (filled .fill-drivers .last .1 .1 .1 .1 .1 .0)
       (λ i s.
@@ -67,7 +57,5 @@ returns c = (
 )
 
 pub evaluate-spec : {M : Type 1} → statement M
-evaluate-spec =
-    tie.close
-    (tie.spec
+evaluate-spec = tie.close (tie.spec
     (λ c κs. search needs) fill-slots-requires fill-drivers-requires sub-first fill-differences-requires returns)

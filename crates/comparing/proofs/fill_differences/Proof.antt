@@ -18,34 +18,23 @@ Inv-loop work m outputs first variables drivers wrong₀ k₀ wrong k =
 abbrev μ-loop : tie.MeasureT-loop
 μ-loop work m outputs first variables drivers wrong₀ k₀ wrong k = outputs - k
 
-loop-holds : tie.Need-loop-holds Inv-loop μ-loop
-loop-holds c = (omega arith, (λ j h. absurd (omega arith)), c .before .pre .4)
-
 difference-requires : tie.Need-difference-requires Inv-loop μ-loop
 difference-requires c κs =
-    let at-loop = c .before .before in
-    let start = at-loop .before .before in
+    let at-loop = c .before .before in let start = at-loop .before .before in
     (start .pre .0, omega arith, start .pre .3 (at-loop .loop .k) (omega arith))
 
 loop-again : tie.Need-loop-again Inv-loop μ-loop
 loop-again c =
-    let at-loop = c .before .before .before in
-    let a = at-loop .before .before .args in
-    let xs = at-loop .loop .wrong in
-    let k = at-loop .loop .k in
-    let w = a .work .now in
+    let at-loop = c .before .before .before in let a = at-loop .before .before .args in let xs = at-loop .loop .wrong in
+    let k = at-loop .loop .k in let w = a .work .now in
     let word : ℕ → ℕ = λ j. differences (literalWord (outputAt w (a .m) j) (getD (a .variables .now) (outputAt w (a .m) j / 2) 0)) (getD (a .drivers .now) (a .first + j) 0) in (
       omega arith,
       filled-more xs (λ j. j) word k (c .difference .result) (omega (arith, at-loop .loop .inv .2, at-loop .before .before .pre .1)) (c .difference .ensures) (at-loop .loop .inv .1),
       length-set xs k (c .difference .result) ∙ at-loop .loop .inv .2,
     )
 
-returns : tie.Need-returns Inv-loop μ-loop
-returns c = (c .before .loop .inv .2, λ j h. c .before .loop .inv .1 j (omega arith))
-
 pub fill-differences-spec : {M : Type 1} → statement M
-fill-differences-spec =
-    tie.close
-    (tie.spec
-    Inv-loop μ-loop loop-holds (λ c. search needs) (λ c. search needs) (λ c. search needs) difference-requires (λ c. search needs)
-    (λ c. search needs) (λ c. search needs) (λ c. search needs) loop-again returns)
+fill-differences-spec = tie.close (tie.spec
+    Inv-loop μ-loop (λ c. (omega arith, (λ j h. absurd (omega arith)), c .before .pre .4)) (λ c. search needs) (λ c. search needs)
+    (λ c. search needs) difference-requires (λ c. search needs) (λ c. search needs) (λ c. search needs) (λ c. search needs) loop-again
+    (λ c. (c .before .loop .inv .2, λ j h. c .before .loop .inv .1 j (omega arith))))

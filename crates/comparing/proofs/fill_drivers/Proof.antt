@@ -17,13 +17,9 @@ Inv-loop nets n refs order b drivers₀ p₀ drivers p =
 abbrev μ-loop : tie.MeasureT-loop
 μ-loop nets n refs order b drivers₀ p₀ drivers p = n - p
 
-loop-holds : tie.Need-loop-holds Inv-loop μ-loop
-loop-holds c = (omega arith, (λ values t j h. absurd (omega arith)), c .before .pre .2)
-
 driver-word-requires : tie.Need-driver-word-requires Inv-loop μ-loop
 driver-word-requires c κs =
-    let at-loop = c .before .before .before .before in
-    let start = at-loop .before .before in
+    let at-loop = c .before .before .before .before in let start = at-loop .before .before in
     subst (Readable (start .args .nets .now) (start .args .refs .now)) (sym (c .before .wide .ensures)) (start .pre .1 (at-loop .loop .p) (omega arith))
 
 mul-drivers : tie.Need-mul-drivers Inv-loop μ-loop
@@ -38,12 +34,8 @@ element-write-drivers c =
 
 loop-again : tie.Need-loop-again Inv-loop μ-loop
 loop-again c =
-    let wide = c .before .before in
-    let at-loop = wide .before .before .before in
-    let start = at-loop .before .before in
-    let a = start .args in
-    let p = at-loop .loop .p in
-    let xs = at-loop .loop .drivers in
+    let wide = c .before .before in let at-loop = wide .before .before .before in let start = at-loop .before .before in
+    let a = start .args in let p = at-loop .loop .p in let xs = at-loop .loop .drivers in
     let order : ℕ → ℕ = λ q. getD (a .order .now) q 0 in
     let inside : getD (a .order .now) p 0 < length xs = omega (arith, start .pre .1 p (omega arith) .few, at-loop .loop .inv .2) in (
       omega arith,
@@ -57,12 +49,8 @@ loop-again c =
       length-set xs (wide .wide .result) (c .driver-word .result) ∙ at-loop .loop .inv .2,
     )
 
-returns : tie.Need-returns Inv-loop μ-loop
-returns c = λ values t j h. c .before .loop .inv .1 values t j (omega arith)
-
 pub fill-drivers-spec : {M : Type 1} → statement M
-fill-drivers-spec =
-    tie.close
-    (tie.spec
-    Inv-loop μ-loop loop-holds (λ c. search needs) (λ c. search needs) (λ c κs. search needs) driver-word-requires mul-drivers element-write-drivers
-    (λ c. search needs) (λ c. search needs) loop-again returns)
+fill-drivers-spec = tie.close (tie.spec
+    Inv-loop μ-loop (λ c. (omega arith, (λ values t j h. absurd (omega arith)), c .before .pre .2)) (λ c. search needs) (λ c. search needs)
+    (λ c κs. search needs) driver-word-requires mul-drivers element-write-drivers (λ c. search needs) (λ c. search needs) loop-again
+    (λ c. λ values t j h. c .before .loop .inv .1 values t j (omega arith)))

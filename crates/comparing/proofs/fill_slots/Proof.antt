@@ -18,9 +18,6 @@ Inv-loop work m inputs n b variables₀ i₀ variables i =
 abbrev μ-loop : tie.MeasureT-loop
 μ-loop work m inputs n b variables₀ i₀ variables i = n - i
 
-loop-holds : tie.Need-loop-holds Inv-loop μ-loop
-loop-holds c = (omega arith, (λ values t j h. absurd (omega arith)), c .before .pre .1)
-
 slot-word-requires : tie.Need-slot-word-requires Inv-loop μ-loop
 slot-word-requires c κs =
     let start = c .before .before .before .before in
@@ -28,23 +25,18 @@ slot-word-requires c κs =
 
 mul-variables : tie.Need-mul-variables Inv-loop μ-loop
 mul-variables c =
-    let at-loop = c .before .before .before .before in
-    let start = at-loop .before .before in
+    let at-loop = c .before .before .before .before in let start = at-loop .before .before in
     omega (arith, c .slot .ensures, start .pre .0 .slots (at-loop .loop .i) (omega arith), start .pre .0 .room .small)
 
 element-write-variables : tie.Need-element-write-variables Inv-loop μ-loop
 element-write-variables c =
-    let at-loop = c .before .before .before .before in
-    let start = at-loop .before .before in
+    let at-loop = c .before .before .before .before in let start = at-loop .before .before in
     omega (arith, c .slot .ensures, start .pre .0 .slots (at-loop .loop .i) (omega arith), start .pre .0 .room .small)
 
 loop-again : tie.Need-loop-again Inv-loop μ-loop
 loop-again c =
-    let at-loop = c .before .before .before .before in
-    let start = at-loop .before .before in
-    let a = start .args in
-    let i = at-loop .loop .i in
-    let xs = at-loop .loop .variables in
+    let at-loop = c .before .before .before .before in let start = at-loop .before .before in let a = start .args in
+    let i = at-loop .loop .i in let xs = at-loop .loop .variables in
     let inside : slotAt (a .work .now) (a .m) i < length xs = omega (arith, start .pre .0 .slots i (omega arith), start .pre .0 .room .small, at-loop .loop .inv .2) in (
       omega arith,
       (λ values t.
@@ -56,12 +48,8 @@ loop-again c =
       length-set xs (c .slot .result) (c .before .slot-word .result) ∙ at-loop .loop .inv .2,
     )
 
-returns : tie.Need-returns Inv-loop μ-loop
-returns c = λ values t j h. c .before .loop .inv .1 values t j (omega arith)
-
 pub fill-slots-spec : {M : Type 1} → statement M
-fill-slots-spec =
-    tie.close
-    (tie.spec
-    Inv-loop μ-loop loop-holds slot-word-requires (λ c κs. search needs) mul-variables element-write-variables (λ c. search needs)
-    (λ c. search needs) loop-again returns)
+fill-slots-spec = tie.close (tie.spec
+    Inv-loop μ-loop (λ c. (omega arith, (λ values t j h. absurd (omega arith)), c .before .pre .1)) slot-word-requires
+    (λ c κs. search needs) mul-variables element-write-variables (λ c. search needs) (λ c. search needs) loop-again
+    (λ c. λ values t j h. c .before .loop .inv .1 values t j (omega arith)))

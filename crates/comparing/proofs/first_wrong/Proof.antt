@@ -22,8 +22,7 @@ loop-holds c = (omega arith, ap (λ (n : ℕ). seek (λ j. bit (getD (c .args .w
 
 returns : tie.Need-returns Inv-loop μ-loop
 returns c =
-    let at-loop = c .before .before .before .before in
-    let a = at-loop .before .args in
+    let at-loop = c .before .before .before .before in let a = at-loop .before .args in
     sym (at-loop .loop .inv .1
     ∙ seek-here (λ j. bit (getD (a .wrong .now) j 0) (a .t)) _ (a .outputs - (at-loop .loop .first + 1)) _ (omega arith) (sym (c .before .is-set .ensures) ∙ c .if1 .taken))
 
@@ -42,8 +41,6 @@ returns-2 c =
     sym (c .before .loop .inv .1 ∙ seek-end (λ j. bit (getD (a .wrong .now) j 0) (a .t)) _ _ (omega arith))
 
 pub first-wrong-spec : {M : Type 1} → statement M
-first-wrong-spec =
-    tie.close
-    (tie.spec
-    Inv-loop μ-loop loop-holds (λ c. search needs) (λ c. search needs) (λ c κs. search needs) returns (λ c. search needs) (λ c. search needs)
-    loop-again returns-2)
+first-wrong-spec = tie.close (tie.spec
+    Inv-loop μ-loop loop-holds (λ c. search needs) (λ c. search needs) (λ c κs. search needs) returns (λ c. search needs)
+    (λ c. search needs) loop-again returns-2)

@@ -1,5 +1,4 @@
--- `comparing::settings_of` meets its contract: the shift loses nothing.
--- Assumes nothing.
+-- `comparing::settings_of` meets its contract: the shift loses nothing. Assumes nothing.
 use mathlib.Core.Path.{_∙_}
 use native.Mathlib.Omega.{arith}
 use lib.Pow.{shl-exact}
@@ -7,10 +6,6 @@ use borrow.Author.Needs.{needs}
 use Rattle.comparing.proofs.settings_of.Statement.{statement}
 use Rattle.comparing.proofs.settings_of.Tie as tie
 
-returns : tie.Need-returns
-returns c = shl-exact 1 (c .args .inputs) 64 (omega arith) (omega arith) ∙ omega arith
-
 pub settings-of-spec : {M : Type 1} → statement M
-settings-of-spec = tie.close
-    (tie.spec
-    (λ c. search needs) returns)
+settings-of-spec = tie.close (tie.spec
+    (λ c. search needs) (λ c. shl-exact 1 (c .args .inputs) 64 (omega arith) (omega arith) ∙ omega arith))

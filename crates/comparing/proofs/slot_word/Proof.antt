@@ -1,5 +1,4 @@
--- `comparing::slot_word` meets its contract.
--- Assumes nothing.
+-- `comparing::slot_word` meets its contract. Assumes nothing.
 use Rattle.comparing.specs.Filling.{andAt}
 use Rattle.comparing.proofs.Turns.{slot-zero, slot-input, slot-and}
 use mathlib.Core.Path.{ap, _∙_}
@@ -34,7 +33,5 @@ returns-3 c =
     ∙ slot-and (a .work .now) (a .m) (a .inputs) (a .b) (λ u. getD (a .variables .now) u 0) (a .i) (c .before .before .before .if1 .left) (c .before .before .if2 .left)
 
 pub slot-word-spec : {M : Type 1} → statement M
-slot-word-spec =
-    tie.close
-    (tie.spec
+slot-word-spec = tie.close (tie.spec
     returns (λ c. search needs) (λ c κs. search needs) returns-2 (λ c κs. search needs) and-at-requires returns-3)

@@ -15,14 +15,9 @@ Inv-loop lib c t₀ i₀ t i = (i ≤ 32) × (t ≡ addedUpTo i lib c t₀)
 abbrev μ-loop : tie.MeasureT-loop
 μ-loop lib c t₀ i₀ t i = 32 - i
 
-loop-holds : tie.Need-loop-holds Inv-loop μ-loop
-unfolding addUpTo
-loop-holds c = (omega arith, refl)
-
 add-place-requires : tie.Need-add-place-requires Inv-loop μ-loop
 add-place-requires c κs =
-    let st = c .before .before .before .before .before .before .before in
-    let p = c .before .before .before .before .before .before .loop in
+    let st = c .before .before .before .before .before .before .before in let p = c .before .before .before .before .before .before .loop in
     let low = tally-low (st .args .t2) (st .args .t3) (st .args .from) (st .pre) (p .i) (p .t) (p .inv .1) in
     (omega arith, c .before .before .long .ensures .1, omega (arith, c .long2 .ensures .0, c .before .wide .ensures .1), low .0, low .1, low .2)
 
@@ -37,13 +32,12 @@ loop-again c =
 
 returns : tie.Need-returns Inv-loop μ-loop
 returns c =
-    let p = c .before .loop in
-    let e : p .i ≡ 32 = omega arith in
+    let p = c .before .loop in let e : p .i ≡ 32 = omega arith in
     p .inv .1 ∙ ap (λ (k : ℕ). addedUpTo k (c .before .before .args .t2) (c .before .before .args .t3) (c .before .before .args .from)) e
 
 pub add-counts-spec : {M : Type 1} → statement M
-add-counts-spec =
-    tie.close
-    (tie.spec
-    Inv-loop μ-loop loop-holds (λ c. omega arith) (λ c. omega arith) (λ c. omega arith) (λ c. omega arith) (λ c κs. search needs)
-    (λ c κs. search needs) (λ c κs. search needs) add-place-requires (λ c. omega arith) (λ c. omega arith) loop-again returns)
+unfolding addUpTo
+add-counts-spec = tie.close (tie.spec
+    Inv-loop μ-loop (λ c. (omega arith, refl)) (λ c. omega arith) (λ c. omega arith) (λ c. omega arith) (λ c. omega arith)
+    (λ c κs. search needs) (λ c κs. search needs) (λ c κs. search needs) add-place-requires (λ c. omega arith) (λ c. omega arith) loop-again
+    returns)

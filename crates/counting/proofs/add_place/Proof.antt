@@ -1,5 +1,4 @@
--- `counting::add_place` meets its contract: a place of each figure.
--- Assumes nothing.
+-- `counting::add_place` meets its contract: a place of each figure. Assumes nothing.
 use native.Mathlib.Omega.{arith}
 use mathlib.Core.Path.{ap}
 use Prim.Native.Nat.{ℕ, _+_, _*_}
@@ -21,16 +20,12 @@ add-t-3 c = let a = c .before .before .before .before .args in omega (arith, c .
 
 returns : tie.Need-returns
 returns c =
-    let t = c .before .before .before .before .args .t1 in
-    let i = c .before .before .before .before .args .i in
-    let n = c .before .before .before .before .args .n in
-    let area = c .before .before .before .before .args .area in
+    let t = c .before .before .before .before .args .t1 in let i = c .before .before .before .before .args .i in
+    let n = c .before .before .before .before .args .n in let area = c .before .before .before .before .args .area in
     ap (λ (o : ℕ). record { gates = set (t .gates) i (getD (t .gates) i 0 + n); areas = set (t .areas) i (getD (t .areas) i 0 + n * area); occurs = set (t .occurs) i (getD (t .occurs) i 0 + o); netlists = t .netlists }) (c .occurs .ensures)
 
 pub add-place-spec : {M : Type 1} → statement M
-add-place-spec =
-    tie.close
-    (tie.spec
-    (λ c. search needs) (λ c. search needs) (λ c. search needs) (λ c. search needs) (λ c. search needs) (λ c. search needs) (λ c. search needs)
-    mul-t-4 add-t-2 (λ c. search needs) (λ c. search needs) (λ c. search needs) (λ c. search needs) (λ c κs. search needs) add-t-3
-    (λ c. search needs) (λ c. search needs) returns)
+add-place-spec = tie.close (tie.spec
+    (λ c. search needs) (λ c. search needs) (λ c. search needs) (λ c. search needs) (λ c. search needs) (λ c. search needs)
+    (λ c. search needs) mul-t-4 add-t-2 (λ c. search needs) (λ c. search needs) (λ c. search needs) (λ c. search needs)
+    (λ c κs. search needs) add-t-3 (λ c. search needs) (λ c. search needs) returns)

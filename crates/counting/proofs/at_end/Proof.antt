@@ -1,5 +1,4 @@
--- `counting::at_end` meets its contract: a line that is left is one too many.
--- Assumes nothing.
+-- `counting::at_end` meets its contract: a line that is left is one too many. Assumes nothing.
 use native.Mathlib.Omega.{arith}
 use Rattle.counting.proofs.DueLines.{end-yes, end-no}
 use Rattle.counting.proofs.at_end.Statement.{statement}

@@ -1,5 +1,4 @@
--- `counting::count` meets its contract: 1, the library's, then 28 and 29.
--- Assumes nothing.
+-- `counting::count` meets its contract: 1, the library's, then 28 and 29. Assumes nothing.
 use native.Mathlib.Omega.{arith}
 use mathlib.Core.Path.{_≡_, sym, ap, subst, _∙_}
 use mathlib.Core.Bool.{Bool}
@@ -35,9 +34,6 @@ returns-2 c =
     let a = c .before .before .before .before .before .args in
     both (a .t) _ (countText (a .t) (a .cells .now) (a .netlist .now)) (c .refused2 .ensures ∙ sym (ap (countedAnswer (a .t)) (count-long-too (a .t) (a .cells .now) (a .netlist .now) (omega arith))))
 
-enum-told : tie.Need-enum-told
-enum-told c = search needs
-
 count-in-requires : tie.Need-count-in-requires
 count-in-requires c κs =
     let a = c .before .before .before .before .before .before .before .before .before .args in
@@ -47,7 +43,7 @@ count-in-requires c κs =
 
 returns-3 : tie.Need-returns-3
 returns-3 c =
-    let a = c .before .before .before .before .before .before .before .before .before .before .args in
+    let p = c .before .before .before .before .before .before .before .before .before in let a = p .before .args in
     let r = c .before .before .before .before .before .read in
     let o = accepted (readLibrary (a .cells .now)) (r .result) (r .ensures .0) (c .before .before .enum-told .given .1) in
     both (a .t) _ (countText (a .t) (a .cells .now) (a .netlist .now)) (
@@ -59,15 +55,13 @@ returns-3 c =
 
 returns-4 : tie.Need-returns-4
 returns-4 c =
-    let a = c .before .before .before .before .before .before .before .before .before .before .args in
+    let p = c .before .before .before .before .before .before .before .before .before in let a = p .before .args in
     let r = c .before .before .before .before .before .read in
     both (a .t) _ (countText (a .t) (a .cells .now) (a .netlist .now)) (
     c .refused3 .ensures
     ∙ sym (ap (countedAnswer (a .t)) (count-refused (a .t) (a .cells .now) (a .netlist .now) (omega arith) (omega arith) _ _ (turned-back (readLibrary (a .cells .now)) (r .result) (r .ensures .0) _ _ (c .before .before .verdict .given .1)))))
 
 pub count-spec : {M : Type 1} → statement M
-count-spec =
-    tie.close
-    (tie.spec
-    (λ c κs. search needs) returns (λ c κs. search needs) returns-2 (λ c κs. search needs) enum-told (λ c κs. search needs) count-in-requires
-    (λ c. search needs) (λ c κs. search needs) returns-3 returns-4)
+count-spec = tie.close (tie.spec
+    (λ c κs. search needs) returns (λ c κs. search needs) returns-2 (λ c κs. search needs) (λ c. search needs) (λ c κs. search needs)
+    count-in-requires (λ c. search needs) (λ c κs. search needs) returns-3 returns-4)

@@ -1,5 +1,4 @@
--- `counting::count_in` meets its contract: 28, then 29.
--- Assumes nothing.
+-- `counting::count_in` meets its contract: 28, then 29. Assumes nothing.
 use native.Mathlib.Omega.{arith}
 use mathlib.Core.Path.{sym, ap, _∙_}
 use borrow.Author.Tests.{not-true, not-false}
@@ -28,22 +27,18 @@ returns-3 : tie.Need-returns-3
 returns-3 c =
     let a = c .before .before .before .before .before .before .before .before .before .args in
     let pre = c .before .before .before .before .before .before .before .before .before .pre in
-    let w = c .before .before .before .before .before .in-width in
-    let t = not-false _ (c .before .before .before .before .if2 .left) in
+    let w = c .before .before .before .before .before .in-width in let t = not-false _ (c .before .before .before .before .if2 .left) in
     let n = c .before .before .before .read-netlist in
     c .counted .ensures ∙ count-whole (a .t) (a .ranged) (a .lib) (pre .2) (a .s .now) (w .ensures .1 t) (n .result .counts) (n .ensures .whole (c .before .if3 .taken)) (omega arith) (sym (w .ensures .0) ∙ t)
 
 returns-4 : tie.Need-returns-4
 returns-4 c =
     let a = c .before .before .before .before .before .before .before .before .before .args in
-    let w = c .before .before .before .before .before .in-width in
-    let t = not-false _ (c .before .before .before .before .if2 .left) in
+    let w = c .before .before .before .before .before .in-width in let t = not-false _ (c .before .before .before .before .if2 .left) in
     let n = c .before .before .before .read-netlist in
     c .refused3 .ensures ∙ sym (ap (countedAnswer (a .t)) (count-broken (a .t) (a .ranged) (cellsOf (a .lib)) (a .s .now) (omega arith) (sym (w .ensures .0) ∙ t) (n .result .at) (n .ensures .broken (c .before .if3 .left))))
 
 pub count-in-spec : {M : Type 1} → statement M
-count-in-spec =
-    tie.close
-    (tie.spec
+count-in-spec = tie.close (tie.spec
     (λ c κs. search needs) returns (λ c κs. search needs) (λ c κs. search needs) returns-2 (λ c κs. search needs) counted-requires
     (λ c κs. search needs) returns-3 returns-4)

@@ -1,5 +1,4 @@
--- `counting::counted` meets its contract: the counts in all places, and one netlist more.
--- Assumes nothing.
+-- `counting::counted` meets its contract: the counts in all places, and one netlist more. Assumes nothing.
 use mathlib.Core.Path.{ap}
 use Prim.Native.Nat.{_+_}
 use Rattle.model.specs.declared.Tally.{Tally}
@@ -12,6 +11,4 @@ returns : tie.Need-returns
 returns c = ap (λ (x : Tally). record { verdict = Accepted; tally = record { gates = x .gates; areas = x .areas; occurs = x .occurs; netlists = c .before .args .t .netlists + 1 } }) (c .add-counts .ensures)
 
 pub counted-spec : {M : Type 1} → statement M
-counted-spec = tie.close
-    (tie.spec
-    (λ c κs. search needs) (λ c. search needs) returns)
+counted-spec = tie.close (tie.spec (λ c κs. search needs) (λ c. search needs) returns)

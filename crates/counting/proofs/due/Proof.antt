@@ -1,5 +1,4 @@
--- `counting::due` meets its contract: by the line at the place.
--- Assumes nothing.
+-- `counting::due` meets its contract: by the line at the place. Assumes nothing.
 use native.Mathlib.Omega.{arith}
 use mathlib.Core.Path.{sym, _∙_}
 use Rattle.counting.specs.Forms.{formTest}
@@ -41,20 +40,16 @@ has-form-requires c κs =
 
 returns-2 : tie.Need-returns-2
 returns-2 c =
-    let a = c .before .before .before .before .before .before .args in
-    let l = c .before .before .before .before .line in
+    let a = c .before .before .before .before .before .before .args in let l = c .before .before .before .before .line in
     let t = ten-line (a .s .now) (a .at) (omega arith) (l .result) (l .ensures) (omega arith) in
     (due-yes (a .s .now) (a .at) (omega arith) (l .result) (l .ensures) (formTest (a .form)) t (sym (c .before .has-form .ensures) ∙ c .if2 .taken), t .within)
 
 returns-3 : tie.Need-returns-3
 returns-3 c =
-    let a = c .before .before .before .before .before .before .args in
-    let l = c .before .before .before .before .line in
+    let a = c .before .before .before .before .before .before .args in let l = c .before .before .before .before .line in
     let t = ten-line (a .s .now) (a .at) (omega arith) (l .result) (l .ensures) (omega arith) in
     (due-no (a .s .now) (a .at) (omega arith) (l .result) (l .ensures) (formTest (a .form)) t (sym (c .before .has-form .ensures) ∙ c .if2 .left), omega arith)
 
 pub due-spec : {M : Type 1} → statement M
-due-spec =
-    tie.close
-    (tie.spec
+due-spec = tie.close (tie.spec
     (λ c κs. search needs) add-if1 returns sub-has-form part-has-form-start part-has-form-end has-form-requires returns-2 returns-3)

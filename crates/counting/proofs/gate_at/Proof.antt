@@ -1,5 +1,4 @@
--- `counting::gate_at` meets its contract: by the line at the place.
--- Assumes nothing.
+-- `counting::gate_at` meets its contract: by the line at the place. Assumes nothing.
 use native.Mathlib.Omega.{arith}
 use Prim.Native.Nat.{_-_}
 use Rattle.counting.proofs.DueLines.{ten-line, not-ended, span-bounds, part-short}
@@ -38,9 +37,6 @@ gate-of-requires c κs =
     let a = c .before .before .before .before .args in
     (omega (arith, part-short (c .before .before .line .result .stop - a .at) (a .at) (a .s .now)), c .before .before .before .before .pre .2)
 
-enum-told : tie.Need-enum-told
-enum-told c = search needs
-
 returns-2 : tie.Need-returns-2
 returns-2 c =
     let a = c .before .before .before .before .before .before .before .before .args in
@@ -50,14 +46,11 @@ returns-2 c =
 
 returns-3 : tie.Need-returns-3
 returns-3 c =
-    let a = c .before .before .before .before .before .before .before .args in
-    let l = c .before .before .before .before .before .line in
+    let a = c .before .before .before .before .before .before .before .args in let l = c .before .before .before .before .before .line in
     let t = ten-line (a .s .now) (a .at) (omega arith) (l .result) (l .ensures) (omega arith) in
     gate-other (a .lib) (a .s .now) (a .at) (l .result) t (c .before .before .gate-of .result) (c .before .before .gate-of .ensures) (c .enum-told .given .1)
 
 pub gate-at-spec : {M : Type 1} → statement M
-gate-at-spec =
-    tie.close
-    (tie.spec
-    (λ c κs. search needs) add-if1 returns sub-gate-of part-gate-of-start part-gate-of-end gate-of-requires (λ c. search needs) enum-told returns-2
-    returns-3)
+gate-at-spec = tie.close (tie.spec
+    (λ c κs. search needs) add-if1 returns sub-gate-of part-gate-of-start part-gate-of-end gate-of-requires (λ c. search needs)
+    (λ c. search needs) returns-2 returns-3)

@@ -1,5 +1,4 @@
--- `counting::has_form` meets its contract: the line is judged by its kind.
--- Assumes nothing.
+-- `counting::has_form` meets its contract: the line is judged by its kind. Assumes nothing.
 use mathlib.Core.Path.{sym, ap, _∙_}
 use Rattle.model.specs.Text.{text}
 use Rattle.counting.specs.Forms.{formTest}
@@ -7,9 +6,6 @@ use Rattle.counting.specs.declared.Form.{Form}
 use borrow.Author.Needs.{needs}
 use Rattle.counting.proofs.has_form.Statement.{statement}
 use Rattle.counting.proofs.has_form.Tie as tie
-
-enum-told : tie.Need-enum-told
-enum-told c = search needs
 
 returns : tie.Need-returns
 unfolding formTest text
@@ -44,10 +40,9 @@ unfolding formTest text
 returns-8 c = c .is-timing .ensures ∙ ap (λ (x : Form). formTest x (c .before .before .before .before .args .w .now)) (sym (c .before .enum-told7 .given .1))
 
 pub has-form-spec : {M : Type 1} → statement M
-has-form-spec =
-    tie.close
-    (tie.spec
-    enum-told (λ c. search needs) (λ c κs. search needs) (λ c. search needs) (λ c. search needs) (λ c κs. search needs) (λ c. search needs)
-    (λ c. search needs) (λ c κs. search needs) (λ c. search needs) (λ c κs. search needs) (λ c. search needs) (λ c. search needs)
-    (λ c κs. search needs) (λ c. search needs) (λ c. search needs) (λ c κs. search needs) (λ c. search needs) (λ c κs. search needs)
-    (λ c. search needs) (λ c κs. search needs) returns returns-2 returns-3 returns-4 returns-5 returns-6 returns-7 returns-8)
+has-form-spec = tie.close (tie.spec
+    (λ c. search needs) (λ c. search needs) (λ c κs. search needs) (λ c. search needs) (λ c. search needs) (λ c κs. search needs)
+    (λ c. search needs) (λ c. search needs) (λ c κs. search needs) (λ c. search needs) (λ c κs. search needs) (λ c. search needs)
+    (λ c. search needs) (λ c κs. search needs) (λ c. search needs) (λ c. search needs) (λ c κs. search needs) (λ c. search needs)
+    (λ c κs. search needs) (λ c. search needs) (λ c κs. search needs) returns returns-2 returns-3 returns-4 returns-5 returns-6 returns-7
+    returns-8)

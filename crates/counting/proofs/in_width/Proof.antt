@@ -1,5 +1,4 @@
--- `counting::in_width` meets its contract: figure by figure.
--- Assumes nothing.
+-- `counting::in_width` meets its contract: figure by figure. Assumes nothing.
 use mathlib.Core.Path.{sym, _∙_}
 use borrow.Author.Tests.{not-true, not-false}
 use Rattle.counting.proofs.Reading.{never}
@@ -26,10 +25,9 @@ returns-3 c =
 
 returns-4 : tie.Need-returns-4
 returns-4 c =
-    let t = c .before .before .before .before .before .before .before .before .before .before .before .args .t in
+    let p = c .before .before .before .before .before .before .before .before .before in let t = p .before .before .args .t in
     let x = c .before .before .before .before .before .before .before .before .before .all-small in
-    let y = c .before .before .before .before .before .before .all-small2 in
-    let z = c .before .before .before .all-small3 in
+    let y = c .before .before .before .before .before .before .all-small2 in let z = c .before .before .before .all-small3 in
     let g = sym (x .ensures .0) ∙ not-false _ (c .before .before .before .before .before .before .before .before .if1 .left) in
     let a = sym (y .ensures .0) ∙ not-false _ (c .before .before .before .before .before .if2 .left) in
     let o = sym (z .ensures .0) ∙ not-false _ (c .before .before .if3 .left) in
@@ -37,17 +35,14 @@ returns-4 c =
 
 returns-5 : tie.Need-returns-5
 returns-5 c =
-    let t = c .before .before .before .before .before .before .before .before .before .before .before .args .t in
+    let p = c .before .before .before .before .before .before .before .before .before in
     let x = c .before .before .before .before .before .before .before .before .before .all-small in
-    let y = c .before .before .before .before .before .before .all-small2 in
-    let z = c .before .before .before .all-small3 in
+    let y = c .before .before .before .before .before .before .all-small2 in let z = c .before .before .before .all-small3 in
     let g = sym (x .ensures .0) ∙ not-false _ (c .before .before .before .before .before .before .before .before .if1 .left) in
     let a = sym (y .ensures .0) ∙ not-false _ (c .before .before .before .before .before .if2 .left) in
     let o = sym (z .ensures .0) ∙ not-false _ (c .before .before .if3 .left) in
-    (width-over t g a o (c .if4 .left), λ e. never e)
+    (width-over (p .before .before .args .t) g a o (c .if4 .left), λ e. never e)
 
 pub in-width-spec : {M : Type 1} → statement M
-in-width-spec =
-    tie.close
-    (tie.spec
+in-width-spec = tie.close (tie.spec
     (λ c κs. search needs) returns (λ c κs. search needs) returns-2 (λ c κs. search needs) returns-3 returns-4 returns-5)

@@ -1,5 +1,4 @@
--- `counting::occurs` meets its contract: by the number.
--- Assumes nothing.
+-- `counting::occurs` meets its contract: by the number. Assumes nothing.
 use Rattle.counting.proofs.Places.{some-occurs, none-occurs}
 use Rattle.counting.proofs.occurs.Statement.{statement}
 use Rattle.counting.proofs.occurs.Tie as tie
@@ -7,8 +6,5 @@ use Rattle.counting.proofs.occurs.Tie as tie
 returns : tie.Need-returns
 returns c = some-occurs _ (c .if1 .taken)
 
-returns-2 : tie.Need-returns-2
-returns-2 c = none-occurs _ (c .if1 .left)
-
 pub occurs-spec : {M : Type 1} → statement M
-occurs-spec = tie.close (tie.spec returns returns-2)
+occurs-spec = tie.close (tie.spec returns (λ c. none-occurs _ (c .if1 .left)))

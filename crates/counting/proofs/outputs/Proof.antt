@@ -1,5 +1,4 @@
--- `counting::outputs` meets its contract: the third line's fields, less the keyword.
--- Assumes nothing.
+-- `counting::outputs` meets its contract: the third line's fields, less the keyword. Assumes nothing.
 use native.Mathlib.Omega.{arith}
 use mathlib.Core.Path.{_∙_}
 use Rattle.counting.proofs.DueLines.{span-bounds, outputs-none, outputs-some}
@@ -29,14 +28,11 @@ part-names-in-end c =
 
 returns-2 : tie.Need-returns-2
 returns-2 c =
-    let s = c .before .before .before .before .before .before .before .args .s .now in
-    let l = c .before .before in
+    let s = c .before .before .before .before .before .before .before .args .s .now in let l = c .before .before in
     c .names-in .ensures
     ∙ outputs-some s (l .before .before .before .line .result) (l .before .before .line2 .result) (l .before .before .before .line .ensures) (l .before .before .line2 .ensures) (omega arith) (l .line3 .result) (l .line3 .ensures)
 
 pub outputs-spec : {M : Type 1} → statement M
-outputs-spec =
-    tie.close
-    (tie.spec
+outputs-spec = tie.close (tie.spec
     (λ c κs. search needs) (λ c κs. search needs) returns (λ c κs. search needs) sub-names-in part-names-in-start part-names-in-end
     (λ c κs. search needs) returns-2)

@@ -1,5 +1,4 @@
--- `counting::read_behind` meets its contract: in the order of the lines.
--- Assumes nothing.
+-- `counting::read_behind` meets its contract: in the order of the lines. Assumes nothing.
 use lib.ListN.{length}
 use Rattle.model.specs.Reading.{holds, next}
 use Rattle.counting.specs.Forms.{formTest}
@@ -21,7 +20,5 @@ returns c =
     )
 
 pub read-behind-spec : {M : Type 1} → statement M
-read-behind-spec =
-    tie.close
-    (tie.spec
+read-behind-spec = tie.close (tie.spec
     (λ c κs. search needs) (λ c κs. search needs) (λ c κs. search needs) (λ c κs. search needs) (λ c κs. search needs) returns)

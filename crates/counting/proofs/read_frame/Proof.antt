@@ -1,5 +1,4 @@
--- `counting::read_frame` meets its contract: the three lines in order.
--- Assumes nothing.
+-- `counting::read_frame` meets its contract: the three lines in order. Assumes nothing.
 use lib.ListN.{length}
 use Rattle.model.specs.Tally.{frame}
 use Rattle.counting.specs.Forms.{formTest}
@@ -16,6 +15,4 @@ returns c =
     (due-three (length s) (linesOf s 0) _ _ _ _ _ _ (c .before .before .due .ensures .0) (c .before .then-due .ensures .0) (c .then-due2 .ensures .0), c .then-due2 .ensures .1)
 
 pub read-frame-spec : {M : Type 1} → statement M
-read-frame-spec = tie.close
-    (tie.spec
-    (λ c κs. search needs) (λ c κs. search needs) (λ c κs. search needs) returns)
+read-frame-spec = tie.close (tie.spec (λ c κs. search needs) (λ c κs. search needs) (λ c κs. search needs) returns)

@@ -21,19 +21,14 @@ loop-holds c =
     let a = c .before .before .args in
     subst (SoFar (a .t3) (a .s .now) (a .from)) (sym (c .no-gates .ensures)) (so-far-first (a .t3) (a .s .now) (a .from) (omega arith))
 
-gate-at-requires : tie.Need-gate-at-requires Inv-loop μ-loop
-gate-at-requires c κs = (c .loop .inv .inside, omega arith, c .before .before .before .pre .2)
-
 mul-cell : tie.Need-mul-cell Inv-loop μ-loop
 mul-cell c =
-    let st = c .before .before .before .before .before .before .before in
-    let p = c .before .before .before .before .loop in
+    let st = c .before .before .before .before .before .before .before in let p = c .before .before .before .before .loop in
     omega (arith, so-far-listed (st .args .t3) (st .pre .2) (st .args .s .now) (st .args .from) (p .c) (p .inv) (c .before .k .given .0 .0) _ (sym (c .before .before .before .gate-at .ensures) ∙ c .before .k .given .1), st .pre .2 .few)
 
 element-copy-out-cell : tie.Need-element-copy-out-cell Inv-loop μ-loop
 element-copy-out-cell c =
-    let st = c .before .before .before .before .before .before .before in
-    let p = c .before .before .before .before .loop in
+    let st = c .before .before .before .before .before .before .before in let p = c .before .before .before .before .loop in
     omega (arith, so-far-listed (st .args .t3) (st .pre .2) (st .args .s .now) (st .args .from) (p .c) (p .inv) (c .before .k .given .0 .0) _ (sym (c .before .before .before .gate-at .ensures) ∙ c .before .k .given .1), st .pre .2 .few)
 
 add-gate-requires : tie.Need-add-gate-requires Inv-loop μ-loop
@@ -49,7 +44,7 @@ add-gate-requires c κs =
 
 loop-less : tie.Need-loop-less Inv-loop μ-loop
 loop-less c =
-    let st = c .before .before .before .before .before .before .before .before .before .before in
+    let q = c .before .before .before .before .before .before .before .before .before in let st = q .before in
     let p = c .before .before .before .before .before .before .before .loop in
     let e = sym (c .before .before .before .before .before .before .gate-at .ensures) ∙ c .before .before .before .before .k .given .1 in
     let k = c .before .before .before .before .k .given .0 .0 in
@@ -58,25 +53,20 @@ loop-less c =
 
 loop-again : tie.Need-loop-again Inv-loop μ-loop
 loop-again c =
-    let st = c .before .before .before .before .before .before .before .before .before .before in
+    let q = c .before .before .before .before .before .before .before .before .before in let st = q .before in
     let p = c .before .before .before .before .before .before .before .loop in
     let e = sym (c .before .before .before .before .before .before .gate-at .ensures) ∙ c .before .before .before .before .k .given .1 in
     let k = c .before .before .before .before .k .given .0 .0 in
     subst (SoFar (st .args .t3) (st .args .s .now) (st .args .from)) (sym (c .add-gate .ensures))
     (so-far-more (st .args .t3) (st .pre .2) (st .args .s .now) (st .args .from) (p .c) (p .inv) k _ e (c .before .wide .result) (c .before .wide .ensures .0) (c .before .wide .ensures .1))
 
-enum-told : tie.Need-enum-told Inv-loop μ-loop
-enum-told c = search needs
-
 returns : tie.Need-returns Inv-loop μ-loop
 returns c =
-    let st = c .before .before .before .before .before .before in
-    let p = c .before .before .before .loop in
+    let st = c .before .before .before .before .before .before in let p = c .before .before .before .loop in
     so-far-last (st .args .t3) (st .args .s .now) (st .args .from) (p .c) (st .pre .1) (p .inv) (sym (c .before .before .gate-at .ensures) ∙ c .enum-told .given .1)
 
 pub read-gates-spec : {M : Type 1} → statement M
-read-gates-spec =
-    tie.close
-    (tie.spec
-    Inv-loop μ-loop (λ c κs. search needs) loop-holds gate-at-requires (λ c. search needs) mul-cell element-copy-out-cell (λ c κs. search needs)
-    add-gate-requires loop-less loop-again enum-told returns)
+read-gates-spec = tie.close (tie.spec
+    Inv-loop μ-loop (λ c κs. search needs) loop-holds (λ c κs. (c .loop .inv .inside, omega arith, c .before .before .before .pre .2))
+    (λ c. search needs) mul-cell element-copy-out-cell (λ c κs. search needs) add-gate-requires loop-less loop-again (λ c. search needs)
+    returns)

@@ -27,12 +27,6 @@ loop-holds c =
           (⊎-elim (λ y. count-yes (a .ranged) (a .outs) (c .if1 .n) (y .0 .taken) (omega arith)) (λ y. count-no (a .ranged) (a .outs) (c .if1 .n) (y .0 .left) (omega arith)) (c .if1 .came)),
     )
 
-then-due-requires : tie.Need-then-due-requires Inv-loop μ-loop
-then-due-requires c κs = (omega arith, omega arith)
-
-add-k : tie.Need-add-k Inv-loop μ-loop
-add-k c = ⊎-elim (λ y. omega arith) (λ y. omega arith) (c .before .before .before .if1 .came)
-
 loop-again : tie.Need-loop-again Inv-loop μ-loop
 unfolding formTest
 loop-again c =
@@ -44,12 +38,10 @@ loop-again c =
 
 returns : tie.Need-returns Inv-loop μ-loop
 returns c =
-    let a = c .before .before .before .before .args in
-    let p = c .before .loop in
+    let a = c .before .before .before .before .args in let p = c .before .loop in
     (sym (p .inv .1 ∙ timings-end (length (a .s .now)) (readIn (a .s .now) (p .r)) (p .k) (c .before .before .if1 .n) (c .loop-test .left)), p .inv .0)
 
 pub read-timings-spec : {M : Type 1} → statement M
-read-timings-spec =
-    tie.close
-    (tie.spec
-    Inv-loop μ-loop loop-holds then-due-requires add-k (λ c. omega arith) loop-again returns)
+read-timings-spec = tie.close (tie.spec
+    Inv-loop μ-loop loop-holds (λ c κs. (omega arith, omega arith))
+    (λ c. ⊎-elim (λ y. omega arith) (λ y. omega arith) (c .before .before .before .if1 .came)) (λ c. omega arith) loop-again returns)

@@ -21,12 +21,6 @@ abbrev μ-loop : tie.MeasureT-loop
 loop-holds : tie.Need-loop-holds Inv-loop μ-loop
 loop-holds c = (omega arith, wires-first (length (c .before .args .s .now)) (readIn (c .before .args .s .now) (c .before .args .from)) (c .before .args .outs))
 
-then-due-requires : tie.Need-then-due-requires Inv-loop μ-loop
-then-due-requires c κs = (omega arith, omega arith)
-
-then-due-requires-2 : tie.Need-then-due-requires-2 Inv-loop μ-loop
-then-due-requires-2 c κs = (c .then-due .ensures .1, omega arith)
-
 loop-again : tie.Need-loop-again Inv-loop μ-loop
 unfolding formTest
 loop-again c =
@@ -38,12 +32,10 @@ loop-again c =
 
 returns : tie.Need-returns Inv-loop μ-loop
 returns c =
-    let a = c .before .before .before .args in
-    let p = c .before .loop in
+    let a = c .before .before .before .args in let p = c .before .loop in
     (sym (p .inv .1 ∙ wires-end (length (a .s .now)) (readIn (a .s .now) (p .r)) (p .k) (a .outs) (c .loop-test .left)), p .inv .0)
 
 pub read-wires-spec : {M : Type 1} → statement M
-read-wires-spec =
-    tie.close
-    (tie.spec
-    Inv-loop μ-loop loop-holds then-due-requires then-due-requires-2 (λ c. omega arith) (λ c. omega arith) loop-again returns)
+read-wires-spec = tie.close (tie.spec
+    Inv-loop μ-loop loop-holds (λ c κs. (omega arith, omega arith)) (λ c κs. (c .then-due .ensures .1, omega arith)) (λ c. omega arith)
+    (λ c. omega arith) loop-again returns)

@@ -1,5 +1,4 @@
--- `counting::then_due` meets its contract: a refusal stays.
--- Assumes nothing.
+-- `counting::then_due` meets its contract: a refusal stays. Assumes nothing.
 use native.Mathlib.Omega.{arith}
 use mathlib.Core.Path.{sym, _∙_}
 use mathlib.Core.List.{_∷_, []}
@@ -22,6 +21,4 @@ returns-2 c =
     (sym (read-off (a .s .now) (a .r) (dueLines (length (a .s .now)) (formTest (a .form) ∷ [])) (c .if1 .left)), omega arith)
 
 pub then-due-spec : {M : Type 1} → statement M
-then-due-spec = tie.close
-    (tie.spec
-    (λ c κs. search needs) returns returns-2)
+then-due-spec = tie.close (tie.spec (λ c κs. search needs) returns returns-2)

@@ -16,9 +16,6 @@ Inv-loop nets₀ i₀ nets i = (i ≤ length nets₀) × (length nets ≡ length
 abbrev μ-loop : tie.MeasureT-loop
 μ-loop nets₀ i₀ nets i = length nets₀ - i
 
-loop-holds : tie.Need-loop-holds Inv-loop μ-loop
-loop-holds c = (omega arith, refl, sym (put-none (c .args .nets .now) 0))
-
 loop-again : tie.Need-loop-again Inv-loop μ-loop
 loop-again c =
     let w : List ℕ = c .before .before .args .nets .now in
@@ -36,7 +33,6 @@ returns c =
     c .before .loop .inv .2 ∙ ap (λ (k : ℕ). putAt w 0 (zeros k)) e ∙ put-whole w (zeros (length w)) (length-replicate (length w) 0)
 
 pub clear-spec : {M : Type 1} → statement M
-clear-spec =
-    tie.close
-    (tie.spec
-    Inv-loop μ-loop loop-holds (λ c. omega arith) (λ c. omega arith) (λ c. omega arith) (λ c. omega arith) loop-again (λ c. omega arith) returns)
+clear-spec = tie.close (tie.spec
+    Inv-loop μ-loop (λ c. (omega arith, refl, sym (put-none (c .args .nets .now) 0))) (λ c. omega arith) (λ c. omega arith)
+    (λ c. omega arith) (λ c. omega arith) loop-again (λ c. omega arith) returns)

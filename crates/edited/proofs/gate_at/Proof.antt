@@ -19,8 +19,7 @@ sub-if1 c = let s = c .before .before in let a = s .args in omega (arith, stop-n
 
 returns : tie.Need-returns
 returns c =
-    let s = c .before .before .before .before in
-    let a = s .args in
+    let s = c .before .before .before .before in let a = s .args in
     c .no-gate .ensures
     ∙ sym (ten-not (cellsOf (a .lib)) (lineAt (a .s .now) (a .at)) (λ e. c .before .if1 .taken (let z : a .line .next ≡ a .line .stop + lineAt (a .s .now) (a .at) .ending = stop-next (a .s .now) (a .at) (a .line) (s .pre .2) in omega arith)))
 
@@ -38,9 +37,7 @@ gate-line-requires c κs = let s = c .before .before .before .before in (s .pre 
 
 returns-2 : tie.Need-returns-2
 returns-2 c =
-    let e = c .before .before in
-    let s = e .before .before .before in
-    let a = s .args in
+    let e = c .before .before in let s = e .before .before .before in let a = s .args in
     let z : a .line .next ≡ a .line .stop + lineAt (a .s .now) (a .at) .ending = stop-next (a .s .now) (a .at) (a .line) (s .pre .2) in
     let one : lineAt (a .s .now) (a .at) .ending ≡ 1 = omega (arith, e .if1 .left) in
     c .gate-line .ensures
@@ -48,7 +45,5 @@ returns-2 c =
     ∙ sym (ten-is (cellsOf (a .lib)) (lineAt (a .s .now) (a .at)) one)
 
 pub gate-at-spec : {M : Type 1} → statement M
-gate-at-spec =
-    tie.close
-    (tie.spec
+gate-at-spec = tie.close (tie.spec
     sub-if1 (λ c κs. search needs) returns sub-gate-line part-gate-line-start part-gate-line-end gate-line-requires returns-2)

@@ -11,9 +11,6 @@ use Rattle.edited.proofs.Naming.{labelBytes, out-long, out-size, out-pu
 use Rattle.edited.proofs.label_code.Statement.{statement}
 use Rattle.edited.proofs.label_code.Tie as tie
 
-put-number-requires : tie.Need-put-number-requires
-put-number-requires c κs = omega (arith, out-long (c .before .args .k) (c .before .pre))
-
 array-share-prefix-name : tie.Need-array-share-prefix-name
 array-share-prefix-name c = let p = c .before in let b = p .before .before in omega (arith, p .put-number .ensures .0, ap length (p .put-number .ensures .1), out-size (b .args .letter) (b .args .k) (b .pre), out-long (b .args .k) (b .pre))
 
@@ -25,13 +22,10 @@ code-of-requires c κs = let p = c .before .before in let b = p .before .before 
 
 returns : tie.Need-returns
 returns c =
-    let p = c .before .before .before in
-    let b = p .before .before in
+    let p = c .before .before .before in let b = p .before .before in
     c .code-of .ensures ∙ ap code (ap₂ (λ (n : ℕ) (w : List ℕ). take n w) (p .put-number .ensures .0) (p .put-number .ensures .1) ∙ out-put (labelBytes (b .args .letter)) (b .args .letter) (b .args .k) refl refl)
 
 pub label-code-spec : {M : Type 1} → statement M
-label-code-spec =
-    tie.close
-    (tie.spec
-    (λ c. search needs) (λ c. search needs) (λ c. search needs) put-number-requires array-share-prefix-name slice-aggregate-code-of code-of-requires
-    returns)
+label-code-spec = tie.close (tie.spec
+    (λ c. search needs) (λ c. search needs) (λ c. search needs) (λ c κs. omega (arith, out-long (c .before .args .k) (c .before .pre)))
+    array-share-prefix-name slice-aggregate-code-of code-of-requires returns)

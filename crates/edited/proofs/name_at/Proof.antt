@@ -17,8 +17,7 @@ sub-if1 c = let s = c .before .before in let a = s .args in omega (arith, stop-n
 
 returns : tie.Need-returns
 returns c =
-    let s = c .before .before .before in
-    let a = s .args in
+    let s = c .before .before .before in let a = s .args in
     sym (name-not (a .k) (lineAt (a .s .now) (a .at)) (λ e. c .if1 .taken (let z : a .line .next ≡ a .line .stop + lineAt (a .s .now) (a .at) .ending = stop-next (a .s .now) (a .at) (a .line) (s .pre .2) in omega arith)))
 
 sub-name-line : tie.Need-sub-name-line
@@ -32,9 +31,7 @@ part-name-line-end c = let s = c .before .before .before in let a = s .args in o
 
 returns-2 : tie.Need-returns-2
 returns-2 c =
-    let e = c .before .before in
-    let s = e .before .before .before in
-    let a = s .args in
+    let e = c .before .before in let s = e .before .before .before in let a = s .args in
     let z : a .line .next ≡ a .line .stop + lineAt (a .s .now) (a .at) .ending = stop-next (a .s .now) (a .at) (a .line) (s .pre .2) in
     let one : lineAt (a .s .now) (a .at) .ending ≡ 1 = omega (arith, e .if1 .left) in
     c .name-line .ensures
@@ -42,7 +39,4 @@ returns-2 c =
     ∙ sym (name-is (a .k) (lineAt (a .s .now) (a .at)) one)
 
 pub name-at-spec : {M : Type 1} → statement M
-name-at-spec =
-    tie.close
-    (tie.spec
-    sub-if1 returns sub-name-line part-name-line-start part-name-line-end (λ c κs. search needs) returns-2)
+name-at-spec = tie.close (tie.spec sub-if1 returns sub-name-line part-name-line-start part-name-line-end (λ c κs. search needs) returns-2)

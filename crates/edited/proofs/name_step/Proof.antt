@@ -31,9 +31,7 @@ name-at-requires c κs = let b = c .before .before .before .before in (b .pre .0
 
 returns-2 : tie.Need-returns-2
 returns-2 c =
-    let n = c .before in
-    let e = n .before .before in
-    let a = e .before .before .before .args in
+    let n = c .before in let e = n .before .before in let a = e .before .before .before .args in
     record {
       size = refl;
       refused = λ _. (refl, (λ left. names-broken (a .s .now) (a .k) (a .at) (e .if1 .left) (name-none (a .k) (lineAt (a .s .now) (a .at)) (sym (n .name-at .ensures) ∙ c .if2 .taken)) left));
@@ -43,12 +41,7 @@ returns-2 c =
 
 returns-3 : tie.Need-returns-3
 returns-3 c =
-    let f = c .before in
-    let n = f .before in
-    let m = n .before in
-    let e = m .before in
-    let b = e .before .before .before in
-    let a = b .args in
+    let f = c .before in let n = f .before in let m = n .before in let e = m .before in let a = e .before .before .before .args in
     let s = a .s .now in
     let d = name-some (a .k) (lineAt s (a .at)) (n .name-at .result) (n .name-at .ensures) (f .if2 .left) in
     let behind = line-next s (a .at) (m .line .result) (m .line .ensures) in
@@ -59,21 +52,11 @@ returns-3 c =
       due = λ q. absurd (true≢false q);
     }
 
-is-line-requires : tie.Need-is-line-requires
-is-line-requires c κs = let t = c .before in omega (arith, t .if3 .left)
-
 returns-4 : tie.Need-returns-4
 unfolding text
 returns-4 c =
-    let i = c .before in
-    let t = i .before .before in
-    let f = t .before in
-    let n = f .before in
-    let m = n .before in
-    let e = m .before in
-    let b = e .before .before .before in
-    let a = b .args in
-    let s = a .s .now in
+    let i = c .before in let t = i .before .before in let f = t .before in let n = f .before in let m = n .before in let e = m .before in
+    let a = e .before .before .before .args in let s = a .s .now in
     let d = name-some (a .k) (lineAt s (a .at)) (n .name-at .result) (n .name-at .ensures) (f .if2 .left) in
     let behind = line-next s (a .at) (m .line .result) (m .line .ensures) in
     record {
@@ -94,26 +77,15 @@ wire-requires c κs = let t = c .before .before .before .before in let b = t .be
 
 store-requires : tie.Need-store-requires
 store-requires c κs =
-    let t = c .before .before .before .before .before in
-    let e = t .before .before .before .before in
-    let b = e .before .before .before in
+    let e = c .before .before .before .before .before .before .before .before .before in let b = e .before .before .before in
     omega (arith, b .pre .1, b .pre .2, b .pre .3, e .if1 .left)
 
 returns-5 : tie.Need-returns-5
 unfolding text lineAt
 returns-5 c =
-    let st = c .before .before in
-    let w = st .before in
-    let x = w .before .before in
-    let i = x .before in
-    let t = i .before .before in
-    let f = t .before in
-    let n = f .before in
-    let m = n .before in
-    let e = m .before in
-    let b = e .before .before .before in
-    let a = b .args in
-    let s = a .s .now in
+    let st = c .before .before in let w = st .before in let x = w .before .before in let i = x .before in let t = i .before .before in
+    let f = t .before in let n = f .before in let m = n .before in let e = m .before in let b = e .before .before .before in
+    let a = b .args in let s = a .s .now in
     let d = name-some (a .k) (lineAt s (a .at)) (n .name-at .result) (n .name-at .ensures) (f .if2 .left) in
     let behind = line-next s (a .at) (m .line .result) (m .line .ensures) in
     let puts : st .store .last .0 ≡ putAt (a .nets .now) (8 * a .i) (gateWords (a .at) (w .wire .result)) = st .store .ensures in
@@ -136,8 +108,7 @@ returns-5 c =
     }
 
 pub name-step-spec : {M : Type 1} → statement M
-name-step-spec =
-    tie.close
-    (tie.spec
-    returns (λ c κs. search needs) name-at-requires returns-2 returns-3 (λ c. search needs) is-line-requires returns-4 wire-requires store-requires
-    (λ c. search needs) (λ c. search needs) (λ c. search needs) returns-5)
+name-step-spec = tie.close (tie.spec
+    returns (λ c κs. search needs) name-at-requires returns-2 returns-3 (λ c. search needs)
+    (λ c κs. let t = c .before in omega (arith, t .if3 .left)) returns-4 wire-requires store-requires (λ c. search needs)
+    (λ c. search needs) (λ c. search needs) returns-5)

@@ -17,9 +17,6 @@ Inv-loop nets₀ at from i₀ nets i = (i ≤ length from) × (length nets ≡ l
 abbrev μ-loop : tie.MeasureT-loop
 μ-loop nets₀ at from i₀ nets i = length from - i
 
-loop-holds : tie.Need-loop-holds Inv-loop μ-loop
-loop-holds c = (omega arith, refl, sym (put-none (c .args .nets .now) (c .args .at)))
-
 loop-again : tie.Need-loop-again Inv-loop μ-loop
 loop-again c =
     let l = c .before .before in
@@ -38,8 +35,6 @@ returns c =
     ∙ ap (putAt (c .before .before .args .nets .now) (c .before .before .args .at)) (take-all (c .before .loop .i) (c .before .before .args .from .now) (c .loop-test .left))
 
 pub put-spec : {M : Type 1} → statement M
-put-spec =
-    tie.close
-    (tie.spec
-    Inv-loop μ-loop loop-holds (λ c. omega arith) (λ c. omega arith) (λ c. omega arith) (λ c. omega arith) (λ c. omega arith) (λ c. omega arith)
-    (λ c. omega arith) loop-again (λ c. omega arith) returns)
+put-spec = tie.close (tie.spec
+    Inv-loop μ-loop (λ c. (omega arith, refl, sym (put-none (c .args .nets .now) (c .args .at)))) (λ c. omega arith) (λ c. omega arith)
+    (λ c. omega arith) (λ c. omega arith) (λ c. omega arith) (λ c. omega arith) (λ c. omega arith) loop-again (λ c. omega arith) returns)

@@ -43,28 +43,19 @@ part-is-gate-end c = let l = c .before .before in let a = l .before .before .bef
 returns : tie.Need-returns Inv-loop μ-loop
 unfolding isGate
 returns c =
-    let i = c .before in
-    let n = i .before .before in
-    let l = n .before .before in
-    let a = l .before .before .before .args in
+    let i = c .before in let n = i .before .before in let l = n .before .before in let a = l .before .before .before .args in
     so-names (a .s .now) (a .lib) (a .from) (l .loop .at) (l .loop .count) (a .nets .now) (l .loop .nets) (l .loop .inv .2) (l .loop .inv .0) (n .before .loop-test .taken)
     (sym (ap (λ (w : List ℕ). same (getD (fields w) 0 []) (text ".gate")) (line-bytes (a .s .now) (l .loop .at) (n .line .result) (n .line .ensures))) ∙ sym (i .is-gate .ensures) ∙ not-true _ (c .if1 .taken))
 
 gate-at-requires : tie.Need-gate-at-requires Inv-loop μ-loop
 gate-at-requires c κs =
     let n = c .before .before .before in
-    let l = n .before .before in
-    let s = l .before .before .before in
-    (s .pre .0, omega (arith, n .before .loop-test .taken), n .line .ensures)
+    (n .before .before .before .before .before .pre .0, omega (arith, n .before .loop-test .taken), n .line .ensures)
 
 returns-2 : tie.Need-returns-2 Inv-loop μ-loop
 unfolding isGate
 returns-2 c =
-    let q = c .before .before in
-    let e = q .before in
-    let i = e .before in
-    let n = i .before .before in
-    let l = n .before .before in
+    let q = c .before .before in let e = q .before in let i = e .before in let n = i .before .before in let l = n .before .before in
     let a = l .before .before .before .args in
     so-broken (a .s .now) (a .lib) (a .from) (l .loop .at) (l .loop .count) (a .nets .now) (l .loop .nets) (l .loop .inv .2) (l .loop .inv .0) (n .before .loop-test .taken)
     (sym (ap (λ (w : List ℕ). same (getD (fields w) 0 []) (text ".gate")) (line-bytes (a .s .now) (l .loop .at) (n .line .result) (n .line .ensures))) ∙ sym (i .is-gate .ensures) ∙ not-false _ (e .if1 .left))
@@ -72,38 +63,20 @@ returns-2 c =
 
 store-requires : tie.Need-store-requires Inv-loop μ-loop
 store-requires c κs =
-    let e = c .before .before .before .before in
-    let n = e .before .before .before in
-    let l = n .before .before in
-    let s = l .before .before .before in
+    let n = c .before .before .before .before .before .before .before in let l = n .before .before in let s = l .before .before .before in
     let long : length (l .loop .nets) ≡ length (s .args .nets .now) = l .loop .inv .1 in
     omega (arith, l .loop .inv .0, s .pre .1, s .pre .2, n .before .loop-test .taken)
 
 add-count : tie.Need-add-count Inv-loop μ-loop
 add-count c =
-    let t = c .before .before in
-    let f = t .before .before in
-    let q = f .before .before in
-    let e = q .before in
-    let i = e .before in
-    let n = i .before .before in
-    let l = n .before .before in
-    let b = l .before .before .before in
-    let a = b .args in
-    omega (arith, l .loop .inv .0, b .pre .1, n .before .loop-test .taken)
+    let i = c .before .before .before .before .before .before .before .before in let n = i .before .before in let l = n .before .before in
+    omega (arith, l .loop .inv .0, l .before .before .before .pre .1, n .before .loop-test .taken)
 
 loop-less : tie.Need-loop-less Inv-loop μ-loop
 unfolding isGate
 loop-less c =
-    let t = c .before .before in
-    let f = t .before .before in
-    let q = f .before .before in
-    let e = q .before in
-    let i = e .before in
-    let n = i .before .before in
-    let l = n .before .before in
-    let b = l .before .before .before in
-    let a = b .args in
+    let e = c .before .before .before .before .before .before .before in let i = e .before in let n = i .before .before in
+    let l = n .before .before in let a = l .before .before .before .args in
     let here = lineAt (a .s .now) (l .loop .at) in
     let gate : isGate here ≡ true = sym (ap (λ (w : List ℕ). same (getD (fields w) 0 []) (text ".gate")) (line-bytes (a .s .now) (l .loop .at) (n .line .result) (n .line .ensures))) ∙ sym (i .is-gate .ensures) ∙ not-false _ (e .if1 .left) in
     let five : 5 ≤ length (here .bytes) = gate-long (here .bytes) gate in
@@ -114,15 +87,8 @@ loop-less c =
 loop-again : tie.Need-loop-again Inv-loop μ-loop
 unfolding isGate lineAt
 loop-again c =
-    let t = c .before .before in
-    let f = t .before .before in
-    let q = f .before .before in
-    let e = q .before in
-    let i = e .before in
-    let n = i .before .before in
-    let l = n .before .before in
-    let b = l .before .before .before in
-    let a = b .args in
+    let t = c .before .before in let f = t .before .before in let q = f .before .before in let e = q .before in let i = e .before in
+    let n = i .before .before in let l = n .before .before in let b = l .before .before .before in let a = b .args in
     let here = lineAt (a .s .now) (l .loop .at) in
     let gate : isGate here ≡ true = sym (ap (λ (w : List ℕ). same (getD (fields w) 0 []) (text ".gate")) (line-bytes (a .s .now) (l .loop .at) (n .line .result) (n .line .ensures))) ∙ sym (i .is-gate .ensures) ∙ not-false _ (e .if1 .left) in
     let five : 5 ≤ length (here .bytes) = gate-long (here .bytes) gate in
@@ -142,13 +108,11 @@ loop-again c =
 
 returns-3 : tie.Need-returns-3 Inv-loop μ-loop
 returns-3 c =
-    let l = c .before in
-    let a = l .before .before .before .args in
+    let l = c .before in let a = l .before .before .before .args in
     so-end (a .s .now) (a .lib) (a .from) (l .loop .at) (l .loop .count) (a .nets .now) (l .loop .nets) (l .loop .inv .2) (l .loop .inv .0) (c .loop-test .left)
 
 pub read-gates-spec : {M : Type 1} → statement M
-read-gates-spec =
-    tie.close
-    (tie.spec
-    Inv-loop μ-loop loop-holds (λ c κs. search needs) sub-is-gate part-is-gate-start part-is-gate-end (λ c κs. search needs) (λ c. omega arith)
-    returns gate-at-requires (λ c. omega arith) returns-2 store-requires add-count loop-less loop-again (λ c. omega arith) returns-3)
+read-gates-spec = tie.close (tie.spec
+    Inv-loop μ-loop loop-holds (λ c κs. search needs) sub-is-gate part-is-gate-start part-is-gate-end (λ c κs. search needs)
+    (λ c. omega arith) returns gate-at-requires (λ c. omega arith) returns-2 store-requires add-count loop-less loop-again
+    (λ c. omega arith) returns-3)

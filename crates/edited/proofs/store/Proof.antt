@@ -4,13 +4,8 @@ use Rattle.edited.specs.Store.{gateWords}
 use Rattle.edited.proofs.store.Statement.{statement}
 use Rattle.edited.proofs.store.Tie as tie
 
-returns : tie.Need-returns
-unfolding gateWords
-returns c = c .before .before .put .ensures
-
 pub store-spec : {M : Type 1} → statement M
-store-spec =
-    tie.close
-    (tie.spec
-    (λ c. search needs) (λ c. search needs) (λ c. search needs) (λ c. search needs) (λ c. search needs) (λ c. search needs) (λ c. search needs)
-    (λ c κs. search needs) (λ c. search needs) returns)
+unfolding gateWords
+store-spec = tie.close (tie.spec
+    (λ c. search needs) (λ c. search needs) (λ c. search needs) (λ c. search needs) (λ c. search needs) (λ c. search needs)
+    (λ c. search needs) (λ c κs. search needs) (λ c. search needs) (λ c. c .before .before .put .ensures))

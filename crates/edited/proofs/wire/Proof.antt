@@ -12,6 +12,4 @@ returns : tie.Need-returns
 returns c = ap (λ (x : ℕ). record { table = 2; count = 1; codes = c .before .args .net ∷ 0 ∷ 0 ∷ 0 ∷ []; net = x }) (c .label-code .ensures ∙ ap code (sym (out-is (c .before .args .k))))
 
 pub wire-spec : {M : Type 1} → statement M
-wire-spec = tie.close
-    (tie.spec
-    (λ c κs. search needs) returns)
+wire-spec = tie.close (tie.spec (λ c κs. search needs) returns)

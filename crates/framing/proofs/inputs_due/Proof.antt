@@ -29,19 +29,13 @@ fits c =
 put-inputs-requires : tie.Need-put-inputs-requires
 unfolding text
 put-inputs-requires c κs =
-    let p = c .before .before in
-    let k = p .before .before .before in
-    let s = k .before .before in
-    let a = s .args in
+    let p = c .before .before in let k = p .before .before .before in let s = k .before .before in let a = s .args in
     (s .pre .1, s .pre .2, names-room _ (text ".inputs") (namesFrom (inputName (a .work .now) (a .m)) 0 (a .n)) (p .put-bytes .last .0) [] (p .put-bytes .result) 0 (fits k) (p .put-bytes .ensures))
 
 array-share-prefix-line : tie.Need-array-share-prefix-line
 unfolding text
 array-share-prefix-line c =
-    let o = c .before in
-    let p = o .before .before .before in
-    let k = p .before .before .before in
-    let a = k .before .before .args in
+    let o = c .before in let p = o .before .before .before in let k = p .before .before .before in let a = k .before .before .args in
     printed-long _ (text ".inputs") (namesFrom (inputName (a .work .now) (a .m)) 0 (a .n)) (p .put-bytes .last .0) (o .put-inputs .last .1 .1 .1 .0) (p .put-bytes .result) (o .put-inputs .result) (fits k) (p .put-bytes .ensures) (o .put-inputs .ensures)
 
 slice-aggregate-due : tie.Need-slice-aggregate-due
@@ -52,17 +46,13 @@ slice-aggregate-due c =
 returns : tie.Need-returns
 unfolding text
 returns c =
-    let o = c .before .before .before in
-    let p = o .before .before .before in
-    let k = p .before .before .before in
+    let o = c .before .before .before in let p = o .before .before .before in let k = p .before .before .before in
     let a = k .before .before .args in
     subst (λ (w : List ℕ). Due (a .s .now) w (a .at) (c .due .result))
     (printed-is _ (text ".inputs") (namesFrom (inputName (a .work .now) (a .m)) 0 (a .n)) (p .put-bytes .last .0) (o .put-inputs .last .1 .1 .1 .0) (p .put-bytes .result) (o .put-inputs .result) (fits k) (p .put-bytes .ensures) (o .put-inputs .ensures))
     (c .due .ensures)
 
 pub inputs-due-spec : {M : Type 1} → statement M
-inputs-due-spec =
-    tie.close
-    (tie.spec
+inputs-due-spec = tie.close (tie.spec
     (λ c. search needs) (λ c. search needs) (λ c κs. search needs) (λ c. search needs) put-inputs-requires array-share-prefix-line
     slice-aggregate-due (λ c κs. search needs) returns)

@@ -15,8 +15,7 @@ sub-if1 c = let n = c .before in let a = n .before .before .before .args in omeg
 
 returns : tie.Need-returns
 returns c =
-    let n = c .before .before in
-    let a = n .before .before .before .args in
+    let n = c .before .before in let a = n .before .before .before .args in
     sym (line-not (a .w .now) (lineAt (a .s .now) (a .at)) (λ e. c .if1 .taken (let z : n .line .result .next ≡ n .line .result .stop + lineAt (a .s .now) (a .at) .ending = stop-next (a .s .now) (a .at) (n .line .result) (n .line .ensures) in omega arith)))
 
 sub-same-bytes : tie.Need-sub-same-bytes
@@ -30,9 +29,7 @@ part-same-bytes-end c = let n = c .before .before in let b = n .before .before .
 
 returns-2 : tie.Need-returns-2
 returns-2 c =
-    let e = c .before .before in
-    let n = e .before .before in
-    let a = n .before .before .before .args in
+    let e = c .before .before in let n = e .before .before in let a = n .before .before .before .args in
     let z : n .line .result .next ≡ n .line .result .stop + lineAt (a .s .now) (a .at) .ending = stop-next (a .s .now) (a .at) (n .line .result) (n .line .ensures) in
     let one : lineAt (a .s .now) (a .at) .ending ≡ 1 = omega (arith, e .if1 .left) in
     c .same-bytes .ensures
@@ -40,7 +37,5 @@ returns-2 c =
     ∙ sym (line-is (a .w .now) (lineAt (a .s .now) (a .at)) one)
 
 pub is-line-spec : {M : Type 1} → statement M
-is-line-spec =
-    tie.close
-    (tie.spec
+is-line-spec = tie.close (tie.spec
     (λ c κs. search needs) sub-if1 returns sub-same-bytes part-same-bytes-start part-same-bytes-end (λ c κs. search needs) returns-2)

@@ -17,18 +17,13 @@ one c =
 
 put-number-requires : tie.Need-put-number-requires
 put-number-requires c κs =
-    let p = c .before .before .before in
-    let s = p .before .before .before .before in
+    let p = c .before .before .before in let s = p .before .before .before .before in
     room (s .pre) (one p) (decimal (s .args .n)) [] (sym (append-nil (decimal (s .args .n))))
 
 returns : tie.Need-returns
 returns c =
-    let n = c .before .before in
-    let p = n .before .before .before .before in
+    let n = c .before .before in let p = n .before .before .before .before in
     finish (p .before .before .before .before .pre) (one p) (as-wrote (n .put-number .ensures))
 
 pub put-word-spec : {M : Type 1} → statement M
-put-word-spec =
-    tie.close
-    (tie.spec
-    (λ c. search needs) (λ c κs. omega arith) put-number-requires (λ c. search needs) returns)
+put-word-spec = tie.close (tie.spec (λ c. search needs) (λ c κs. omega arith) put-number-requires (λ c. search needs) returns)

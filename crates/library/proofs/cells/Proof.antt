@@ -71,8 +71,6 @@ returns-2 c =
     ap (λ (l : Library). record { verdict = Accepted; library = l }) (c .before .loop .inv .3) ∙ sym (ap libraryAnswer e)
 
 pub cells-spec : {M : Type 1} → statement M
-cells-spec =
-    tie.close
-    (tie.spec
-    Inv-loop μ-loop (λ c κs. search needs) loop-holds (λ c κs. search needs) (λ c. search needs) sub-cell-of part-cell-of-start part-cell-of-end
-    cell-of-requires add-requires loop-less loop-again (λ c. search needs) (λ c κs. search needs) returns returns-2)
+cells-spec = tie.close (tie.spec
+    Inv-loop μ-loop (λ c κs. search needs) loop-holds (λ c κs. search needs) (λ c. search needs) sub-cell-of part-cell-of-start
+    part-cell-of-end cell-of-requires add-requires loop-less loop-again (λ c. search needs) (λ c κs. search needs) returns returns-2)

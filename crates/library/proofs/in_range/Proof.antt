@@ -1,5 +1,4 @@
--- `library::in_range` meets its contract, pin by pin.
--- Assumes nothing.
+-- `library::in_range` meets its contract, pin by pin. Assumes nothing.
 use mathlib.Core.Path.{sym, _∙_}
 use borrow.Author.Tests.{le-leb, lt-leb}
 use Rattle.library.proofs.Judging.{range-is}

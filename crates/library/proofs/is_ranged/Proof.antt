@@ -1,5 +1,4 @@
--- `library::is_ranged` meets its contract: the contents of the first line.
--- Assumes nothing.
+-- `library::is_ranged` meets its contract: the contents of the first line. Assumes nothing.
 use mathlib.Core.Path.{sym, _∙_}
 use lib.Seq.{length-take-le}
 use Rattle.model.specs.Text.{text}
@@ -17,7 +16,4 @@ unfolding longerLine text
 returns c = c .same-bytes .ensures ∙ names-ranged _ _ (c .before .before .before .line .ensures)
 
 pub is-ranged-spec : {M : Type 1} → statement M
-is-ranged-spec =
-    tie.close
-    (tie.spec
-    (λ c κs. search needs) slice-aggregate-same-bytes (λ c. search needs) (λ c κs. search needs) returns)
+is-ranged-spec = tie.close (tie.spec (λ c κs. search needs) slice-aggregate-same-bytes (λ c. search needs) (λ c κs. search needs) returns)

@@ -1,5 +1,4 @@
--- `library::line_is` meets its contract: a line that has its end, and the part of the text that is its contents.
--- Assumes nothing.
+-- `library::line_is` meets its contract: a line that has its end, and the part of the text that is its contents. Assumes nothing.
 use borrow.Author.Tests.{lt-ltb, le-ltb}
 use mathlib.Core.Path.{sym}
 use lib.Seq.{length-take-le}
@@ -7,10 +6,6 @@ use Rattle.library.specs.Reading.{isLine}
 use borrow.Author.Needs.{needs}
 use Rattle.library.proofs.line_is.Statement.{statement}
 use Rattle.library.proofs.line_is.Tie as tie
-
-returns : tie.Need-returns
-unfolding isLine
-returns c = rw (le-ltb _ _ (c .if1 .taken))
 
 slice-aggregate-same-bytes : tie.Need-slice-aggregate-same-bytes
 slice-aggregate-same-bytes c =
@@ -22,7 +17,5 @@ unfolding isLine
 returns-2 c = rw (lt-ltb _ _ (c .before .before .if1 .left)) (c .same-bytes .ensures)
 
 pub line-is-spec : {M : Type 1} → statement M
-line-is-spec =
-    tie.close
-    (tie.spec
-    returns slice-aggregate-same-bytes (λ c κs. search needs) returns-2)
+unfolding isLine
+line-is-spec = tie.close (tie.spec (λ c. rw (le-ltb _ _ (c .if1 .taken))) slice-aggregate-same-bytes (λ c κs. search needs) returns-2)

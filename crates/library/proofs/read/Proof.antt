@@ -1,5 +1,4 @@
--- `library::read` meets its contract: one of the two names lines, and then the cell lines from where the next line begins.
--- Assumes nothing.
+-- `library::read` meets its contract: one of the two names lines, and then the cell lines from where the next line begins. Assumes nothing.
 use mathlib.Core.Path.{sym, ap, _∙_}
 use Rattle.model.specs.Text.{text}
 use Rattle.model.specs.Cells.{libraryAnswer}
@@ -10,18 +9,12 @@ use borrow.Author.Needs.{needs}
 use Rattle.library.proofs.read.Statement.{statement}
 use Rattle.library.proofs.read.Tie as tie
 
-line-is-requires : tie.Need-line-is-requires
-line-is-requires c κs = first-fits _ _ (c .before .line .ensures)
-
 returns : tie.Need-returns
 unfolding shorterLine text
 returns c =
     let n = c .before .before in
     let e = names-shorter _ _ (n .before .before .line .ensures) (sym (n .line-is .ensures) ∙ c .before .if1 .taken) in
     library-ruled _ _ (c .cells .ensures ∙ sym (ap libraryAnswer e))
-
-line-is-requires-2 : tie.Need-line-is-requires-2
-line-is-requires-2 c κs = first-fits _ _ (c .before .before .before .before .line .ensures)
 
 returns-2 : tie.Need-returns-2
 unfolding longerLine text
@@ -39,8 +32,7 @@ returns-3 c =
     library-ruled _ _ (c .refused .ensures ∙ sym (ap libraryAnswer e))
 
 pub read-spec : {M : Type 1} → statement M
-read-spec =
-    tie.close
-    (tie.spec
-    (λ c κs. search needs) (λ c. search needs) line-is-requires (λ c κs. search needs) returns (λ c. search needs) line-is-requires-2
-    (λ c κs. search needs) returns-2 (λ c κs. search needs) returns-3)
+read-spec = tie.close (tie.spec
+    (λ c κs. search needs) (λ c. search needs) (λ c κs. first-fits _ _ (c .before .line .ensures)) (λ c κs. search needs) returns
+    (λ c. search needs) (λ c κs. first-fits _ _ (c .before .before .before .before .line .ensures)) (λ c κs. search needs) returns-2
+    (λ c κs. search needs) returns-3)

@@ -1,13 +1,9 @@
--- `library::read_both` meets its contract: each return knows what the reads that led there found.
--- Assumes nothing.
+-- `library::read_both` meets its contract: each return knows what the reads that led there found. Assumes nothing.
 use mathlib.Core.Path.{sym, _∙_}
 use Rattle.library.specs.Reading.{bothAt}
 use borrow.Author.Needs.{needs}
 use Rattle.library.proofs.read_both.Statement.{statement}
 use Rattle.library.proofs.read_both.Tie as tie
-
-enum-told : tie.Need-enum-told
-enum-told c = search needs
 
 returns : tie.Need-returns
 unfolding bothAt
@@ -28,7 +24,6 @@ unfolding bothAt
 returns-3 c = rw (sym (c .before .before .read-high .ensures) ∙ c .enum-told2 .given .1)
 
 pub read-both-spec : {M : Type 1} → statement M
-read-both-spec =
-    tie.close
-    (tie.spec
-    (λ c κs. search needs) (λ c. search needs) (λ c κs. search needs) (λ c. search needs) enum-told (λ c. search needs) returns returns-2 returns-3)
+read-both-spec = tie.close (tie.spec
+    (λ c κs. search needs) (λ c. search needs) (λ c κs. search needs) (λ c. search needs) (λ c. search needs) (λ c. search needs) returns
+    returns-2 returns-3)

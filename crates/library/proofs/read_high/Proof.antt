@@ -1,13 +1,9 @@
--- `library::read_high` meets its contract: each return knows what the reads that led there found.
--- Assumes nothing.
+-- `library::read_high` meets its contract: each return knows what the reads that led there found. Assumes nothing.
 use borrow.Author.Needs.{needs}
 use mathlib.Core.Path.{sym, _∙_}
 use Rattle.library.specs.Reading.{highAt}
 use Rattle.library.proofs.read_high.Statement.{statement}
 use Rattle.library.proofs.read_high.Tie as tie
-
-enum-told : tie.Need-enum-told
-enum-told c = search needs
 
 returns : tie.Need-returns
 unfolding highAt
@@ -52,9 +48,7 @@ returns-5 c =
     rw (sym (c .before .before .number-then .ensures) ∙ c .enum-told4 .given .1)
 
 pub read-high-spec : {M : Type 1} → statement M
-read-high-spec =
-    tie.close
-    (tie.spec
+read-high-spec = tie.close (tie.spec
     (λ c κs. search needs) (λ c. search needs) (λ c κs. search needs) (λ c. search needs) (λ c κs. search needs) (λ c. search needs)
-    (λ c κs. search needs) (λ c. search needs) enum-told (λ c. search needs) (λ c. search needs) (λ c. search needs) returns returns-2 returns-3
-    returns-4 returns-5)
+    (λ c κs. search needs) (λ c. search needs) (λ c. search needs) (λ c. search needs) (λ c. search needs) (λ c. search needs) returns
+    returns-2 returns-3 returns-4 returns-5)

@@ -1,13 +1,9 @@
--- `library::read_one` meets its contract: each return knows what the read that led there found.
--- Assumes nothing.
+-- `library::read_one` meets its contract: each return knows what the read that led there found. Assumes nothing.
 use mathlib.Core.Path.{sym, _∙_}
 use Rattle.library.specs.Reading.{oneAt}
 use borrow.Author.Needs.{needs}
 use Rattle.library.proofs.read_one.Statement.{statement}
 use Rattle.library.proofs.read_one.Tie as tie
-
-enum-told : tie.Need-enum-told
-enum-told c = search needs
 
 returns : tie.Need-returns
 unfolding oneAt
@@ -18,6 +14,4 @@ unfolding oneAt
 returns-2 c = rw (sym (c .before .before .read-delays .ensures) ∙ c .enum-told .given .1)
 
 pub read-one-spec : {M : Type 1} → statement M
-read-one-spec = tie.close
-    (tie.spec
-    (λ c κs. search needs) (λ c. search needs) enum-told returns returns-2)
+read-one-spec = tie.close (tie.spec (λ c κs. search needs) (λ c. search needs) (λ c. search needs) returns returns-2)

@@ -17,9 +17,6 @@ Inv-loop w lib n i₀ i = (i ≤ n) × (n ≤ 32) × (isRepeated w (lib .cells) 
 abbrev μ-loop : tie.MeasureT-loop
 μ-loop w lib n i₀ i = n - i
 
-loop-holds : tie.Need-loop-holds Inv-loop μ-loop
-loop-holds c = (omega arith, omega arith, repeated-none _ _)
-
 returns : tie.Need-returns Inv-loop μ-loop
 unfolding nameOf
 returns c =
@@ -42,8 +39,6 @@ returns-2 c =
     sym (ap (isRepeated (a .w .now) (a .t1 .cells)) (sym e) ∙ l .loop .inv .2)
 
 pub repeated-spec : {M : Type 1} → statement M
-repeated-spec =
-    tie.close
-    (tie.spec
-    Inv-loop μ-loop loop-holds (λ c. search needs) (λ c. search needs) (λ c κs. search needs) returns (λ c. search needs) (λ c. search needs)
-    loop-again returns-2)
+repeated-spec = tie.close (tie.spec
+    Inv-loop μ-loop (λ c. (omega arith, omega arith, repeated-none _ _)) (λ c. search needs) (λ c. search needs) (λ c κs. search needs)
+    returns (λ c. search needs) (λ c. search needs) loop-again returns-2)

@@ -31,7 +31,5 @@ returns-3 : tie.Need-returns-3 Inv-loop μ-loop
 returns-3 c = sym (c .before .loop .inv ∙ all-end (between 48 57) _ _ (c .loop-test .left))
 
 pub all-digits-spec : {M : Type 1} → statement M
-all-digits-spec =
-    tie.close
-    (tie.spec
+all-digits-spec = tie.close (tie.spec
     Inv-loop μ-loop (λ c. refl) (λ c. search needs) returns returns-2 (λ c. search needs) (λ c. search needs) loop-again returns-3)

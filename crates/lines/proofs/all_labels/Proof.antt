@@ -47,7 +47,5 @@ returns-2 c =
     labels-no (isLabel (a .b)) (a .w .now) (c .before .before .loop .at) (c .before .loop-test .left) (c .if1 .left) ∙ c .before .before .loop .inv .1
 
 pub all-labels-spec : {M : Type 1} → statement M
-all-labels-spec =
-    tie.close
-    (tie.spec
+all-labels-spec = tie.close (tie.spec
     Inv-loop μ-loop loop-holds (λ c κs. omega arith) loop-less loop-again (λ c. omega arith) returns returns-2)

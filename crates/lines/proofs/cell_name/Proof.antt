@@ -1,5 +1,4 @@
--- `lines::cell_name` meets its contract: an array has eight bytes, so no name is longer.
--- Assumes nothing.
+-- `lines::cell_name` meets its contract: an array has eight bytes, so no name is longer. Assumes nothing.
 use native.Mathlib.Omega.{arith}
 use mathlib.Core.Path.{_≡_, sym, ap, _∙_}
 use mathlib.Core.Logic.{⊎-elim}
@@ -35,7 +34,4 @@ returns c =
     (c .before .before .if1 .came))
 
 pub cell-name-spec : {M : Type 1} → statement M
-cell-name-spec =
-    tie.close
-    (tie.spec
-    array-share-prefix-name slice-aggregate-word (λ c κs. search needs) returns)
+cell-name-spec = tie.close (tie.spec array-share-prefix-name slice-aggregate-word (λ c κs. search needs) returns)

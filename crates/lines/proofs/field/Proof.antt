@@ -1,5 +1,4 @@
--- `lines::field` meets its contract: by the test of the field's bytes.
--- Assumes nothing.
+-- `lines::field` meets its contract: by the test of the field's bytes. Assumes nothing.
 use Rattle.lines.specs.Kinds.{kindTest}
 use Rattle.lines.proofs.Fields.{field-fits, field-from}
 use Rattle.lines.proofs.Forms.{step-past, step-takes, step-fails}
@@ -8,9 +7,6 @@ use mathlib.Core.Path.{sym, _∙_}
 use borrow.Author.Needs.{needs}
 use Rattle.lines.proofs.field.Statement.{statement}
 use Rattle.lines.proofs.field.Tie as tie
-
-returns : tie.Need-returns
-returns c = sym (step-past (kindTest _) _ _ (c .if1 .taken))
 
 sub-is-kind : tie.Need-sub-is-kind
 sub-is-kind c = omega (arith, c .field-end .ensures, field-from (c .before .before .before .args .w .now) (c .before .before .before .args .at))
@@ -37,8 +33,6 @@ returns-3 c =
     step-fails (kindTest (a .kind)) (a .w .now) (a .at) (omega arith) (c .before .before .before .field-end .result) (c .before .before .before .field-end .ensures) (sym (c .before .is-kind .ensures) ∙ c .if2 .left)
 
 pub field-spec : {M : Type 1} → statement M
-field-spec =
-    tie.close
-    (tie.spec
-    (λ c. search needs) returns (λ c κs. search needs) sub-is-kind part-is-kind-start part-is-kind-end (λ c κs. search needs) add-result-2
-    (λ c. search needs) returns-2 returns-3)
+field-spec = tie.close (tie.spec
+    (λ c. search needs) (λ c. sym (step-past (kindTest _) _ _ (c .if1 .taken))) (λ c κs. search needs) sub-is-kind part-is-kind-start
+    part-is-kind-end (λ c κs. search needs) add-result-2 (λ c. search needs) returns-2 returns-3)

@@ -21,11 +21,7 @@ returns c = sym (c .before .before .before .loop .inv ∙ end-space _ _ (c .befo
 loop-again : tie.Need-loop-again Inv-loop μ-loop
 loop-again c = c .before .before .before .loop .inv ∙ end-step _ _ (c .before .before .loop-test .taken) (c .if1 .left)
 
-returns-2 : tie.Need-returns-2 Inv-loop μ-loop
-returns-2 c = sym (c .before .loop .inv ∙ end-out _ _ (c .loop-test .left))
-
 pub field-end-spec : {M : Type 1} → statement M
-field-end-spec =
-    tie.close
-    (tie.spec
-    Inv-loop μ-loop (λ c. refl) (λ c. search needs) returns (λ c. search needs) (λ c. search needs) loop-again returns-2)
+field-end-spec = tie.close (tie.spec
+    Inv-loop μ-loop (λ c. refl) (λ c. search needs) returns (λ c. search needs) (λ c. search needs) loop-again
+    (λ c. sym (c .before .loop .inv ∙ end-out _ _ (c .loop-test .left))))

@@ -24,9 +24,6 @@ returns c =
     let a = c .before .before .before .before .args in
     sym (ap whichOf (gate-never (a .w .now) 0 (cellsOf (a .t2)) (omega (arith, c .before .word .ensures))))
 
-loop-holds : tie.Need-loop-holds Inv-loop μ-loop
-loop-holds c = (omega arith, refl)
-
 is-gate-requires : tie.Need-is-gate-requires Inv-loop μ-loop
 is-gate-requires c κs =
     let a = c .before .before .before .before .before .before .before .args in
@@ -66,8 +63,6 @@ returns-3 c =
     sym (ap whichOf (c .before .loop .inv .1 ∙ gate-end (c .before .loop .i) (cellsOf (a .t2)) (a .w .now) (omega (arith, cells-count (a .t2) long (omega arith)))))
 
 pub gate-of-spec : {M : Type 1} → statement M
-gate-of-spec =
-    tie.close
-    (tie.spec
-    Inv-loop μ-loop (λ c. refl) (λ c κs. omega arith) (λ c. omega arith) returns loop-holds (λ c. omega arith) (λ c. omega arith) is-gate-requires
-    returns-2 (λ c. omega arith) (λ c. omega arith) loop-again returns-3)
+gate-of-spec = tie.close (tie.spec
+    Inv-loop μ-loop (λ c. refl) (λ c κs. omega arith) (λ c. omega arith) returns (λ c. (omega arith, refl)) (λ c. omega arith)
+    (λ c. omega arith) is-gate-requires returns-2 (λ c. omega arith) (λ c. omega arith) loop-again returns-3)

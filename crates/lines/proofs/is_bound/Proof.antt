@@ -1,5 +1,4 @@
--- `lines::is_bound` meets its contract: each return knows what was met in the field.
--- Assumes nothing.
+-- `lines::is_bound` meets its contract: each return knows what was met in the field. Assumes nothing.
 use Rattle.model.specs.NetlistLines.{isGateNet}
 use Rattle.lines.proofs.Digits.{rest-part, bound-short, bound-letter, bound-sign, bound-is}
 use native.Mathlib.Omega.{arith}
@@ -8,23 +7,12 @@ use borrow.Author.Needs.{needs}
 use Rattle.lines.proofs.is_bound.Statement.{statement}
 use Rattle.lines.proofs.is_bound.Tie as tie
 
-returns : tie.Need-returns
-returns c = bound-short _ _ (c .if1 .taken)
-
-returns-2 : tie.Need-returns-2
-returns-2 c = bound-letter _ _ (c .if2 .taken)
-
-returns-3 : tie.Need-returns-3
-returns-3 c = bound-sign _ _ (c .if3 .taken)
-
 returns-4 : tie.Need-returns-4
 returns-4 c =
     let a = c .before .before .before .before .before .before .before .before .args in
     c .is-gate-net .ensures ∙ ap isGateNet (rest-part (a .w .now) 2) ∙ bound-is (a .b) (a .w .now) (omega arith) (omega arith)
 
 pub is-bound-spec : {M : Type 1} → statement M
-is-bound-spec =
-    tie.close
-    (tie.spec
-    returns (λ c. search needs) returns-2 (λ c. search needs) returns-3 (λ c. search needs) (λ c. search needs) (λ c. search needs)
-    (λ c κs. search needs) returns-4)
+is-bound-spec = tie.close (tie.spec
+    (λ c. bound-short _ _ (c .if1 .taken)) (λ c. search needs) (λ c. bound-letter _ _ (c .if2 .taken)) (λ c. search needs)
+    (λ c. bound-sign _ _ (c .if3 .taken)) (λ c. search needs) (λ c. search needs) (λ c. search needs) (λ c κs. search needs) returns-4)

@@ -1,5 +1,4 @@
--- `lines::is_figures` meets its contract: by steps over its fields.
--- Assumes nothing.
+-- `lines::is_figures` meets its contract: by steps over its fields. Assumes nothing.
 use mathlib.Core.List.{_∷_, []}
 use Rattle.model.specs.Base.{same}
 use mathlib.Core.Path.{ap, _∙_}
@@ -29,9 +28,7 @@ returns-2 c =
     (c .if1 .left)
 
 pub is-figures-spec : {M : Type 1} → statement M
-is-figures-spec =
-    tie.close
-    (tie.spec
+is-figures-spec = tie.close (tie.spec
     (λ c. search needs) (λ c κs. search needs) (λ c. search needs) (λ c κs. search needs) (λ c κs. search needs) (λ c. search needs)
-    (λ c κs. search needs) (λ c κs. search needs) (λ c. search needs) (λ c κs. search needs) (λ c κs. search needs) (λ c. search needs) returns
-    returns-2)
+    (λ c κs. search needs) (λ c κs. search needs) (λ c. search needs) (λ c κs. search needs) (λ c κs. search needs) (λ c. search needs)
+    returns returns-2)

@@ -1,5 +1,4 @@
--- `lines::is_gate` meets its contract: by steps over its fields behind `.gate`.
--- Assumes nothing.
+-- `lines::is_gate` meets its contract: by steps over its fields behind `.gate`. Assumes nothing.
 use native.Mathlib.Omega.{arith}
 use Rattle.lines.specs.Kinds.{kindTest}
 use Rattle.lines.proofs.Forms.{form-yes, form-no}
@@ -27,7 +26,5 @@ returns-2 c =
     (c .if1 .left)
 
 pub is-gate-spec : {M : Type 1} → statement M
-is-gate-spec =
-    tie.close
-    (tie.spec
+is-gate-spec = tie.close (tie.spec
     (λ c κs. search needs) (λ c κs. search needs) (λ c κs. search needs) (λ c. search needs) returns returns-2)

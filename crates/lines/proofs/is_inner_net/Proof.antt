@@ -1,5 +1,4 @@
--- `lines::is_inner_net` meets its contract: each return knows what was met in the field.
--- Assumes nothing.
+-- `lines::is_inner_net` meets its contract: each return knows what was met in the field. Assumes nothing.
 use Rattle.model.specs.NetlistLines.{isPhaseNet}
 use native.Mathlib.Omega.{arith}
 use Rattle.lines.proofs.Digits.{inner-none, inner-other, inner-is, rest-part}
@@ -8,19 +7,12 @@ use borrow.Author.Needs.{needs}
 use Rattle.lines.proofs.is_inner_net.Statement.{statement}
 use Rattle.lines.proofs.is_inner_net.Tie as tie
 
-returns : tie.Need-returns
-returns c = inner-none _ (c .if1 .taken)
-
-returns-2 : tie.Need-returns-2
-returns-2 c = inner-other _ (c .if2 .taken)
-
 returns-3 : tie.Need-returns-3
 returns-3 c =
     let a = c .before .before .before .before .before .before .args in
     c .is-phase-net .ensures ∙ ap isPhaseNet (rest-part (a .w .now) 1) ∙ inner-is (a .w .now) (omega arith)
 
 pub is-inner-net-spec : {M : Type 1} → statement M
-is-inner-net-spec =
-    tie.close
-    (tie.spec
-    returns (λ c. search needs) returns-2 (λ c. search needs) (λ c. search needs) (λ c. search needs) (λ c κs. search needs) returns-3)
+is-inner-net-spec = tie.close (tie.spec
+    (λ c. inner-none _ (c .if1 .taken)) (λ c. search needs) (λ c. inner-other _ (c .if2 .taken)) (λ c. search needs) (λ c. search needs)
+    (λ c. search needs) (λ c κs. search needs) returns-3)

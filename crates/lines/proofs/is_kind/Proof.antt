@@ -1,14 +1,10 @@
--- `lines::is_kind` meets its contract: the field is judged by its kind.
--- Assumes nothing.
+-- `lines::is_kind` meets its contract: the field is judged by its kind. Assumes nothing.
 use Rattle.lines.specs.declared.Kind.{Kind}
 use Rattle.lines.specs.Kinds.{kindTest}
 use mathlib.Core.Path.{sym, ap, _∙_}
 use borrow.Author.Needs.{needs}
 use Rattle.lines.proofs.is_kind.Statement.{statement}
 use Rattle.lines.proofs.is_kind.Tie as tie
-
-enum-told : tie.Need-enum-told
-enum-told c = search needs
 
 returns : tie.Need-returns
 unfolding kindTest
@@ -31,8 +27,6 @@ unfolding kindTest
 returns-5 c = c .is-number .ensures ∙ ap (λ (k : Kind). kindTest k (c .before .before .before .before .before .args .w .now)) (sym (c .before .before .kind3 .given .1))
 
 pub is-kind-spec : {M : Type 1} → statement M
-is-kind-spec =
-    tie.close
-    (tie.spec
-    enum-told (λ c κs. search needs) (λ c. search needs) (λ c κs. search needs) (λ c. search needs) (λ c κs. search needs) (λ c. search needs)
-    (λ c κs. search needs) (λ c. search needs) (λ c κs. search needs) returns returns-2 returns-3 returns-4 returns-5)
+is-kind-spec = tie.close (tie.spec
+    (λ c. search needs) (λ c κs. search needs) (λ c. search needs) (λ c κs. search needs) (λ c. search needs) (λ c κs. search needs)
+    (λ c. search needs) (λ c κs. search needs) (λ c. search needs) (λ c κs. search needs) returns returns-2 returns-3 returns-4 returns-5)

@@ -1,5 +1,4 @@
--- `lines::is_label` meets its contract: each return knows what was met in the field.
--- Assumes nothing.
+-- `lines::is_label` meets its contract: each return knows what was met in the field. Assumes nothing.
 use Rattle.model.specs.NetlistLines.{areDigits}
 use native.Mathlib.Omega.{arith}
 use Rattle.lines.proofs.Digits.{label-none, label-other, label-is, rest-part}
@@ -8,19 +7,12 @@ use borrow.Author.Needs.{needs}
 use Rattle.lines.proofs.is_label.Statement.{statement}
 use Rattle.lines.proofs.is_label.Tie as tie
 
-returns : tie.Need-returns
-returns c = label-none _ _ (c .if1 .taken)
-
-returns-2 : tie.Need-returns-2
-returns-2 c = label-other _ _ (c .if2 .taken)
-
 returns-3 : tie.Need-returns-3
 returns-3 c =
     let a = c .before .before .before .before .before .before .args in
     c .are-digits .ensures ∙ ap areDigits (rest-part (a .w .now) 1) ∙ label-is (a .b) (a .w .now) (omega arith)
 
 pub is-label-spec : {M : Type 1} → statement M
-is-label-spec =
-    tie.close
-    (tie.spec
-    returns (λ c. search needs) returns-2 (λ c. search needs) (λ c. search needs) (λ c. search needs) (λ c κs. search needs) returns-3)
+is-label-spec = tie.close (tie.spec
+    (λ c. label-none _ _ (c .if1 .taken)) (λ c. search needs) (λ c. label-other _ _ (c .if2 .taken)) (λ c. search needs) (λ c. search needs)
+    (λ c. search needs) (λ c κs. search needs) returns-3)

@@ -1,5 +1,4 @@
--- `lines::is_name_list` meets its contract: by steps over its fields.
--- Assumes nothing.
+-- `lines::is_name_list` meets its contract: by steps over its fields. Assumes nothing.
 use native.Mathlib.Omega.{arith}
 use mathlib.Core.Path.{ap, _∙_}
 use Prim.Native.Nat.{ℕ}
@@ -24,7 +23,4 @@ returns-2 c =
     ∙ list-yes (a .keyword .now) (a .b) (a .w .now) (omega (arith, c .before .before .word .ensures))
 
 pub is-name-list-spec : {M : Type 1} → statement M
-is-name-list-spec =
-    tie.close
-    (tie.spec
-    (λ c κs. search needs) (λ c. search needs) returns (λ c κs. search needs) returns-2)
+is-name-list-spec = tie.close (tie.spec (λ c κs. search needs) (λ c. search needs) returns (λ c κs. search needs) returns-2)

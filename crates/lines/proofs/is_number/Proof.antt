@@ -1,5 +1,4 @@
--- `lines::is_number` meets its contract: the number's digits are written, and compared.
--- Assumes nothing.
+-- `lines::is_number` meets its contract: the number's digits are written, and compared. Assumes nothing.
 use lib.ListN.{length}
 use lib.Seq.{length-take-le}
 use borrow.Author.Needs.{needs}
@@ -11,9 +10,6 @@ use Rattle.model.specs.Base.{same}
 use Rattle.lines.proofs.Digits.{ten-digits, written}
 use Rattle.lines.proofs.is_number.Statement.{statement}
 use Rattle.lines.proofs.is_number.Tie as tie
-
-put-number-requires : tie.Need-put-number-requires
-put-number-requires c κs = omega (arith, ten-digits (c .before .before .args .n) (search needs))
 
 array-share-prefix-digits : tie.Need-array-share-prefix-digits
 array-share-prefix-digits c =
@@ -32,7 +28,6 @@ returns c =
     c .same-bytes .ensures ∙ ap (λ (x : List ℕ). same x (a .w .now)) (written (a .n) (p .result) (p .last .0) (p .ensures .0) (p .ensures .1))
 
 pub is-number-spec : {M : Type 1} → statement M
-is-number-spec =
-    tie.close
-    (tie.spec
-    (λ c. search needs) put-number-requires array-share-prefix-digits slice-aggregate-same-bytes (λ c κs. search needs) returns)
+is-number-spec = tie.close (tie.spec
+    (λ c. search needs) (λ c κs. omega (arith, ten-digits (c .before .before .args .n) (search needs))) array-share-prefix-digits
+    slice-aggregate-same-bytes (λ c κs. search needs) returns)

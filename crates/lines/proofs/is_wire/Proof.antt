@@ -1,5 +1,4 @@
--- `lines::is_wire` meets its contract: by steps over its fields.
--- Assumes nothing.
+-- `lines::is_wire` meets its contract: by steps over its fields. Assumes nothing.
 use mathlib.Core.List.{_∷_, []}
 use Rattle.model.specs.Base.{same}
 use mathlib.Core.Path.{ap, _∙_}
@@ -29,7 +28,5 @@ returns-2 c =
     (c .if1 .left)
 
 pub is-wire-spec : {M : Type 1} → statement M
-is-wire-spec =
-    tie.close
-    (tie.spec
+is-wire-spec = tie.close (tie.spec
     (λ c. search needs) (λ c κs. search needs) (λ c κs. search needs) (λ c κs. search needs) (λ c. search needs) returns returns-2)

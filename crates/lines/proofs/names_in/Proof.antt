@@ -17,9 +17,6 @@ Inv-loop w n₀ i₀ n i = (n ≤ i) × (i ≤ length w) × (n + length (fields 
 abbrev μ-loop : tie.MeasureT-loop
 μ-loop w n₀ i₀ n i = length w - i
 
-loop-holds : tie.Need-loop-holds Inv-loop μ-loop
-loop-holds c = (omega arith, omega arith, omega arith)
-
 loop-again : tie.Need-loop-again Inv-loop μ-loop
 loop-again c =
     let l = c .before .before .before in
@@ -33,7 +30,6 @@ returns : tie.Need-returns Inv-loop μ-loop
 returns c = omega (arith, count-out (c .before .before .args .w .now) (c .before .loop .i) (c .loop-test .left))
 
 pub names-in-spec : {M : Type 1} → statement M
-names-in-spec =
-    tie.close
-    (tie.spec
-    Inv-loop μ-loop loop-holds (λ c. search needs) (λ c. omega arith) (λ c. omega arith) (λ c. omega arith) loop-again returns)
+names-in-spec = tie.close (tie.spec
+    Inv-loop μ-loop (λ c. (omega arith, omega arith, omega arith)) (λ c. search needs) (λ c. omega arith) (λ c. omega arith)
+    (λ c. omega arith) loop-again returns)

@@ -26,11 +26,7 @@ loop-again c =
     let p = c .before .before .loop in
     (omega arith, p .inv .1 ∙ pins-step (p .j) (a .n) (a .w .now) (p .at) (c .field .result) (omega arith) (c .field .ensures))
 
-returns : tie.Need-returns Inv-loop μ-loop
-returns c = sym (c .before .loop .inv .1 ∙ pins-end _ _ _ _ (c .loop-test .left))
-
 pub pins-spec : {M : Type 1} → statement M
-pins-spec =
-    tie.close
-    (tie.spec
-    Inv-loop μ-loop loop-holds (λ c. omega arith) (λ c. omega arith) (λ c κs. omega arith) (λ c. omega arith) (λ c. omega arith) loop-again returns)
+pins-spec = tie.close (tie.spec
+    Inv-loop μ-loop loop-holds (λ c. omega arith) (λ c. omega arith) (λ c κs. omega arith) (λ c. omega arith) (λ c. omega arith) loop-again
+    (λ c. sym (c .before .loop .inv .1 ∙ pins-end _ _ _ _ (c .loop-test .left))))

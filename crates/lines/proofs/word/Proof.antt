@@ -1,5 +1,4 @@
--- `lines::word` meets its contract: by the test of the field's bytes.
--- Assumes nothing.
+-- `lines::word` meets its contract: by the test of the field's bytes. Assumes nothing.
 use Rattle.lines.proofs.Fields.{field-fits, field-from}
 use Rattle.lines.proofs.Forms.{step-past, step-takes, step-fails}
 use Rattle.model.specs.Base.{same}
@@ -8,9 +7,6 @@ use mathlib.Core.Path.{sym, _∙_}
 use borrow.Author.Needs.{needs}
 use Rattle.lines.proofs.word.Statement.{statement}
 use Rattle.lines.proofs.word.Tie as tie
-
-returns : tie.Need-returns
-returns c = sym (step-past (same _) _ _ (c .if1 .taken))
 
 sub-same-bytes : tie.Need-sub-same-bytes
 sub-same-bytes c = omega (arith, c .field-end .ensures, field-from (c .before .before .before .before .args .w .now) (c .before .before .before .before .args .at))
@@ -37,8 +33,6 @@ returns-3 c =
     step-fails (same (a .k .now)) (a .w .now) (a .at) (omega arith) (c .before .before .before .field-end .result) (c .before .before .before .field-end .ensures) (sym (c .before .same-bytes .ensures) ∙ c .if2 .left)
 
 pub word-spec : {M : Type 1} → statement M
-word-spec =
-    tie.close
-    (tie.spec
-    (λ c. search needs) returns (λ c κs. search needs) sub-same-bytes part-same-bytes-start part-same-bytes-end (λ c κs. search needs) add-result-2
-    (λ c. search needs) returns-2 returns-3)
+word-spec = tie.close (tie.spec
+    (λ c. search needs) (λ c. sym (step-past (same _) _ _ (c .if1 .taken))) (λ c κs. search needs) sub-same-bytes part-same-bytes-start
+    part-same-bytes-end (λ c κs. search needs) add-result-2 (λ c. search needs) returns-2 returns-3)

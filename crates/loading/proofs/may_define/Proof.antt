@@ -1,22 +1,16 @@
--- `loading::may_define` meets its contract.
--- Assumes nothing.
+-- `loading::may_define` meets its contract. Assumes nothing.
 use Prim.Native.Nat.{_%_}
 use borrow.Author.Tests.{eq-eqb, ne-eqb}
 use Rattle.loading.specs.Tests.{mayDefine}
 use Rattle.loading.proofs.may_define.Statement.{statement}
 use Rattle.loading.proofs.may_define.Tie as tie
 
-returns : tie.Need-returns
-unfolding mayDefine
-returns c = rw (eq-eqb _ _ (c .if1 .taken))
-
 returns-2 : tie.Need-returns-2
 unfolding mayDefine
 returns-2 c = rw (ne-eqb _ _ (c .before .if1 .left), eq-eqb (c .before .before .args .first % 2) 0 (c .if2 .taken))
 
-returns-3 : tie.Need-returns-3
-unfolding mayDefine
-returns-3 c = rw (ne-eqb _ _ (c .before .if1 .left), ne-eqb (c .before .before .args .first % 2) 0 (c .if2 .left))
-
 pub may-define-spec : {M : Type 1} → statement M
-may-define-spec = tie.close (tie.spec returns returns-2 returns-3)
+unfolding mayDefine
+may-define-spec = tie.close (tie.spec
+    (λ c. rw (eq-eqb _ _ (c .if1 .taken))) returns-2
+    (λ c. rw (ne-eqb _ _ (c .before .if1 .left), ne-eqb (c .before .before .args .first % 2) 0 (c .if2 .left))))

@@ -1,5 +1,4 @@
--- `loading::open_words` meets its contract, by those of the three stores.
--- Assumes nothing.
+-- `loading::open_words` meets its contract, by those of the three stores. Assumes nothing.
 use mathlib.Core.Path.{ap, _∙_}
 use mathlib.Core.List.{List}
 use Prim.Native.Nat.{ℕ}
@@ -14,14 +13,9 @@ use Rattle.loading.proofs.open_words.Tie as tie
 returns : tie.Need-returns
 unfolding opened
 returns c =
-    let at-place-at = c .before .before in
-    let at-store-node = at-place-at .before .before .before .before in
-    let at-clear-columns = at-store-node .before .before .before .before in
-    let start = at-clear-columns .before .before .before in
+    let at-place-at = c .before .before in let at-store-node = at-place-at .before .before .before .before in
+    let at-clear-columns = at-store-node .before .before .before .before in let start = at-clear-columns .before .before .before in
     at-place-at .place-at .ensures ∙ ap (λ (x : List ℕ). putPlaced x (start .args .m) 0 0) (at-store-node .store-node .ensures ∙ ap (λ (x : List ℕ). putNode x (start .args .m) 0 constantKind 0 0) (at-clear-columns .clear-columns .ensures))
 
 pub open-words-spec : {M : Type 1} → statement M
-open-words-spec =
-    tie.close
-    (tie.spec
-    (λ c κs. search needs) (λ c κs. search needs) (λ c κs. search needs) (λ c. search needs) returns)
+open-words-spec = tie.close (tie.spec (λ c κs. search needs) (λ c κs. search needs) (λ c κs. search needs) (λ c. search needs) returns)

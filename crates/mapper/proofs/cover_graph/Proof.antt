@@ -19,49 +19,44 @@ uncovered-requires c κs =
     let y = c .before .before .before .choose in
     chosen-outputs (s .args .ranged) (s .args .work .now) (s .args .lib) (s .args .codes .now) (s .args .h) (s .pre .0 .0) (s .pre .0 .1) (y .last .0) (y .ensures)
 
-enum-told : tie.Need-enum-told
-enum-told c = search needs
-
 mark-requires : tie.Need-mark-requires
 mark-requires c κs =
-    let s = c .before .before .before .before .before .before .before .before .before .before .before .before .before in
-    let y = c .before .before .before .before .before .before .before .choose in
-    chosen-asks (s .args .ranged) (s .args .work .now) (s .args .lib) (s .args .codes .now) (s .args .h) (s .pre .0 .0) (s .pre .0 .1) (y .last .0) (y .ensures)
+    let y = c .before .before .before .before .before .before .before in
+    let s = y .before .before .before .before .before .before in
+    chosen-asks (s .args .ranged) _ _ _ _ _ (s .pre .0 .1) _ (y .choose .ensures)
 
 print-as-requires : tie.Need-print-as-requires
 print-as-requires c κs =
-    let s = c .before .before .before .before .before .before .before .before .before .before .before .before .before .before .before .before .before .before in
-    let y = c .before .before .before .before .before .before .before .before .before .before .before .before .choose in
-    let r = c .before .before .before .before .before .before .before .before .uncovered in
-    let z = c .before .before .before .before .mark in (
+    let z = c .before .before .before .before in
+    let r = z .before .before .before .before in
+    let y = r .before .before .before .before in
+    let s = y .before .before .before .before .before .before in
+    let p = s .pre .0 .1 in (
       s .pre .0 .0,
-      cover-mapped (s .args .ranged) (s .args .work .now) (s .args .lib) (s .args .codes .now) (s .args .h) (s .pre .0 .0) (s .pre .0 .1) (y .last .0) (y .ensures) (r .result) (r .ensures) (c .before .before .before .before .before .before .enum-told .given .1) (z .last .0) (z .ensures),
-      cover-timeable (s .args .ranged) (s .args .work .now) (s .args .lib) (s .args .codes .now) (s .args .h) (s .pre .0 .0) (s .pre .0 .1) (y .last .0) (y .ensures) (r .result) (r .ensures) (z .last .0) (z .ensures),
+      cover-mapped (s .args .ranged) _ _ _ _ _ p _ (y .choose .ensures) _ (r .uncovered .ensures) (z .before .before .enum-told .given .1) _ (z .mark .ensures),
+      cover-timeable (s .args .ranged) _ _ _ _ _ p _ (y .choose .ensures) _ (r .uncovered .ensures) _ (z .mark .ensures),
     )
 
 returns : tie.Need-returns
 returns c =
     let at-print = c .before .before .before .before .before in
-    let s = at-print .before .before .before .before .before .before .before .before .before .before .before .before .before .before .before .before .before .before in
-    let y = at-print .before .before .before .before .before .before .before .before .before .before .before .before .choose in
-    let r = at-print .before .before .before .before .before .before .before .before .uncovered in
-    let z = at-print .before .before .before .before .mark in
-    let a = at-print .before .before .before .before .before .before .enum-told .given .1 in
+    let z = at-print .before .before .before .before in
+    let r = z .before .before .before .before in
+    let q = r .before .before .before .before in
+    let y = q .choose .ensures in
+    let ranged = q .before .before .before .before .before .before .args .ranged in
+    let a = z .before .before .enum-told .given .1 in
     λ g p.
-    told-as (cover-goes (s .args .ranged) (s .args .work .now) (s .args .lib) (s .args .codes .now) (s .args .h) g p (y .last .0) (y .ensures) (r .result) (r .ensures) a _)
-    (c .before .before .before .before .print-as .ensures g (cover-mapped (s .args .ranged) (s .args .work .now) (s .args .lib) (s .args .codes .now) (s .args .h) g p (y .last .0) (y .ensures) (r .result) (r .ensures) a (z .last .0) (z .ensures))
-    (cover-timeable (s .args .ranged) (s .args .work .now) (s .args .lib) (s .args .codes .now) (s .args .h) g p (y .last .0) (y .ensures) (r .result) (r .ensures) (z .last .0) (z .ensures)))
+    told-as (cover-goes _ _ _ _ _ g p _ y _ (r .uncovered .ensures) a _)
+    (c .before .before .before .before .print-as .ensures g (cover-mapped ranged _ _ _ _ g p _ y _ (r .uncovered .ensures) a _ (z .mark .ensures))
+    (cover-timeable ranged _ _ _ _ g p _ y _ (r .uncovered .ensures) _ (z .mark .ensures)))
 
 returns-2 : tie.Need-returns-2
-returns-2 c =
-    let s = c .before .before .before .before .before .before .before .before .before .before .before .before .before in
-    let y = c .before .before .before .before .before .before .before .choose in
-    let r = c .before .before .before .uncovered in
-    λ g p. cover-stops (s .args .ranged) (s .args .work .now) (s .args .lib) (s .args .codes .now) (s .args .h) g p (y .last .0) (y .ensures) (r .result) (r .ensures) _ _ (c .before .number .given .1) (s .args .text .now)
+returns-2 c = λ g p.
+    let r = c .before .before .before in
+    cover-stops _ _ _ _ _ g p _ (r .before .before .before .before .choose .ensures) _ (r .uncovered .ensures) _ _ (c .before .number .given .1) _
 
 pub cover-graph-spec : {M : Type 1} → statement M
-cover-graph-spec =
-    tie.close
-    (tie.spec
-    choose-requires uncovered-requires enum-told mark-requires print-as-requires (λ c. search needs) (λ c. search needs) (λ c. search needs) returns
-    (λ c. search needs) returns-2)
+cover-graph-spec = tie.close (tie.spec
+    choose-requires uncovered-requires (λ c. search needs) mark-requires print-as-requires (λ c. search needs) (λ c. search needs)
+    (λ c. search needs) returns (λ c. search needs) returns-2)

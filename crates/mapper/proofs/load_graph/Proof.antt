@@ -5,9 +5,6 @@ use borrow.Author.Needs.{needs}
 use Rattle.mapper.proofs.load_graph.Statement.{statement}
 use Rattle.mapper.proofs.load_graph.Tie as tie
 
-enum-told : tie.Need-enum-told
-enum-told c = search needs
-
 place-graph-requires : tie.Need-place-graph-requires
 place-graph-requires c κs =
     let at-enum-told = c .before .before in
@@ -41,8 +38,6 @@ returns-2 c =
     reading-stops (args .ranged) (args .lib) (args .codes .now) (start .pre .0) (args .graph .now) (args .arrivals .now) (args .h) (args .work .now) fit (start .pre .1) (at-load .load .result) (at-load .load .ensures .0) _ _ (at-number .number .given .1) (args .text .now)
 
 pub load-graph-spec : {M : Type 1} → statement M
-load-graph-spec =
-    tie.close
-    (tie.spec
-    (λ c κs. search needs) enum-told place-graph-requires (λ c. search needs) (λ c. search needs) (λ c. search needs) returns (λ c. search needs)
-    returns-2)
+load-graph-spec = tie.close (tie.spec
+    (λ c κs. search needs) (λ c. search needs) place-graph-requires (λ c. search needs) (λ c. search needs) (λ c. search needs) returns
+    (λ c. search needs) returns-2)

@@ -31,12 +31,11 @@ returns : tie.Need-returns
 returns c =
     let at-clear-all = c .before .before in
     let at-load-graph = at-clear-all .before .before .before .before .before .before in
-    let args = at-load-graph .before .before .before .before .before .before .before .before .before .before .before .before .before .before .args in
+    let p = at-load-graph .before .before .before .before .before in
+    let args = p .before .before .before .before .before .before .before .before .before .args in
     let long : length (at-load-graph .load-graph .last .1 .1 .1 .1 .1 .1 .1 .0) ≡ length (args .work .now) = omega arith in
     (at-load-graph .load-graph .ensures, at-clear-all .clear-all .ensures ∙ ap (λ (n : ℕ). replicate n 0) long)
 
 pub map-on-spec : {M : Type 1} → statement M
-map-on-spec =
-    tie.close
-    (tie.spec
+map-on-spec = tie.close (tie.spec
     match-library-requires load-graph-requires (λ c κs. search needs) (λ c. search needs) (λ c. search needs) (λ c. search needs) returns)

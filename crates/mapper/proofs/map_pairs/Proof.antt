@@ -11,7 +11,7 @@ use Rattle.pairs.proofs.Cells.{by-length}
 use Rattle.pairs.proofs.Forming.{with-all, codes-few}
 use Rattle.mapper.specs.Stages.{LibraryOk, headerFor}
 use Rattle.mapper.proofs.Ends.{left-as, pairs-stop, cells-go}
-use Rattle.mapper.proofs.Libraries.{joinable-of, all-few, joined-ok, formed-are}
+use Rattle.mapper.proofs.Libraries.{joinable-of, all-few, joined-ok, blank-joined, formed-are}
 use borrow.Author.Needs.{needs}
 use Rattle.mapper.proofs.map_pairs.Statement.{statement}
 use Rattle.mapper.proofs.map_pairs.Tie as tie
@@ -39,21 +39,20 @@ returns c =
     pairs-stop (a .ranged) (a .lib) (a .graph .now) (a .arrivals .now) (a .work .now) (a .text .now) (omega (arith, all, many, f .form .ensures .ends, s .pre .usable .whole, c .if1 .taken))
 
 slice-aggregate-map-header : tie.Need-slice-aggregate-map-header
-slice-aggregate-map-header c =
-    let f = c .before .before .before .before in
-    let z = ap length (codes-are f) in
-    omega (arith, z, f .form .ensures .ends)
+slice-aggregate-map-header c = let f = c .before .before .before .before .before in omega (arith, ap length (codes-are f), f .form .ensures .ends)
 
 map-header-requires : tie.Need-map-header-requires
 map-header-requires c κs =
-    let f = c .before .before .before .before .before .before in
+    let n = c .before .before .before .before in
+    let f = n .before .before .before .before in
     let s = f .before .before .before .before .before .before in
-    subst (LibraryOk (s .args .lib)) (sym (codes-are f)) (joined-ok (s .args .lib) (s .pre) (omega (arith, f .form .ensures .ends, c .before .before .before .if1 .left)))
+    let ok = subst (LibraryOk (s .args .lib)) (sym (codes-are f)) (joined-ok (s .args .lib) (s .pre) (omega (arith, f .form .ensures .ends, n .before .if1 .left))) in
+    (ok, blank-joined (s .args .lib) _ ok (n .no-paired-sheet .ensures))
 
 returns-2 : tie.Need-returns-2
 returns-2 c =
-    let h = c .before .before .before .before in
-    let e = h .before .before .before .before in
+    let h = c .before .before .before .before .before in
+    let e = h .before .before .before .before .before .before in
     let f = e .before .before .before in
     let s = f .before .before .before .before .before .before in
     let a = s .args in
@@ -63,8 +62,6 @@ returns-2 c =
     (h .map-header .ensures)
 
 pub map-pairs-spec : {M : Type 1} → statement M
-map-pairs-spec =
-    tie.close
-    (tie.spec
-    (λ c. search needs) form-requires add-if1 returns (λ c. search needs) slice-aggregate-map-header map-header-requires (λ c. search needs)
-    (λ c. search needs) returns-2)
+map-pairs-spec = tie.close (tie.spec
+    (λ c. search needs) form-requires add-if1 returns (λ c κs. search needs) (λ c. search needs) slice-aggregate-map-header
+    (λ c. search needs) map-header-requires (λ c. search needs) (λ c. search needs) returns-2)

@@ -13,39 +13,33 @@ use Rattle.mapper.proofs.map_texts.Statement.{statement}
 use Rattle.mapper.proofs.map_texts.Tie as tie
 
 returns : tie.Need-returns
-returns c =
-    let s = c .before .before .before .before .before .before .args in
-    mapping-of (long-text (s .paired) (s .cells .now) (s .graph .now) (s .arrivals .now) (s .work .now) (s .text .now) (λ x y z. omega arith))
+returns c = mapping-of (long-text _ _ _ _ _ _ (λ x y z. omega arith))
 
 returns-2 : tie.Need-returns-2
-returns-2 c =
-    let s = c .before .before .before .before .before .before .before .args in
-    mapping-of (long-text (s .paired) (s .cells .now) (s .graph .now) (s .arrivals .now) (s .work .now) (s .text .now) (λ x y z. omega arith))
+returns-2 c = mapping-of (long-text _ _ _ _ _ _ (λ x y z. omega arith))
 
 returns-3 : tie.Need-returns-3
-returns-3 c =
-    let s = c .before .before .before .before .before .before .before .before .args in
-    mapping-of (long-text (s .paired) (s .cells .now) (s .graph .now) (s .arrivals .now) (s .work .now) (s .text .now) (λ x y z. omega arith))
-
-enum-told : tie.Need-enum-told
-enum-told c = search needs
+returns-3 c = mapping-of (long-text _ _ _ _ _ _ (λ x y z. omega arith))
 
 map-cells-requires : tie.Need-map-cells-requires
 map-cells-requires c κs =
     let t = c .before .before .before .before in
     let l = t .before .before .read in
-    let s = t .before .before .before .before .before .before .before .before .before .before .before .args in
+    let p = t .before .before in
+    let s = p .before .before .before .before .before .before .before .before .before .args in
     library-heard (s .paired) (s .cells .now) (s .graph .now) (s .arrivals .now) (s .work .now) (s .text .now) (omega arith) (omega arith) (omega arith) (l .result) (l .ensures .0) (t .enum-told .given .1) .ok
 
 returns-4 : tie.Need-returns-4
 returns-4 c =
-    let h = c .before .before .before .before .map-cells in
-    let t = c .before .before .before .before .before .before .before .before .before in
+    let q = c .before .before .before .before in
+    let h = q .map-cells in
+    let t = q .before .before .before .before .before in
     let l = t .before .before .read in
-    let s = t .before .before .before .before .before .before .before .before .before .before .before .args in
+    let p = t .before .before in
+    let s = p .before .before .before .before .before .before .before .before .before .args in
     let call = callOf (s .paired) (s .cells .now) (s .graph .now) (s .arrivals .now) (s .work .now) (s .text .now) in
     let r = library-heard (s .paired) (s .cells .now) (s .graph .now) (s .arrivals .now) (s .work .now) (s .text .now) (omega arith) (omega arith) (omega arith) (l .result) (l .ensures .0) (t .enum-told .given .1) in
-    let ranged = c .before .before .before .before .before .before .before .is-ranged .ensures in
+    let ranged = q .before .before .before .is-ranged .ensures in
     let told = ap (λ (b : Bool). libraryFor (s .paired) b (l .result .library) (s .graph .now) (s .arrivals .now) (length (s .work .now)) (length (s .text .now))) (sym ranged) in
     let m = memory-of call (s .work .now) (s .text .now) (h .result) (h .last .1 .1 .1 .1 .1 .0) (h .last .1 .1 .1 .1 .1 .1 .0) (left-as (r .goes ∙ told) (h .ensures)) in
     mapping-of m
@@ -53,12 +47,9 @@ returns-4 c =
 returns-5 : tie.Need-returns-5
 returns-5 c =
     let l = c .before .before .before .read in
-    let s = c .before .before .before .before .before .before .before .before .before .before .before .before .args in
-    mapping-of (library-stops (s .paired) (s .cells .now) (s .graph .now) (s .arrivals .now) (s .work .now) (s .text .now) (omega arith) (omega arith) (omega arith) (l .result) (l .ensures .0) _ _ (c .before .v .given .1))
+    mapping-of (library-stops _ _ _ _ _ _ (omega arith) (omega arith) (omega arith) _ (l .ensures .0) _ _ (c .before .v .given .1))
 
 pub map-texts-spec : {M : Type 1} → statement M
-map-texts-spec =
-    tie.close
-    (tie.spec
-    returns returns-2 returns-3 (λ c κs. search needs) enum-told (λ c κs. search needs) map-cells-requires (λ c. search needs) (λ c. search needs)
-    (λ c. search needs) returns-4 returns-5)
+map-texts-spec = tie.close (tie.spec
+    returns returns-2 returns-3 (λ c κs. search needs) (λ c. search needs) (λ c κs. search needs) map-cells-requires (λ c. search needs)
+    (λ c. search needs) (λ c. search needs) returns-4 returns-5)

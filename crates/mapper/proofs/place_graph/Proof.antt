@@ -17,9 +17,6 @@ read-requires c κs =
     let r = at-place .place in
     placing-lists (start .args .ranged) (start .args .work .now) (start .args .lib) (start .args .codes .now) (start .args .h) (start .pre .0 .0) (start .pre .0 .1) (r .result) (r .ensures .0) (r .last .0) (r .ensures .1)
 
-enum-told : tie.Need-enum-told
-enum-told c = search needs
-
 cut-graph-requires : tie.Need-cut-graph-requires
 cut-graph-requires c κs =
     let at-read = c .before .before .before .before .before .before .before .before in
@@ -44,26 +41,18 @@ returns c =
     told-as (d .outcome _) (at-cut .cut-graph .ensures (d .graph) (d .timed))
 
 returns-2 : tie.Need-returns-2
-returns-2 c =
-    let at-read = c .before .before .before .before .before .before .before in
-    let at-place = at-read .before .before .before .before in
-    let args = at-place .before .before .before .before .before .before .before .args in
-    let r = at-place .place in
-    let u = at-read .read in
-    λ g l. placing-stops (args .ranged) (args .work .now) (args .lib) (args .codes .now) (args .h) g l (r .result) (r .ensures .0) (r .last .0) (r .ensures .1) (args .arrivals .now) (u .result) (u .ensures .0) (c .before .before .before .enum-told .given .1) _ _ (c .before .placed .given .1) (args .text .now)
+returns-2 c = λ g l.
+    let u = c .before .before .before .before .before .before .before in
+    let r = u .before .before .before .before .place in
+    placing-stops _ _ _ _ _ g l _ (r .ensures .0) _ (r .ensures .1) _ _ (u .read .ensures .0) (c .before .before .before .enum-told .given .1) _ _ (c .before .placed .given .1) _
 
 returns-3 : tie.Need-returns-3
-returns-3 c =
-    let at-read = c .before .before .before .before .before in
-    let at-place = at-read .before .before .before .before in
-    let args = at-place .before .before .before .before .before .before .before .args in
-    let r = at-place .place in
-    let u = at-read .read in
-    λ g l. times-stop (args .ranged) (args .work .now) (args .lib) (args .codes .now) (args .h) g l (r .result) (r .ensures .0) (r .last .0) (r .ensures .1) (args .arrivals .now) (u .result) (u .ensures .0) _ _ (c .before .number .given .1) (args .text .now)
+returns-3 c = λ g l.
+    let u = c .before .before .before .before .before in
+    let r = u .before .before .before .before .place in
+    times-stop _ _ _ _ _ g l _ (r .ensures .0) _ (r .ensures .1) _ _ (u .read .ensures .0) _ _ (c .before .number .given .1) _
 
 pub place-graph-spec : {M : Type 1} → statement M
-place-graph-spec =
-    tie.close
-    (tie.spec
-    place-requires read-requires enum-told (λ c. search needs) cut-graph-requires (λ c. search needs) (λ c. search needs) (λ c. search needs)
-    (λ c. search needs) returns (λ c. search needs) returns-2 (λ c. search needs) returns-3)
+place-graph-spec = tie.close (tie.spec
+    place-requires read-requires (λ c. search needs) (λ c. search needs) cut-graph-requires (λ c. search needs) (λ c. search needs)
+    (λ c. search needs) (λ c. search needs) returns (λ c. search needs) returns-2 (λ c. search needs) returns-3)

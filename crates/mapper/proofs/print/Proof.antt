@@ -6,24 +6,18 @@ use Rattle.mapper.proofs.print.Statement.{statement}
 use Rattle.mapper.proofs.print.Tie as tie
 
 returns : tie.Need-returns
-returns c =
-    let m = c .before .before .measure in
-    let t = c .before .before .before .before .before .before .args .text .now in
-    λ g p. print-short _ _ g t (m .result) (m .ensures .0 g p) (omega arith)
+returns c = λ g p. print-short _ _ g _ _ (c .before .before .measure .ensures .0 g p) (omega arith)
 
 write-requires : tie.Need-write-requires
 write-requires c κs =
-    let m = c .before .before .before .measure in
-    let p = c .before .before .before .before .before .before .before .pre in
-    (p .0, p .1, print-room _ _ (p .0) (c .before .before .before .before .before .before .before .args .text .now) (m .result) (m .ensures .0 (p .0) (p .1)) (omega arith))
+    let s = c .before .before .before .before .before .before .before in
+    let p = s .pre in
+    (p .0, p .1, print-room _ _ (p .0) (s .args .text .now) _ (c .before .before .before .measure .ensures .0 (p .0) (p .1)) (omega arith))
 
 returns-2 : tie.Need-returns-2
-returns-2 c =
+returns-2 c = λ g p.
     let m = c .before .before .before .before .before .before .measure in
-    let w = c .before .before .write in
-    λ g p. print-done _ _ g (c .before .before .before .before .before .before .before .before .before .before .args .text .now) (m .result) (m .ensures .0 g p) (omega arith) _ (w .ensures g p .1)
+    print-done _ _ g _ _ (m .ensures .0 g p) (omega arith) _ (c .before .before .write .ensures g p .1)
 
 pub print-spec : {M : Type 1} → statement M
-print-spec = tie.close
-    (tie.spec
-    (λ c κs. search needs) returns write-requires (λ c. search needs) returns-2)
+print-spec = tie.close (tie.spec (λ c κs. search needs) returns write-requires (λ c. search needs) returns-2)

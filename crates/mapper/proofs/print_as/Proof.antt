@@ -15,7 +15,8 @@ retime-requires c κs = let t = c .before .before .before .before .before .pre .
 print-timed-requires : tie.Need-print-timed-requires
 print-timed-requires c κs =
     let r = c .before .before .before .before .retime in
-    let s = c .before .before .before .before .before .before .before .before .before .before in
+    let q = c .before in
+    let s = q .before .before .before .before .before .before .before .before .before in
     let p = s .pre in
     (p .0, lowered-mapped (s .args .work .now) (s .args .lib) (s .args .codes .now) (s .args .h) (p .0) (p .1) (p .2) _ (r .ensures), lowered-lows (s .args .work .now) (s .args .lib) (s .args .codes .now) (s .args .h) (p .0) (p .1) (p .2) _ (r .ensures))
 
@@ -40,8 +41,6 @@ returns-2 c =
     λ g p t. told-as (ap (λ (ranged : Bool). printedFor ranged (s .lib) (s .codes .now) g (length (s .text .now))) (at-if .if1 .left)) (at-print .print .ensures g p)
 
 pub print-as-spec : {M : Type 1} → statement M
-print-as-spec =
-    tie.close
-    (tie.spec
-    retime-requires print-timed-requires (λ c. search needs) (λ c. search needs) returns print-requires (λ c. search needs) (λ c. search needs)
-    returns-2)
+print-as-spec = tie.close (tie.spec
+    retime-requires print-timed-requires (λ c. search needs) (λ c. search needs) returns print-requires (λ c. search needs)
+    (λ c. search needs) returns-2)

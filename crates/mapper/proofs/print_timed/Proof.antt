@@ -56,7 +56,5 @@ returns-2 c =
     (timed-done (s .lib) (s .codes .now) g t (m .result) (m .ensures .0 g p) _ (lines-said (s .work .now) (s .lib) (s .codes .now) (s .h) g p low) (omega (arith, long)) _ _ (at-write .write .ensures g p .1) (at-put .put-lines .ensures .leaves))
 
 pub print-timed-spec : {M : Type 1} → statement M
-print-timed-spec =
-    tie.close
-    (tie.spec
+print-timed-spec = tie.close (tie.spec
     measure-requires lines-len-requires (λ c. search needs) returns write-requires put-lines-requires (λ c. search needs) returns-2)

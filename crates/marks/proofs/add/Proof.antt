@@ -1,17 +1,11 @@
--- `marks::add` meets its contract, by those of the two bits.
--- Assumes nothing.
+-- `marks::add` meets its contract, by those of the two bits. Assumes nothing.
 use borrow.Author.Needs.{needs}
 use Rattle.marks.specs.Marks.{added}
 use Rattle.marks.proofs.add.Statement.{statement}
 use Rattle.marks.proofs.add.Tie as tie
 
-returns : tie.Need-returns
-unfolding added
-returns c = rw (c .before .before .with-bit .ensures, c .with-bit2 .ensures)
-
 pub add-spec : {M : Type 1} → statement M
-add-spec =
-    tie.close
-    (tie.spec
-    (λ c. search needs) (λ c. search needs) (λ c κs. search needs) (λ c. search needs) (λ c κs. search needs) (λ c. search needs) (λ c. search needs)
-    (λ c. search needs) returns)
+unfolding added
+add-spec = tie.close (tie.spec
+    (λ c. search needs) (λ c. search needs) (λ c κs. search needs) (λ c. search needs) (λ c κs. search needs) (λ c. search needs)
+    (λ c. search needs) (λ c. search needs) (λ c. rw (c .before .before .with-bit .ensures, c .with-bit2 .ensures)))

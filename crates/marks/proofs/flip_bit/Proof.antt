@@ -1,5 +1,4 @@
--- `marks::flip_bit` meets its contract: the shift loses nothing.
--- Assumes nothing.
+-- `marks::flip_bit` meets its contract: the shift loses nothing. Assumes nothing.
 use mathlib.Core.Path.{ap}
 use Prim.Native.Nat.{ℕ}
 use lib.Bits.{bitXor}
@@ -8,10 +7,5 @@ use Rattle.marks.proofs.Bits.{power}
 use Rattle.marks.proofs.flip_bit.Statement.{statement}
 use Rattle.marks.proofs.flip_bit.Tie as tie
 
-returns : tie.Need-returns
-returns c = ap (λ (y : ℕ). bitXor (c .args .x) y) (power (c .args .j) (c .pre))
-
 pub flip-bit-spec : {M : Type 1} → statement M
-flip-bit-spec = tie.close
-    (tie.spec
-    (λ c. search needs) returns)
+flip-bit-spec = tie.close (tie.spec (λ c. search needs) (λ c. ap (λ (y : ℕ). bitXor (c .args .x) y) (power (c .args .j) (c .pre))))

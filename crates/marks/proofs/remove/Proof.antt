@@ -1,5 +1,4 @@
--- `marks::remove` meets its contract, whether v was the last of its word or not.
--- Assumes nothing.
+-- `marks::remove` meets its contract, whether v was the last of its word or not. Assumes nothing.
 use mathlib.Core.Path.{sym}
 use borrow.Author.Needs.{needs}
 use borrow.Author.Tests.{eq-eqb, ne-eqb}
@@ -11,13 +10,9 @@ returns : tie.Need-returns
 unfolding removed
 returns c = rw (sym (c .before .before .before .flip-bit .ensures), eq-eqb _ 0 (c .if1 .taken), sym (c .before .flip-bit2 .ensures))
 
-returns-2 : tie.Need-returns-2
-unfolding removed
-returns-2 c = rw (sym (c .before .before .before .flip-bit .ensures), ne-eqb _ 0 (c .if1 .left))
-
 pub remove-spec : {M : Type 1} → statement M
-remove-spec =
-    tie.close
-    (tie.spec
-    (λ c. search needs) (λ c. search needs) (λ c κs. search needs) (λ c. search needs) (λ c κs. search needs) (λ c. search needs) (λ c. search needs)
-    (λ c. search needs) returns returns-2)
+unfolding removed
+remove-spec = tie.close (tie.spec
+    (λ c. search needs) (λ c. search needs) (λ c κs. search needs) (λ c. search needs) (λ c κs. search needs) (λ c. search needs)
+    (λ c. search needs) (λ c. search needs) returns
+    (λ c. rw (sym (c .before .before .before .flip-bit .ensures), ne-eqb _ 0 (c .if1 .left))))

@@ -1,5 +1,4 @@
--- `marks::with_bit` meets its contract: the shift loses nothing.
--- Assumes nothing.
+-- `marks::with_bit` meets its contract: the shift loses nothing. Assumes nothing.
 use mathlib.Core.Path.{ap}
 use Prim.Native.Nat.{ℕ}
 use lib.Bits.{bitOr}
@@ -8,10 +7,5 @@ use Rattle.marks.proofs.Bits.{power}
 use Rattle.marks.proofs.with_bit.Statement.{statement}
 use Rattle.marks.proofs.with_bit.Tie as tie
 
-returns : tie.Need-returns
-returns c = ap (λ (y : ℕ). bitOr (c .args .x) y) (power (c .args .j) (c .pre))
-
 pub with-bit-spec : {M : Type 1} → statement M
-with-bit-spec = tie.close
-    (tie.spec
-    (λ c. search needs) returns)
+with-bit-spec = tie.close (tie.spec (λ c. search needs) (λ c. ap (λ (y : ℕ). bitOr (c .args .x) y) (power (c .args .j) (c .pre))))

@@ -21,18 +21,14 @@ loop-holds c = (omega arith, c .before .pre, part-start (c .before .args .l .now
 
 returns : tie.Need-returns Inv-loop μ-loop
 returns c =
-    let k = c .before .before in
-    let l = k .before .before .before in
-    let a = l .before .before .args in
+    let k = c .before .before in let l = k .before .before .before in let a = l .before .before .args in
     c .no-nets .ensures
     ∙ sym (part-none (a .l .now) (a .from) (a .n) (l .loop .at) (l .loop .j) (l .loop .codes) (l .loop .inv .2) (k .before .before .loop-test .taken)
     (sym (ap (λ (p : Pin). p .code) (k .pin-at .ensures ∙ ap (pinAt (a .l .now) (l .loop .at)) (k .before .letter .ensures))) ∙ c .before .if1 .taken))
 
 loop-again : tie.Need-loop-again Inv-loop μ-loop
 loop-again c =
-    let k = c .before in
-    let l = k .before .before .before in
-    let a = l .before .before .args in
+    let k = c .before in let l = k .before .before .before in let a = l .before .before .args in
     let q : k .pin-at .result ≡ pinAt (a .l .now) (l .loop .at) (65 + l .loop .j) = k .pin-at .ensures ∙ ap (pinAt (a .l .now) (l .loop .at)) (k .before .letter .ensures) in (
       omega arith,
       l .loop .inv .1,
@@ -42,13 +38,10 @@ loop-again c =
 
 returns-2 : tie.Need-returns-2 Inv-loop μ-loop
 returns-2 c =
-    let l = c .before .before in
-    let a = l .before .before .args in
+    let l = c .before .before in let a = l .before .before .args in
     c .own-net .ensures ∙ sym (part-end (a .l .now) (a .from) (a .n) (l .loop .at) (l .loop .j) (l .loop .codes) (l .loop .inv .2) (omega arith))
 
 pub bound-spec : {M : Type 1} → statement M
-bound-spec =
-    tie.close
-    (tie.spec
-    Inv-loop μ-loop loop-holds (λ c κs. search needs) (λ c κs. search needs) (λ c κs. search needs) returns (λ c. search needs) (λ c. search needs)
-    (λ c. search needs) (λ c. search needs) loop-again (λ c κs. search needs) returns-2)
+bound-spec = tie.close (tie.spec
+    Inv-loop μ-loop loop-holds (λ c κs. search needs) (λ c κs. search needs) (λ c κs. search needs) returns (λ c. search needs)
+    (λ c. search needs) (λ c. search needs) (λ c. search needs) loop-again (λ c κs. search needs) returns-2)

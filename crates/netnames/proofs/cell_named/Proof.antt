@@ -16,37 +16,25 @@ Inv-loop w lib n i₀ i = (i ≤ n) × (n ≤ 32) × (cellIndex w (cellsOf lib) 
 abbrev μ-loop : tie.MeasureT-loop
 μ-loop w lib n i₀ i = n - i
 
-loop-holds : tie.Need-loop-holds Inv-loop μ-loop
-loop-holds c = (omega arith, c .before .pre .0, index-start _ _)
-
 returns : tie.Need-returns Inv-loop μ-loop
 unfolding nameOf
 returns c =
-    let k = c .before in
-    let l = k .before .before .before .before in
-    let start = l .before .before in
-    let a = start .args in
+    let k = c .before in let l = k .before .before .before .before in let start = l .before .before in let a = start .args in
     sym (l .loop .inv .2 ∙ index-found (a .w .now) (a .t1) (l .loop .i) (k .before .before .before .loop-test .taken) (omega arith) (start .pre .1) (sym (k .name-is .ensures) ∙ c .if1 .taken))
 
 loop-again : tie.Need-loop-again Inv-loop μ-loop
 unfolding nameOf
 loop-again c =
-    let k = c .before in
-    let l = k .before .before .before .before in
-    let start = l .before .before in
-    let a = start .args in
+    let k = c .before in let l = k .before .before .before .before in let start = l .before .before in let a = start .args in
     (omega arith, omega arith, l .loop .inv .2 ∙ index-next (a .w .now) (a .t1) (l .loop .i) (k .before .before .before .loop-test .taken) (omega arith) (start .pre .1) (sym (k .name-is .ensures) ∙ c .if1 .left))
 
 returns-2 : tie.Need-returns-2 Inv-loop μ-loop
 returns-2 c =
-    let l = c .before in
-    let a = l .before .before .args in
+    let l = c .before in let a = l .before .before .args in
     let long : length (a .t1 .cells) ≡ 32 = l .before .before .pre .1 in
     sym (l .loop .inv .2 ∙ index-end (a .w .now) (a .t1) (l .loop .i) (omega arith) (omega arith))
 
 pub cell-named-spec : {M : Type 1} → statement M
-cell-named-spec =
-    tie.close
-    (tie.spec
-    Inv-loop μ-loop loop-holds (λ c. search needs) (λ c. search needs) (λ c κs. search needs) returns (λ c. search needs) (λ c. search needs)
-    loop-again returns-2)
+cell-named-spec = tie.close (tie.spec
+    Inv-loop μ-loop (λ c. (omega arith, c .before .pre .0, index-start _ _)) (λ c. search needs) (λ c. search needs) (λ c κs. search needs)
+    returns (λ c. search needs) (λ c. search needs) loop-again returns-2)

@@ -44,7 +44,6 @@ returns c =
     l .loop .inv .1 ∙ ap (λ (i : ℕ). code (drop i (l .before .before .args .w .now))) (let z : l .loop .i ≡ 0 = omega arith in z)
 
 pub code-of-spec : {M : Type 1} → statement M
-code-of-spec =
-    tie.close
-    (tie.spec
-    Inv-loop μ-loop loop-holds (λ c. search needs) mul-n (λ c. search needs) (λ c κs. search needs) add-n (λ c. search needs) loop-again returns)
+code-of-spec = tie.close (tie.spec
+    Inv-loop μ-loop loop-holds (λ c. search needs) mul-n (λ c. search needs) (λ c κs. search needs) add-n (λ c. search needs) loop-again
+    returns)

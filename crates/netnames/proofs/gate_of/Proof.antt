@@ -9,17 +9,13 @@ use Rattle.netnames.proofs.gate_of.Tie as tie
 
 returns : tie.Need-returns
 returns c =
-    let k = c .before .before in
-    let a = k .before .before .args in
+    let k = c .before .before in let a = k .before .before .args in
     c .no-gate .ensures ∙ sym (gate-none (a .table) (a .pins) (fieldsFrom (a .l .now) (a .at)) (sym (ap (λ (b : Nets). b .net) (k .bound .ensures)) ∙ c .before .if1 .taken))
 
 returns-2 : tie.Need-returns-2
 returns-2 c =
-    let k = c .before .before in
-    let a = k .before .before .args in
+    let k = c .before .before in let a = k .before .before .args in
     gate-some (a .table) (a .pins) (fieldsFrom (a .l .now) (a .at)) (k .bound .result) (k .bound .ensures) (c .before .if1 .left)
 
 pub gate-of-spec : {M : Type 1} → statement M
-gate-of-spec = tie.close
-    (tie.spec
-    (λ c κs. search needs) (λ c κs. search needs) returns returns-2)
+gate-of-spec = tie.close (tie.spec (λ c κs. search needs) (λ c κs. search needs) returns returns-2)

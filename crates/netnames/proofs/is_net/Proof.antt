@@ -5,16 +5,9 @@ use Rattle.netnames.proofs.Names.{net-empty, net-long, net-bytes}
 use Rattle.netnames.proofs.is_net.Statement.{statement}
 use Rattle.netnames.proofs.is_net.Tie as tie
 
-returns : tie.Need-returns
-returns c = sym (net-empty _ (c .if1 .taken))
-
-returns-2 : tie.Need-returns-2
-returns-2 c = sym (net-long _ (c .if2 .taken))
-
 returns-3 : tie.Need-returns-3
 returns-3 c = c .net-bytes .ensures ∙ sym (net-bytes _ (c .before .before .if1 .left) (c .before .if2 .left))
 
 pub is-net-spec : {M : Type 1} → statement M
-is-net-spec = tie.close
-    (tie.spec
-    returns returns-2 (λ c κs. search needs) returns-3)
+is-net-spec = tie.close (tie.spec
+    (λ c. sym (net-empty _ (c .if1 .taken))) (λ c. sym (net-long _ (c .if2 .taken))) (λ c κs. search needs) returns-3)

@@ -8,33 +8,18 @@ use Rattle.netnames.proofs.Named.{out-empty, out-letter, out-number, ou
 use Rattle.netnames.proofs.is_out.Statement.{statement}
 use Rattle.netnames.proofs.is_out.Tie as tie
 
-returns : tie.Need-returns
-returns c = sym (out-empty _ _ (c .if1 .taken))
-
-returns-2 : tie.Need-returns-2
-returns-2 c = sym (out-letter _ _ (c .before .before .if1 .left) (c .if2 .taken))
-
-enum-told : tie.Need-enum-told
-enum-told c = search needs
-
 returns-3 : tie.Need-returns-3
 returns-3 c =
-    let m = c .before .before .before in
-    let e = m .before .before in
-    let a = e .before .before .before .before .args in
+    let m = c .before .before .before in let e = m .before .before in let a = e .before .before .before .before .args in
     out-number (a .w .now) (a .k) (e .before .before .if1 .left) (e .if2 .left) _ (sym (ap number (rest-all 1 (a .w .now))) ∙ value-is _ _ _ (m .number-of .ensures) (c .before .n .given .1))
 
 returns-4 : tie.Need-returns-4
 returns-4 c =
-    let m = c .before .before in
-    let e = m .before .before in
-    let s = e .before .before .before .before in
-    let a = s .args in
+    let m = c .before .before in let e = m .before .before in let s = e .before .before .before .before in let a = s .args in
     sym (out-none (a .w .now) (a .k) (e .before .before .if1 .left) (e .if2 .left) (s .pre) (sym (ap number (rest-all 1 (a .w .now))) ∙ value-none _ _ (m .number-of .ensures) (c .enum-told .given .1)))
 
 pub is-out-spec : {M : Type 1} → statement M
-is-out-spec =
-    tie.close
-    (tie.spec
-    returns (λ c. search needs) returns-2 (λ c. search needs) (λ c. search needs) (λ c. search needs) (λ c κs. search needs) (λ c. search needs)
-    (λ c. search needs) enum-told returns-3 returns-4)
+is-out-spec = tie.close (tie.spec
+    (λ c. sym (out-empty _ _ (c .if1 .taken))) (λ c. search needs)
+    (λ c. sym (out-letter _ _ (c .before .before .if1 .left) (c .if2 .taken))) (λ c. search needs) (λ c. search needs) (λ c. search needs)
+    (λ c κs. search needs) (λ c. search needs) (λ c. search needs) (λ c. search needs) returns-3 returns-4)

@@ -6,13 +6,8 @@ use Rattle.netnames.proofs.Names.{net-line, net-other}
 use Rattle.netnames.proofs.net_byte.Statement.{statement}
 use Rattle.netnames.proofs.net_byte.Tie as tie
 
-returns : tie.Need-returns
-returns c = sym (ap isNetByte (c .if1 .taken) ∙ net-line)
-
 returns-2 : tie.Need-returns-2
 returns-2 c = c .is-name-byte .ensures ∙ net-other (c .before .before .args .b) (c .before .if1 .left)
 
 pub net-byte-spec : {M : Type 1} → statement M
-net-byte-spec = tie.close
-    (tie.spec
-    returns (λ c κs. search needs) returns-2)
+net-byte-spec = tie.close (tie.spec (λ c. sym (ap isNetByte (c .if1 .taken) ∙ net-line)) (λ c κs. search needs) returns-2)

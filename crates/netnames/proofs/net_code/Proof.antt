@@ -5,16 +5,10 @@ use Rattle.netnames.proofs.Names.{net-short, code-net, code-none}
 use Rattle.netnames.proofs.net_code.Statement.{statement}
 use Rattle.netnames.proofs.net_code.Tie as tie
 
-code-of-requires : tie.Need-code-of-requires
-code-of-requires c κs = net-short _ (sym (c .before .is-net .ensures) ∙ c .if1 .taken)
-
 returns : tie.Need-returns
 returns c = c .code-of .ensures ∙ sym (code-net _ (sym (c .before .before .is-net .ensures) ∙ c .before .if1 .taken))
 
-returns-2 : tie.Need-returns-2
-returns-2 c = sym (code-none _ (sym (c .before .is-net .ensures) ∙ c .if1 .left))
-
 pub net-code-spec : {M : Type 1} → statement M
-net-code-spec = tie.close
-    (tie.spec
-    (λ c κs. search needs) code-of-requires returns returns-2)
+net-code-spec = tie.close (tie.spec
+    (λ c κs. search needs) (λ c κs. net-short _ (sym (c .before .is-net .ensures) ∙ c .if1 .taken)) returns
+    (λ c. sym (code-none _ (sym (c .before .is-net .ensures) ∙ c .if1 .left))))

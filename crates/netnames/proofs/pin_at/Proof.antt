@@ -33,15 +33,11 @@ add-t11 c = let k = c .before .before in let a = k .before .before .before .args
 returns-2 : tie.Need-returns-2
 unfolding pinAt
 returns-2 c =
-    let k = c .before .before in
-    let a = k .before .before .before .args in
-    let l = a .l .now in
+    let k = c .before .before in let a = k .before .before .before .args in let l = a .l .now in
     ap₂ (λ (x n : ℕ). record { code = x; next = n + 1 })
     (c .pin-code .ensures ∙ ap (λ (e : ℕ). optCode (pinNet (a .b) (take (e - a .at) (drop (a .at) l)))) (k .space-from .ensures)) (k .space-from .ensures)
     ∙ sym (ap (λ (ws : List (List ℕ)). pinOf (a .b) ws (spaceFrom l (a .at) + 1)) (fields-part l (a .at) (k .before .if1 .left)))
 
 pub pin-at-spec : {M : Type 1} → statement M
-pin-at-spec =
-    tie.close
-    (tie.spec
+pin-at-spec = tie.close (tie.spec
     returns (λ c κs. search needs) sub-pin-code part-pin-code-start part-pin-code-end (λ c κs. search needs) add-t11 returns-2)

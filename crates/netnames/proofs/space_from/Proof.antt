@@ -21,11 +21,7 @@ returns c = sym (c .before .before .before .loop .inv ∙ space-here _ _ (c .bef
 loop-again : tie.Need-loop-again Inv-loop μ-loop
 loop-again c = c .before .before .before .loop .inv ∙ space-later _ _ (c .before .before .loop-test .taken) (c .if1 .left)
 
-returns-2 : tie.Need-returns-2 Inv-loop μ-loop
-returns-2 c = sym (c .before .loop .inv ∙ space-end _ _ (c .loop-test .left))
-
 pub space-from-spec : {M : Type 1} → statement M
-space-from-spec =
-    tie.close
-    (tie.spec
-    Inv-loop μ-loop (λ c. refl) (λ c. search needs) returns (λ c. search needs) (λ c. search needs) loop-again returns-2)
+space-from-spec = tie.close (tie.spec
+    Inv-loop μ-loop (λ c. refl) (λ c. search needs) returns (λ c. search needs) (λ c. search needs) loop-again
+    (λ c. sym (c .before .loop .inv ∙ space-end _ _ (c .loop-test .left))))

@@ -19,27 +19,19 @@ Inv-loop work m from heads₀ links₀ u₀ heads links u =
 abbrev μ-loop : tie.MeasureT-loop
 μ-loop work m from heads₀ links₀ u₀ heads links u = m + 1 - u
 
-loop-holds : tie.Need-loop-holds Inv-loop μ-loop
-loop-holds c = (omega arith, ready-is-seek _ _ _, c .before .pre .2, λ o h. refl)
-
 returns : tie.Need-returns Inv-loop μ-loop
 returns c =
-    let at-loop = c .before .before .before in
-    let start = at-loop .before .before in
-    let i = at-loop .loop .inv in
+    let at-loop = c .before .before .before in let start = at-loop .before .before in let i = at-loop .loop .inv in
     (sym (i .1 ∙ seek-here (isReady (start .args .work .now) (start .args .m)) _ (start .args .m - at-loop .loop .u) _ (omega arith) (sym (c .before .ready .ensures) ∙ c .if1 .taken)), (i .2, i .3))
 
 list-requires : tie.Need-list-requires Inv-loop μ-loop
 list-requires c κs =
-    let at-loop = c .before .before .before .before .before in
-    let start = at-loop .before .before in
+    let at-loop = c .before .before .before .before .before in let start = at-loop .before .before in
     (start .pre .0, start .pre .1, omega arith, at-loop .loop .inv .2)
 
 loop-again : tie.Need-loop-again Inv-loop μ-loop
 loop-again c =
-    let at-ready = c .before .before .before .before in
-    let at-loop = at-ready .before .before in
-    let start = at-loop .before .before in
+    let at-ready = c .before .before .before .before in let at-loop = at-ready .before .before in let start = at-loop .before .before in
     let i = at-loop .loop .inv in (
       omega arith,
       i .1 ∙ seek-past (isReady (start .args .work .now) (start .args .m)) _ (start .args .m + 1 - (at-loop .loop .u + 1)) _ (omega arith) (sym (at-ready .ready .ensures) ∙ c .before .before .before .if1 .left),
@@ -49,12 +41,10 @@ loop-again c =
 
 returns-2 : tie.Need-returns-2 Inv-loop μ-loop
 returns-2 c =
-    let start = c .before .before .before in
-    let i = c .before .loop .inv in
+    let start = c .before .before .before in let i = c .before .loop .inv in
     (sym (i .1 ∙ seek-end (isReady (start .args .work .now) (start .args .m)) _ _ (omega arith)), (i .2, i .3))
 
 pub first-ready-spec : {M : Type 1} → statement M
-first-ready-spec =
-    tie.close
-    (tie.spec
-    Inv-loop μ-loop loop-holds (λ c κs. search needs) returns list-requires (λ c. search needs) (λ c. search needs) loop-again returns-2)
+first-ready-spec = tie.close (tie.spec
+    Inv-loop μ-loop (λ c. (omega arith, ready-is-seek _ _ _, c .before .pre .2, λ o h. refl)) (λ c κs. search needs) returns list-requires
+    (λ c. search needs) (λ c. search needs) loop-again returns-2)

@@ -16,19 +16,14 @@ Inv-loop work m from v₀ v = (v ≤ m + 1) × (waitingFrom work m from ≡ seek
 abbrev μ-loop : tie.MeasureT-loop
 μ-loop work m from v₀ v = m + 1 - v
 
-loop-holds : tie.Need-loop-holds Inv-loop μ-loop
-loop-holds c = (c .before .pre .1, waiting-is _ _ _)
-
 returns : tie.Need-returns Inv-loop μ-loop
 returns c =
-    let at-loop = c .before .before .before in
-    let start = at-loop .before .before in
+    let at-loop = c .before .before .before in let start = at-loop .before .before in
     sym (at-loop .loop .inv .1 ∙ seek-here (isWaiting (start .args .work .now) (start .args .m)) _ (start .args .m - at-loop .loop .v) _ (omega arith) (sym (c .before .waits .ensures) ∙ c .if1 .taken))
 
 loop-again : tie.Need-loop-again Inv-loop μ-loop
 loop-again c =
-    let at-loop = c .before .before .before in
-    let start = at-loop .before .before in
+    let at-loop = c .before .before .before in let start = at-loop .before .before in
     (omega arith, at-loop .loop .inv .1 ∙ seek-past (isWaiting (start .args .work .now) (start .args .m)) _ (start .args .m + 1 - (at-loop .loop .v + 1)) _ (omega arith) (sym (c .before .waits .ensures) ∙ c .if1 .left))
 
 returns-2 : tie.Need-returns-2 Inv-loop μ-loop
@@ -37,7 +32,6 @@ returns-2 c =
     sym (c .before .loop .inv .1 ∙ seek-end (isWaiting (start .args .work .now) (start .args .m)) _ _ (omega arith))
 
 pub first-waiting-spec : {M : Type 1} → statement M
-first-waiting-spec =
-    tie.close
-    (tie.spec
-    Inv-loop μ-loop loop-holds (λ c κs. search needs) returns (λ c. search needs) (λ c. search needs) loop-again returns-2)
+first-waiting-spec = tie.close (tie.spec
+    Inv-loop μ-loop (λ c. (c .before .pre .1, waiting-is _ _ _)) (λ c κs. search needs) returns (λ c. search needs) (λ c. search needs)
+    loop-again returns-2)

@@ -1,5 +1,4 @@
--- `placing::place_at` meets its contract, by those of the two stores.
--- Assumes nothing.
+-- `placing::place_at` meets its contract, by those of the two stores. Assumes nothing.
 use mathlib.Core.Path.{ap, _∙_}
 use mathlib.Core.List.{List, [], _∷_}
 use Prim.Native.Nat.{ℕ, _+_}
@@ -13,13 +12,9 @@ use Rattle.placing.proofs.place_at.Tie as tie
 returns : tie.Need-returns
 unfolding putPlaced
 returns c =
-    let at-set-place = c .before .before in
-    let at-set-slot = at-set-place .before .before .before .before in
+    let at-set-place = c .before .before in let at-set-slot = at-set-place .before .before .before .before in
     let start = at-set-slot .before .before .before in
     at-set-place .set-place .ensures ∙ ap (λ (x : List ℕ). putAt x (placeAddr (start .args .m) (start .args .v)) ((start .args .i + 1) ∷ [])) (at-set-slot .set-slot .ensures)
 
 pub place-at-spec : {M : Type 1} → statement M
-place-at-spec =
-    tie.close
-    (tie.spec
-    (λ c κs. search needs) (λ c. search needs) (λ c κs. search needs) (λ c. search needs) returns)
+place-at-spec = tie.close (tie.spec (λ c κs. search needs) (λ c. search needs) (λ c κs. search needs) (λ c. search needs) returns)

@@ -1,5 +1,4 @@
--- `placing::take` meets its contract, on either side of its test.
--- Assumes nothing.
+-- `placing::take` meets its contract, on either side of its test. Assumes nothing.
 use borrow.Author.Needs.{needs}
 use borrow.Author.Tests.{lt-ltb, le-ltb}
 use Rattle.placing.specs.Uses.{passedTo, takenFrom}
@@ -9,8 +8,7 @@ use Rattle.placing.proofs.take.Tie as tie
 returns : tie.Need-returns
 unfolding passedTo takenFrom
 returns c =
-    let start = c .before .before .before in
-    let l = lt-ltb (start .args .v) (start .args .scan) (c .before .before .if1 .taken) in
+    let start = c .before .before .before in let l = lt-ltb (start .args .v) (start .args .scan) (c .before .before .if1 .taken) in
     (rw l, rw l (c .remove .ensures))
 
 returns-2 : tie.Need-returns-2
@@ -20,6 +18,4 @@ returns-2 c =
     (rw l, rw l)
 
 pub take-spec : {M : Type 1} → statement M
-take-spec = tie.close
-    (tie.spec
-    (λ c κs. search needs) returns (λ c. search needs) returns-2)
+take-spec = tie.close (tie.spec (λ c κs. search needs) returns (λ c. search needs) returns-2)

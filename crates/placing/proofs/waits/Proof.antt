@@ -1,5 +1,4 @@
--- `placing::waits` meets its contract.
--- Assumes nothing.
+-- `placing::waits` meets its contract. Assumes nothing.
 use mathlib.Core.Path.{sym}
 use borrow.Author.Tests.{eq-eqb, ne-eqb}
 use Rattle.words.specs.Layout.{andKind}
@@ -8,15 +7,11 @@ use borrow.Author.Needs.{needs}
 use Rattle.placing.proofs.waits.Statement.{statement}
 use Rattle.placing.proofs.waits.Tie as tie
 
-returns : tie.Need-returns
-unfolding isWaiting
-returns c = rw (sym (c .before .kind .ensures), ne-eqb _ andKind (c .if1 .taken))
-
 returns-2 : tie.Need-returns-2
 unfolding isWaiting
 returns-2 c = rw (sym (c .before .before .kind .ensures), eq-eqb _ andKind (c .before .if1 .left), c .place .ensures)
 
 pub waits-spec : {M : Type 1} → statement M
-waits-spec = tie.close
-    (tie.spec
-    (λ c κs. search needs) returns (λ c κs. search needs) returns-2)
+unfolding isWaiting
+waits-spec = tie.close (tie.spec
+    (λ c κs. search needs) (λ c. rw (sym (c .before .kind .ensures), ne-eqb _ andKind (c .if1 .taken))) (λ c κs. search needs) returns-2)

@@ -1,5 +1,4 @@
--- `placing::wake` meets its contract, whether the AND is ready or not.
--- Assumes nothing.
+-- `placing::wake` meets its contract, whether the AND is ready or not. Assumes nothing.
 use mathlib.Core.Path.{sym}
 use borrow.Author.Needs.{needs}
 use Rattle.placing.proofs.wake.Statement.{statement}
@@ -8,10 +7,6 @@ use Rattle.placing.proofs.wake.Tie as tie
 returns : tie.Need-returns
 returns c = rw (sym (c .before .before .before .ready .ensures), c .before .before .if1 .taken) (c .add .ensures)
 
-returns-2 : tie.Need-returns-2
-returns-2 c = rw (sym (c .before .ready .ensures), c .if1 .left)
-
 pub wake-spec : {M : Type 1} → statement M
-wake-spec = tie.close
-    (tie.spec
-    (λ c κs. search needs) (λ c κs. search needs) returns returns-2)
+wake-spec = tie.close (tie.spec
+    (λ c κs. search needs) (λ c κs. search needs) returns (λ c. rw (sym (c .before .ready .ensures), c .if1 .left)))

@@ -119,9 +119,7 @@ put-long-returns-2 : (t : ℕ) → put-long-lts.Need-returns-2 (
   put-long.Post,
 ) (put-long-at t) put-long.Post
 put-long-returns-2 t c =
-    let a = c .before .before .before .before .before .before .args in
-    let p = c .before .before .put-long in
-    let d : ℕ = 48 + a .n % 10 in
+    let a = c .before .before .before .before .before .before .args in let p = c .before .before .put-long in let d : ℕ = 48 + a .n % 10 in
     let more = dec-big-length (a .n) (c .before .before .before .before .if1 .left) in (
       omega (arith, p .ensures .0),
       ap (λ (x : List ℕ). set x (p .result) d) (p .ensures .1)

@@ -22,21 +22,17 @@ loop-holds c = (omega arith, begin _ _ (cells-first (c .before .args .lib) (c .b
 
 put-cell-requires : tie.Need-put-cell-requires Inv-loop μ-loop
 put-cell-requires c κs =
-    let st = c .before .before .before .before in
-    let l = c .before .before .loop in
-    let a = st .args in
+    let st = c .before .before .before .before in let l = c .before .before .loop in let a = st .args in
     let f : 0 + length (cellLines (st .args .lib) (st .args .t) 0 (st .args .lib .n)) ≤ length (st .args .out .now) = omega (arith, st .pre .1) in
     let h : l .i < a .lib .n = omega arith in
     (h, st .pre .0, room f (l .inv .1) (cellLine (cellsOf (a .lib)) (a .t) (l .i)) (cellLines (a .lib) (a .t) (l .i + 1) (a .lib .n - (l .i + 1))) (cells-step (a .lib) (a .t) (l .i) (a .lib .n) h))
 
 loop-again : tie.Need-loop-again Inv-loop μ-loop
 loop-again c =
-    let st = c .before .before .before .before .before .before .before in
-    let l = c .before .before .before .before .before .loop in
+    let st = c .before .before .before .before .before .before .before in let l = c .before .before .before .before .before .loop in
     let a = st .args in
     let f : 0 + length (cellLines (st .args .lib) (st .args .t) 0 (st .args .lib .n)) ≤ length (st .args .out .now) = omega (arith, st .pre .1) in
-    let p = c .before .before .put-cell in
-    let h : l .i < a .lib .n = omega arith in
+    let p = c .before .before .put-cell in let h : l .i < a .lib .n = omega arith in
     (omega arith, step f (l .inv .1) (p .last .0) (p .result) (cellLine (cellsOf (a .lib)) (a .t) (l .i)) (cellLines (a .lib) (a .t) (l .i + 1) (a .lib .n - (l .i + 1))) (cells-step (a .lib) (a .t) (l .i) (a .lib .n) h) (p .ensures))
 
 same-length : tie.Need-same-length Inv-loop μ-loop
@@ -52,7 +48,5 @@ returns c =
     end f (c .before .loop .inv .1) (cells-end (st .args .lib) (st .args .t) (c .before .loop .i) (st .args .lib .n) (omega arith))
 
 pub put-cells-spec : {M : Type 1} → statement M
-put-cells-spec =
-    tie.close
-    (tie.spec
+put-cells-spec = tie.close (tie.spec
     Inv-loop μ-loop loop-holds put-cell-requires (λ c. omega arith) (λ c. omega arith) loop-again same-length returns)

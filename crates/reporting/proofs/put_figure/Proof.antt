@@ -19,13 +19,9 @@ one c =
     let s = at-start c in
     step (s .pre) (begin (s .args .out .now) (s .args .at) (figure-is (s .args .n))) (c .put-byte .last .0) (c .put-byte .result) (32 ∷ []) (decimal (s .args .n)) refl (c .put-byte .ensures)
 
-put-byte-requires : tie.Need-put-byte-requires
-put-byte-requires c κs = omega (arith, c .before .before .pre, figure-length (c .before .before .args .n))
-
 put-long-requires : tie.Need-put-long-requires
 put-long-requires c κs =
-    let p = c .before .before .before in
-    let n = at-start p .args .n in
+    let p = c .before .before .before in let n = at-start p .args .n in
     room (at-start p .pre) (one p) (decimal n) [] (sym (append-nil (decimal n)))
 
 returns : tie.Need-returns
@@ -34,6 +30,6 @@ returns c =
     finish (at-start p .pre) (one p) (as-wrote (c .before .before .put-long .ensures))
 
 pub put-figure-spec : {M : Type 1} → statement M
-put-figure-spec = tie.close
-    (tie.spec
-    put-byte-requires put-long-requires (λ c. search needs) returns)
+put-figure-spec = tie.close (tie.spec
+    (λ c κs. omega (arith, c .before .before .pre, figure-length (c .before .before .args .n))) put-long-requires (λ c. search needs)
+    returns)

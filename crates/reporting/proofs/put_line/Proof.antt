@@ -75,11 +75,8 @@ put-byte-requires c κs = let p = c .before .before .before in omega (arith, roo
 
 returns : tie.Need-returns
 returns c =
-    let p = c .before .before .before .before .before .before in
-    finish (start4 p .pre) (netlists p) (c .before .before .put-byte .ensures)
+    let p = c .before .before .before .before .before .before in finish (start4 p .pre) (netlists p) (c .before .before .put-byte .ensures)
 
 pub put-line-spec : {M : Type 1} → statement M
-put-line-spec =
-    tie.close
-    (tie.spec
+put-line-spec = tie.close (tie.spec
     put-bytes-requires put-figure-requires put-figure-requires-2 put-figure-requires-3 put-byte-requires (λ c. search needs) returns)

@@ -1,5 +1,4 @@
--- `reporting::put_named` meets its contract: an array has eight bytes, so no name is longer.
--- Assumes nothing.
+-- `reporting::put_named` meets its contract: an array has eight bytes, so no name is longer. Assumes nothing.
 use native.Mathlib.Omega.{arith}
 use mathlib.Core.Path.{_≡_, sym, ap, subst, _∙_}
 use mathlib.Core.Logic.{⊎-elim}
@@ -25,9 +24,7 @@ slice-aggregate-put-line c =
 
 put-line-requires : tie.Need-put-line-requires
 put-line-requires c κs =
-    let s = c .before .before .before .before in
-    let a = s .args in
-    let n = c .before .before .if1 .n in
+    let s = c .before .before .before .before in let a = s .args in let n = c .before .before .if1 .n in
     let eight : length (a .t3) ≡ 8 = search needs in
     let e : take n (a .t3) ≡ take (a .len) (a .t3) =
     ⊎-elim (λ y. let z : n ≡ a .len = omega arith in ap (λ (k : ℕ). take k (a .t3)) z) (λ y. take-all n (a .t3) (omega arith) ∙ sym (take-all (a .len) (a .t3) (omega arith))) (c .before .before .if1 .came) in
@@ -35,15 +32,11 @@ put-line-requires c κs =
 
 returns : tie.Need-returns
 returns c =
-    let a = c .before .before .before .before .before .before .before .args in
-    let n = c .before .before .before .before .before .if1 .n in
+    let a = c .before .before .before .before .before .before .before .args in let n = c .before .before .before .before .before .if1 .n in
     let eight : length (a .t3) ≡ 8 = search needs in
     let e : take n (a .t3) ≡ take (a .len) (a .t3) =
     ⊎-elim (λ y. let z : n ≡ a .len = omega arith in ap (λ (k : ℕ). take k (a .t3)) z) (λ y. take-all n (a .t3) (omega arith) ∙ sym (take-all (a .len) (a .t3) (omega arith))) (c .before .before .before .before .before .if1 .came) in
     subst (λ (x : List ℕ). Wrote (a .out .now) (c .before .before .put-line .last .0) (a .at) (c .before .before .put-line .result) (reportLine x (a .gates) (a .area) (a .netlists))) e (c .before .before .put-line .ensures)
 
 pub put-named-spec : {M : Type 1} → statement M
-put-named-spec =
-    tie.close
-    (tie.spec
-    array-share-prefix-name slice-aggregate-put-line put-line-requires (λ c. search needs) returns)
+put-named-spec = tie.close (tie.spec array-share-prefix-name slice-aggregate-put-line put-line-requires (λ c. search needs) returns)

@@ -1,5 +1,4 @@
--- `reporting::put_report` meets its contract: the cells' lines, and the total.
--- Assumes nothing.
+-- `reporting::put_report` meets its contract: the cells' lines, and the total. Assumes nothing.
 use native.Mathlib.Omega.{arith}
 use mathlib.Core.Path.{refl, sym}
 use mathlib.Core.List.{[], _++_, append-nil}
@@ -31,22 +30,17 @@ cells c =
 
 put-cells-requires : tie.Need-put-cells-requires
 put-cells-requires c κs =
-    let s = c .before .before in
-    let a = s .args in
+    let s = c .before .before in let a = s .args in
     (s .pre .0, omega (arith, room (fits s) (none s) (cellLines (a .lib) (a .t) 0 (a .lib .n)) (totalLine (cellsOf (a .lib)) (a .t)) refl))
 
 put-total-requires : tie.Need-put-total-requires
 put-total-requires c κs =
-    let p = c .before .before .before in
-    let s = start p in
+    let p = c .before .before .before in let s = start p in
     (s .pre .0, s .pre .1, room (fits s) (cells p) (totalLine (cellsOf (s .args .lib)) (s .args .t)) [] (sym (append-nil (totalLine (cellsOf (s .args .lib)) (s .args .t)))))
 
 returns : tie.Need-returns
 returns c =
-    let p = c .before .before .before .before .before .before in
-    finish (fits (start p)) (cells p) (c .before .before .put-total .ensures)
+    let p = c .before .before .before .before .before .before in finish (fits (start p)) (cells p) (c .before .before .put-total .ensures)
 
 pub put-report-spec : {M : Type 1} → statement M
-put-report-spec = tie.close
-    (tie.spec
-    put-cells-requires put-total-requires (λ c. search needs) returns)
+put-report-spec = tie.close (tie.spec put-cells-requires put-total-requires (λ c. search needs) returns)

@@ -1,5 +1,4 @@
--- `reporting::report` meets its contract: 1, the library's, 28, then 18.
--- Assumes nothing.
+-- `reporting::report` meets its contract: 1, the library's, 28, then 18. Assumes nothing.
 use native.Mathlib.Omega.{arith}
 use mathlib.Core.Path.{_≡_, sym, ap, subst, _∙_}
 use mathlib.Core.List.{List}
@@ -31,12 +30,9 @@ returns c =
     let a = c .before .before .before .args in
     ruled _ (reportOf (a .t) (a .cells .now) (length (a .text .now))) (refuses (reportOf (a .t) (a .cells .now) (length (a .text .now))) 1 0 (a .text .now) (report-long (a .t) (a .cells .now) (length (a .text .now)) (omega arith)))
 
-enum-told : tie.Need-enum-told
-enum-told c = search needs
-
 report-in-requires : tie.Need-report-in-requires
 report-in-requires c κs =
-    let a = c .before .before .before .before .before .before .before .before .before .before .args in
+    let p = c .before .before .before .before .before .before .before .before .before in let a = p .before .args in
     let r = c .before .before .before .before .before .before .read in
     let o = accepted (readLibrary (a .cells .now)) (r .result) (r .ensures .0) (c .before .before .before .enum-told .given .1) in
     let w = c .before .before .in-width in
@@ -48,11 +44,10 @@ report-in-requires c κs =
 
 returns-2 : tie.Need-returns-2
 returns-2 c =
-    let a = c .before .before .before .before .before .before .before .before .before .before .before .before .before .args in
+    let p = c .before .before .before .before .before .before .before .before .before in let a = p .before .before .before .before .args in
     let r = c .before .before .before .before .before .before .before .before .before .read in
     let o = accepted (readLibrary (a .cells .now)) (r .result) (r .ensures .0) (c .before .before .before .before .before .before .enum-told .given .1) in
-    let w = c .before .before .before .before .before .in-width in
-    let t = c .before .before .before .before .if2 .taken in
+    let w = c .before .before .before .before .before .in-width in let t = c .before .before .before .before .if2 .taken in
     let n = length (a .text .now) in
     let e : fitting (reportText (cellsOf (r .result .library)) (a .t)) n ≡ reportOf (a .t) (a .cells .now) n =
     ap (λ (l : Library). fitting (reportText (cellsOf l) (a .t)) n) (o .isLibrary)
@@ -70,13 +65,10 @@ returns-3 c =
 
 returns-4 : tie.Need-returns-4
 returns-4 c =
-    let a = c .before .before .before .before .before .before .before .before .args in
-    let r = c .before .before .before .before .read in
+    let a = c .before .before .before .before .before .before .before .before .args in let r = c .before .before .before .before .read in
     ruled _ (reportOf (a .t) (a .cells .now) (length (a .text .now))) (refuses (reportOf (a .t) (a .cells .now) (length (a .text .now))) _ _ (a .text .now) (report-refused (a .t) (a .cells .now) (length (a .text .now)) (omega arith) _ _ (turned-back (readLibrary (a .cells .now)) (r .result) (r .ensures .0) _ _ (c .before .verdict .given .1))))
 
 pub report-spec : {M : Type 1} → statement M
-report-spec =
-    tie.close
-    (tie.spec
-    returns (λ c κs. search needs) enum-told (λ c κs. search needs) report-in-requires (λ c. search needs) (λ c. search needs) returns-2 returns-3
-    returns-4)
+report-spec = tie.close (tie.spec
+    returns (λ c κs. search needs) (λ c. search needs) (λ c κs. search needs) report-in-requires (λ c. search needs) (λ c. search needs)
+    returns-2 returns-3 returns-4)

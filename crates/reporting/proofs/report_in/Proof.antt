@@ -1,5 +1,4 @@
--- `reporting::report_in` meets its contract: on a page of its own first.
--- Assumes nothing.
+-- `reporting::report_in` meets its contract: on a page of its own first. Assumes nothing.
 use native.Mathlib.Omega.{arith}
 use mathlib.Core.Path.{sym, ap, _∙_}
 use lib.ListN.{length}
@@ -13,8 +12,7 @@ use Rattle.reporting.proofs.report_in.Tie as tie
 
 returns : tie.Need-returns
 returns c =
-    let a = c .before .before .before .before .before .args in
-    let p = c .before .before .put-report in
+    let a = c .before .before .before .before .before .args in let p = c .before .before .put-report in
     too-short (reportText (cellsOf (a .lib)) (a .t)) (a .text .now) (p .result) (page-end _ _ _ _ (p .ensures)) (c .if1 .taken)
 
 slice-aggregate-put : tie.Need-slice-aggregate-put
@@ -29,12 +27,10 @@ put-requires c κs =
 
 returns-2 : tie.Need-returns-2
 returns-2 c =
-    let a = c .before .before .before .before .before .before .before .before .before .before .args in
+    let q = c .before .before .before .before .before .before .before .before .before in let a = q .before .args in
     let p = c .before .before .before .before .before .before .before .put-report in
     fits (reportText (cellsOf (a .lib)) (a .t)) (a .text .now) (p .result) (c .before .before .put .last .0) (page-end _ _ _ _ (p .ensures)) (omega arith) (c .before .before .put .ensures ∙ ap (putAt (a .text .now) 0) (page-is _ _ _ _ (p .ensures)))
 
 pub report-in-spec : {M : Type 1} → statement M
-report-in-spec =
-    tie.close
-    (tie.spec
+report-in-spec = tie.close (tie.spec
     (λ c. search needs) (λ c κs. search needs) returns (λ c. search needs) slice-aggregate-put put-requires (λ c. search needs) returns-2)

@@ -16,29 +16,19 @@ Inv-loop n xs total₀ i₀ total i = (i ≤ n) × (total ≡ sum (take i xs)) �
 abbrev μ-loop : tie.MeasureT-loop
 μ-loop n xs total₀ i₀ total i = n - i
 
-loop-holds : tie.Need-loop-holds Inv-loop μ-loop
-unfolding sum
-loop-holds c = (omega arith, refl, omega arith)
-
-add-total : tie.Need-add-total Inv-loop μ-loop
-add-total c = omega (arith, c .before .before .pre .1 (c .before .loop .i))
-
 loop-again : tie.Need-loop-again Inv-loop μ-loop
 loop-again c =
-    let p = c .before .loop in
-    let xs = c .before .before .args .t1 in
-    let long : length xs ≡ 32 = search needs in
+    let p = c .before .loop in let xs = c .before .before .args .t1 in let long : length xs ≡ 32 = search needs in
     let low : getD xs (p .i) 0 ≤ 2 ^ 40 = c .before .before .pre .1 (p .i) in
     (omega arith, ap (λ (x : ℕ). x + getD xs (p .i) 0) (p .inv .1) ∙ sym (sum-step xs (p .i) (omega arith)), omega arith)
 
 returns : tie.Need-returns Inv-loop μ-loop
 returns c =
-    let p = c .before .loop in
-    let e : p .i ≡ c .before .before .args .n = omega arith in
+    let p = c .before .loop in let e : p .i ≡ c .before .before .args .n = omega arith in
     p .inv .1 ∙ ap (λ (k : ℕ). sum (take k (c .before .before .args .t1))) e
 
 pub sum-of-spec : {M : Type 1} → statement M
-sum-of-spec =
-    tie.close
-    (tie.spec
-    Inv-loop μ-loop loop-holds (λ c. omega arith) (λ c. omega arith) add-total (λ c. omega arith) (λ c. omega arith) loop-again returns)
+unfolding sum
+sum-of-spec = tie.close (tie.spec
+    Inv-loop μ-loop (λ c. (omega arith, refl, omega arith)) (λ c. omega arith) (λ c. omega arith)
+    (λ c. omega (arith, c .before .before .pre .1 (c .before .loop .i))) (λ c. omega arith) (λ c. omega arith) loop-again returns)

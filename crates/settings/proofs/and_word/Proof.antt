@@ -1,5 +1,4 @@
--- `settings::and_word` meets its contract, by those of the two literals.
--- Assumes nothing.
+-- `settings::and_word` meets its contract, by those of the two literals. Assumes nothing.
 use mathlib.Core.Path.{_∙_}
 use lib.Bits.{bitAnd}
 use Rattle.settings.proofs.Gates.{and-literals}
@@ -11,6 +10,4 @@ returns : tie.Need-returns
 returns c = (λ i. bitAnd (c .before .literal-word .ensures i) (c .literal-word2 .ensures i)) ∙ and-literals (c .before .before .args .l) (c .before .before .args .x) (c .before .before .args .r) (c .before .before .args .y)
 
 pub and-word-spec : {M : Type 1} → statement M
-and-word-spec = tie.close
-    (tie.spec
-    (λ c κs. search needs) (λ c κs. search needs) returns)
+and-word-spec = tie.close (tie.spec (λ c κs. search needs) (λ c κs. search needs) returns)

@@ -1,5 +1,4 @@
--- `settings::differing` meets its contract, bit by bit.
--- Assumes nothing.
+-- `settings::differing` meets its contract, bit by bit. Assumes nothing.
 use mathlib.Core.Path.{_∙_}
 use native.Mathlib.Omega.{arith}
 use Rattle.settings.proofs.Gates.{differ-bits}
@@ -11,6 +10,4 @@ returns : tie.Need-returns
 returns c = c .select .ensures ∙ differ-bits (c .before .args .x) (c .before .args .y) (omega arith)
 
 pub differing-spec : {M : Type 1} → statement M
-differing-spec = tie.close
-    (tie.spec
-    (λ c. search needs) (λ c κs. search needs) returns)
+differing-spec = tie.close (tie.spec (λ c. search needs) (λ c κs. search needs) returns)

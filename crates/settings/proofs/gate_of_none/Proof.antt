@@ -1,5 +1,4 @@
--- `settings::gate_of_none` meets its contract: row 0 counts.
--- Assumes nothing.
+-- `settings::gate_of_none` meets its contract: row 0 counts. Assumes nothing.
 use mathlib.Core.Path.{sym, _∙_}
 use mathlib.Core.Bool.{true, false}
 use Prim.Native.Nat.{_%_}

@@ -1,5 +1,4 @@
--- `settings::gate_of_one` meets its contract, by the last pin.
--- Assumes nothing.
+-- `settings::gate_of_one` meets its contract, by the last pin. Assumes nothing.
 use mathlib.Core.Path.{_∙_}
 use Rattle.settings.specs.Settings.{selected}
 use Rattle.settings.proofs.Gates.{last-of-one}
@@ -11,7 +10,4 @@ returns : tie.Need-returns
 returns c = c .select .ensures ∙ (λ i. selected (c .before .before .before .args .a) (c .before .before .gate-of-none .ensures i) (c .before .gate-of-none2 .ensures i)) ∙ last-of-one (c .before .before .before .args .table) (c .before .before .before .args .a)
 
 pub gate-of-one-spec : {M : Type 1} → statement M
-gate-of-one-spec =
-    tie.close
-    (tie.spec
-    (λ c κs. search needs) (λ c κs. search needs) (λ c κs. search needs) returns)
+gate-of-one-spec = tie.close (tie.spec (λ c κs. search needs) (λ c κs. search needs) (λ c κs. search needs) returns)

@@ -50,7 +50,4 @@ returns-3 : tie.Need-returns-3
 returns-3 c = sym no-bits ∙ high (c .before .before .before .args .k) (c .before .before .before .args .b) false (search needs) (sym (c .before .is-set .ensures) ∙ c .if2 .left)
 
 pub input-word-spec : {M : Type 1} → statement M
-input-word-spec =
-    tie.close
-    (tie.spec
-    (λ c. search needs) (λ c. search needs) returns (λ c κs. search needs) returns-2 returns-3)
+input-word-spec = tie.close (tie.spec (λ c. search needs) (λ c. search needs) returns (λ c κs. search needs) returns-2 returns-3)

@@ -1,5 +1,4 @@
--- `settings::is_set` meets its contract: a bit by a shift.
--- Assumes nothing.
+-- `settings::is_set` meets its contract: a bit by a shift. Assumes nothing.
 use mathlib.Core.Path.{sym}
 use Rattle.model.specs.Table.{value}
 use Rattle.truth.proofs.Tables.{value-shift}
@@ -7,11 +6,6 @@ use borrow.Author.Needs.{needs}
 use Rattle.settings.proofs.is_set.Statement.{statement}
 use Rattle.settings.proofs.is_set.Tie as tie
 
-returns : tie.Need-returns
-unfolding value
-returns c = sym (value-shift (c .args .t) (c .args .x))
-
 pub is-set-spec : {M : Type 1} → statement M
-is-set-spec = tie.close
-    (tie.spec
-    (λ c. search needs) returns)
+unfolding value
+is-set-spec = tie.close (tie.spec (λ c. search needs) (λ c. sym (value-shift (c .args .t) (c .args .x))))

@@ -1,5 +1,4 @@
--- `settings::literal_word` meets its contract, by the phase.
--- Assumes nothing.
+-- `settings::literal_word` meets its contract, by the phase. Assumes nothing.
 use Prim.Native.Nat.{_%_}
 use borrow.Author.Tests.{eq-eqb, ne-eqb}
 use native.Mathlib.Omega.{arith}
@@ -15,6 +14,4 @@ returns-2 : tie.Need-returns-2
 returns-2 c = positive (c .before .args .l) (c .before .args .x) (omega arith) (ne-eqb (c .before .args .l % 2) 1 (c .if1 .left))
 
 pub literal-word-spec : {M : Type 1} → statement M
-literal-word-spec = tie.close
-    (tie.spec
-    (λ c. search needs) returns returns-2)
+literal-word-spec = tie.close (tie.spec (λ c. search needs) returns returns-2)

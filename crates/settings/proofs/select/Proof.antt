@@ -1,5 +1,4 @@
--- `settings::select` meets its contract, bit by bit.
--- Assumes nothing.
+-- `settings::select` meets its contract, bit by bit. Assumes nothing.
 use Rattle.settings.proofs.Gates.{select-bits}
 use native.Mathlib.Omega.{arith}
 use borrow.Author.Needs.{needs}
@@ -10,6 +9,4 @@ returns : tie.Need-returns
 returns c = select-bits (c .args .s) (c .args .x) (c .args .y) (omega arith) (omega arith) (omega arith)
 
 pub select-spec : {M : Type 1} → statement M
-select-spec = tie.close
-    (tie.spec
-    (λ c. search needs) returns)
+select-spec = tie.close (tie.spec (λ c. search needs) returns)

@@ -1,5 +1,4 @@
--- `stock::count` meets its contract: a refusal leaves the numbers, and else they are the tally of one netlist more.
--- Assumes nothing.
+-- `stock::count` meets its contract: a refusal leaves the numbers, and else they are the tally of one netlist more. Assumes nothing.
 use mathlib.Core.Path.{_≡_, sym, ap, _∙_}
 use Rattle.model.specs.Reading.{holds}
 use Rattle.model.specs.Tally.{countText}
@@ -13,20 +12,16 @@ use borrow.Author.Needs.{needs}
 use Rattle.stock.proofs.count.Statement.{statement}
 use Rattle.stock.proofs.count.Tie as tie
 
-enum-told : tie.Need-enum-told
-enum-told c = search needs
-
 store-requires : tie.Need-store-requires
 store-requires c κs =
-    let a = c .before .before .before .before .before .before .before .before .before .before .args in
-    let r = c .before .before .before .before .count in
-    let t = c .before .before .before .before .before .load in
+    let p = c .before .before .before .before .before .before .before .before .before in let a = p .before .args in
+    let r = c .before .before .before .before .count in let t = c .before .before .before .before .before .load in
     let e = was-counted (t .result) (countText (t .result) (a .cells .now) (a .netlist .now)) (r .result) (r .ensures .0) (c .before .enum-told .given .1) in
     only-97 (a .tally .now) (a .cells .now) (a .netlist .now) (r .result .tally) (ap (λ (x : Tally). countText x (a .cells .now) (a .netlist .now)) (sym (t .ensures)) ∙ e)
 
 returns : tie.Need-returns
 returns c =
-    let a = c .before .before .before .before .before .before .before .before .before .before .before .before .before .args in
+    let p = c .before .before .before .before .before .before .before .before .before in let a = p .before .before .before .before .args in
     let r = c .before .before .before .before .before .before .before .count in
     let t = c .before .before .before .before .before .before .before .before .load in
     let e = was-counted (t .result) (countText (t .result) (a .cells .now) (a .netlist .now)) (r .result) (r .ensures .0) (c .before .before .before .before .enum-told .given .1) in
@@ -37,16 +32,13 @@ returns c =
 
 returns-2 : tie.Need-returns-2
 returns-2 c =
-    let a = c .before .before .before .before .before .before .before .before .before .before .args in
-    let r = c .before .before .before .before .count in
-    let t = c .before .before .before .before .before .load in
+    let p = c .before .before .before .before .before .before .before .before .before in let a = p .before .args in
+    let r = c .before .before .before .before .count in let t = c .before .before .before .before .before .load in
     let e = was-refused (t .result) (countText (t .result) (a .cells .now) (a .netlist .now)) (r .result) (r .ensures .0) _ _ (c .before .verdict .given .1) in
     let h = numbers-kept (countText (tallyOf (a .tally .now)) (a .cells .now) (a .netlist .now)) (a .tally .now) _ _ (ap (λ (x : Tally). countText x (a .cells .now) (a .netlist .now)) (sym (t .ensures)) ∙ e) in
     (h .0, (h .1, (refused-sums (a .cells .now) (a .netlist .now) (a .tally .now) _ _, (count-exactly _ _ _, verdict-ruled _ (countText (tallyOf (a .tally .now)) (a .cells .now) (a .netlist .now)) (h .0)))))
 
 pub count-spec : {M : Type 1} → statement M
-count-spec =
-    tie.close
-    (tie.spec
-    (λ c κs. search needs) (λ c κs. search needs) enum-told store-requires (λ c. search needs) (λ c. search needs) returns (λ c. search needs)
-    returns-2)
+count-spec = tie.close (tie.spec
+    (λ c κs. search needs) (λ c κs. search needs) (λ c. search needs) store-requires (λ c. search needs) (λ c. search needs) returns
+    (λ c. search needs) returns-2)

@@ -1,5 +1,4 @@
--- `stock::load` meets its contract: column by column.
--- Assumes nothing.
+-- `stock::load` meets its contract: column by column. Assumes nothing.
 use native.Mathlib.Omega.{arith}
 use mathlib.Core.Path.{_∙_}
 use Rattle.stock.proofs.Columns.{tally-short, tally-is}
@@ -14,7 +13,5 @@ returns-2 : tie.Need-returns-2
 returns-2 c = tally-is (c .before .before .before .before .before .before .args .s .now) (omega arith) _ _ _ (c .before .before .before .column .ensures) (c .before .before .column2 .ensures) (c .before .column3 .ensures)
 
 pub load-spec : {M : Type 1} → statement M
-load-spec =
-    tie.close
-    (tie.spec
+load-spec = tie.close (tie.spec
     (λ c κs. search needs) returns (λ c κs. search needs) (λ c κs. search needs) (λ c κs. search needs) (λ c. search needs) returns-2)

@@ -1,5 +1,4 @@
--- `stock::put_column` meets its contract. The invariant: the numbers before this one are put; the measure is what is left.
--- Assumes nothing.
+-- `stock::put_column` meets its contract. The invariant: the numbers before this one are put; the measure is what is left. Assumes nothing.
 use borrow.Author.Needs.{needs}
 use native.Mathlib.Omega.{arith}
 use mathlib.Core.Path.{_≡_, refl, sym, ap, _∙_}
@@ -18,13 +17,9 @@ Inv-loop out₀ at xs i₀ out i = (i ≤ 32) × (length out ≡ length out₀) 
 abbrev μ-loop : tie.MeasureT-loop
 μ-loop out₀ at xs i₀ out i = 32 - i
 
-loop-holds : tie.Need-loop-holds Inv-loop μ-loop
-loop-holds c = (omega arith, refl, sym (put-none (c .args .out .now) (c .args .at)))
-
 loop-again : tie.Need-loop-again Inv-loop μ-loop
 loop-again c =
-    let a = c .before .before .args in
-    let p = c .before .loop in
+    let a = c .before .before .args in let p = c .before .loop in
     let long : length (a .t3) ≡ 32 = search needs in (
       omega arith,
       length-set (p .out) (a .at + p .i) (getD (a .t3) (p .i) 0) ∙ p .inv .1,
@@ -33,14 +28,10 @@ loop-again c =
 
 returns : tie.Need-returns Inv-loop μ-loop
 returns c =
-    let a = c .before .before .args in
-    let p = c .before .loop in
-    let long : length (a .t3) ≡ 32 = search needs in
+    let a = c .before .before .args in let p = c .before .loop in let long : length (a .t3) ≡ 32 = search needs in
     (p .inv .2 ∙ ap (putAt (a .out .now) (a .at)) (take-all (p .i) (a .t3) (omega arith)), long)
 
 pub put-column-spec : {M : Type 1} → statement M
-put-column-spec =
-    tie.close
-    (tie.spec
-    Inv-loop μ-loop loop-holds (λ c. omega arith) (λ c. omega arith) (λ c. omega arith) (λ c. search needs) (λ c. omega arith) (λ c. omega arith)
-    (λ c. omega arith) loop-again (λ c. omega arith) returns)
+put-column-spec = tie.close (tie.spec
+    Inv-loop μ-loop (λ c. (omega arith, refl, sym (put-none (c .args .out .now) (c .args .at)))) (λ c. omega arith) (λ c. omega arith)
+    (λ c. omega arith) (λ c. search needs) (λ c. omega arith) (λ c. omega arith) (λ c. omega arith) loop-again (λ c. omega arith) returns)

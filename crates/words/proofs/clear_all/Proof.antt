@@ -12,11 +12,8 @@ use Rattle.words.proofs.clear_all.Tie as tie
 
 returns : tie.Need-returns
 returns c =
-    let w : List ℕ = c .before .before .before .before .before .args .work .now in
-    let e : length w - 0 ≡ length w = omega arith in
+    let w : List ℕ = c .before .before .before .before .before .args .work .now in let e : length w - 0 ≡ length w = omega arith in
     c .before .before .clear .ensures ∙ ap (λ (n : ℕ). putAt w 0 (zeros n)) e ∙ put-whole w (zeros (length w)) (length-replicate (length w) 0)
 
 pub clear-all-spec : {M : Type 1} → statement M
-clear-all-spec = tie.close
-    (tie.spec
-    (λ c κs. search needs) (λ c. search needs) returns)
+clear-all-spec = tie.close (tie.spec (λ c κs. search needs) (λ c. search needs) returns)

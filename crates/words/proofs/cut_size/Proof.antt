@@ -12,6 +12,4 @@ unfolding cutOf cutBy
 returns c = c .word .ensures ∙ ap (λ (i : ℕ). getD (c .before .before .before .args .work .now) i 0) (c .before .size-at .ensures)
 
 pub cut-size-spec : {M : Type 1} → statement M
-cut-size-spec = tie.close
-    (tie.spec
-    (λ c κs. search needs) (λ c κs. search needs) returns)
+cut-size-spec = tie.close (tie.spec (λ c κs. search needs) (λ c κs. search needs) returns)

@@ -4,12 +4,8 @@ use Rattle.words.specs.Record.{functionOf}
 use Rattle.words.proofs.function.Statement.{statement}
 use Rattle.words.proofs.function.Tie as tie
 
-returns : tie.Need-returns
-unfolding functionOf
-returns c = search needs
-
 pub function-spec : {M : Type 1} → statement M
-function-spec =
-    tie.close
-    (tie.spec
-    (λ c. search needs) (λ c. search needs) (λ c. search needs) (λ c. search needs) (λ c. search needs) (λ c κs. search needs) returns)
+unfolding functionOf
+function-spec = tie.close (tie.spec
+    (λ c. search needs) (λ c. search needs) (λ c. search needs) (λ c. search needs) (λ c. search needs) (λ c κs. search needs)
+    (λ c. search needs))

@@ -28,18 +28,14 @@ mul-result-2 c =
 
 shared-slice-read-result : tie.Need-shared-slice-read-result
 shared-slice-read-result c =
-    let t = c .before in
-    let s = t .before .before .before in
+    let t = c .before in let s = t .before .before .before in
     omega (arith, far (s .args .i) (t .column .result) (omega (arith, s .pre .3)), t .column .ensures, t .before .size-at .ensures, s .pre .0 .room, s .pre .1, s .pre .2)
 
 returns : tie.Need-returns
 returns c =
-    let t = c .before in
-    let s = t .before .before .before in
-    let a = s .args in
+    let t = c .before in let s = t .before .before .before in let a = s .args in
     leaf-word (a .work .now) (a .m) (a .v) (a .k) (a .i) (t .before .size-at .result) (t .column .result) (s .pre .3) (t .before .size-at .ensures) (t .column .ensures)
 
 pub leaf-spec : {M : Type 1} → statement M
-leaf-spec = tie.close
-    (tie.spec
+leaf-spec = tie.close (tie.spec
     (λ c κs. search needs) (λ c. search needs) (λ c κs. search needs) mul-result add-result-2 mul-result-2 shared-slice-read-result returns)

@@ -1,5 +1,4 @@
--- `words::low` meets its contract: neither half of the number exceeds a word.
--- Assumes nothing.
+-- `words::low` meets its contract: neither half of the number exceeds a word. Assumes nothing.
 use Prim.Native.Nat.{_+_, _*_}
 use native.Mathlib.Omega.{arith}
 use borrow.Author.Needs.{needs}
@@ -21,8 +20,7 @@ add-result c =
     omega (arith, low, high, c .long2 .ensures, c .before .before .long .ensures)
 
 pub low-spec : {M : Type 1} → statement M
-low-spec =
-    tie.close
-    (tie.spec
-    (λ c. search needs) (λ c. search needs) (λ c. search needs) (λ c. search needs) (λ c. search needs) (λ c. search needs) (λ c κs. search needs)
-    (λ c. search needs) (λ c. search needs) (λ c. search needs) (λ c κs. search needs) mul-result add-result (λ c. search needs))
+low-spec = tie.close (tie.spec
+    (λ c. search needs) (λ c. search needs) (λ c. search needs) (λ c. search needs) (λ c. search needs) (λ c. search needs)
+    (λ c κs. search needs) (λ c. search needs) (λ c. search needs) (λ c. search needs) (λ c κs. search needs) mul-result add-result
+    (λ c. search needs))

@@ -10,8 +10,7 @@ use Rattle.words.proofs.makes_gate.Tie as tie
 returns : tie.Need-returns
 unfolding makesGate
 returns c =
-    let s = c .before .before .args .p .source in
-    sym (ap (λ (b : Bool). not b && not (isOwn s)) (sym (c .before .is-absent .ensures) ∙ c .if1 .taken))
+    sym (ap (λ (b : Bool). not b && not (isOwn (c .before .before .args .p .source))) (sym (c .before .is-absent .ensures) ∙ c .if1 .taken))
 
 returns-2 : tie.Need-returns-2
 unfolding makesGate
@@ -20,6 +19,4 @@ returns-2 c =
     ap not (c .is-own .ensures) ∙ sym (ap (λ (b : Bool). not b && not (isOwn s)) (sym (c .before .before .is-absent .ensures) ∙ c .before .if1 .left))
 
 pub makes-gate-spec : {M : Type 1} → statement M
-makes-gate-spec = tie.close
-    (tie.spec
-    (λ c κs. search needs) (λ c κs. search needs) returns returns-2)
+makes-gate-spec = tie.close (tie.spec (λ c κs. search needs) (λ c κs. search needs) returns returns-2)

@@ -18,8 +18,6 @@ returns-2 c =
     rw (ne-eqb _ _ (t .if1 .left), ← t .before .needed .ensures) (c .before .before .set-needed2 .ensures)
 
 pub mark-needed-spec : {M : Type 1} → statement M
-mark-needed-spec =
-    tie.close
-    (tie.spec
+mark-needed-spec = tie.close (tie.spec
     (λ c κs. search needs) (λ c. search needs) (λ c κs. search needs) (λ c. search needs) (λ c. search needs) (λ c κs. search needs)
     (λ c. search needs) returns (λ c. search needs) returns-2)

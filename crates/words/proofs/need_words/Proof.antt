@@ -5,11 +5,6 @@ use borrow.Author.Needs.{needs}
 use Rattle.words.proofs.need_words.Statement.{statement}
 use Rattle.words.proofs.need_words.Tie as tie
 
-returns : tie.Need-returns
-unfolding need
-returns c = omega arith
-
 pub need-words-spec : {M : Type 1} → statement M
-need-words-spec = tie.close
-    (tie.spec
-    (λ c. search needs) (λ c. search needs) (λ c. search needs) returns)
+unfolding need
+need-words-spec = tie.close (tie.spec (λ c. search needs) (λ c. search needs) (λ c. search needs) (λ c. omega arith))

@@ -6,15 +6,8 @@ use borrow.Author.Needs.{needs}
 use Rattle.words.proofs.phase.Statement.{statement}
 use Rattle.words.proofs.phase.Tie as tie
 
-returns : tie.Need-returns
-unfolding phaseOf negated varOf
-returns c = rw (eq-eqb _ _ (c .before .if1 .taken)) (c .negative .ensures)
-
-returns-2 : tie.Need-returns-2
-unfolding phaseOf negated varOf
-returns-2 c = rw (ne-eqb _ _ (c .before .if1 .left)) (c .positive .ensures)
-
 pub phase-spec : {M : Type 1} → statement M
-phase-spec = tie.close
-    (tie.spec
-    (λ c κs. search needs) (λ c κs. search needs) returns returns-2)
+unfolding phaseOf negated varOf
+phase-spec = tie.close (tie.spec
+    (λ c κs. search needs) (λ c κs. search needs) (λ c. rw (eq-eqb _ _ (c .before .if1 .taken)) (c .negative .ensures))
+    (λ c. rw (ne-eqb _ _ (c .before .if1 .left)) (c .positive .ensures)))

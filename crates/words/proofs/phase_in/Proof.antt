@@ -9,35 +9,26 @@ use Rattle.words.proofs.phase_in.Tie as tie
 
 cast-arrival : tie.Need-cast-arrival
 cast-arrival c =
-    let known = c .shared-slice-known2 .given in
-    let at = c .before .before .args .at in
-    omega (arith, known (at + 2), known (at + 3))
+    let known = c .shared-slice-known2 .given in let at = c .before .before .args .at in omega (arith, known (at + 2), known (at + 3))
 
 cast-arrival-2 : tie.Need-cast-arrival-2
 cast-arrival-2 c =
-    let known = c .shared-slice-known3 .given in
-    let at = c .before .before .before .args .at in
+    let known = c .shared-slice-known3 .given in let at = c .before .before .before .args .at in
     omega (arith, known (at + 2), known (at + 3))
 
 mul-arrival-3 : tie.Need-mul-arrival-3
 mul-arrival-3 c =
-    let known = c .shared-slice-known3 .given in
-    let at = c .before .before .before .args .at in
+    let known = c .shared-slice-known3 .given in let at = c .before .before .before .args .at in
     omega (arith, known (at + 2), known (at + 3))
 
 add-arrival-3 : tie.Need-add-arrival-3
 add-arrival-3 c =
-    let known = c .shared-slice-known3 .given in
-    let at = c .before .before .before .args .at in
+    let known = c .shared-slice-known3 .given in let at = c .before .before .before .args .at in
     omega (arith, known (at + 2), known (at + 3))
 
-returns : tie.Need-returns
-unfolding phaseIn
-returns c = rw (c .source-of .ensures, c .before .word2 .ensures, c .before .before .word .ensures)
-
 pub phase-in-spec : {M : Type 1} → statement M
-phase-in-spec =
-    tie.close
-    (tie.spec
+unfolding phaseIn
+phase-in-spec = tie.close (tie.spec
     (λ c. search needs) (λ c. search needs) (λ c. search needs) cast-arrival (λ c. search needs) (λ c. search needs) (λ c. search needs)
-    cast-arrival-2 mul-arrival-3 add-arrival-3 (λ c κs. search needs) (λ c. search needs) (λ c κs. search needs) (λ c κs. search needs) returns)
+    cast-arrival-2 mul-arrival-3 add-arrival-3 (λ c κs. search needs) (λ c. search needs) (λ c κs. search needs) (λ c κs. search needs)
+    (λ c. rw (c .source-of .ensures, c .before .word2 .ensures, c .before .before .word .ensures)))

@@ -10,9 +10,6 @@ use borrow.Author.Needs.{needs}
 use Rattle.words.proofs.phase_words.Statement.{statement}
 use Rattle.words.proofs.phase_words.Tie as tie
 
-enum-told : tie.Need-enum-told
-enum-told c = search needs
-
 cell-word-requires : tie.Need-cell-word-requires
 cell-word-requires c κs = subst SourceFits (c .before .source .given .1) (c .before .before .before .before .before .pre)
 
@@ -32,8 +29,7 @@ returns c = sym (ap (λ (s : Source). sourceWords s ++ arrivalWords (c .before .
 returns-2 : tie.Need-returns-2
 unfolding phaseWords
 returns-2 c =
-    let told = c .before .before .before in
-    let n = told .before .before .before .before .args .p .arrival in
+    let told = c .before .before .before in let n = told .before .before .before .before .args .p .arrival in
     rw (c .match-word .ensures, c .before .cell-word .ensures)
     (sym (ap (λ (s : Source). sourceWords s ++ arrivalWords n) (told .source .given .1)))
 
@@ -46,8 +42,6 @@ unfolding phaseWords
 returns-4 c = sym (ap (λ (s : Source). sourceWords s ++ arrivalWords (c .before .before .before .before .args .p .arrival)) (c .enum-told2 .given .1))
 
 pub phase-words-spec : {M : Type 1} → statement M
-phase-words-spec =
-    tie.close
-    (tie.spec
-    (λ c. search needs) (λ c. search needs) enum-told (λ c. search needs) cell-word-requires match-word-requires (λ c. search needs) add-t11 cast-t12
-    (λ c. search needs) returns returns-2 returns-3 returns-4)
+phase-words-spec = tie.close (tie.spec
+    (λ c. search needs) (λ c. search needs) (λ c. search needs) (λ c. search needs) cell-word-requires match-word-requires
+    (λ c. search needs) add-t11 cast-t12 (λ c. search needs) returns returns-2 returns-3 returns-4)

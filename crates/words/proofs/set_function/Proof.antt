@@ -4,13 +4,8 @@ use Rattle.words.specs.Record.{putFunctions}
 use Rattle.words.proofs.set_function.Statement.{statement}
 use Rattle.words.proofs.set_function.Tie as tie
 
-returns : tie.Need-returns
-unfolding putFunctions
-returns c = search needs
-
 pub set-function-spec : {M : Type 1} → statement M
-set-function-spec =
-    tie.close
-    (tie.spec
-    (λ c. search needs) (λ c. search needs) (λ c. search needs) (λ c. search needs) (λ c. search needs) (λ c κs. search needs) (λ c. search needs)
-    returns)
+unfolding putFunctions
+set-function-spec = tie.close (tie.spec
+    (λ c. search needs) (λ c. search needs) (λ c. search needs) (λ c. search needs) (λ c. search needs) (λ c κs. search needs)
+    (λ c. search needs) (λ c. search needs))

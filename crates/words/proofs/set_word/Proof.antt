@@ -5,10 +5,6 @@ use borrow.Author.Needs.{needs}
 use Rattle.words.proofs.set_word.Statement.{statement}
 use Rattle.words.proofs.set_word.Tie as tie
 
-returns : tie.Need-returns
-returns c = put-one (c .args .work .now) _ _ (omega arith)
-
 pub set-word-spec : {M : Type 1} → statement M
-set-word-spec = tie.close
-    (tie.spec
-    (λ c. search needs) (λ c. search needs) (λ c. search needs) returns)
+set-word-spec = tie.close (tie.spec
+    (λ c. search needs) (λ c. search needs) (λ c. search needs) (λ c. put-one (c .args .work .now) _ _ (omega arith)))

@@ -7,12 +7,8 @@ use Rattle.words.proofs.store_phase.Tie as tie
 
 returns : tie.Need-returns
 returns c =
-    let called = c .before .before .before .before .before in
-    let s = called .before .before .args in
+    let called = c .before .before .before .before .before in let s = called .before .before .args in
     c .before .before .put .ensures ∙ ap (putAt (s .work .now) (s .at)) (called .phase-words .ensures)
 
 pub store-phase-spec : {M : Type 1} → statement M
-store-phase-spec =
-    tie.close
-    (tie.spec
-    (λ c κs. search needs) (λ c. search needs) (λ c κs. search needs) (λ c. search needs) returns)
+store-phase-spec = tie.close (tie.spec (λ c κs. search needs) (λ c. search needs) (λ c κs. search needs) (λ c. search needs) returns)
