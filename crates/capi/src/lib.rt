@@ -13,8 +13,8 @@ ghost use Rattle.theory_foundry.specs.GateRefusals.{GenlibRefusals};
 ghost use Rattle.model.specs.Reading.{verdictOf};
 ghost use Rattle.model.specs.Tally.{countText, reportOf};
 ghost use Rattle.theory_tally.specs.CountRefusals.{CountRefusals, ReportRefusals};
-ghost use Rattle.stock.specs.Numbers.{tallyOf, numbersAfter};
-ghost use Rattle.stock.specs.Demands.{CountReturned, ReportReturned};
+ghost use Rattle.tally_call.specs.Numbers.{tallyOf, numbersAfter};
+ghost use Rattle.tally_call.specs.Demands.{CountReturned, ReportReturned};
 ghost use Rattle.model.specs.Check.{checkTexts, checkedWork, toldOf};
 ghost use Rattle.model.specs.CheckDemands.{CheckPromised};
 ghost use Rattle.theory_check.specs.CheckRefusals.{CheckRefusals};
@@ -107,7 +107,7 @@ pub extern "C" fn mapper_cells(genlib: &[u8], text: &mut [u8]) -> MapperAnswer
     ensures cells { λ _. ⌜ GenlibDemand (now (genlib .entry)) (length (now (text .entry))) ⌝ }
     ensures refusals { λ _. ⌜ GenlibRefusals (now (genlib .entry)) (length (now (text .entry))) ⌝ }
 {
-    text_answer(genlib::convert(genlib, text))
+    text_answer(genlib_call::convert(genlib, text))
 }
 
 // A verdict: number 0 and value 0 where nothing is refused.
@@ -130,7 +130,7 @@ pub extern "C" fn mapper_count(cells: &[u8], netlist: &[u8], tally: &mut [u64]) 
     ensures sums { λ r. ⌜ CountReturned (now (cells .entry)) (now (netlist .entry)) (now (tally .entry)) (now (tally .exit)) (r .number) ⌝ }
     ensures refusals { λ _. ⌜ CountRefusals (tallyOf (now (tally .entry))) (now (cells .entry)) (now (netlist .entry)) ⌝ }
 {
-    verdict_answer(stock::count(cells, netlist, tally))
+    verdict_answer(tally_call::count(cells, netlist, tally))
 }
 
 // "Report a line per cell in library order .. then `total`": the report of a tally of 97 numbers, into lent bytes.
@@ -143,7 +143,7 @@ pub extern "C" fn mapper_report(cells: &[u8], tally: &[u64], text: &mut [u8]) ->
     ensures sums { λ r. ⌜ ReportReturned (now (cells .entry)) (now (tally .entry)) (now (text .exit)) (r .number) (r .value) ⌝ }
     ensures refusals { λ _. ⌜ ReportRefusals (tallyOf (now (tally .entry))) (now (cells .entry)) (length (now (text .entry))) ⌝ }
 {
-    text_answer(stock::report(cells, tally, text))
+    text_answer(tally_call::report(cells, tally, text))
 }
 
 // An answer for each channel.
@@ -169,7 +169,7 @@ pub extern "C" fn mapper_map_two(
     ensures { λ r. ⌜ CalledTwo false (now (cells .entry)) (now (graph1 .entry)) (now (arrivals1 .entry)) (now (graph2 .entry)) (now (arrivals2 .entry))
         (now (work .entry)) (now (text1 .entry)) (now (text2 .entry)) r (now (work .exit)) (now (text1 .exit)) (now (text2 .exit)) ⌝ }
 {
-    let r = channels::map_two(
+    let r = mapper_two::map_two(
         cells,
         graph1,
         arrivals1,
@@ -203,7 +203,7 @@ pub extern "C" fn mapper_map_two_pairs(
     ensures { λ r. ⌜ CalledTwo true (now (cells .entry)) (now (graph1 .entry)) (now (arrivals1 .entry)) (now (graph2 .entry)) (now (arrivals2 .entry))
         (now (work .entry)) (now (text1 .entry)) (now (text2 .entry)) r (now (work .exit)) (now (text1 .exit)) (now (text2 .exit)) ⌝ }
 {
-    let r = channels::map_two(
+    let r = mapper_two::map_two(
         cells,
         graph1,
         arrivals1,
@@ -266,5 +266,5 @@ pub extern "C" fn mapper_check(
     ensures promised { λ _. ⌜ CheckPromised (now (cells .entry)) (now (graph .entry)) (now (netlist .entry)) (length (now (work .entry))) ⌝ }
     ensures refusals { λ _. ⌜ CheckRefusals (now (cells .entry)) (now (graph .entry)) (now (netlist .entry)) (length (now (work .entry))) ⌝ }
 {
-    checked_answer(checking::check_texts(cells, graph, netlist, work))
+    checked_answer(check_call::check_texts(cells, graph, netlist, work))
 }

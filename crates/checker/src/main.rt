@@ -1,18 +1,21 @@
 // The program: `netlist.blif` of the current folder checked against `graph.aag` with the cells of `cells.txt`; `accepted`, `differs` with the setting and the
 // output, or one line of `refused`, number and place printed.
-use files::Loaded;
 use model::Checked;
+use program_files::Loaded;
 ghost use lib.ListN.{length};
 ghost use Rattle.checker.specs.Enough.{Enough};
 
 fn show(c: Checked) {
     match c {
-        Checked::Accepted => files::said(files::put(b"accepted\n"), b"checker"),
-        Checked::Differs(setting, output) => files::said(
-            files::line(b"differs", setting, output),
+        Checked::Accepted => program_files::said(program_files::put(b"accepted\n"), b"checker"),
+        Checked::Differs(setting, output) => program_files::said(
+            program_files::line(b"differs", setting, output),
             b"checker",
         ),
-        Checked::Refused(number, place) => files::said(files::refused(number, place), b"checker"),
+        Checked::Refused(number, place) => program_files::said(
+            program_files::refused(number, place),
+            b"checker",
+        ),
     }
 }
 
@@ -20,7 +23,7 @@ fn show(c: Checked) {
 fn check_files(cells: &[u8], graph: &[u8], netlist: &[u8], work: &mut [u16])
     requires { ⌜ Enough (length (now work)) ⌝ }
 {
-    show(checking::check_texts(cells, graph, netlist, work));
+    show(check_call::check_texts(cells, graph, netlist, work));
 }
 
 // It lends 124 * 4096 + 4096 words, for the largest graph that passes 9, and 8 for each byte that a netlist may have.
@@ -30,15 +33,15 @@ fn main() {
     let mut graph = [0u8; 65537];
     let mut netlist = [0u8; 65537];
     let mut work = [0u16; 1036288];
-    let cells_read = files::load(b"checker", b"cells.txt", &mut cells);
+    let cells_read = program_files::load(b"checker", b"cells.txt", &mut cells);
     let Loaded::Bytes(n) = cells_read else {
         return;
     };
-    let graph_read = files::load(b"checker", b"graph.aag", &mut graph);
+    let graph_read = program_files::load(b"checker", b"graph.aag", &mut graph);
     let Loaded::Bytes(m) = graph_read else {
         return;
     };
-    let netlist_read = files::load(b"checker", b"netlist.blif", &mut netlist);
+    let netlist_read = program_files::load(b"checker", b"netlist.blif", &mut netlist);
     let Loaded::Bytes(k) = netlist_read else {
         return;
     };

@@ -1,6 +1,6 @@
 // The program: `cells.genlib` of the current folder converted, our cell text or one line of `refused`, number and place printed.
-use files::Loaded;
 use model::Written;
+use program_files::Loaded;
 ghost use mathlib.Core.Path.{_≡_};
 ghost use lib.ListN.{length};
 
@@ -8,10 +8,10 @@ ghost use lib.ListN.{length};
 fn convert_file(genlib: &[u8], text: &mut [u8])
     requires { ⌜ length (now text) ≡ 65536 ⌝ }
 {
-    match genlib::convert(genlib, text) {
-        Written::Length(n) => files::said(files::put(&text[..n]), b"from_genlib"),
-        Written::Refused(number, place) => files::said(
-            files::refused(number, place),
+    match genlib_call::convert(genlib, text) {
+        Written::Length(n) => program_files::said(program_files::put(&text[..n]), b"from_genlib"),
+        Written::Refused(number, place) => program_files::said(
+            program_files::refused(number, place),
             b"from_genlib",
         ),
     }
@@ -21,7 +21,7 @@ fn convert_file(genlib: &[u8], text: &mut [u8])
 fn main() {
     let mut genlib = [0u8; 65537];
     let mut text = [0u8; 65536];
-    let genlib_read = files::load(b"from_genlib", b"cells.genlib", &mut genlib);
+    let genlib_read = program_files::load(b"from_genlib", b"cells.genlib", &mut genlib);
     let Loaded::Bytes(n) = genlib_read else {
         return;
     };

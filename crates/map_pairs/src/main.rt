@@ -1,4 +1,4 @@
-// The program that wants pairs of cells: `folder::map` with them.
+// The program that wants pairs of cells: `program_folder::map` with them.
 fn main() {
-    folder::map(b"map_pairs", true);
+    program_folder::map(b"map_pairs", true);
 }

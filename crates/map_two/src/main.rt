@@ -1,7 +1,7 @@
 // The program for two channels: `cells.txt`, and of each channel a graph and the arrivals of its inputs, in the current folder; the first channel's netlist
 // or line of `refused`, number and place is printed, then the second's.
-use files::Loaded;
 use model::Answer;
+use program_files::Loaded;
 ghost use mathlib.Core.Path.{_≡_};
 ghost use lib.ListN.{length};
 ghost use Rattle.promises.specs.Promised.{Fits};
@@ -11,8 +11,11 @@ fn show(a: Answer, text: &[u8])
     requires { ⌜ Fits a (length (now text)) ⌝ }
 {
     match a {
-        Answer::Mapped(n, _) => files::said(files::put(&text[..n]), b"map_two"),
-        Answer::Refused(number, place) => files::said(files::refused(number, place), b"map_two"),
+        Answer::Mapped(n, _) => program_files::said(program_files::put(&text[..n]), b"map_two"),
+        Answer::Refused(number, place) => program_files::said(
+            program_files::refused(number, place),
+            b"map_two",
+        ),
     }
 }
 
@@ -29,7 +32,7 @@ fn map_files(
 )
     requires { ⌜ (length (now work) ≡ 32768) × (length (now text1) ≡ 65536) × (length (now text2) ≡ 65536) ⌝ }
 {
-    let r = channels::map_two(
+    let r = mapper_two::map_two(
         cells,
         graph1,
         arrivals1,
@@ -56,23 +59,23 @@ fn main() {
     let mut work = [0u16; 32768];
     let mut text1 = [0u8; 65536];
     let mut text2 = [0u8; 65536];
-    let cells_read = files::load(b"map_two", b"cells.txt", &mut cells);
+    let cells_read = program_files::load(b"map_two", b"cells.txt", &mut cells);
     let Loaded::Bytes(n) = cells_read else {
         return;
     };
-    let graph1_read = files::load(b"map_two", b"graph1.aag", &mut graph1);
+    let graph1_read = program_files::load(b"map_two", b"graph1.aag", &mut graph1);
     let Loaded::Bytes(g1) = graph1_read else {
         return;
     };
-    let arrivals1_read = files::load(b"map_two", b"arrivals1.txt", &mut arrivals1);
+    let arrivals1_read = program_files::load(b"map_two", b"arrivals1.txt", &mut arrivals1);
     let Loaded::Bytes(a1) = arrivals1_read else {
         return;
     };
-    let graph2_read = files::load(b"map_two", b"graph2.aag", &mut graph2);
+    let graph2_read = program_files::load(b"map_two", b"graph2.aag", &mut graph2);
     let Loaded::Bytes(g2) = graph2_read else {
         return;
     };
-    let arrivals2_read = files::load(b"map_two", b"arrivals2.txt", &mut arrivals2);
+    let arrivals2_read = program_files::load(b"map_two", b"arrivals2.txt", &mut arrivals2);
     let Loaded::Bytes(a2) = arrivals2_read else {
         return;
     };

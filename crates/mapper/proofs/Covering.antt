@@ -21,24 +21,24 @@ use Rattle.model.specs.declared.Phase.{Phase}
 use Rattle.model.specs.declared.Source.{Source}
 use Rattle.model.specs.declared.Source.the-variants.{Input, Cell as Matched, Inverter as Inverted, Nothing}
 use Rattle.model.specs.declared.Verdict.the-variants.{Accepted, Refused}
-use Rattle.words.specs.Layout.{placedOf, neededAt, neededAddr}
-use Rattle.words.specs.Phases.{phaseAt}
-use Rattle.words.proofs.Stored.{held-cut}
+use Rattle.base_words.specs.Layout.{placedOf, neededAt, neededAddr}
+use Rattle.base_words.specs.Phases.{phaseAt}
+use Rattle.base_words.proofs.Stored.{held-cut}
 use Rattle.theory_graph.proofs.Placing.{order-once}
 use Rattle.theory_cover.proofs.Sound.{chosen-fine}
-use Rattle.netlist.specs.Mapped.{Mapped}
-use Rattle.cover.specs.Missing.{missing}
-use Rattle.cover.specs.Marking.{marked}
-use Rattle.cover.specs.Choosing.{chosenUp}
-use Rattle.cover.proofs.Keeping.{NeedsKept, graph-kept, order-kept, cuts-kept, phases-kept}
-use Rattle.cover.proofs.Counting.{few-placed}
-use Rattle.cover.proofs.Held.{placed-is}
-use Rattle.cover.proofs.Marks.{needs-matches, needs-slots}
-use Rattle.cover.proofs.Turning.{up-after}
-use Rattle.cover.proofs.Needing.{Covered, MarkedFrom, mark-law, mark-asked}
-use Rattle.cover.proofs.Choices.{ChosenFrom, choose-law, unchosen}
-use Rattle.timing.specs.Retiming.{InverterIn}
-use Rattle.cover.proofs.Missed.{uncovered-law}
+use Rattle.net_writer.specs.Mapped.{Mapped}
+use Rattle.cover_choice.specs.Missing.{missing}
+use Rattle.cover_choice.specs.Marking.{marked}
+use Rattle.cover_choice.specs.Choosing.{chosenUp}
+use Rattle.cover_choice.proofs.Keeping.{NeedsKept, graph-kept, order-kept, cuts-kept, phases-kept}
+use Rattle.cover_choice.proofs.Counting.{few-placed}
+use Rattle.cover_choice.proofs.Held.{placed-is}
+use Rattle.cover_choice.proofs.Marks.{needs-matches, needs-slots}
+use Rattle.cover_choice.proofs.Turning.{up-after}
+use Rattle.cover_choice.proofs.Needing.{Covered, MarkedFrom, mark-law, mark-asked}
+use Rattle.cover_choice.proofs.Choices.{ChosenFrom, choose-law, unchosen}
+use Rattle.net_timing.specs.Retiming.{InverterIn}
+use Rattle.cover_choice.proofs.Missed.{uncovered-law}
 use Rattle.theory_text.proofs.Outcomes.{outputs-present}
 use Rattle.mapper.specs.Stages.{Cut, Timeable, allOf, printedFor, cutFor}
 use Rattle.mapper.proofs.Libraries.{all-matchable, all-few}

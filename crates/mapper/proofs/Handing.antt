@@ -19,10 +19,10 @@ use Rattle.model.specs.Netlist.{placingVerdict, cutsVerdict}
 use Rattle.model.specs.declared.Library.{Library}
 use Rattle.model.specs.declared.Header.{Header}
 use Rattle.model.specs.declared.Verdict.the-variants.{Accepted, Refused}
-use Rattle.words.specs.Layout.{placedOf, Room, RoomFor, leftAt, rightAt, slotAt, placeAt, placeAddr, outputAt, outputAddr, countAddr, neededAt, neededAddr, lateAt, lateAddr, positiveAddr, listsFrom}
-use Rattle.words.specs.Record.{nodeAt, cutsAt, functionOf}
-use Rattle.words.specs.Holding.{HoldsGraph, HoldsOrder, HoldsCuts}
-use Rattle.words.proofs.Columns.{room-need}
+use Rattle.base_words.specs.Layout.{placedOf, Room, RoomFor, leftAt, rightAt, slotAt, placeAt, placeAddr, outputAt, outputAddr, countAddr, neededAt, neededAddr, lateAt, lateAddr, positiveAddr, listsFrom}
+use Rattle.base_words.specs.Record.{nodeAt, cutsAt, functionOf}
+use Rattle.base_words.specs.Holding.{HoldsGraph, HoldsOrder, HoldsCuts}
+use Rattle.base_words.proofs.Columns.{room-need}
 use Rattle.theory_graph.specs.Accepted as accepted
 use Rattle.theory_graph.proofs.Distinct.{front-distinct}
 use Rattle.theory_graph.proofs.Placing.{order-small}
@@ -30,20 +30,20 @@ use Rattle.theory_graph.proofs.Timed.{timed-accepted, timed-unplaced}
 use Rattle.theory_text.proofs.ReadGraph.{graph-known, graph-accepted, graph-counted, graph-fits}
 use Rattle.theory_text.proofs.ReadTexts.{timed-fits}
 use Rattle.theory_text.proofs.Arrivals.{LateRead, late-read}
-use Rattle.placing.specs.Loaded.{Fit, kindOf, leftOf, rightOf, Holding}
-use Rattle.placing.specs.Placing.{Operands, placedWords}
-use Rattle.placing.proofs.Slots.{fit-length}
-use Rattle.placing.proofs.Orders.{holding-operands, place-law, holds-nodes}
-use Rattle.aiger.specs.Passes.{loadedWords}
-use Rattle.aiger.proofs.Loads.{load-law}
-use Rattle.arrivals.specs.Storing.{Listable, putAll, listed}
-use Rattle.arrivals.proofs.Timed.{Slotted, Stored, stored-all, listed-all}
-use Rattle.cuts.specs.Represents.{Represents}
-use Rattle.cuts.proofs.Model.{represents-kept}
-use Rattle.cutting.specs.Enumerated.{enumerated}
-use Rattle.cutting.specs.Listed.{Listed as Filed}
-use Rattle.cutting.proofs.Whole.{enumerate-listed, enumerate-represents}
-use Rattle.cover.proofs.Held.{placed-is}
+use Rattle.graph_placing.specs.Loaded.{Fit, kindOf, leftOf, rightOf, Holding}
+use Rattle.graph_placing.specs.Placing.{Operands, placedWords}
+use Rattle.graph_placing.proofs.Slots.{fit-length}
+use Rattle.graph_placing.proofs.Orders.{holding-operands, place-law, holds-nodes}
+use Rattle.graph_reader.specs.Passes.{loadedWords}
+use Rattle.graph_reader.proofs.Loads.{load-law}
+use Rattle.graph_arrivals.specs.Storing.{Listable, putAll, listed}
+use Rattle.graph_arrivals.proofs.Timed.{Slotted, Stored, stored-all, listed-all}
+use Rattle.cut_lists.specs.Represents.{Represents}
+use Rattle.cut_lists.proofs.Model.{represents-kept}
+use Rattle.cut_pass.specs.Enumerated.{enumerated}
+use Rattle.cut_pass.specs.Listed.{Listed as Filed}
+use Rattle.cut_pass.proofs.Whole.{enumerate-listed, enumerate-represents}
+use Rattle.cover_choice.proofs.Held.{placed-is}
 use Rattle.mapper.specs.Stages.{LibraryOk, Given, Loaded, Placed, Timed, Cut}
 
 verdicts-differ : {n k : ℕ} → ¬ (Refused n k ≡ Accepted)
@@ -105,7 +105,7 @@ placed-after w lib codes h g l = record {
 pub loaded-asks : (w : List ℕ) (lib : Library) (codes : List ℕ) (h : Header) (g : Graph) → Loaded w lib codes h g → Fit h w × Operands w (h .size)
 loaded-asks w lib codes h g l = (fit-length h (l .before) w (l .fit) (l .holding .held .long), holding-operands (l .before) h w g (0 ∷ g .inputs) (l .holding))
 
--- ---- `arrivals::read`
+-- ---- `graph_arrivals::read`
 
 -- a graph that is timed is one that was read
 timed-given : (lib : Library) (codes : List ℕ) (h : Header) (g : Graph) (es : List Late) → Given lib codes h g → Given lib codes h (timedBy g es)

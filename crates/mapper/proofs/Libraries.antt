@@ -14,15 +14,15 @@ use Rattle.model.specs.declared.Cell.{Cell}
 use Rattle.model.specs.declared.Library.{Library}
 use Rattle.theory_graph.specs.Accepted.{libraryFits}
 use Rattle.theory_text.proofs.ReadLibrary.{library-fits, library-few, library-written, library-ranged}
-use Rattle.theory.proofs.Ranges.{no-lower}
-use Rattle.words.specs.Put.{putAt}
-use Rattle.pairs.specs.Codes.{pairOfCode, pairCodes, cellsBy, Joinable}
-use Rattle.pairs.proofs.Forming.{coded-none, coded-all, numbered-none, numbered-all}
-use Rattle.pairs.proofs.Cells.{by-length}
-use Rattle.matching.specs.Sheet.{Blank}
-use Rattle.matching.specs.Variants.{Matchable}
-use Rattle.matching.proofs.Linking.{usable-library}
-use Rattle.matching.proofs.Pairing.{matchable-by}
+use Rattle.theory_demands.proofs.Ranges.{no-lower}
+use Rattle.base_words.specs.Put.{putAt}
+use Rattle.cells_pairs.specs.Codes.{pairOfCode, pairCodes, cellsBy, Joinable}
+use Rattle.cells_pairs.proofs.Forming.{coded-none, coded-all, numbered-none, numbered-all}
+use Rattle.cells_pairs.proofs.Cells.{by-length}
+use Rattle.cells_matching.specs.Sheet.{Blank}
+use Rattle.cells_matching.specs.Variants.{Matchable}
+use Rattle.cells_matching.proofs.Linking.{usable-library}
+use Rattle.cells_matching.proofs.Pairing.{matchable-by}
 use Rattle.mapper.specs.Stages.{Under, done, more, LibraryRead, LibraryOk, allOf}
 
 pub cells-back : (cs : List Cell) → cellsOf (libraryOf cs) ≡ cs

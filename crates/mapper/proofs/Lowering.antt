@@ -15,20 +15,20 @@ use Rattle.model.specs.declared.Header.{Header}
 use Rattle.model.specs.declared.Phase.{Phase}
 use Rattle.model.specs.declared.Source.{Source}
 use Rattle.model.specs.declared.Source.the-variants.{Input, Cell as Matched, Inverter as Inverted, Nothing}
-use Rattle.words.specs.Layout.{placedOf, lowAt, kindAt, leftAt, rightAt, neededAt, outputAt}
-use Rattle.words.specs.Record.{nodeOf, nodeAt}
-use Rattle.words.specs.Phases.{flagOf, isNeeded}
+use Rattle.base_words.specs.Layout.{placedOf, lowAt, kindAt, leftAt, rightAt, neededAt, outputAt}
+use Rattle.base_words.specs.Record.{nodeOf, nodeAt}
+use Rattle.base_words.specs.Phases.{flagOf, isNeeded}
 use Rattle.theory_graph.proofs.Lists.{getD-in}
 use Rattle.theory_graph.proofs.Placing.{order-small}
-use Rattle.netlist.specs.Mapped.{Mapped}
-use Rattle.cover.specs.Asked.{OutputsIn}
-use Rattle.cover.proofs.Counting.{few-cuts, few-placed}
-use Rattle.cover.proofs.Held.{placed-is, output-small}
-use Rattle.timing.specs.Retiming.{retimedUp}
-use Rattle.timing.specs.Lines.{linesFrom}
-use Rattle.timing.proofs.Lowest.{LowsKept, lows-phase, lows-leaves}
-use Rattle.timing.proofs.Retimed.{Ready, retime-kept, retime-lows}
-use Rattle.timing.proofs.Counting.{lines-are}
+use Rattle.net_writer.specs.Mapped.{Mapped}
+use Rattle.cover_choice.specs.Asked.{OutputsIn}
+use Rattle.cover_choice.proofs.Counting.{few-cuts, few-placed}
+use Rattle.cover_choice.proofs.Held.{placed-is, output-small}
+use Rattle.net_timing.specs.Retiming.{retimedUp}
+use Rattle.net_timing.specs.Lines.{linesFrom}
+use Rattle.net_timing.proofs.Lowest.{LowsKept, lows-phase, lows-leaves}
+use Rattle.net_timing.proofs.Retimed.{Ready, retime-kept, retime-lows}
+use Rattle.net_timing.proofs.Counting.{lines-are}
 use Rattle.mapper.specs.Stages.{Timeable, Lowered, allOf}
 use Rattle.mapper.proofs.Libraries.{all-ranges, all-brief}
 

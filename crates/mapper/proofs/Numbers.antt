@@ -16,7 +16,7 @@ use Rattle.model.specs.Mapper.{mapDesign, triedEarly, workAfter}
 use Rattle.model.specs.declared.Library.{Library}
 use Rattle.model.specs.declared.Header.{Header}
 use Rattle.theory_text.proofs.Faults.{Faults, library-faults, header-faults, graph-faults, arrivals-faults}
-use Rattle.theory.proofs.Refusals.{Refusal, within-refusal, followed-refusal, map-refusal}
+use Rattle.theory_demands.proofs.Refusals.{Refusal, within-refusal, followed-refusal, map-refusal}
 use Rattle.mapper.specs.Stages.{allOf, timesOf, graphFor}
 
 -- "every refusal tried up to 10", and "a later one", wherever its place is

@@ -17,9 +17,9 @@ use Rattle.model.specs.Demands.{choiceText, choiceFigures}
 use Rattle.model.specs.declared.Library.{Library}
 use Rattle.model.specs.declared.Figures.{Figures}
 use Rattle.model.specs.declared.Answer.the-variants.{Mapped, Refused}
-use Rattle.words.specs.Put.{putAt}
-use Rattle.netlist.specs.Mapped.{textFor, measuredFor}
-use Rattle.netlist.specs.declared.Measured.{Measured}
+use Rattle.base_words.specs.Put.{putAt}
+use Rattle.net_writer.specs.Mapped.{textFor, measuredFor}
+use Rattle.net_writer.specs.declared.Measured.{Measured}
 use Rattle.mapper.specs.Stages.{allOf, Told, printedFor}
 
 pub told-refused : (n k : ℕ) (text : List ℕ) → Told (refused n k) text (Refused n k) text

@@ -22,24 +22,24 @@ use Rattle.model.specs.declared.Answer.{Answer}
 use Rattle.model.specs.declared.Answer.the-variants.{Refused as Turned}
 use Rattle.model.specs.declared.Verdict.{Verdict}
 use Rattle.model.specs.declared.Verdict.the-variants.{Accepted, Refused}
-use Rattle.words.specs.Layout.{placedOf}
+use Rattle.base_words.specs.Layout.{placedOf}
 use Rattle.theory_graph.proofs.Timed.{timed-unplaced}
-use Rattle.pairs.specs.Codes.{Coded}
-use Rattle.netlist.specs.Mapped.{Mapped}
-use Rattle.placing.specs.Loaded.{Fit}
-use Rattle.placing.specs.Placing.{placedVerdict, placedWords}
-use Rattle.placing.proofs.Orders.{place-verdict}
-use Rattle.aiger.specs.Passes.{loadedWords}
-use Rattle.arrivals.specs.Storing.{Listable, putAll, listed}
-use Rattle.cuts.specs.Listing as lists
-use Rattle.cutting.specs.Enumerated.{Ready, enumerated}
-use Rattle.cutting.proofs.Whole.{enumerate-ready, enumerate-verdict}
-use Rattle.cover.specs.Asked.{OutputsIn, SlotsIn, MatchesIn}
-use Rattle.cover.specs.Missing.{missing}
-use Rattle.cover.specs.Marking.{marked}
-use Rattle.cover.specs.Choosing.{chosenUp}
-use Rattle.cover.proofs.Needing.{mark-asked}
-use Rattle.cover.proofs.Missed.{uncovered-asked}
+use Rattle.cells_pairs.specs.Codes.{Coded}
+use Rattle.net_writer.specs.Mapped.{Mapped}
+use Rattle.graph_placing.specs.Loaded.{Fit}
+use Rattle.graph_placing.specs.Placing.{placedVerdict, placedWords}
+use Rattle.graph_placing.proofs.Orders.{place-verdict}
+use Rattle.graph_reader.specs.Passes.{loadedWords}
+use Rattle.graph_arrivals.specs.Storing.{Listable, putAll, listed}
+use Rattle.cut_lists.specs.Listing as lists
+use Rattle.cut_pass.specs.Enumerated.{Ready, enumerated}
+use Rattle.cut_pass.proofs.Whole.{enumerate-ready, enumerate-verdict}
+use Rattle.cover_choice.specs.Asked.{OutputsIn, SlotsIn, MatchesIn}
+use Rattle.cover_choice.specs.Missing.{missing}
+use Rattle.cover_choice.specs.Marking.{marked}
+use Rattle.cover_choice.specs.Choosing.{chosenUp}
+use Rattle.cover_choice.proofs.Needing.{mark-asked}
+use Rattle.cover_choice.proofs.Missed.{uncovered-asked}
 use Rattle.mapper.specs.Stages.{Told, LibraryOk, allOf, Loaded, Placed, Timed, Cut, Timeable, printedFor, cutFor, placedFor, loadedFor, timesOf, timesFor, designOf, graphFor}
 use Rattle.mapper.proofs.Printing.{told-refused}
 use Rattle.mapper.proofs.Handing.{loaded-after, placed-after, placed-lists, timed-after, all-placed, none-crowded, timed-ok, cut-after}

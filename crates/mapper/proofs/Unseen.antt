@@ -11,8 +11,8 @@ use Rattle.model.specs.declared.Answer.{Answer}
 use Rattle.model.specs.Netlist.{Outcome, refused, mapped}
 use Rattle.model.specs.Mapper.{Call, callOf, mapTexts, workAfter, triedEarly}
 use Rattle.model.specs.Demands.{Memory}
-use Rattle.words.specs.Put.{zeros}
-use Rattle.words.proofs.Former.{former, former-length, former-zeros}
+use Rattle.base_words.specs.Put.{zeros}
+use Rattle.base_words.proofs.Former.{former, former-length, former-zeros}
 
 -- answer, words and bytes of a call are given by its texts and by what was lent
 pub memory-alone : (c : Call) (work text : List ℕ) (a b : Answer) (w v t u : List ℕ) → Memory c work text a w t → Memory c work text b v u

@@ -19,7 +19,7 @@ use Rattle.model.specs.declared.Verdict.the-variants.{Accepted, Refused}
 use Rattle.model.specs.declared.Answer.{Answer}
 use Rattle.model.specs.declared.Answer.the-variants.{Refused as Turned}
 use Rattle.model.proofs.Answers.{answer-returns}
-use Rattle.theory.proofs.Channels.{promised}
+use Rattle.theory_demands.proofs.Channels.{promised}
 use Rattle.mapper.specs.Stages.{Left, LibraryRead, headedOf, libraryFor}
 use Rattle.mapper.proofs.Libraries.{cells-back, library-read}
 use Rattle.mapper.proofs.Numbers.{library-early}

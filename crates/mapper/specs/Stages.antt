@@ -22,16 +22,16 @@ use Rattle.model.specs.declared.Cell.{Cell}
 use Rattle.model.specs.declared.Library.{Library}
 use Rattle.model.specs.declared.Header.{Header}
 use Rattle.model.specs.declared.Answer.{Answer}
-use Rattle.words.specs.Layout.{placedOf, placeAt, neededAt, lateAt, outputAt, lowAt, positiveAddr, listsFrom}
+use Rattle.base_words.specs.Layout.{placedOf, placeAt, neededAt, lateAt, outputAt, lowAt, positiveAddr, listsFrom}
 use Rattle.theory_graph.specs.Accepted.{Accepted, libraryFits}
 use Rattle.theory_text.specs.Fits.{GraphFits}
-use Rattle.matching.specs.Variants.{Usable}
-use Rattle.pairs.specs.Codes.{pairOfCode, cellsBy, Coded}
-use Rattle.placing.specs.Loaded.{Fit, Holding}
-use Rattle.cuts.specs.Represents.{Represents, Uncut}
-use Rattle.cover.specs.Asked.{SlotsIn}
-use Rattle.cover.specs.Held.{HeaderOf, Held}
-use Rattle.timing.specs.Retiming.{Retimable}
+use Rattle.cells_matching.specs.Variants.{Usable}
+use Rattle.cells_pairs.specs.Codes.{pairOfCode, cellsBy, Coded}
+use Rattle.graph_placing.specs.Loaded.{Fit, Holding}
+use Rattle.cut_lists.specs.Represents.{Represents, Uncut}
+use Rattle.cover_choice.specs.Asked.{SlotsIn}
+use Rattle.cover_choice.specs.Held.{HeaderOf, Held}
+use Rattle.net_timing.specs.Retiming.{Retimable}
 
 -- ---- what is told of an outcome
 
@@ -93,7 +93,7 @@ pub record Placed (w : List ℕ) (lib : Library) (codes : List ℕ) (h : Header)
   pub fit : Fit h before
   pub holding : Holding before h w g (placingOrder g)
 
--- after `arrivals::read`, where neither it nor `place` refuses: the graph is timed
+-- after `graph_arrivals::read`, where neither it nor `place` refuses: the graph is timed
 pub record Timed (w : List ℕ) (lib : Library) (codes : List ℕ) (h : Header) (g : Graph) : Type 0 where
   pub given : Given lib codes h g
   pub placed : unplaced g ≡ []

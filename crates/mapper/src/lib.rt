@@ -13,8 +13,8 @@ ghost use Rattle.model.specs.Reading.{holds};
 ghost use Rattle.model.specs.Graph.{Graph};
 ghost use Rattle.model.specs.GraphText.{readHeader};
 ghost use Rattle.promises.specs.Promised.{Mapping};
-ghost use Rattle.netlist.specs.Mapped.{Mapped};
-ghost use Rattle.matching.specs.Sheet.{Blank, SheetOf};
+ghost use Rattle.net_writer.specs.Mapped.{Mapped};
+ghost use Rattle.cells_matching.specs.Sheet.{Blank, SheetOf};
 ghost use Rattle.mapper.specs.Stages.{Told, Left, LibraryRead, LibraryOk, allOf, libraryFor, Loaded, Timed, Cut, Timeable, Lowered, printedFor};
 ghost use Rattle.mapper.specs.Stages.{cutFor, placedFor, timesFor, graphFor, headerFor};
 
@@ -24,13 +24,13 @@ fn print(work: &[u16], lib: Library, codes: &[u16], h: Header, text: &mut [u8]) 
     ensures { λ r. ⌜ ((g : Graph) → Mapped (now (work .entry)) lib (now (codes .entry)) h g → Told
         (printedFor false lib (now (codes .entry)) g (length (now (text .entry)))) (now (text .entry)) r (now (text .exit))) ⌝ }
 {
-    let m = netlist::measure(work, lib, codes, h);
+    let m = net_writer::measure(work, lib, codes, h);
     let length = m.length;
     let figures = m.figures;
     if text.len() < length {
         return Answer::Refused(18, length);
     }
-    netlist::write(work, lib, codes, h, figures, text);
+    net_writer::write(work, lib, codes, h, figures, text);
     Answer::Mapped(length, figures)
 }
 
@@ -40,16 +40,16 @@ fn print_timed(work: &[u16], lib: Library, codes: &[u16], h: Header, text: &mut 
     ensures { λ r. ⌜ ((g : Graph) → Mapped (now (work .entry)) lib (now (codes .entry)) h g → Lowered (now (work .entry)) lib (now (codes .entry)) g → Told
         (printedFor true lib (now (codes .entry)) g (length (now (text .entry)))) (now (text .entry)) r (now (text .exit))) ⌝ }
 {
-    let m = netlist::measure(work, lib, codes, h);
+    let m = net_writer::measure(work, lib, codes, h);
     let figures = m.figures;
     let start = m.length;
-    let lines = timing::lines_len(work, h.size, h.outputs);
+    let lines = net_timing::lines_len(work, h.size, h.outputs);
     let whole = start + lines;
     if text.len() < whole {
         return Answer::Refused(18, whole);
     }
-    netlist::write(work, lib, codes, h, figures, text);
-    timing::put_lines(work, h.size, h.outputs, text, start);
+    net_writer::write(work, lib, codes, h, figures, text);
+    net_timing::put_lines(work, h.size, h.outputs, text, start);
     Answer::Mapped(whole, figures)
 }
 
@@ -67,7 +67,7 @@ fn print_as(
         Told (printedFor ranged lib (now (codes .entry)) g (length (now (text .entry)))) (now (text .entry)) r (now (text .exit))) ⌝ }
 {
     if ranged {
-        timing::retime(work, lib, codes, h);
+        net_timing::retime(work, lib, codes, h);
         return print_timed(work, lib, codes, h, text);
     }
     print(work, lib, codes, h, text)
@@ -87,10 +87,10 @@ fn cover_graph(
     ensures { λ r. ⌜ ((g : Graph) → Cut (now (work .entry)) lib (now (codes .entry)) h g → Told
         (cutFor ranged lib (now (codes .entry)) g (length (now (text .entry)))) (now (text .entry)) r (now (text .exit))) ⌝ }
 {
-    cover::choose(work, lib, codes, h, sheet);
-    match cover::uncovered(work, h) {
+    cover_choice::choose(work, lib, codes, h, sheet);
+    match cover_choice::uncovered(work, h) {
         Verdict::Accepted => {
-            cover::mark(work, lib, codes, h);
+            cover_choice::mark(work, lib, codes, h);
             print_as(work, lib, codes, h, ranged, text)
         }
         Verdict::Refused(number, place) => Answer::Refused(number, place),
@@ -111,7 +111,7 @@ fn cut_graph(
     ensures { λ r. ⌜ ((g : Graph) → Timed (now (work .entry)) lib (now (codes .entry)) h g → Told
         (placedFor ranged lib (now (codes .entry)) g (length (now (text .entry)))) (now (text .entry)) r (now (text .exit))) ⌝ }
 {
-    match cutting::enumerate(work, h) {
+    match cut_pass::enumerate(work, h) {
         Verdict::Accepted => cover_graph(work, lib, codes, h, ranged, sheet, text),
         Verdict::Refused(number, place) => Answer::Refused(number, place),
     }
@@ -132,8 +132,8 @@ fn place_graph(
     ensures { λ r. ⌜ ((g : Graph) → Loaded (now (work .entry)) lib (now (codes .entry)) h g → Told
         (timesFor ranged lib (now (codes .entry)) (now (arrivals .entry)) h g (length (now (text .entry)))) (now (text .entry)) r (now (text .exit))) ⌝ }
 {
-    let placed = placing::place(work, h);
-    match arrivals::read(arrivals, h, work) {
+    let placed = graph_placing::place(work, h);
+    match graph_arrivals::read(arrivals, h, work) {
         Verdict::Accepted => match placed {
             Verdict::Accepted => cut_graph(work, lib, codes, h, ranged, sheet, text),
             Verdict::Refused(number, place) => Answer::Refused(number, place),
@@ -160,7 +160,7 @@ pub fn load_graph(
     ensures { λ r. ⌜ Told (graphFor ranged lib (now (codes .entry)) (now (graph .entry)) (now (arrivals .entry)) h (length (now (text .entry))))
         (now (text .entry)) r (now (text .exit)) ⌝ }
 {
-    match aiger::load(graph, h, work) {
+    match graph_reader::load(graph, h, work) {
         Verdict::Accepted => place_graph(arrivals, work, lib, codes, h, ranged, sheet, text),
         Verdict::Refused(number, place) => Answer::Refused(number, place),
     }
@@ -183,9 +183,9 @@ fn map_on(
     ensures { λ r. ⌜ Told (graphFor ranged lib (now (codes .entry)) (now (graph .entry)) (now (arrivals .entry)) h (length (now (text .entry))))
         (now (text .entry)) r (now (text .exit)) × (now (work .exit) ≡ replicate (length (now (work .entry))) 0) ⌝ }
 {
-    cover::match_library(lib, codes, sheet);
+    cover_choice::match_library(lib, codes, sheet);
     let a = load_graph(graph, arrivals, h, lib, codes, ranged, sheet, work, text);
-    words::clear_all(work);
+    base_words::clear_all(work);
     a
 }
 
@@ -204,9 +204,9 @@ fn map_header(
     ensures { λ r. ⌜ Left (headerFor ranged lib (now (codes .entry)) (now (graph .entry)) (now (arrivals .entry)) (length (now (work .entry)))
         (length (now (text .entry)))) (now (work .entry)) (now (text .entry)) r (now (work .exit)) (now (text .exit)) ⌝ }
 {
-    match aiger::header(graph) {
+    match graph_reader::header(graph) {
         HeaderAnswer::Read(h) => {
-            if work.len() < words::need_words(h.size, h.outputs) {
+            if work.len() < base_words::need_words(h.size, h.outputs) {
                 return Answer::Refused(10, 0);
             }
             map_on(graph, arrivals, h, lib, codes, ranged, sheet, work, text)
@@ -229,11 +229,11 @@ fn map_pairs(
         (now (work .entry)) (now (text .entry)) r (now (work .exit)) (now (text .exit)) ⌝ }
 {
     let mut codes = [0u16; 4096];
-    let n = pairs::form(&mut codes, lib);
+    let n = cells_pairs::form(&mut codes, lib);
     if lib.n + n > 256 {
         return Answer::Refused(30, 0);
     }
-    let mut sheet = matching::no_paired_sheet();
+    let mut sheet = cells_matching::no_paired_sheet();
     map_header(
         graph,
         arrivals,
@@ -264,7 +264,7 @@ fn map_cells(
         return map_pairs(graph, arrivals, lib, ranged, work, text);
     }
     let none = [0u16; 1];
-    let mut sheet = matching::no_sheet();
+    let mut sheet = cells_matching::no_sheet();
     map_header(
         graph,
         arrivals,
@@ -300,7 +300,7 @@ pub fn map_texts(
     if arrivals.len() > 65536 {
         return Answer::Refused(1, 0);
     }
-    let l = library::read(cells);
+    let l = cells_reader::read(cells);
     let v = l.verdict;
     match v {
         Verdict::Accepted => {
@@ -309,7 +309,7 @@ pub fn map_texts(
                 graph,
                 arrivals,
                 lib,
-                library::is_ranged(cells),
+                cells_reader::is_ranged(cells),
                 paired,
                 work,
                 text,

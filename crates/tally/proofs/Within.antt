@@ -14,7 +14,7 @@ use Rattle.model.specs.Tally.{inWidth, reportText, reportOf}
 use Rattle.model.specs.declared.Tally.{Tally}
 use Rattle.model.specs.declared.Written.the-variants.{Length}
 use Rattle.theory_text.proofs.Steps.{holds-once, unless-out, next-out}
-use Rattle.text.proofs.Decimal.{dec-below}
+use Rattle.base_text.proofs.Decimal.{dec-below}
 
 held-fits : (t : Tally) (library : List ℕ) (bytes : ℕ) (r : List ℕ) → reportOf t library bytes ≡ holds r → length r ≤ bytes
 unfolding reportOf

@@ -1,11 +1,11 @@
 // The program: the netlists `1.blif`, `2.blif` and so on of the current folder, up to the first absent one, counted by the library `cells.txt`; then the
 // report.
 // For a netlist that is refused, and for a report that is, one line of `refused`, number and place is printed in its place.
-use files::Found;
-use files::Loaded;
 use model::Tally;
 use model::Verdict;
 use model::Written;
+use program_files::Found;
+use program_files::Loaded;
 ghost use mathlib.Core.Path.{_≡_};
 ghost use lib.ListN.{length};
 
@@ -24,11 +24,14 @@ pub struct Next {
 
 // A netlist, or its refusal in its place.
 fn count_one(cells: &[u8], netlist: &[u8], t: Tally) -> Tally {
-    let r = counting::count(t, cells, netlist);
+    let r = tally_counting::count(t, cells, netlist);
     let verdict = r.verdict;
     match verdict {
         Verdict::Accepted => {}
-        Verdict::Refused(number, place) => files::said(files::refused(number, place), b"tally"),
+        Verdict::Refused(number, place) => program_files::said(
+            program_files::refused(number, place),
+            b"tally",
+        ),
     }
     r.tally
 }
@@ -36,7 +39,7 @@ fn count_one(cells: &[u8], netlist: &[u8], t: Tally) -> Tally {
 fn count_file(path: &[u8], cells: &[u8], buf: &mut [u8], t: Tally) -> Next
     requires { ⌜ length (now buf) ≡ 65537 ⌝ }
 {
-    match files::find(b"tally", path, buf) {
+    match program_files::find(b"tally", path, buf) {
         Found::Bytes(n) => {
             let tally = count_one(cells, &buf[..n], t);
             Next {
@@ -60,8 +63,8 @@ fn count_next(k: u32, cells: &[u8], buf: &mut [u8], t: Tally) -> Next
     requires { ⌜ length (now buf) ≡ 65537 ⌝ }
 {
     let mut name = [0u8; 16];
-    let at = text::put_number(&mut name, 0, k);
-    let end = text::put_bytes(&mut name, at, b".blif");
+    let at = base_text::put_number(&mut name, 0, k);
+    let end = base_text::put_bytes(&mut name, at, b".blif");
     count_file(&name[..end], cells, buf, t)
 }
 
@@ -95,9 +98,12 @@ fn count_all(cells: &[u8], buf: &mut [u8]) -> Next
 fn show(t: Tally, cells: &[u8], text: &mut [u8])
     requires { ⌜ length (now text) ≡ 65536 ⌝ }
 {
-    match reporting::report(t, cells, text) {
-        Written::Length(n) => files::said(files::put(&text[..n]), b"tally"),
-        Written::Refused(number, place) => files::said(files::refused(number, place), b"tally"),
+    match tally_report::report(t, cells, text) {
+        Written::Length(n) => program_files::said(program_files::put(&text[..n]), b"tally"),
+        Written::Refused(number, place) => program_files::said(
+            program_files::refused(number, place),
+            b"tally",
+        ),
     }
 }
 
@@ -105,7 +111,7 @@ fn main() {
     let mut cells = [0u8; 65537];
     let mut buf = [0u8; 65537];
     let mut text = [0u8; 65536];
-    let cells_read = files::load(b"tally", b"cells.txt", &mut cells);
+    let cells_read = program_files::load(b"tally", b"cells.txt", &mut cells);
     let Loaded::Bytes(n) = cells_read else {
         return;
     };

@@ -36,12 +36,12 @@ use Rattle.theory_text.proofs.LineLaws.{lineOfBytes, line-first}
 use Rattle.theory_text.proofs.ReadBack.{blifOf}
 use Rattle.theory_text.proofs.ReadGraph.{Counted, graph-counted}
 use Rattle.theory_text.proofs.ReadTexts.{Texts, texts-read, design-accepted, design-graph}
-use Rattle.theory.proofs.Numbered.{Fitting}
-use Rattle.theory.proofs.Gates.{chosenGates}
-use Rattle.theory.proofs.Wires.{at-output}
-use Rattle.theory.proofs.Values.{net-value}
+use Rattle.theory_demands.proofs.Numbered.{Fitting}
+use Rattle.theory_demands.proofs.Gates.{chosenGates}
+use Rattle.theory_demands.proofs.Wires.{at-output}
+use Rattle.theory_demands.proofs.Values.{net-value}
 use Rattle.theory_text.proofs.Outcomes.{FromChoice, FromDesign, printed-choice}
-use Rattle.theory.proofs.Demanded.{design-fitting, with-timings}
+use Rattle.theory_demands.proofs.Demanded.{design-fitting, with-timings}
 use Rattle.theory_check.proofs.PrintedLines.{AreNets, worded, worded-line, bindWords, Shown, shownWords, shownLine, gatesAt, behindGates, gates-read, namesText, namesAt, names-read, names-fields}
 use Rattle.theory_check.proofs.PrintedNets.{shownOf, printedDrivers, outputs-form, gates-fine, drivers-pass, drivers-values}
 use Rattle.theory_check.proofs.Whole.{edited-compared}

@@ -29,11 +29,11 @@ use Rattle.theory_graph.proofs.Distinct.{length-map}
 use Rattle.theory_text.proofs.Plain.{label-free, Clear}
 use Rattle.theory_text.proofs.ReadBack.{lineOf, wiresFrom, blifOf}
 use Rattle.theory_text.proofs.Names.{label-once}
-use Rattle.theory.proofs.Numbered.{Fitting}
-use Rattle.theory.proofs.Settled.{inside-apart, OfPhase}
-use Rattle.theory.proofs.Gates.{fedAt, NeedsOf, gatesAt as phaseGates, chosenGates, Gates, by-feeding, bound, gate-out, of-gates, line-bound, gate-listed}
-use Rattle.theory.proofs.Wires.{out-label, wire-targets}
-use Rattle.theory.proofs.Formed.{keyOf, few-key, few-at, needed-driven, well-formed}
+use Rattle.theory_demands.proofs.Numbered.{Fitting}
+use Rattle.theory_demands.proofs.Settled.{inside-apart, OfPhase}
+use Rattle.theory_demands.proofs.Gates.{fedAt, NeedsOf, gatesAt as phaseGates, chosenGates, Gates, by-feeding, bound, gate-out, of-gates, line-bound, gate-listed}
+use Rattle.theory_demands.proofs.Wires.{out-label, wire-targets}
+use Rattle.theory_demands.proofs.Formed.{keyOf, few-key, few-at, needed-driven, well-formed}
 use Rattle.theory_check.proofs.Settling.{netsOf, FeedsNet, directly, through, NoCircle, join-feeds, among-in, among-out}
 use Rattle.theory_check.proofs.Circles.{found-circle}
 use Rattle.theory_check.proofs.PrintedLines.{AreNets, Shown, Fine, driverAt, gatesAt, wireDriver, namesAt}

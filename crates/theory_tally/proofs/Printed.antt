@@ -30,10 +30,10 @@ use Rattle.theory_text.proofs.LineLaws.{lineOfBytes}
 use Rattle.theory_text.proofs.Plain.{name-clear, Clear}
 use Rattle.theory_text.proofs.Steps.{holds-once}
 use Rattle.theory_text.proofs.ReadTexts.{texts-read, design-accepted}
-use Rattle.theory.proofs.Numbered.{Fitting}
-use Rattle.theory.proofs.Gates.{chosenGates, gate-listed, line-bound}
+use Rattle.theory_demands.proofs.Numbered.{Fitting}
+use Rattle.theory_demands.proofs.Gates.{chosenGates, gate-listed, line-bound}
 use Rattle.theory_text.proofs.Outcomes.{printed-choice}
-use Rattle.theory.proofs.Demanded.{design-fitting, readable}
+use Rattle.theory_demands.proofs.Demanded.{design-fitting, readable}
 use Rattle.theory_text.proofs.Names.{named-cell}
 use Rattle.theory_text.proofs.ReadBack.{outputNames}
 use Rattle.theory_tally.specs.Sums.{Grown, CountsPrinted}

@@ -1,4 +1,4 @@
--- `capi::mapper_cells` meets its contract, thin over `genlib::convert`. Assumes nothing.
+-- `capi::mapper_cells` meets its contract, thin over `genlib_call::convert`. Assumes nothing.
 use mathlib.Core.Path.{ap, _∙_}
 use Rattle.model.specs.Genlib.{writtenPair}
 use Rattle.model.specs.declared.Written.{Written}

@@ -1,4 +1,4 @@
--- `capi::mapper_check` meets its contract, thin over `checking::check_texts`. Assumes nothing.
+-- `capi::mapper_check` meets its contract, thin over `check_call::check_texts`. Assumes nothing.
 use mathlib.Core.Path.{ap, _∙_}
 use Rattle.model.specs.Check.{toldOf}
 use Rattle.model.specs.declared.Checked.{Checked}

@@ -1,9 +1,9 @@
--- `capi::mapper_count` meets its contract, thin over `stock::count`. Assumes nothing.
+-- `capi::mapper_count` meets its contract, thin over `tally_call::count`. Assumes nothing.
 use mathlib.Core.Path.{_≡_, refl, sym, ap, subst, _∙_}
 use Rattle.model.specs.declared.Verdict.{Verdict}
 use Rattle.model.specs.declared.Verdict.the-variants.{Accepted, Refused}
-use Rattle.stock.specs.Demands.{CountReturned, numberOf}
-use Rattle.stock.proofs.Returned.{count-returned}
+use Rattle.tally_call.specs.Demands.{CountReturned, numberOf}
+use Rattle.tally_call.proofs.Returned.{count-returned}
 use Rattle.capi.specs.Answers.{answeredText, verdictPair}
 use Rattle.capi.specs.declared.MapperAnswer.{MapperAnswer}
 use borrow.Author.Needs.{needs}

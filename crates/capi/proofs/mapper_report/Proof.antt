@@ -1,10 +1,10 @@
--- `capi::mapper_report` meets its contract, thin over `stock::report`. Assumes nothing.
+-- `capi::mapper_report` meets its contract, thin over `tally_call::report`. Assumes nothing.
 use mathlib.Core.Path.{sym, ap, subst, _∙_}
 use lib.ListN.{length}
 use Rattle.model.specs.Genlib.{writtenPair}
 use Rattle.model.specs.declared.Written.{Written}
-use Rattle.stock.specs.Demands.{ReportReturned}
-use Rattle.stock.proofs.Returned.{report-returned}
+use Rattle.tally_call.specs.Demands.{ReportReturned}
+use Rattle.tally_call.proofs.Returned.{report-returned}
 use Rattle.capi.specs.Answers.{answeredText}
 use Rattle.capi.specs.declared.MapperAnswer.{MapperAnswer}
 use borrow.Author.Needs.{needs}

@@ -3,7 +3,7 @@ use Prim.Native.Nat.{_≤_}
 use native.Mathlib.Omega.{arith}
 use mathlib.Core.Path.{sym, _∙_}
 use lib.ListN.{length, length-take}
-use Rattle.genlib.proofs.Passing.{length-within}
+use Rattle.genlib_call.proofs.Passing.{length-within}
 use borrow.Author.Needs.{needs}
 use Rattle.from_genlib.proofs.convert_file.Statement.{statement}
 use Rattle.from_genlib.proofs.convert_file.Tie as tie

@@ -2,9 +2,9 @@
 use Prim.Native.Nat.{ℕ}
 use mathlib.Core.Path.{sym, subst}
 use lib.ListN.{length-replicate}
-use Rattle.files.specs.Loading.{Loaded-in}
-use Rattle.files.specs.declared.Loaded.{Loaded}
-use Rattle.files.specs.declared.Loaded.the-variants.{Bytes}
+use Rattle.program_files.specs.Loading.{Loaded-in}
+use Rattle.program_files.specs.declared.Loaded.{Loaded}
+use Rattle.program_files.specs.declared.Loaded.the-variants.{Bytes}
 use borrow.Author.Needs.{needs}
 use Rattle.map_two.proofs.main.Statement.{statement}
 use Rattle.map_two.proofs.main.Tie as tie

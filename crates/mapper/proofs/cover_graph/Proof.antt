@@ -1,5 +1,5 @@
 -- `mapper::cover_graph` meets its contract: the choice, 17, and the marking, each from what the one before left. Assumes nothing.
-use Rattle.cover.proofs.Choices.{choose-asked}
+use Rattle.cover_choice.proofs.Choices.{choose-asked}
 use Rattle.mapper.specs.Stages.{allOf}
 use Rattle.mapper.proofs.Turns.{told-as, chosen-outputs, chosen-asks, cover-mapped, cover-timeable, cover-goes, cover-stops}
 use borrow.Author.Needs.{needs}

@@ -1,5 +1,5 @@
 -- `mapper::load_graph` meets its contract: the graph behind its header, then the placing order, or 11 to 14, 20 and 21. Assumes nothing.
-use Rattle.binary.proofs.Loads.{header-fit}
+use Rattle.graph_binary.proofs.Loads.{header-fit}
 use Rattle.mapper.proofs.Turns.{told-as, reading-loaded, reading-stops}
 use borrow.Author.Needs.{needs}
 use Rattle.mapper.proofs.load_graph.Statement.{statement}

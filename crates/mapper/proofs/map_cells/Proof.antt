@@ -1,7 +1,7 @@
 -- `mapper::map_cells` meets its contract: with pairs, or with the listed cells alone. Assumes nothing.
 use mathlib.Core.Bool.{false}
 use mathlib.Core.List.{[]}
-use Rattle.pairs.proofs.Forming.{with-none}
+use Rattle.cells_pairs.proofs.Forming.{with-none}
 use Rattle.mapper.proofs.Ends.{left-as, cells-go}
 use Rattle.mapper.proofs.Libraries.{joinable-of, all-few, plain-ok, blank-listed}
 use borrow.Author.Needs.{needs}

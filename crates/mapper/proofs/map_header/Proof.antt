@@ -3,7 +3,7 @@
 use native.Mathlib.Omega.{arith}
 use mathlib.Core.Path.{sym, _∙_}
 use Rattle.theory_text.proofs.ReadGraph.{header-fits}
-use Rattle.aiger.proofs.Head.{header-read}
+use Rattle.graph_reader.proofs.Head.{header-read}
 use Rattle.mapper.proofs.Ends.{header-stops, header-short, header-done}
 use borrow.Author.Needs.{needs}
 use Rattle.mapper.proofs.map_header.Statement.{statement}

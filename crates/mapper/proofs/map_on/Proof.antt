@@ -4,9 +4,9 @@ use Prim.Native.Nat.{ℕ, _+_}
 use mathlib.Core.Path.{_≡_, _∙_, ap, sym, subst}
 use lib.ListN.{length, replicate}
 use Rattle.model.specs.Cells.{cellsOf}
-use Rattle.pairs.proofs.Cells.{by-length}
-use Rattle.matching.specs.Sheet.{SheetOf, Blank}
-use Rattle.matching.proofs.Pairing.{sheet-by}
+use Rattle.cells_pairs.proofs.Cells.{by-length}
+use Rattle.cells_matching.specs.Sheet.{SheetOf, Blank}
+use Rattle.cells_matching.proofs.Pairing.{sheet-by}
 use Rattle.mapper.specs.Stages.{allOf}
 use borrow.Author.Needs.{needs}
 use Rattle.mapper.proofs.map_on.Statement.{statement}

@@ -6,9 +6,9 @@ use mathlib.Core.Bool.{true}
 use mathlib.Core.List.{List}
 use lib.ListN.{length, take}
 use Rattle.model.specs.Cells.{cellsOf}
-use Rattle.pairs.specs.Codes.{pairCodes}
-use Rattle.pairs.proofs.Cells.{by-length}
-use Rattle.pairs.proofs.Forming.{with-all, codes-few}
+use Rattle.cells_pairs.specs.Codes.{pairCodes}
+use Rattle.cells_pairs.proofs.Cells.{by-length}
+use Rattle.cells_pairs.proofs.Forming.{with-all, codes-few}
 use Rattle.mapper.specs.Stages.{LibraryOk, headerFor}
 use Rattle.mapper.proofs.Ends.{left-as, pairs-stop, cells-go}
 use Rattle.mapper.proofs.Libraries.{joinable-of, all-few, joined-ok, blank-joined, formed-are}

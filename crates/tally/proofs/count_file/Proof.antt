@@ -1,8 +1,8 @@
 -- `tally::count_file` is safe: what `find` counts is within the buffer. Assumes nothing.
 use mathlib.Core.Path.{subst}
-use Rattle.files.specs.Loading.{Found-in}
-use Rattle.files.specs.declared.Found.{Found}
-use Rattle.files.specs.declared.Found.the-variants.{Bytes}
+use Rattle.program_files.specs.Loading.{Found-in}
+use Rattle.program_files.specs.declared.Found.{Found}
+use Rattle.program_files.specs.declared.Found.the-variants.{Bytes}
 use borrow.Author.Needs.{needs}
 use Rattle.tally.proofs.count_file.Statement.{statement}
 use Rattle.tally.proofs.count_file.Tie as tie

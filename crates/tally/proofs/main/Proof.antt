@@ -1,8 +1,8 @@
 -- `tally::main` is safe: what `load` counts is within its buffer. Assumes nothing.
 use mathlib.Core.Path.{subst}
-use Rattle.files.specs.Loading.{Loaded-in}
-use Rattle.files.specs.declared.Loaded.{Loaded}
-use Rattle.files.specs.declared.Loaded.the-variants.{Bytes}
+use Rattle.program_files.specs.Loading.{Loaded-in}
+use Rattle.program_files.specs.declared.Loaded.{Loaded}
+use Rattle.program_files.specs.declared.Loaded.the-variants.{Bytes}
 use borrow.Author.Needs.{needs}
 use Rattle.tally.proofs.main.Statement.{statement}
 use Rattle.tally.proofs.main.Tie as tie

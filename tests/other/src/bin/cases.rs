@@ -1,4 +1,4 @@
-//! The cases of the program crate `map_run` and what it must print:
+//! The cases of the program crate `run_map` and what it must print:
 //! `cases GRAPHS FOLDER` writes FOLDER/stdin and FOLDER/stdout.
 
 use other::{gen, reference::map, WORDS_EACH};

@@ -1,9 +1,0 @@
--- `aiger::known` meets its contract. Assumes nothing.
-use Rattle.aiger.specs.Lines.{isKnown}
-use borrow.Author.Needs.{needs}
-use Rattle.aiger.proofs.known.Statement.{statement}
-use Rattle.aiger.proofs.known.Tie as tie
-
-pub known-spec : {M : Type 1} → statement M
-unfolding isKnown
-known-spec = tie.close (tie.spec (λ c κs. search needs) (λ c. rw (c .kind .ensures)))

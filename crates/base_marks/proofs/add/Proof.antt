@@ -1,0 +1,11 @@
+-- `base_marks::add` meets its contract, by those of the two bits. Assumes nothing.
+use borrow.Author.Needs.{needs}
+use Rattle.base_marks.specs.Marks.{added}
+use Rattle.base_marks.proofs.add.Statement.{statement}
+use Rattle.base_marks.proofs.add.Tie as tie
+
+pub add-spec : {M : Type 1} → statement M
+unfolding added
+add-spec = tie.close (tie.spec
+    (λ c. search needs) (λ c. search needs) (λ c κs. search needs) (λ c. search needs) (λ c κs. search needs) (λ c. search needs)
+    (λ c. search needs) (λ c. search needs) (λ c. rw (c .before .before .with-bit .ensures, c .with-bit2 .ensures)))

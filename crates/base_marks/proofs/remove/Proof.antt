@@ -1,0 +1,18 @@
+-- `base_marks::remove` meets its contract, whether v was the last of its word or not. Assumes nothing.
+use mathlib.Core.Path.{sym}
+use borrow.Author.Needs.{needs}
+use borrow.Author.Tests.{eq-eqb, ne-eqb}
+use Rattle.base_marks.specs.Marks.{removed}
+use Rattle.base_marks.proofs.remove.Statement.{statement}
+use Rattle.base_marks.proofs.remove.Tie as tie
+
+returns : tie.Need-returns
+unfolding removed
+returns c = rw (sym (c .before .before .before .flip-bit .ensures), eq-eqb _ 0 (c .if1 .taken), sym (c .before .flip-bit2 .ensures))
+
+pub remove-spec : {M : Type 1} → statement M
+unfolding removed
+remove-spec = tie.close (tie.spec
+    (λ c. search needs) (λ c. search needs) (λ c κs. search needs) (λ c. search needs) (λ c κs. search needs) (λ c. search needs)
+    (λ c. search needs) (λ c. search needs) returns
+    (λ c. rw (sym (c .before .before .before .flip-bit .ensures), ne-eqb _ 0 (c .if1 .left))))

@@ -1,0 +1,75 @@
+// A set of numbers below 4,096: a bit for each, and a bit for each word of those that says whether any of its bits is set, so that the lowest
+// number is found by counting zeros twice.
+ghost use mathlib.Core.Path.{_≡_};
+ghost use Prim.Native.Nat.{_^_, _<_};
+ghost use lib.Bits.{bitOr, bitXor};
+ghost use lib.Count.{trailingZeros};
+ghost use lib.ListN.{replicate};
+ghost use Rattle.base_marks.specs.Marks.{added, removed, lowestOf};
+
+// 64 words of 64 bits, and the word about them.
+pub const WORDS: usize = 65;
+
+const TOP: usize = 64;
+
+pub fn none() -> [u64; WORDS]
+    ensures { λ r. ⌜ r ≡ replicate 65 0 ⌝ }
+{
+    [0u64; WORDS]
+}
+
+fn with_bit(x: u64, j: usize) -> u64
+    requires { ⌜ j < 64 ⌝ }
+    ensures { λ r. ⌜ r ≡ bitOr x (2 ^ j) ⌝ }
+{
+    x | (1u64 << j)
+}
+
+fn flip_bit(x: u64, j: usize) -> u64
+    requires { ⌜ j < 64 ⌝ }
+    ensures { λ r. ⌜ r ≡ bitXor x (2 ^ j) ⌝ }
+{
+    x ^ (1u64 << j)
+}
+
+fn zeros(x: u64) -> usize
+    ensures { λ r. ⌜ r ≡ trailingZeros 64 x ⌝ }
+{
+    u64::trailing_zeros(x) as usize
+}
+
+pub fn add(marks: &mut [u64; WORDS], v: usize)
+    requires { ⌜ v < 4096 ⌝ }
+    ensures { λ _. ⌜ now (marks .exit) ≡ added (now (marks .entry)) v ⌝ }
+{
+    let i = v / 64;
+    let word = with_bit(marks[i], v % 64);
+    let top = with_bit(marks[TOP], i);
+    marks[i] = word;
+    marks[TOP] = top;
+}
+
+pub fn remove(marks: &mut [u64; WORDS], v: usize)
+    requires { ⌜ v < 4096 ⌝ }
+    ensures { λ _. ⌜ now (marks .exit) ≡ removed (now (marks .entry)) v ⌝ }
+{
+    let i = v / 64;
+    let word = flip_bit(marks[i], v % 64);
+    let top = flip_bit(marks[TOP], i);
+    marks[i] = word;
+    if word == 0 {
+        marks[TOP] = top;
+    }
+}
+
+// The lowest number of the set, or 4,096.
+pub fn lowest(marks: &[u64; WORDS]) -> usize
+    ensures { λ r. ⌜ r ≡ lowestOf (now (marks .entry)) ⌝ }
+{
+    let top = marks[TOP];
+    if top == 0 {
+        return 4096;
+    }
+    let i = zeros(top);
+    64 * i + zeros(marks[i])
+}

@@ -1,0 +1,28 @@
+-- `base_text::Cursor::line_end` meets its contract: `ends_at` says how many bytes of the end stand there.
+-- Assumes nothing.
+use borrow.Author.Needs.{needs}
+use mathlib.Core.Path.{sym, ap, _∙_}
+use native.Mathlib.Omega.{arith}
+use lib.Dec.{ltb}
+use Rattle.base_text.specs.Fields.{lineEndAt}
+use Rattle.base_text.proofs.Words.{some-end, end-fits}
+use Rattle.base_text.proofs.Cursor.line_end.Statement.{statement}
+use Rattle.base_text.proofs.Cursor.line_end.Tie as tie
+
+add-t7 : tie.Need-add-t7
+add-t7 c =
+    let a = c .before .before .before .args in
+    omega (arith, c .before .ends-at .ensures, end-fits (a .s .now) (a .self .at) (λ e. c .if1 .left (c .before .ends-at .ensures ∙ e)))
+
+returns : tie.Need-returns
+unfolding lineEndAt
+returns c = rw (ap (ltb 0) (sym (c .before .ends-at .ensures) ∙ c .if1 .taken))
+
+returns-2 : tie.Need-returns-2
+unfolding lineEndAt
+returns-2 c = rw (some-end _ (λ e. c .if1 .left (c .before .ends-at .ensures ∙ e)), sym (c .before .ends-at .ensures))
+
+pub line-end-spec : {M : Type 1} → statement M
+line-end-spec = tie.close
+    (tie.spec
+    (λ c κs. search needs) add-t7 returns returns-2)

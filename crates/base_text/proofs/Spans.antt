@@ -1,0 +1,94 @@
+-- The line at a place, byte by byte: where its contents stop, and where the next line begins. Assumes nothing.
+use Prim.Native.Nat.{ℕ, suc, _+_, _-_, _≤_, _<_}
+use native.Mathlib.Numerals.{add-one}
+use native.Mathlib.Nat.{add-zero, zero-add}
+use native.Mathlib.Omega.{arith}
+use mathlib.Core.Path.{_≡_, refl, sym, ap, _∙_}
+use mathlib.Core.Bool.{Bool, true, false}
+use mathlib.Core.List.{List, [], _∷_}
+use lib.Dec.{ltb}
+use lib.ListN.{length, take, drop, getD, drop-of-length-le, length-drop}
+use lib.Seq.{drop-cons}
+use borrow.Author.Tests.{lt-ltb, le-ltb, ltb-true, ltb-false}
+use Rattle.model.specs.Text.{ended}
+use Rattle.base_text.specs.Fields.{pickBytes, endOf, stops}
+use Rattle.base_text.specs.Lines.{lineOf, endingOf, lineAt, pastLine, spanAt}
+use Rattle.base_text.proofs.Bridge.{line-stop, ending-stop}
+use Rattle.base_text.proofs.Words.{some-end}
+
+-- a line's end stands here
+pub span-stop : (s : List ℕ) (at : ℕ) → (endOf (drop at s) ≡ 0 → ⊥) → spanAt s at ≡ record { stop = at; next = at + endOf (drop at s) }
+unfolding spanAt
+span-stop s at ne = let e = some-end (drop at s) ne in rw (line-stop (drop at s) e, ending-stop (drop at s) e, add-zero at, zero-add (endOf (drop at s)))
+
+-- the text ends here
+pub span-out : (s : List ℕ) (at : ℕ) → length s ≤ at → spanAt s at ≡ record { stop = at; next = at }
+unfolding spanAt lineOf endingOf
+span-out s at h = rw (drop-of-length-le s h, add-zero at)
+
+-- a byte of the contents
+pub span-step : (s : List ℕ) (at : ℕ) → at < length s → endOf (drop at s) ≡ 0 → spanAt s at ≡ spanAt s (at + 1)
+unfolding spanAt lineOf endingOf
+span-step s at h b =
+    let n : endOf (getD s at 0 ∷ drop (suc at) s) ≡ 0 = ap endOf (sym (drop-cons s at 0 h)) ∙ b in
+    let p : at + suc (length (lineOf (drop (suc at) s))) ≡ suc at + length (lineOf (drop (suc at) s)) = omega arith in
+    let q : at + (suc (length (lineOf (drop (suc at) s))) + endingOf (drop (suc at) s)) ≡ suc at + (length (lineOf (drop (suc at) s)) + endingOf (drop (suc at) s)) = omega arith in
+    rw (add-one at, drop-cons s at 0 h, n, p, q)
+
+-- ---- what a span says of the line
+
+line-le : (l : List ℕ) → length (lineOf l) ≤ length l
+unfolding lineOf
+line-le [] = omega arith
+line-le (b ∷ l) = go (stops (b ∷ l)) (line-le l)
+  where
+    go : (t : Bool) → length (lineOf l) ≤ length l → length (pickBytes t [] (b ∷ lineOf l)) ≤ suc (length l)
+    go true h = omega arith
+    go false h = omega arith
+
+line-take : (l : List ℕ) → take (length (lineOf l)) l ≡ lineOf l
+unfolding lineOf
+line-take [] = refl
+line-take (b ∷ l) = go (stops (b ∷ l)) (line-take l)
+  where
+    go : (t : Bool) → take (length (lineOf l)) l ≡ lineOf l → take (length (pickBytes t [] (b ∷ lineOf l))) (b ∷ l) ≡ pickBytes t [] (b ∷ lineOf l)
+    go true e = refl
+    go false e = ap (λ (x : List ℕ). b ∷ x) e
+
+module _ (s : List ℕ) (at : ℕ) where
+  -- its contents lie in the text
+  pub span-fits : at ≤ length s → spanAt s at .stop ≤ length s
+  unfolding spanAt
+  span-fits h = omega (arith, line-le (drop at s), length-drop at s)
+
+  pub span-from : at ≤ spanAt s at .stop
+  unfolding spanAt
+  span-from = omega arith
+
+  pub span-contents : take (spanAt s at .stop - at) (drop at s) ≡ lineAt s at .bytes
+  unfolding spanAt lineAt
+  span-contents =
+      let e : at + length (lineOf (drop at s)) - at ≡ length (lineOf (drop at s)) = omega arith in
+      ap (λ (k : ℕ). take k (drop at s)) e ∙ line-take (drop at s)
+
+  -- it has its end where the next line begins further on
+  pub span-ended : ltb (spanAt s at .stop) (spanAt s at .next) ≡ ended (lineAt s at)
+  unfolding spanAt lineAt
+  span-ended = go (ltb 0 (endingOf (drop at s))) refl
+    where
+      go : (t : Bool) → ltb 0 (endingOf (drop at s)) ≡ t → ltb (at + length (lineOf (drop at s))) (at + (length (lineOf (drop at s)) + endingOf (drop at s))) ≡ t
+      go true e =
+          let l : 0 < endingOf (drop at s) = ltb-true 0 (endingOf (drop at s)) e in
+          lt-ltb (at + length (lineOf (drop at s))) (at + (length (lineOf (drop at s)) + endingOf (drop at s))) (omega arith)
+      go false e =
+          let l : endingOf (drop at s) ≤ 0 = ltb-false 0 (endingOf (drop at s)) e in
+          le-ltb (at + length (lineOf (drop at s))) (at + (length (lineOf (drop at s)) + endingOf (drop at s))) (omega arith)
+
+  pub span-next : spanAt s at .next ≡ pastLine s at
+  unfolding spanAt pastLine
+  span-next = refl
+
+  -- and by as many bytes as the end has: a reader that takes byte 10 alone asks for one
+  pub span-long : spanAt s at .next ≡ spanAt s at .stop + lineAt s at .ending
+  unfolding spanAt lineAt
+  span-long = omega arith

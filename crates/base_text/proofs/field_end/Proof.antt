@@ -1,0 +1,40 @@
+-- `base_text::field_end` meets its contract. The invariant: the field from here on ends where that from the start does; the measure is what is left of the text.
+-- Assumes nothing.
+use borrow.Author.Needs.{needs}
+use mathlib.Core.Path.{_≡_, refl, sym, _∙_}
+use Prim.Native.Nat.{_-_}
+use lib.ListN.{length}
+use Rattle.base_text.specs.Fields.{endAt}
+use Rattle.base_text.proofs.Words.{word-space, word-line, word-out, end-none, end-step}
+use Rattle.base_text.proofs.field_end.Statement.{statement}
+use Rattle.base_text.proofs.field_end.Tie as tie
+
+abbrev Inv-loop : tie.InvT-loop
+Inv-loop s from at₀ at = endAt s from ≡ endAt s at
+
+abbrev μ-loop : tie.MeasureT-loop
+μ-loop s from at₀ at = length s - at
+
+returns : tie.Need-returns Inv-loop μ-loop
+returns c = sym (c .before .before .before .loop .inv ∙ end-none _ _ (word-space _ _ (c .before .before .loop-test .taken) (c .if1 .taken)))
+
+returns-2 : tie.Need-returns-2 Inv-loop μ-loop
+returns-2 c =
+    let l = c .before .before .before .before .before in
+    sym (l .loop .inv ∙ end-none _ _ (word-line (l .before .before .args .s .now) (l .loop .at) (λ e. c .if2 .taken (c .before .ends-at .ensures ∙ e))))
+
+loop-again : tie.Need-loop-again Inv-loop μ-loop
+loop-again c =
+    let l = c .before .before .before .before .before in
+    l .loop .inv
+    ∙ end-step (l .before .before .args .s .now) (l .loop .at) (c .before .before .before .before .loop-test .taken) (c .before .before .if1 .left) (sym (c .before .ends-at .ensures) ∙ c .if2 .left)
+
+returns-3 : tie.Need-returns-3 Inv-loop μ-loop
+returns-3 c = sym (c .before .loop .inv ∙ end-none _ _ (word-out _ _ (c .loop-test .left)))
+
+pub field-end-spec : {M : Type 1} → statement M
+field-end-spec =
+    tie.close
+    (tie.spec
+    Inv-loop μ-loop (λ c. refl) (λ c. search needs) returns (λ c κs. search needs) returns-2 (λ c. search needs) (λ c. search needs) loop-again
+    returns-3)

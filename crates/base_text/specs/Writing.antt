@@ -1,0 +1,11 @@
+-- What a writer leaves: bytes put from a place on, and the place past them. Assumes nothing.
+use mathlib.Core.Path.{_≡_}
+use mathlib.Core.List.{List}
+use Prim.Native.Nat.{ℕ, _+_}
+use lib.ListN.{length}
+use Rattle.base_words.specs.Put.{putAt}
+
+-- `before` with the bytes put from `at` on is `after`, and `end` is the place past them
+pub record Wrote (before after : List ℕ) (at end : ℕ) (bytes : List ℕ) : Type 0 where
+  pub ends : end ≡ at + length bytes
+  pub leaves : after ≡ putAt before at bytes

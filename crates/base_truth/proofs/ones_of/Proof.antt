@@ -1,0 +1,26 @@
+-- `base_truth::ones_of` meets its contract: that the number holds the leaves' tables antt computes.
+-- Assumes nothing.
+use mathlib.Core.Bool.{Bool}
+use Prim.Native.Nat.{ℕ, _*_, _/_, _%_, _^_}
+use lib.Dec.{T, eqb, eqb→eq}
+use borrow.Author.Needs.{needs}
+use Rattle.model.specs.Base.{all, below, bit}
+use Rattle.model.specs.Cuts.{tabulate}
+use Rattle.base_truth.specs.Variant.{leafTable}
+use Rattle.base_truth.proofs.Tested.{at}
+use Rattle.base_truth.proofs.ones_of.Statement.{statement}
+use Rattle.base_truth.proofs.ones_of.Tie as tie
+
+right : ℕ → Bool
+right k = eqb (18374951396690406058 / 2 ^ (16 * k) % 65536) (leafTable k)
+
+all-right : T (all right (below 4))
+unfolding right all below leafTable tabulate bit
+all-right = tt
+
+returns : tie.Need-returns
+unfolding right
+returns c = eqb→eq (18374951396690406058 / 2 ^ (16 * c .args .k) % 65536) (leafTable (c .args .k)) (at right 4 all-right (c .args .k) (c .pre))
+
+pub ones-of-spec : {M : Type 1} → statement M
+ones-of-spec = tie.close (tie.spec (λ c. search needs) (λ c. search needs) (λ c. search needs) returns)

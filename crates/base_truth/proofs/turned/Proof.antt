@@ -1,0 +1,16 @@
+-- `base_truth::turned` meets its contract, by that of `crossed_at` at each pin. Assumes nothing.
+use mathlib.Core.Path.{ap, _∙_}
+use Rattle.base_truth.specs.Variant.{placesOf, crossedAt, turned}
+use borrow.Author.Needs.{needs}
+use Rattle.base_truth.proofs.turned.Statement.{statement}
+use Rattle.base_truth.proofs.turned.Tie as tie
+
+returns : tie.Need-returns
+unfolding turned
+returns c =
+    let a = c .before .before .before .before .args in
+    c .crossed-at4 .ensures ∙ ap (crossedAt (placesOf (a .order)) (a .mask) 3)
+    (c .before .crossed-at3 .ensures ∙ ap (crossedAt (placesOf (a .order)) (a .mask) 2) (c .before .before .crossed-at2 .ensures ∙ ap (crossedAt (placesOf (a .order)) (a .mask) 1) (c .before .before .before .crossed-at .ensures)))
+
+pub turned-spec : {M : Type 1} → statement M
+turned-spec = tie.close (tie.spec (λ c κs. search needs) (λ c κs. search needs) (λ c κs. search needs) (λ c κs. search needs) returns)

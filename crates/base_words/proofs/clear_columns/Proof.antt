@@ -1,0 +1,17 @@
+-- `base_words::clear_columns` meets its contract: as many words as there are before the cut lists. Assumes nothing.
+use mathlib.Core.Path.{_≡_, ap, _∙_}
+use Prim.Native.Nat.{ℕ, _-_, _+_, _*_}
+use native.Mathlib.Omega.{arith}
+use Rattle.base_words.specs.Put.{putAt, zeros}
+use Rattle.base_words.specs.Layout.{listsFrom}
+use borrow.Author.Needs.{needs}
+use Rattle.base_words.proofs.clear_columns.Statement.{statement}
+use Rattle.base_words.proofs.clear_columns.Tie as tie
+
+returns : tie.Need-returns
+returns c =
+    let s = c .before .before .before .before .before .args in let e : 16 * (s .m + 1) - 0 ≡ listsFrom (s .m) = omega arith in
+    c .before .before .clear .ensures ∙ ap (λ (n : ℕ). putAt (s .work .now) 0 (zeros n)) e
+
+pub clear-columns-spec : {M : Type 1} → statement M
+clear-columns-spec = tie.close (tie.spec (λ c. search needs) (λ c. search needs) (λ c κs. search needs) (λ c. search needs) returns)

@@ -1,0 +1,12 @@
+-- `base_words::is_needed` meets its contract: by the literal's phase. Assumes nothing.
+use borrow.Author.Tests.{eq-eqb, ne-eqb}
+use Rattle.base_words.specs.Phases.{isNeeded}
+use borrow.Author.Needs.{needs}
+use Rattle.base_words.proofs.is_needed.Statement.{statement}
+use Rattle.base_words.proofs.is_needed.Tie as tie
+
+pub is-needed-spec : {M : Type 1} → statement M
+unfolding isNeeded
+is-needed-spec = tie.close (tie.spec
+    (λ c κs. search needs) (λ c. rw (eq-eqb _ _ (c .if1 .taken), c .before .needed .ensures))
+    (λ c. rw (ne-eqb _ _ (c .if1 .left), c .before .needed .ensures)))

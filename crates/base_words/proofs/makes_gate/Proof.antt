@@ -1,0 +1,22 @@
+-- `base_words::makes_gate` meets its contract. Assumes nothing.
+use mathlib.Core.Path.{sym, ap, _∙_}
+use mathlib.Core.Bool.{Bool, not, _&&_}
+use Rattle.model.specs.Netlist.{isOwn}
+use Rattle.base_words.specs.Phases.{makesGate}
+use borrow.Author.Needs.{needs}
+use Rattle.base_words.proofs.makes_gate.Statement.{statement}
+use Rattle.base_words.proofs.makes_gate.Tie as tie
+
+returns : tie.Need-returns
+unfolding makesGate
+returns c =
+    sym (ap (λ (b : Bool). not b && not (isOwn (c .before .before .args .p .source))) (sym (c .before .is-absent .ensures) ∙ c .if1 .taken))
+
+returns-2 : tie.Need-returns-2
+unfolding makesGate
+returns-2 c =
+    let s = c .before .before .before .args .p .source in
+    ap not (c .is-own .ensures) ∙ sym (ap (λ (b : Bool). not b && not (isOwn s)) (sym (c .before .before .is-absent .ensures) ∙ c .before .if1 .left))
+
+pub makes-gate-spec : {M : Type 1} → statement M
+makes-gate-spec = tie.close (tie.spec (λ c κs. search needs) (λ c κs. search needs) returns returns-2)

@@ -1,0 +1,14 @@
+-- `base_words::store_phase` meets its contract: what `put` leaves, at what `phase_words` gives. Assumes nothing.
+use mathlib.Core.Path.{ap, _∙_}
+use Rattle.base_words.specs.Put.{putAt}
+use borrow.Author.Needs.{needs}
+use Rattle.base_words.proofs.store_phase.Statement.{statement}
+use Rattle.base_words.proofs.store_phase.Tie as tie
+
+returns : tie.Need-returns
+returns c =
+    let called = c .before .before .before .before .before in let s = called .before .before .args in
+    c .before .before .put .ensures ∙ ap (putAt (s .work .now) (s .at)) (called .phase-words .ensures)
+
+pub store-phase-spec : {M : Type 1} → statement M
+store-phase-spec = tie.close (tie.spec (λ c κs. search needs) (λ c. search needs) (λ c κs. search needs) (λ c. search needs) returns)

@@ -1,0 +1,42 @@
+-- What the lent words hold between the passes, in terms of `model`: the graph, its placing order, its cuts, the chosen phases and the needed ones.
+-- Assumes nothing.
+use mathlib.Core.Path.{_≡_}
+use mathlib.Core.List.{List, [], List·Memᴰ}
+use Prim.Native.Nat.{ℕ, _+_, _*_, _≤_, _<_}
+use lib.ListN.{length, getD}
+use Rattle.model.specs.Base.{elem}
+use Rattle.model.specs.Graph.{Graph, node, placingOrder}
+use Rattle.model.specs.Cuts.{cutsOf, cutTable}
+use Rattle.model.specs.Choice.{chosen}
+use Rattle.model.specs.Netlist.{needed}
+use Rattle.model.specs.declared.Cell.{Cell}
+use Rattle.base_words.specs.Layout.{RoomFor, slotAt, placeAt, lateAt, outputAt}
+use Rattle.base_words.specs.Record.{nodeAt, cutsAt, functionOf}
+use Rattle.base_words.specs.Phases.{phaseAt, isNeeded}
+
+-- the nodes and the outputs of a graph, and when its inputs arrive
+pub record HoldsGraph (w : List ℕ) (g : Graph) : Type 0 where
+  pub room : RoomFor w (g .size) (length (g .outputs))
+  pub nodes : (v : ℕ) → v ≤ g .size → nodeAt w (g .size) v ≡ node g v
+  pub outputs : (i : ℕ) → i < length (g .outputs) → outputAt w (g .size) i ≡ getD (g .outputs) i 0
+  pub late : (v : ℕ) → v ≤ g .size → lateAt w (g .size) v ≡ g .late v
+
+-- its placing order: slot i has the i-th placed variable, and a variable's place is 1 and its slot
+pub record HoldsOrder (w : List ℕ) (g : Graph) : Type 0 where
+  pub slots : (i : ℕ) → i < length (placingOrder g) → slotAt w (g .size) i ≡ getD (placingOrder g) i 0
+  pub places : (i : ℕ) → i < length (placingOrder g) → placeAt w (g .size) (getD (placingOrder g) i 0) ≡ i + 1
+  pub waiting : (v : ℕ) → v ≤ g .size → ¬ List·Memᴰ v (placingOrder g) → placeAt w (g .size) v ≡ 0
+
+-- its cuts, in listed order, with their functions
+pub record HoldsCuts (w : List ℕ) (g : Graph) : Type 0 where
+  pub lists : (v : ℕ) → v ≤ g .size → cutsAt w (g .size) v ≡ cutsOf g v
+  pub functions : (v : ℕ) → List·Memᴰ v (placingOrder g) → (k : ℕ) → k < length (cutsOf g v)
+      → functionOf w (g .size) v k ≡ cutTable g (getD (cutsOf g v) k []) v
+
+-- the chosen phases
+pub record HoldsPhases (w : List ℕ) (cells : List Cell) (g : Graph) : Type 0 where
+  pub phases : (l : ℕ) → l ≤ 2 * g .size + 1 → phaseAt w (g .size) l ≡ chosen cells g l
+
+-- the needed ones
+pub record HoldsNeeded (w : List ℕ) (cells : List Cell) (g : Graph) : Type 0 where
+  pub marks : (l : ℕ) → l ≤ 2 * g .size + 1 → isNeeded w (g .size) l ≡ elem l (needed cells g (chosen cells g))

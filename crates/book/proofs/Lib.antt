@@ -1,2 +1,0 @@
--- `Looking`: what stands where in a book.
-pub mod Looking

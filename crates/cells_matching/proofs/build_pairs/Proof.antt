@@ -1,0 +1,72 @@
+-- `cells_matching::build_pairs` meets its contract. The invariant: the pairs from number n + i on are matched. The measure is i.
+-- Assumes nothing.
+use mathlib.Core.Path.{_≡_, ap, _∙_}
+use mathlib.Core.List.{List}
+use Prim.Native.Nat.{ℕ, _+_, _-_, _≤_}
+use native.Mathlib.Omega.{arith}
+use lib.ListN.{length, drop}
+use Rattle.model.specs.Cells.{cellAt, cellsOf}
+use Rattle.model.specs.declared.Cell.{Cell}
+use Rattle.cells_pairs.specs.Codes.{cellsBy}
+use Rattle.cells_pairs.proofs.Cells.{by-length}
+use Rattle.cells_matching.specs.Sheet.{cellMatched, listMatched}
+use Rattle.cells_matching.proofs.Linking.{listed-none, list-long}
+use Rattle.cells_matching.proofs.Pairing.{pairs-down}
+use Rattle.cells_matching.proofs.build_pairs.Statement.{statement}
+use Rattle.cells_matching.proofs.build_pairs.Tie as tie
+
+abbrev Inv-loop : tie.InvT-loop
+Inv-loop lib codes sheet₀ n i₀ sheet i = (i ≤ length codes) × (sheet ≡ listMatched (drop (lib .n + i) (cellsBy (cellsOf lib) codes)) (lib .n + i) sheet₀)
+
+abbrev μ-loop : tie.MeasureT-loop
+μ-loop lib codes sheet₀ n i₀ sheet i = i
+
+loop-holds : tie.Need-loop-holds Inv-loop μ-loop
+loop-holds c =
+    let s = c .before .before in
+    let a = s .args in
+    (omega arith, listed-none (cellsBy (cellsOf (a .lib)) (a .codes .now)) (a .lib .n + length (a .codes .now)) (a .sheet .now) (omega (arith, by-length (cellsOf (a .lib)) (a .codes .now), s .pre .0 .joinable .whole)))
+
+add-match-pair : tie.Need-add-match-pair Inv-loop μ-loop
+add-match-pair c = let s = c .before .before .before .before in omega (arith, s .pre .0 .few, c .before .loop .inv .0)
+
+match-pair-requires : tie.Need-match-pair-requires Inv-loop μ-loop
+match-pair-requires c κs =
+    let s = c .before .before .before .before .before in
+    let a = s .args in
+    let l = c .before .before .loop in
+    let t = c .before .loop-test .taken in
+    (s .pre .0, omega (arith, l .inv .0, t), omega (arith, s .pre .1, l .inv .0, t, ap length (l .inv .1) ∙ list-long (drop (a .lib .n + l .i) (cellsBy (cellsOf (a .lib)) (a .codes .now))) (a .lib .n + l .i) (a .sheet .now)))
+
+loop-again : tie.Need-loop-again Inv-loop μ-loop
+loop-again c =
+    let s = c .before .before .before .before .before .before .before .before in
+    let a = s .args in
+    let l = c .before .before .before .before .before .loop in
+    let t = c .before .before .before .before .loop-test .taken in
+    let k : ℕ = a .lib .n + (l .i - 1) in
+    let cells : List Cell = cellsBy (cellsOf (a .lib)) (a .codes .now) in (
+      omega (arith, l .inv .0),
+      c .before .before .match-pair .ensures
+          ∙ ap (cellMatched (cellAt cells k) k) (l .inv .1)
+          ∙ pairs-down cells (a .lib .n) (l .i) (a .sheet .now) t (omega (arith, by-length (cellsOf (a .lib)) (a .codes .now), s .pre .0 .joinable .whole, l .inv .0)),
+    )
+
+same-length : tie.Need-same-length Inv-loop μ-loop
+same-length c =
+    let a = c .before .before .before .before .args in
+    let l = c .before .loop in
+    ap length (l .inv .1) ∙ list-long (drop (a .lib .n + l .i) (cellsBy (cellsOf (a .lib)) (a .codes .now))) (a .lib .n + l .i) (a .sheet .now)
+
+returns : tie.Need-returns Inv-loop μ-loop
+returns c =
+    let a = c .before .before .before .before .args in
+    let l = c .before .loop in
+    let e : a .lib .n + l .i ≡ a .lib .n = omega (arith, c .loop-test .left) in
+    l .inv .1 ∙ ap (λ (m : ℕ). listMatched (drop m (cellsBy (cellsOf (a .lib)) (a .codes .now))) m (a .sheet .now)) e
+
+pub build-pairs-spec : {M : Type 1} → statement M
+build-pairs-spec =
+    tie.close
+    (tie.spec
+    Inv-loop μ-loop loop-holds (λ c. omega arith) add-match-pair match-pair-requires (λ c. omega arith) loop-again same-length returns)

@@ -1,0 +1,28 @@
+-- `cells_matching::push` meets its contract: three stores.
+-- Assumes nothing.
+use mathlib.Core.Path.{refl}
+use Prim.Native.Nat.{_+_, _*_}
+use native.Mathlib.Omega.{arith}
+use lib.ListN.{getD, length-set}
+use borrow.Author.Needs.{needs}
+use Rattle.cells_matching.specs.Sheet.{pushed}
+use Rattle.cells_matching.proofs.push.Statement.{statement}
+use Rattle.cells_matching.proofs.push.Tie as tie
+
+slice-write-sheet-2 : tie.Need-slice-write-sheet-2
+slice-write-sheet-2 c =
+    let s = c .before in
+    let a = s .args in
+    omega (arith, s .fits .t, s .pre .1, length-set (a .sheet .now) (66560 + 2 * a .x) (getD (a .sheet .now) (a .t) 0))
+
+returns : tie.Need-returns
+unfolding pushed
+returns c = refl
+
+pub push-spec : {M : Type 1} → statement M
+push-spec =
+    tie.close
+    (tie.spec
+    (λ c. search needs) (λ c. search needs) (λ c. search needs) (λ c. search needs) (λ c. search needs) (λ c. search needs) (λ c. search needs)
+    (λ c. search needs) (λ c. search needs) slice-write-sheet-2 (λ c. search needs) (λ c. search needs) (λ c. search needs) (λ c. search needs)
+    returns)

@@ -1,0 +1,96 @@
+-- `cells_matching::try_variant` meets its contract: one pin that is not earlier is enough to stay, and with none the variant is the better.
+-- Assumes nothing.
+use mathlib.Core.Path.{_≡_, refl, ap₂, _∙_}
+use Prim.Native.Nat.{ℕ, _+_, _*_, _/_, _%_, _<_, max}
+use native.Mathlib.Omega.{arith}
+use lib.ListN.{getD}
+use Rattle.cells_matching.specs.Best.{waits}
+use Rattle.cells_matching.proofs.Walking.{delay-within, brief-at, brief-first, one-late, all-early}
+use borrow.Author.Needs.{needs}
+use Rattle.cells_matching.proofs.try_variant.Statement.{statement}
+use Rattle.cells_matching.proofs.try_variant.Tie as tie
+
+lowest : (n t u v w a : ℕ) → a ≡ max (max t u) (max v w) → t < n → u < n → v < n → w < n → a < n
+lowest n t u v w a e ht hu hv hw = omega (arith, e)
+
+pin-time-requires : tie.Need-pin-time-requires
+pin-time-requires c κs =
+    let s = c .before .before .before in
+    let a = s .args in
+    let p : ℕ = c .wide .result in
+    let picked : p ≡ getD (a .sheet .now) (66560 + 2 * a .x + 1) 0 = c .wide .ensures in
+    (omega arith, omega (arith, delay-within (a .sheet .now) (a .times .now) (a .x) (s .pre .0) (a .b) p picked), brief-first (a .sheet .now) (a .times .now) (a .x) (s .pre .0) (a .b) p picked, s .pre .1)
+
+returns : tie.Need-returns
+returns c =
+    let s = c .before .before .before .before .before .before in
+    let a = s .args in
+    let p : ℕ = c .before .before .before .wide .result in
+    let picked : p ≡ getD (a .sheet .now) (66560 + 2 * a .x + 1) 0 = c .before .before .before .wide .ensures in
+    one-late (a .sheet .now) (a .times .now) (a .x) (s .pre .0) (a .b) p picked (c .before .before .pin-time .result) (waits (a .sheet .now) (a .times .now) (p / 16 % 16) (65536 + p / 65536 + 1)) (waits (a .sheet .now) (a .times .now) (p / 256 % 16) (65536 + p / 65536 + 2)) (waits (a .sheet .now) (a .times .now) (p / 4096 % 16) (65536 + p / 65536 + 3)) (c .before .before .pin-time .ensures, refl, refl, refl) (omega (arith, c .if1 .taken))
+
+pin-time-requires-2 : tie.Need-pin-time-requires-2
+pin-time-requires-2 c κs =
+    let s = c .before .before .before .before .before .before in
+    let a = s .args in
+    let p : ℕ = c .before .before .before .wide .result in
+    let picked : p ≡ getD (a .sheet .now) (66560 + 2 * a .x + 1) 0 = c .before .before .before .wide .ensures in
+    (omega arith, omega (arith, delay-within (a .sheet .now) (a .times .now) (a .x) (s .pre .0) (a .b) p picked), brief-at (a .sheet .now) (a .times .now) (a .x) (s .pre .0) (a .b) p picked 1 (omega arith), s .pre .1)
+
+returns-2 : tie.Need-returns-2
+returns-2 c =
+    let s = c .before .before .before .before .before .before .before .before .before in
+    let a = s .args in
+    let p : ℕ = c .before .before .before .before .before .before .wide .result in
+    let picked : p ≡ getD (a .sheet .now) (66560 + 2 * a .x + 1) 0 = c .before .before .before .before .before .before .wide .ensures in
+    one-late (a .sheet .now) (a .times .now) (a .x) (s .pre .0) (a .b) p picked (c .before .before .before .before .before .pin-time .result) (c .before .before .pin-time2 .result) (waits (a .sheet .now) (a .times .now) (p / 256 % 16) (65536 + p / 65536 + 2)) (waits (a .sheet .now) (a .times .now) (p / 4096 % 16) (65536 + p / 65536 + 3)) (c .before .before .before .before .before .pin-time .ensures, c .before .before .pin-time2 .ensures, refl, refl) (omega (arith, c .if2 .taken))
+
+pin-time-requires-3 : tie.Need-pin-time-requires-3
+pin-time-requires-3 c κs =
+    let s = c .before .before .before .before .before .before .before .before .before in
+    let a = s .args in
+    let p : ℕ = c .before .before .before .before .before .before .wide .result in
+    let picked : p ≡ getD (a .sheet .now) (66560 + 2 * a .x + 1) 0 = c .before .before .before .before .before .before .wide .ensures in
+    (omega arith, omega (arith, delay-within (a .sheet .now) (a .times .now) (a .x) (s .pre .0) (a .b) p picked), brief-at (a .sheet .now) (a .times .now) (a .x) (s .pre .0) (a .b) p picked 2 (omega arith), s .pre .1)
+
+returns-3 : tie.Need-returns-3
+returns-3 c =
+    let s = c .before .before .before .before .before .before .before .before .before .before .before .before in
+    let a = s .args in
+    let p : ℕ = c .before .before .before .before .before .before .before .before .before .wide .result in
+    let picked : p ≡ getD (a .sheet .now) (66560 + 2 * a .x + 1) 0 = c .before .before .before .before .before .before .before .before .before .wide .ensures in
+    one-late (a .sheet .now) (a .times .now) (a .x) (s .pre .0) (a .b) p picked (c .before .before .before .before .before .before .before .before .pin-time .result) (c .before .before .before .before .before .pin-time2 .result) (c .before .before .pin-time3 .result) (waits (a .sheet .now) (a .times .now) (p / 4096 % 16) (65536 + p / 65536 + 3)) (c .before .before .before .before .before .before .before .before .pin-time .ensures, c .before .before .before .before .before .pin-time2 .ensures, c .before .before .pin-time3 .ensures, refl) (omega (arith, c .if3 .taken))
+
+pin-time-requires-4 : tie.Need-pin-time-requires-4
+pin-time-requires-4 c κs =
+    let s = c .before .before .before .before .before .before .before .before .before .before .before .before in
+    let a = s .args in
+    let p : ℕ = c .before .before .before .before .before .before .before .before .before .wide .result in
+    let picked : p ≡ getD (a .sheet .now) (66560 + 2 * a .x + 1) 0 = c .before .before .before .before .before .before .before .before .before .wide .ensures in
+    (omega arith, omega (arith, delay-within (a .sheet .now) (a .times .now) (a .x) (s .pre .0) (a .b) p picked), brief-at (a .sheet .now) (a .times .now) (a .x) (s .pre .0) (a .b) p picked 3 (omega arith), s .pre .1)
+
+returns-4 : tie.Need-returns-4
+returns-4 c =
+    let s = c .before .before .before .before .before .before .before .before .before .before .before .before .before .before .before in
+    let a = s .args in
+    let p : ℕ = c .before .before .before .before .before .before .before .before .before .before .before .before .wide .result in
+    let picked : p ≡ getD (a .sheet .now) (66560 + 2 * a .x + 1) 0 = c .before .before .before .before .before .before .before .before .before .before .before .before .wide .ensures in
+    one-late (a .sheet .now) (a .times .now) (a .x) (s .pre .0) (a .b) p picked (c .before .before .before .before .before .before .before .before .before .before .before .pin-time .result) (c .before .before .before .before .before .before .before .before .pin-time2 .result) (c .before .before .before .before .before .pin-time3 .result) (c .before .before .pin-time4 .result) (c .before .before .before .before .before .before .before .before .before .before .before .pin-time .ensures, c .before .before .before .before .before .before .before .before .pin-time2 .ensures, c .before .before .before .before .before .pin-time3 .ensures, c .before .before .pin-time4 .ensures) (omega (arith, c .if4 .taken))
+
+returns-5 : tie.Need-returns-5
+returns-5 c =
+    let s = c .before .before .before .before .before .before .before .before .before .before .before .before .before .before .before .before .before .before in
+    let a = s .args in
+    let p : ℕ = c .before .before .before .before .before .before .before .before .before .before .before .before .before .before .before .wide .result in
+    let picked : p ≡ getD (a .sheet .now) (66560 + 2 * a .x + 1) 0 = c .before .before .before .before .before .before .before .before .before .before .before .before .before .before .before .wide .ensures in
+    let top = c .larger3 .ensures ∙ ap₂ max (c .before .before .larger .ensures) (c .before .larger2 .ensures) in
+    all-early (a .sheet .now) (a .times .now) (a .x) (s .pre .0) (a .b) p picked (c .before .before .before .before .before .before .before .before .before .before .before .before .before .before .pin-time .result) (c .before .before .before .before .before .before .before .before .before .before .before .pin-time2 .result) (c .before .before .before .before .before .before .before .before .pin-time3 .result) (c .before .before .before .before .before .pin-time4 .result) (c .larger3 .result) (c .before .before .before .before .before .before .before .before .before .before .before .before .before .before .pin-time .ensures, c .before .before .before .before .before .before .before .before .before .before .before .pin-time2 .ensures, c .before .before .before .before .before .before .before .before .pin-time3 .ensures, c .before .before .before .before .before .pin-time4 .ensures) top
+    (lowest (a .b .arrival) (c .before .before .before .before .before .before .before .before .before .before .before .before .before .before .pin-time .result) (c .before .before .before .before .before .before .before .before .before .before .before .pin-time2 .result) (c .before .before .before .before .before .before .before .before .pin-time3 .result) (c .before .before .before .before .before .pin-time4 .result) (c .larger3 .result) top (c .before .before .before .before .before .before .before .before .before .before .before .before .if1 .left) (c .before .before .before .before .before .before .before .before .before .if2 .left) (c .before .before .before .before .before .before .if3 .left) (c .before .before .before .if4 .left))
+
+pub try-variant-spec : {M : Type 1} → statement M
+try-variant-spec =
+    tie.close
+    (tie.spec
+    (λ c. search needs) (λ c. search needs) (λ c. search needs) (λ c. search needs) (λ c. search needs) (λ c κs. search needs) (λ c. search needs)
+    pin-time-requires returns (λ c. search needs) pin-time-requires-2 returns-2 (λ c. search needs) pin-time-requires-3 returns-3 (λ c. search needs)
+    pin-time-requires-4 returns-4 (λ c. search needs) (λ c κs. search needs) (λ c κs. search needs) (λ c κs. search needs) returns-5)

@@ -1,0 +1,23 @@
+-- `cells_pairs::cell_at` meets its contract: what is lent begins at the line's bytes.
+-- Assumes nothing.
+use mathlib.Core.Path.{ap, _∙_}
+use Prim.Native.Nat.{_+_, _-_, _*_}
+use native.Mathlib.Omega.{arith}
+use lib.ListN.{length, drop, length-drop}
+use lib.Seq.{take-all}
+use Rattle.cells_pairs.specs.Bytes.{cellFrom}
+use borrow.Author.Needs.{needs}
+use Rattle.cells_pairs.proofs.cell_at.Statement.{statement}
+use Rattle.cells_pairs.proofs.cell_at.Tie as tie
+
+returns : tie.Need-returns
+returns c =
+    let s = c .before .before .before in
+    let at = 1 + 12 * s .args .k in
+    c .cell-from .ensures ∙ ap cellFrom (take-all (length (s .args .book .now) - at) (drop at (s .args .book .now)) (omega (arith, length-drop at (s .args .book .now))))
+
+pub cell-at-spec : {M : Type 1} → statement M
+cell-at-spec =
+    tie.close
+    (tie.spec
+    (λ c. search needs) (λ c. search needs) (λ c. search needs) (λ c. search needs) (λ c. search needs) (λ c κs. search needs) returns)

@@ -1,0 +1,24 @@
+-- `cells_pairs::code_at` meets its contract.
+-- Assumes nothing.
+use native.Mathlib.Omega.{arith}
+use mathlib.Core.Path.{ap}
+use Prim.Native.Nat.{ℕ, _+_, _-_, _*_}
+use lib.ListN.{getD}
+use borrow.Author.Needs.{needs}
+use Rattle.cells_pairs.proofs.code_at.Statement.{statement}
+use Rattle.cells_pairs.proofs.code_at.Tie as tie
+
+returns : tie.Need-returns
+returns c =
+    let n = c .before .before .before .before in
+    let s = n .before .before in
+    let first = ap (λ (k : ℕ). getD (s .args .book .now) (1 + 12 * k + 2 * (s .args .k - k)) 0) (n .count .ensures) in
+    let second = ap (λ (k : ℕ). getD (s .args .book .now) (1 + 12 * k + 2 * (s .args .k - k) + 1) 0) (n .count .ensures) in
+    omega (arith, first, second, c .before .before .byte .ensures .0, c .byte2 .ensures .0)
+
+pub code-at-spec : {M : Type 1} → statement M
+code-at-spec =
+    tie.close
+    (tie.spec
+    (λ c κs. search needs) (λ c. search needs) (λ c. search needs) (λ c. search needs) (λ c. search needs) (λ c. search needs) (λ c. search needs)
+    (λ c κs. search needs) (λ c. search needs) (λ c. search needs) (λ c κs. search needs) (λ c. search needs) (λ c. search needs) returns)

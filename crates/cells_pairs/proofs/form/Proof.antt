@@ -1,0 +1,78 @@
+-- `cells_pairs::form` meets its contract. The invariant: the numbers of the first i roots are written. The measure is the number of lines left.
+-- Assumes nothing.
+use Prim.Native.Nat.{_+_, _-_, _<_, _≤_}
+use native.Mathlib.Omega.{arith}
+use borrow.Author.Needs.{needs}
+use lib.ListN.{length, take, getD}
+use Rattle.model.specs.Base.{from, below}
+use Rattle.model.specs.Cells.{noCell, cellsOf}
+use Rattle.base_text.proofs.Progress.{Partly, begin, step, room, kept, end}
+use Rattle.cells_pairs.specs.Codes.{pinCodes, rootCodes, pairCodes}
+use Rattle.cells_pairs.proofs.Joining.{listed-pins, roots-begin, roots-next, roots-end}
+use Rattle.cells_pairs.proofs.form.Statement.{statement}
+use Rattle.cells_pairs.proofs.form.Tie as tie
+
+abbrev Inv-loop : tie.InvT-loop
+Inv-loop codes₀ lib cells n next₀ i₀ codes next i = (i ≤ n) × Partly codes₀ codes 0 next (pairCodes (take n cells)) (rootCodes (take n cells) (from i (n - i)))
+
+abbrev μ-loop : tie.MeasureT-loop
+μ-loop codes₀ lib cells n next₀ i₀ codes next i = n - i
+
+loop-holds : tie.Need-loop-holds Inv-loop μ-loop
+loop-holds c =
+    let s = c .before .before in
+    (omega arith, begin (s .args .codes .now) 0 (roots-begin (s .args .lib) (s .pre .0)))
+
+mul-root : tie.Need-mul-root Inv-loop μ-loop
+mul-root c = omega (arith, c .before .before .before .before .pre .0 .few)
+
+array-copy-out-root : tie.Need-array-copy-out-root Inv-loop μ-loop
+array-copy-out-root c = omega (arith, c .before .before .before .before .pre .0 .few)
+
+put-pins-requires : tie.Need-put-pins-requires Inv-loop μ-loop
+unfolding cellsOf
+put-pins-requires c κs =
+    let s = c .before .before .before .before .before .before .before in
+    let l = c .before .before .before .before .loop in
+    let h : l .i < s .args .lib .n = c .before .before .before .loop-test .taken in
+    let fits : 0 + length (pairCodes (cellsOf (s .args .lib))) ≤ length (s .args .codes .now) = omega (arith, s .pre .1) in (
+      s .pre .0,
+      h,
+      listed-pins (s .args .lib) (s .pre .0) (l .i) h,
+      room fits (l .inv .1) (pinCodes (cellsOf (s .args .lib)) (l .i) (below (getD (s .args .lib .cells) (l .i) noCell .pins)))
+          (rootCodes (cellsOf (s .args .lib)) (from (l .i + 1) (s .args .lib .n - (l .i + 1)))) (roots-next (s .args .lib) (s .pre .0) (l .i) h),
+    )
+
+loop-again : tie.Need-loop-again Inv-loop μ-loop
+unfolding cellsOf
+loop-again c =
+    let s = c .before .before .before .before .before .before .before .before .before .before in
+    let l = c .before .before .before .before .before .before .before .loop in
+    let q = c .before .before .put-pins in
+    let h : l .i < s .args .lib .n = c .before .before .before .before .before .before .loop-test .taken in
+    let fits : 0 + length (pairCodes (cellsOf (s .args .lib))) ≤ length (s .args .codes .now) = omega (arith, s .pre .1) in (
+      omega arith,
+      step fits (l .inv .1) (q .last .0) (q .result) (pinCodes (cellsOf (s .args .lib)) (l .i) (below (getD (s .args .lib .cells) (l .i) noCell .pins)))
+          (rootCodes (cellsOf (s .args .lib)) (from (l .i + 1) (s .args .lib .n - (l .i + 1)))) (roots-next (s .args .lib) (s .pre .0) (l .i) h) (q .ensures),
+    )
+
+same-length : tie.Need-same-length Inv-loop μ-loop
+unfolding cellsOf
+same-length c =
+    let s = c .before .before .before .before in
+    let fits : 0 + length (pairCodes (cellsOf (s .args .lib))) ≤ length (s .args .codes .now) = omega (arith, s .pre .1) in
+    kept fits (c .before .loop .inv .1)
+
+returns : tie.Need-returns Inv-loop μ-loop
+unfolding cellsOf
+returns c =
+    let s = c .before .before .before .before in
+    let fits : 0 + length (pairCodes (cellsOf (s .args .lib))) ≤ length (s .args .codes .now) = omega (arith, s .pre .1) in
+    end fits (c .before .loop .inv .1) (roots-end (s .args .lib) (s .pre .0) (c .before .loop .i) (c .loop-test .left))
+
+pub form-spec : {M : Type 1} → statement M
+form-spec =
+    tie.close
+    (tie.spec
+    Inv-loop μ-loop loop-holds mul-root array-copy-out-root (λ c. search needs) put-pins-requires (λ c. search needs) (λ c. omega arith) loop-again
+    same-length returns)

@@ -1,0 +1,50 @@
+-- `cells_pairs::put_book` meets its contract: the listed cells, then the pairs' numbers. 833 bytes hold 32 cells and 224 pairs, and fewer cells with more pairs.
+-- Assumes nothing.
+use mathlib.Core.Path.{refl, sym}
+use mathlib.Core.List.{List, [], append-nil}
+use Prim.Native.Nat.{ℕ, _+_, _≤_}
+use native.Mathlib.Omega.{arith}
+use borrow.Author.Needs.{needs}
+use lib.ListN.{length, length-append}
+use Rattle.model.specs.Base.{each}
+use Rattle.model.specs.Cells.{cellsOf}
+use Rattle.model.specs.declared.Library.{Library}
+use Rattle.base_text.proofs.Progress.{Partly, begin, step, room, finish}
+use Rattle.cells_pairs.specs.Codes.{Coded}
+use Rattle.cells_pairs.specs.Bytes.{codeBytes, listedBytes, bookOf}
+use Rattle.cells_pairs.proofs.Looking.{listed-length, codes-length}
+use Rattle.cells_pairs.proofs.put_book.Statement.{statement}
+use Rattle.cells_pairs.proofs.put_book.Tie as tie
+
+-- all of it has room
+fits : (lib : Library) (codes : List ℕ) → Coded lib codes → (book : List ℕ) → 833 ≤ length book → 0 + length (bookOf (cellsOf lib) codes) ≤ length book
+fits lib codes ok book h =
+    omega (arith, length-append (listedBytes (cellsOf lib)) (each codeBytes codes), listed-length (cellsOf lib), codes-length codes, ok .joinable .whole, ok .joinable .few, ok .few)
+
+-- the cells are written
+one : (c : tie.After-put-listed)
+    → let s = c .before .before .before .before in
+    Partly (s .args .book .now) (c .put-listed .last .0) 0 (c .put-listed .result) (bookOf (cellsOf (s .args .lib)) (s .args .codes .now)) (each codeBytes (s .args .codes .now))
+one c =
+    let s = c .before .before .before .before in
+    let codes = s .args .codes .now in
+    step (fits (s .args .lib) codes (s .pre .0) (s .args .book .now) (s .pre .1)) (begin (s .args .book .now) 0 refl) (c .put-listed .last .0) (c .put-listed .result) (listedBytes (cellsOf (s .args .lib))) (each codeBytes codes) refl
+    (c .put-listed .ensures)
+
+put-codes-requires : tie.Need-put-codes-requires
+put-codes-requires c κs =
+    let q = c .before .before .before in
+    let s = q .before .before .before .before in
+    let codes = s .args .codes .now in
+    room (fits (s .args .lib) codes (s .pre .0) (s .args .book .now) (s .pre .1)) (one q) (each codeBytes codes) [] (sym (append-nil (each codeBytes codes)))
+
+returns : tie.Need-returns
+returns c =
+    let q = c .before .before .before .before .before .before in
+    let s = q .before .before .before .before in
+    finish (fits (s .args .lib) (s .args .codes .now) (s .pre .0) (s .args .book .now) (s .pre .1)) (one q) (c .before .before .put-codes .ensures)
+
+pub put-book-spec : {M : Type 1} → statement M
+put-book-spec = tie.close
+    (tie.spec
+    (λ c κs. search needs) put-codes-requires (λ c. search needs) returns)

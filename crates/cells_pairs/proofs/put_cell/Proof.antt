@@ -1,0 +1,61 @@
+-- `cells_pairs::put_cell` meets its contract: the name, which is an array of eight bytes, and four figures.
+-- Assumes nothing.
+use mathlib.Core.Path.{_≡_, refl, sym, ap, _∙_}
+use mathlib.Core.List.{List, _∷_, [], append-nil}
+use Prim.Native.Nat.{ℕ, _%_, _/_}
+use native.Mathlib.Omega.{arith}
+use lib.ListN.{length, take}
+use lib.Seq.{length-take-le}
+use Rattle.model.specs.Cells.{nameOf}
+use Rattle.base_text.proofs.Progress.{Partly, begin, step, room, finish}
+use Rattle.cells_pairs.specs.Bytes.{cellBytes}
+use Rattle.cells_pairs.proofs.Looking.{cell-is, cell-bytes-length}
+use borrow.Author.Needs.{needs}
+use Rattle.cells_pairs.proofs.put_cell.Statement.{statement}
+use Rattle.cells_pairs.proofs.put_cell.Tie as tie
+
+-- the figures behind the name
+abbrev figures : (c : tie.After-name-len) → List ℕ
+figures c =
+    let x = c .before .before .before .before .before .before .before .before .args .c in
+    c .name-len .result ∷ x .pins ∷ x .area % 256 ∷ x .area / 256 ∷ []
+
+-- the name is written
+named : (c : tie.After-name-len)
+    → Partly (c .before .before .before .before .before .before .before .before .args .book .now) (c .before .before .before .put-bytes .last .0) (c .before .before .before .before .before .before .before .before .args .at)
+    (c .before .before .before .put-bytes .result) (cellBytes (c .before .before .before .before .before .before .before .before .args .c)) (figures c)
+unfolding nameOf
+named c =
+    let s = c .before .before .before .before .before .before .before .before in
+    let x = s .args .c in
+    let n = c .name-len in
+    let eight : length (x .name) ≡ 8 = search needs in
+    let long : n .result ≡ length (take (x .len) (x .name)) = sym (length-take-le (n .result) (x .name) (omega (arith, n .ensures .0))) ∙ ap length (n .ensures .1 (x .name) eight) in
+    step (s .pre .1) (begin (s .args .book .now) (s .args .at) (cell-is x (n .result) eight long)) (c .before .before .before .put-bytes .last .0) (c .before .before .before .put-bytes .result) (x .name) (figures c) refl
+    (c .before .before .before .put-bytes .ensures)
+
+put-bytes-requires : tie.Need-put-bytes-requires
+put-bytes-requires c κs =
+    let s = c .before .before .before .before in
+    let eight : length (s .args .c .name) ≡ 8 = search needs in
+    omega (arith, s .pre .1, cell-bytes-length (s .args .c))
+
+put-bytes-requires-2 : tie.Need-put-bytes-requires-2
+put-bytes-requires-2 c κs =
+    let n = c .before .before .before .before .before in
+    let s = n .before .before .before .before .before .before .before .before in
+    let p : Partly (s .args .book .now) (n .before .before .before .put-bytes .last .0) (s .args .at) (n .before .before .before .put-bytes .result) (cellBytes (s .args .c)) (figures n) = named n in
+    room (s .pre .1) p (figures n) [] (sym (append-nil (figures n)))
+
+returns : tie.Need-returns
+returns c =
+    let n = c .before .before .before .before .before .before .before .before in
+    let s = n .before .before .before .before .before .before .before .before in
+    finish (s .pre .1) (named n) (c .before .before .put-bytes2 .ensures)
+
+pub put-cell-spec : {M : Type 1} → statement M
+put-cell-spec =
+    tie.close
+    (tie.spec
+    (λ c. search needs) put-bytes-requires (λ c κs. search needs) (λ c. search needs) (λ c. search needs) (λ c. search needs) (λ c. search needs)
+    (λ c. search needs) put-bytes-requires-2 (λ c. search needs) returns)

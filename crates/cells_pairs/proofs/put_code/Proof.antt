@@ -1,0 +1,40 @@
+-- `cells_pairs::put_code` meets its contract: one number is put, or none.
+-- Assumes nothing.
+use mathlib.Core.Path.{sym, ap, _∙_}
+use mathlib.Core.List.{List}
+use Prim.Native.Nat.{ℕ, _+_, _<_}
+use native.Mathlib.Omega.{arith}
+use borrow.Author.Needs.{needs}
+use lib.ListN.{length}
+use Rattle.base_words.specs.Put.{putAt}
+use Rattle.base_words.proofs.Putting.{put-one}
+use Rattle.base_text.proofs.Progress.{idle}
+use Rattle.cells_pairs.proofs.Joining.{code-one, code-none}
+use Rattle.cells_pairs.proofs.put_code.Statement.{statement}
+use Rattle.cells_pairs.proofs.put_code.Tie as tie
+
+slice-write-codes : tie.Need-slice-write-codes
+slice-write-codes c =
+    let s = c .before .before .before in
+    omega (arith, s .pre .3, ap length (code-one (s .args .root) (s .args .inner) (s .args .k) (sym (c .if1 .taken) ∙ c .before .joins .ensures)))
+
+returns : tie.Need-returns
+returns c =
+    let s = c .before .before .before in
+    let e = code-one (s .args .root) (s .args .inner) (s .args .k) (sym (c .if1 .taken) ∙ c .before .joins .ensures) in
+    let h : s .args .at < length (s .args .codes .now) = omega (arith, s .pre .3, ap length e) in
+    record {
+      ends = sym (ap (λ (x : List ℕ). s .args .at + length x) e);
+      leaves = put-one (s .args .codes .now) (s .args .at) (s .args .k) h ∙ sym (ap (putAt (s .args .codes .now) (s .args .at)) e);
+    }
+
+returns-2 : tie.Need-returns-2
+returns-2 c =
+    let s = c .before .before .before in
+    idle (s .args .codes .now) (s .args .at) (code-none (s .args .root) (s .args .inner) (s .args .k) (sym (c .if1 .left) ∙ c .before .joins .ensures))
+
+pub put-code-spec : {M : Type 1} → statement M
+put-code-spec =
+    tie.close
+    (tie.spec
+    (λ c κs. search needs) (λ c. search needs) (λ c. search needs) slice-write-codes (λ c. search needs) (λ c. search needs) returns returns-2)

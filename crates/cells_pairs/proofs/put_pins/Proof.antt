@@ -1,0 +1,70 @@
+-- `cells_pairs::put_pins` meets its contract. The invariant: the numbers of the first p pins are written. The measure is the number of pins left.
+-- Assumes nothing.
+use Prim.Native.Nat.{ℕ, _+_, _-_, _<_, _≤_}
+use native.Mathlib.Omega.{arith}
+use borrow.Author.Needs.{needs}
+use lib.ListN.{length}
+use Rattle.model.specs.Base.{from, below}
+use Rattle.model.specs.Cells.{cellsOf}
+use Rattle.base_text.proofs.Progress.{Partly, begin, step, room, kept, end}
+use Rattle.cells_pairs.specs.Codes.{innerCodes, pinCodes}
+use Rattle.cells_pairs.proofs.Joining.{each-begin, each-next, each-none}
+use Rattle.cells_pairs.proofs.put_pins.Statement.{statement}
+use Rattle.cells_pairs.proofs.put_pins.Tie as tie
+
+abbrev Inv-loop : tie.InvT-loop
+Inv-loop codes₀ at lib i pins next₀ p₀ codes next p =
+    (p ≤ pins) × Partly codes₀ codes at next (pinCodes (cellsOf lib) i (below pins)) (pinCodes (cellsOf lib) i (from p (pins - p)))
+
+abbrev μ-loop : tie.MeasureT-loop
+μ-loop codes₀ at lib i pins next₀ p₀ codes next p = pins - p
+
+loop-holds : tie.Need-loop-holds Inv-loop μ-loop
+unfolding pinCodes
+loop-holds c =
+    let a = c .before .args in
+    (omega arith, begin (a .codes .now) (a .at) (each-begin (λ (q : ℕ). innerCodes (cellsOf (a .lib)) (a .i) q (below (length (cellsOf (a .lib))))) (a .pins)))
+
+put-inners-requires : tie.Need-put-inners-requires Inv-loop μ-loop
+unfolding pinCodes
+put-inners-requires c κs =
+    let s = c .before .before .before .before in
+    let l = c .before .before .loop in
+    let a = s .args in
+    let h : l .p < a .pins = c .before .loop-test .taken in (
+      s .pre .0,
+      s .pre .1,
+      omega (arith, s .pre .2, h),
+      room (s .pre .3) (l .inv .1) (innerCodes (cellsOf (a .lib)) (a .i) (l .p) (below (length (cellsOf (a .lib))))) (pinCodes (cellsOf (a .lib)) (a .i) (from (l .p + 1) (a .pins - (l .p + 1))))
+          (each-next (λ (q : ℕ). innerCodes (cellsOf (a .lib)) (a .i) q (below (length (cellsOf (a .lib))))) (l .p) (a .pins) h),
+    )
+
+loop-again : tie.Need-loop-again Inv-loop μ-loop
+unfolding pinCodes
+loop-again c =
+    let s = c .before .before .before .before .before .before .before in
+    let l = c .before .before .before .before .before .loop in
+    let q = c .before .before .put-inners in
+    let a = s .args in
+    let h : l .p < a .pins = c .before .before .before .before .loop-test .taken in (
+      omega arith,
+      step (s .pre .3) (l .inv .1) (q .last .0) (q .result)
+          (innerCodes (cellsOf (a .lib)) (a .i) (l .p) (below (length (cellsOf (a .lib))))) (pinCodes (cellsOf (a .lib)) (a .i) (from (l .p + 1) (a .pins - (l .p + 1))))
+          (each-next (λ (q : ℕ). innerCodes (cellsOf (a .lib)) (a .i) q (below (length (cellsOf (a .lib))))) (l .p) (a .pins) h) (q .ensures),
+    )
+
+same-length : tie.Need-same-length Inv-loop μ-loop
+same-length c = kept (c .before .before .before .pre .3) (c .before .loop .inv .1)
+
+returns : tie.Need-returns Inv-loop μ-loop
+unfolding pinCodes
+returns c =
+    let s = c .before .before .before in
+    let a = s .args in
+    end (s .pre .3) (c .before .loop .inv .1) (each-none (λ (q : ℕ). innerCodes (cellsOf (a .lib)) (a .i) q (below (length (cellsOf (a .lib))))) (c .before .loop .p) (a .pins) (c .loop-test .left))
+
+pub put-pins-spec : {M : Type 1} → statement M
+put-pins-spec =
+    tie.close
+    (tie.spec
+    Inv-loop μ-loop loop-holds put-inners-requires (λ c. search needs) (λ c. omega arith) loop-again same-length returns)

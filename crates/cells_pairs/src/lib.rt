@@ -1,0 +1,378 @@
+// The pairs of a library, once for each call that wants them: "for each root cell, pin and inner cell with at least one pin, in that order of lines,
+// form a pair feeding that pin, if the result has at most four pins". A pair is a number of twelve bits. "Pairs follow the listed cells": behind them,
+// whatever asks of a cell by its number asks here, and no cell of a pair is stored.
+use model::Cell;
+use model::Library;
+ghost use mathlib.Core.Path.{_≡_};
+ghost use mathlib.Core.List.{List};
+ghost use Prim.Native.Nat.{ℕ, _+_, _*_, _≤_, _<_, min};
+ghost use lib.ListN.{length, take, getD};
+ghost use Rattle.model.specs.Base.{each, below};
+ghost use Rattle.model.specs.Cells.{cellsOf, cellAt};
+ghost use Rattle.base_text.specs.Writing.{Wrote};
+ghost use Rattle.cells_pairs.specs.Codes.{Joinable, Coded, codeFor, innerCodes, pinCodes, pairCodes, cellsBy};
+ghost use Rattle.cells_pairs.specs.Bytes.{nameFrom, cellBytes, cellFrom, codeBytes, listedBytes, bookOf, countIn, lineCell, codePlace, codeIn};
+ghost use Rattle.model.specs.Pairs.{joins, pairDelays};
+
+// The listed cells, and the numbers of the pairs, as bytes: made once for each call and lent to what runs for each gate, so that no library is
+// copied there.
+
+// How long a cell's name is: never past its eight bytes.
+pub fn name_len(len: usize) -> usize
+    ensures { λ r. ⌜ (r ≤ 8) × ((s : List ℕ) → length s ≡ 8 → take r s ≡ take len s) × (r ≡ min len 8) ⌝ }
+{
+    if len < 8 { len } else { 8 }
+}
+
+// ---- written
+
+// Twelve bytes a cell: the name, how many of the eight bytes are the name, the pins, the area with its low byte first.
+fn put_cell(book: &mut [u8], at: usize, c: Cell) -> usize
+    requires { ⌜ (c .pins ≤ 4) × (at + length (cellBytes c) ≤ length (now book)) ⌝ }
+    ensures { λ r. ⌜ Wrote (now (book .entry)) (now (book .exit)) at r (cellBytes c) ⌝ }
+{
+    let name = c.name;
+    let next = base_text::put_bytes(book, at, &name);
+    let figures = [
+        name_len(c.len) as u8,
+        c.pins as u8,
+        (c.area % 256) as u8,
+        (c.area / 256) as u8,
+    ];
+    base_text::put_bytes(book, next, &figures)
+}
+
+fn put_cells(book: &mut [u8], at: usize, lib: Library) -> usize
+    requires { ⌜ Joinable lib × (at + length (each cellBytes (cellsOf lib)) ≤ length (now book)) ⌝ }
+    ensures { λ r. ⌜ Wrote (now (book .entry)) (now (book .exit)) at r (each cellBytes (cellsOf lib)) ⌝ }
+{
+    let cells = lib.cells;
+    let n = lib.n;
+    let mut next = at;
+    let mut i: usize = 0;
+    while i < n {
+        let c = cells[i];
+        next = put_cell(book, next, c);
+        i += 1;
+    }
+    next
+}
+
+// How many cells there are, and each.
+fn put_listed(book: &mut [u8], lib: Library) -> usize
+    requires { ⌜ Joinable lib × (385 ≤ length (now book)) ⌝ }
+    ensures { λ r. ⌜ Wrote (now (book .entry)) (now (book .exit)) 0 r (listedBytes (cellsOf lib)) ⌝ }
+{
+    let at = base_text::put_byte(book, 0, lib.n as u8);
+    put_cells(book, at, lib)
+}
+
+// A pair's number, the low byte first.
+fn put_pair(book: &mut [u8], at: usize, k: u16) -> usize
+    requires { ⌜ at + 2 ≤ length (now book) ⌝ }
+    ensures { λ r. ⌜ Wrote (now (book .entry)) (now (book .exit)) at r (codeBytes k) ⌝ }
+{
+    let bytes = [(k % 256) as u8, (k / 256) as u8];
+    base_text::put_bytes(book, at, &bytes)
+}
+
+fn put_codes(book: &mut [u8], at: usize, codes: &[u16]) -> usize
+    requires { ⌜ at + length (each codeBytes (now codes)) ≤ length (now book) ⌝ }
+    ensures { λ r. ⌜ Wrote (now (book .entry)) (now (book .exit)) at r (each codeBytes (now (codes .entry))) ⌝ }
+{
+    let mut next = at;
+    let mut i: usize = 0;
+    while i < codes.len() {
+        let k = codes[i];
+        next = put_pair(book, next, k);
+        i += 1;
+    }
+    next
+}
+
+// The listed cells, and behind them the numbers of the pairs: "Pairs follow the listed cells".
+pub fn put_book(book: &mut [u8], lib: Library, codes: &[u16]) -> usize
+    requires { ⌜ Coded lib (now codes) × (833 ≤ length (now book)) ⌝ }
+    ensures { λ r. ⌜ Wrote (now (book .entry)) (now (book .exit)) 0 r (bookOf (cellsOf lib) (now (codes .entry))) ⌝ }
+{
+    let at = put_listed(book, lib);
+    put_codes(book, at, codes)
+}
+
+// ---- read
+
+// How many cells are listed.
+pub fn count(book: &[u8]) -> usize
+    requires { ⌜ 1 ≤ length (now book) ⌝ }
+    ensures { λ r. ⌜ r ≡ countIn (now (book .entry)) ⌝ }
+{
+    byte(book[0])
+}
+
+fn byte(b: u8) -> usize
+    ensures { λ r. ⌜ (r ≡ b) × (r < 256) ⌝ }
+{
+    b as usize
+}
+
+fn half(b: u8) -> u16
+    ensures { λ r. ⌜ (r ≡ b) × (r < 256) ⌝ }
+{
+    b as u16
+}
+
+// The pair's number that cell number k has.
+pub fn code_at(book: &[u8], k: usize) -> usize
+    requires { ⌜ (countIn (now book) ≤ k) × (codePlace (now book) k + 2 ≤ length (now book)) ⌝ }
+    ensures { λ r. ⌜ r ≡ codeIn (now (book .entry)) k ⌝ }
+{
+    let n = count(book);
+    let at = 1 + 12 * n + 2 * (k - n);
+    byte(book[at]) + 256 * byte(book[at + 1])
+}
+
+fn name_from(bytes: &[u8]) -> [u8; 8]
+    requires { ⌜ 8 ≤ length (now bytes) ⌝ }
+    ensures { λ r. ⌜ r ≡ nameFrom (now (bytes .entry)) ⌝ }
+{
+    [
+        bytes[0],
+        bytes[1],
+        bytes[2],
+        bytes[3],
+        bytes[4],
+        bytes[5],
+        bytes[6],
+        bytes[7],
+    ]
+}
+
+// The cell of twelve bytes. Its table and delays are not in the book: no line and no figure has them.
+fn cell_from(bytes: &[u8]) -> Cell
+    requires { ⌜ 12 ≤ length (now bytes) ⌝ }
+    ensures { λ r. ⌜ r ≡ cellFrom (now (bytes .entry)) ⌝ }
+{
+    let name = name_from(bytes);
+    Cell {
+        name,
+        len: byte(bytes[8]),
+        pins: half(bytes[9]),
+        table: 0,
+        area: half(bytes[10]) + 256 * half(bytes[11]),
+        delays: [0; 4],
+        lows: [0; 4],
+    }
+}
+
+// The cell at line k.
+pub fn cell_at(book: &[u8], k: usize) -> Cell
+    requires { ⌜ 13 + 12 * k ≤ length (now book) ⌝ }
+    ensures { λ r. ⌜ r ≡ lineCell (now (book .entry)) k ⌝ }
+{
+    let at = 1 + 12 * k;
+    cell_from(&book[at..])
+}
+
+// "inner cell with at least one pin", "if the result has at most four pins".
+fn joins(root: Cell, inner: Cell) -> bool
+    requires { ⌜ (root .pins ≤ 4) × (inner .pins ≤ 4) ⌝ }
+    ensures { λ r. ⌜ r ≡ joins root inner ⌝ }
+{
+    if inner.pins < 1 {
+        return false;
+    }
+    root.pins + inner.pins <= 5
+}
+
+// A pair's number, written if there is such a pair.
+fn put_code(codes: &mut [u16], at: usize, root: Cell, inner: Cell, k: usize) -> usize
+    requires { ⌜ (root .pins ≤ 4) × (inner .pins ≤ 4) × (k < 4096) × (at + length (codeFor root inner k) ≤ length (now codes)) ⌝ }
+    ensures { λ r. ⌜ Wrote (now (codes .entry)) (now (codes .exit)) at r (codeFor root inner k) ⌝ }
+{
+    if joins(root, inner) {
+        codes[at] = k as u16;
+        return at + 1;
+    }
+    at
+}
+
+// Those of the root at line i with pin p fed.
+fn put_inners(codes: &mut [u16], at: usize, lib: Library, i: usize, p: usize) -> usize
+    requires { ⌜ Joinable lib × (i < lib .n) × (p < 4) × (at + length (innerCodes (cellsOf lib) i p (below (length (cellsOf lib)))) ≤ length (now codes)) ⌝ }
+    ensures { λ r. ⌜ Wrote (now (codes .entry)) (now (codes .exit)) at r (innerCodes (cellsOf lib) i p (below (length (cellsOf lib)))) ⌝ }
+{
+    let cells = lib.cells;
+    let n = lib.n;
+    let root = cells[i];
+    let mut next = at;
+    let mut j: usize = 0;
+    while j < n {
+        let inner = cells[j];
+        next = put_code(codes, next, root, inner, i * 128 + p * 32 + j);
+        j += 1;
+    }
+    next
+}
+
+// Those of the root at line i.
+fn put_pins(codes: &mut [u16], at: usize, lib: Library, i: usize, pins: usize) -> usize
+    requires { ⌜ Joinable lib × (i < lib .n) × (pins ≤ 4) × (at + length (pinCodes (cellsOf lib) i (below pins)) ≤ length (now codes)) ⌝ }
+    ensures { λ r. ⌜ Wrote (now (codes .entry)) (now (codes .exit)) at r (pinCodes (cellsOf lib) i (below pins)) ⌝ }
+{
+    let mut next = at;
+    let mut p: usize = 0;
+    while p < pins {
+        next = put_inners(codes, next, lib, i, p);
+        p += 1;
+    }
+    next
+}
+
+// The numbers of all pairs, by the root's line, its pin and the inner's line; how many there are.
+pub fn form(codes: &mut [u16], lib: Library) -> usize
+    requires { ⌜ Joinable lib × (length (pairCodes (cellsOf lib)) ≤ length (now codes)) ⌝ }
+    ensures { λ r. ⌜ Wrote (now (codes .entry)) (now (codes .exit)) 0 r (pairCodes (cellsOf lib)) ⌝ }
+{
+    let cells = lib.cells;
+    let n = lib.n;
+    let mut next: usize = 0;
+    let mut i: usize = 0;
+    while i < n {
+        let root = cells[i];
+        next = put_pins(codes, next, lib, i, root.pins as usize);
+        i += 1;
+    }
+    next
+}
+
+// ---- the cell of a number
+
+fn listed(lib: Library, k: usize) -> Cell
+    requires { ⌜ Joinable lib × (k < lib .n) ⌝ }
+    ensures { λ r. ⌜ r ≡ cellAt (cellsOf lib) k ⌝ }
+{
+    let cells = lib.cells;
+    cells[k]
+}
+
+fn wide(x: u16) -> usize
+    ensures { λ r. ⌜ (r ≡ x) × (r < 65536) ⌝ }
+{
+    x as usize
+}
+
+// How many pins: "the root's in order, with the inner's, in order, at the fed pin's place".
+pub fn pins_of(lib: Library, codes: &[u16], k: usize) -> u16
+    requires { ⌜ Coded lib (now codes) × (k < lib .n + length (now codes)) ⌝ }
+    ensures { λ r. ⌜ r ≡ cellAt (cellsBy (cellsOf lib) (now (codes .entry))) k .pins ⌝ }
+{
+    let n = lib.n;
+    if k < n {
+        let c = listed(lib, k);
+        return c.pins;
+    }
+    let x = wide(codes[k - n]);
+    let root = listed(lib, x / 128);
+    let inner = listed(lib, x % 32);
+    root.pins + inner.pins - 1
+}
+
+pub fn table_of(lib: Library, codes: &[u16], k: usize) -> u16
+    requires { ⌜ Coded lib (now codes) × (k < lib .n + length (now codes)) ⌝ }
+    ensures { λ r. ⌜ r ≡ cellAt (cellsBy (cellsOf lib) (now (codes .entry))) k .table ⌝ }
+{
+    let n = lib.n;
+    if k < n {
+        let c = listed(lib, k);
+        return c.table;
+    }
+    let x = wide(codes[k - n]);
+    let root = listed(lib, x / 128);
+    let inner = listed(lib, x % 32);
+    base_truth::pair_table(root, x / 32 % 4, inner)
+}
+
+fn long(d: u16) -> u32
+    ensures { λ r. ⌜ r ≡ d ⌝ }
+{
+    d as u32
+}
+
+fn sum(d: u16, e: u16) -> u32
+    ensures { λ r. ⌜ r ≡ d + e ⌝ }
+{
+    d as u32 + e as u32
+}
+
+// The delay of pin j of a pair whose inner has n pins: ds are the root's delays, es the inner's.
+fn join_pin(pin: usize, n: usize, ds: [u16; 4], es: [u16; 4], j: usize) -> u32
+    requires { ⌜ (pin < 4) × (1 ≤ n) × (n ≤ 4) × (j < 4) ⌝ }
+    ensures { λ r. ⌜ r ≡ getD (pairDelays pin n ds es) j 0 ⌝ }
+{
+    if j < pin {
+        return long(ds[j]);
+    }
+    if j < pin + n {
+        return sum(ds[pin], es[j - pin]);
+    }
+    long(ds[j + 1 - n])
+}
+
+// "an inner pin's delays add to the fed pin's", of all four.
+fn join(pin: usize, n: usize, ds: [u16; 4], es: [u16; 4]) -> [u32; 4]
+    requires { ⌜ (pin < 4) × (1 ≤ n) × (n ≤ 4) ⌝ }
+    ensures { λ r. ⌜ r ≡ pairDelays pin n ds es ⌝ }
+{
+    let a = join_pin(pin, n, ds, es, 0);
+    let b = join_pin(pin, n, ds, es, 1);
+    let c = join_pin(pin, n, ds, es, 2);
+    let d = join_pin(pin, n, ds, es, 3);
+    [a, b, c, d]
+}
+
+// Four delays of a listed cell, as wide as a pair's: these reach 131,070.
+pub fn widened(ds: [u16; 4]) -> [u32; 4]
+    ensures { λ r. ⌜ r ≡ ds ⌝ }
+{
+    let a = long(ds[0]);
+    let b = long(ds[1]);
+    let c = long(ds[2]);
+    let d = long(ds[3]);
+    [a, b, c, d]
+}
+
+pub fn delays_of(lib: Library, codes: &[u16], k: usize) -> [u32; 4]
+    requires { ⌜ Coded lib (now codes) × (k < lib .n + length (now codes)) ⌝ }
+    ensures { λ r. ⌜ r ≡ cellAt (cellsBy (cellsOf lib) (now (codes .entry))) k .delays ⌝ }
+{
+    let n = lib.n;
+    if k < n {
+        let c = listed(lib, k);
+        let ds = c.delays;
+        return widened(ds);
+    }
+    let x = wide(codes[k - n]);
+    let root = listed(lib, x / 128);
+    let inner = listed(lib, x % 32);
+    let ds = root.delays;
+    let es = inner.delays;
+    join(x / 32 % 4, inner.pins as usize, ds, es)
+}
+
+pub fn lows_of(lib: Library, codes: &[u16], k: usize) -> [u32; 4]
+    requires { ⌜ Coded lib (now codes) × (k < lib .n + length (now codes)) ⌝ }
+    ensures { λ r. ⌜ r ≡ cellAt (cellsBy (cellsOf lib) (now (codes .entry))) k .lows ⌝ }
+{
+    let n = lib.n;
+    if k < n {
+        let c = listed(lib, k);
+        let ds = c.lows;
+        return widened(ds);
+    }
+    let x = wide(codes[k - n]);
+    let root = listed(lib, x / 128);
+    let inner = listed(lib, x % 32);
+    let ds = root.lows;
+    let es = inner.lows;
+    join(x / 32 % 4, inner.pins as usize, ds, es)
+}

@@ -1,0 +1,106 @@
+-- Laws of what a cell line must not say: a table bit or a delay too many, a name that is there already. Assumes nothing.
+use Prim.Native.Nat.{ℕ, zero, suc, _+_, _*_, _%_, _^_, _≤_, _<_}
+use native.Mathlib.Nat.{one-mul, mod-eq-of-lt, pow-le-pow-right}
+use native.Mathlib.Numerals.{add-one}
+use native.Mathlib.Omega.{arith}
+use mathlib.Core.Path.{_≡_, refl, sym, ap, _∙_, subst}
+use mathlib.Core.Bool.{Bool, true, false, _&&_, _||_}
+use mathlib.Core.List.{List, [], _∷_}
+use lib.Dec.{eqb, ltb, leb, eqb·zero-suc, eqb·suc-zero, lit<}
+use lib.ListN.{length, take, drop, getD}
+use lib.Seq.{drop-nil, take-all}
+use borrow.Author.Tests.{lt-ltb, le-ltb, ltb-true, ltb-false, eqb-true, eqb-false}
+use Rattle.model.specs.Base.{all, any, same}
+use Rattle.model.specs.Cells.{nameOf, noCell}
+use Rattle.model.specs.LibraryText.{isClean, noLower}
+use Rattle.model.specs.declared.Cell.{Cell}
+use Rattle.base_text.proofs.Bytes.{or-true, and-true}
+use Rattle.cells_reader.specs.declared.Figures.{Figures}
+use Rattle.cells_reader.specs.Reading.{delayOk, delaysOk, lineCell, clamped, pickN, before, isRepeated}
+
+-- ---- the limit of a table of p pins
+
+module _ (p : ℕ) (few : p ≤ 4) where
+  rows : 2 ^ p ≤ 16
+  rows = pow-le-pow-right (lit< tt) few
+
+  inner : (1 * 2 ^ p) % 4294967296 ≡ 2 ^ p
+  inner = rw (one-mul (2 ^ p)) (mod-eq-of-lt (omega (arith, rows)))
+
+  pub shift-fits : (1 * 2 ^ p) % 4294967296 < 32
+  shift-fits = rw inner (omega (arith, rows))
+
+  tables : 2 ^ 2 ^ p ≤ 65536
+  tables = pow-le-pow-right (lit< tt) rows
+
+  pub limit-is : (1 * 2 ^ ((1 * 2 ^ p) % 4294967296)) % 4294967296 ≡ 2 ^ 2 ^ p
+  limit-is = rw (inner, one-mul (2 ^ 2 ^ p)) (mod-eq-of-lt (omega (arith, tables)))
+
+-- ---- figures
+
+eqb-swap : (d : ℕ) → eqb 0 d ≡ eqb d 0
+eqb-swap zero = refl
+eqb-swap (suc d) = eqb·zero-suc d ∙ sym (eqb·suc-zero d)
+
+-- the delays of absent pins, one by one
+delays-all : (p d0 d1 d2 d3 : ℕ)
+    → all (eqb 0) (drop p (d0 ∷ d1 ∷ d2 ∷ d3 ∷ [])) ≡ (delayOk p 0 d0 && (delayOk p 1 d1 && (delayOk p 2 d2 && delayOk p 3 d3)))
+unfolding all
+delays-all zero d0 d1 d2 d3 = rw (eqb-swap d0, eqb-swap d1, eqb-swap d2, eqb-swap d3, and-true (eqb d3 0))
+delays-all (suc zero) d0 d1 d2 d3 = rw (eqb-swap d1, eqb-swap d2, eqb-swap d3, and-true (eqb d3 0))
+delays-all (suc (suc zero)) d0 d1 d2 d3 = rw (eqb-swap d2, eqb-swap d3, and-true (eqb d3 0))
+delays-all (suc (suc (suc zero))) d0 d1 d2 d3 = rw (eqb-swap d3, and-true (eqb d3 0))
+delays-all (suc (suc (suc (suc p)))) d0 d1 d2 d3 =
+    rw (lt-ltb 0 (suc (suc (suc (suc p)))) (omega arith), lt-ltb 1 (suc (suc (suc (suc p)))) (omega arith), lt-ltb 2 (suc (suc (suc (suc p)))) (omega arith), lt-ltb 3 (suc (suc (suc (suc p)))) (omega arith), drop-nil p)
+
+module _ (f : Figures) where
+  pub clean-table : 2 ^ 2 ^ f .pins ≤ f .table → isClean (lineCell [] f) ≡ false
+  unfolding isClean lineCell
+  clean-table h = rw (le-ltb (f .table) (2 ^ 2 ^ f .pins) h)
+
+  pub clean-delays : f .table < 2 ^ 2 ^ f .pins → isClean (lineCell [] f) ≡ (delaysOk (f .pins) (f .d0) (f .d1) (f .d2) (f .d3) && delaysOk (f .pins) (f .l0) (f .l1) (f .l2) (f .l3))
+  unfolding isClean lineCell delaysOk
+  clean-delays h =
+      rw (lt-ltb (f .table) (2 ^ 2 ^ f .pins) h, delays-all (f .pins) (f .d0) (f .d1) (f .d2) (f .d3), delays-all (f .pins) (f .l0) (f .l1) (f .l2) (f .l3))
+
+  -- the lowest delays, one by one
+  pub range-is : noLower (lineCell [] f .lows) (lineCell [] f .delays) ≡ (leb (f .l0) (f .d0) && (leb (f .l1) (f .d1) && (leb (f .l2) (f .d2) && leb (f .l3) (f .d3))))
+  unfolding noLower lineCell
+  range-is = rw (and-true (leb (f .l3) (f .d3)))
+
+-- ---- names
+
+pub clamped-le : (n : ℕ) → clamped n ≤ 8
+clamped-le n = go (ltb n 8) (ltb-true n 8)
+  where
+    go : (t : Bool) → (t ≡ true → n < 8) → pickN t n 8 ≤ 8
+    go true h = let l : n < 8 = h refl in omega arith
+    go false h = omega arith
+
+pub clamped-take : (n : ℕ) (l : List ℕ) → length l ≡ 8 → take (clamped n) l ≡ take n l
+clamped-take n l e = go (ltb n 8) (ltb-false n 8)
+  where
+    go : (t : Bool) → (t ≡ false → 8 ≤ n) → take (pickN t n 8) l ≡ take n l
+    go true h = refl
+    go false h = let m : 8 ≤ n = h refl in take-all 8 l (omega arith) ∙ sym (take-all n l (omega arith))
+
+module _ (w : List ℕ) (cells : List Cell) where
+  pub repeated-none : isRepeated w cells 0 ≡ false
+  unfolding isRepeated before any
+  repeated-none = refl
+
+  pub repeated-step : (i : ℕ) → isRepeated w cells (i + 1) ≡ (same w (nameOf (getD cells i noCell)) || isRepeated w cells i)
+  unfolding isRepeated before any
+  repeated-step i = rw (add-one i)
+
+  -- a name that is there stays there
+  pub repeated-more : (i n : ℕ) → i ≤ n → isRepeated w cells i ≡ true → isRepeated w cells n ≡ true
+  repeated-more i zero h e = let z : i ≡ 0 = omega arith in subst (λ (k : ℕ). isRepeated w cells k ≡ true) z e
+  repeated-more i (suc n) h e = go (eqb i (suc n)) refl (repeated-more i n)
+    where
+      go : (t : Bool) → eqb i (suc n) ≡ t → (i ≤ n → isRepeated w cells i ≡ true → isRepeated w cells n ≡ true) → isRepeated w cells (suc n) ≡ true
+      go true q more = subst (λ (k : ℕ). isRepeated w cells k ≡ true) (eqb-true i (suc n) q) e
+      go false q more =
+          let ne : (i ≡ suc n) → ⊥ = eqb-false i (suc n) q in
+          let r : isRepeated w cells n ≡ true = more (omega arith) e in
+          ap (isRepeated w cells) (sym (add-one n)) ∙ repeated-step n ∙ rw (r, or-true)

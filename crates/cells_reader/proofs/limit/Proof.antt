@@ -1,0 +1,8 @@
+-- `cells_reader::limit` meets its contract: the shifts stay below their widths. Assumes nothing.
+use borrow.Author.Needs.{needs}
+use Rattle.cells_reader.proofs.Judging.{shift-fits, limit-is}
+use Rattle.cells_reader.proofs.limit.Statement.{statement}
+use Rattle.cells_reader.proofs.limit.Tie as tie
+
+pub limit-spec : {M : Type 1} → statement M
+limit-spec = tie.close (tie.spec (λ c. search needs) (λ c. shift-fits _ (c .pre)) (λ c. limit-is _ (c .pre)))

@@ -1,0 +1,144 @@
+-- The inputs' nets: where the words have them, and their numbers. Assumes nothing.
+use Prim.Native.Nat.{ℕ, zero, suc, _+_, _≤_, _<_}
+use native.Mathlib.Omega.{arith}
+use native.Mathlib.Nat.{add-zero}
+use native.Mathlib.Numerals.{add-one}
+use mathlib.Core.Path.{_≡_, refl, sym, _∙_, ap, subst}
+use mathlib.Core.Bool.{false}
+use mathlib.Core.List.{List, [], _∷_, _++_, map, List·Memᴰ, Memᴰ·append-left}
+use lib.Dec.{T, leb, leb→le}
+use lib.ListN.{length, getD, set, replicate, length-append, length-replicate, List·getD-append}
+use Rattle.model.specs.Base.{from}
+use Rattle.model.specs.Text.{decimal}
+use Rattle.model.specs.Graph.{Graph, literal, placeF, placingOrder, andVars}
+use Rattle.model.specs.Netlist.{netName}
+use Rattle.model.specs.Check.{isNet, inputNets}
+use Rattle.model.specs.declared.Header.{Header}
+use Rattle.base_words.specs.Put.{putAt, zeros}
+use Rattle.base_words.specs.Layout.{slotAt}
+use Rattle.base_words.proofs.Putting.{put-none, put-more, get-put}
+use Rattle.theory_graph.proofs.Lists.{map-out, all-of}
+use Rattle.theory_check.proofs.PrintedNets.{net-form}
+use Rattle.graph_placing.specs.Loaded.{Fit, Holding}
+use Rattle.graph_placing.proofs.Slots.{fit-length, fit-room}
+use Rattle.check_names.specs.Codes.{code}
+use Rattle.check_reader.specs.Frame.{Framing}
+use Rattle.check_reader.proofs.Names.{own-name}
+use Rattle.check_call.specs.Stages.{inputCode, Placed}
+
+-- ---- numbers one behind the other
+
+from-last : (n i : ℕ) → from i (n + 1) ≡ from i n ++ ((i + n) ∷ [])
+unfolding from
+from-last zero i = ap (λ (k : ℕ). k ∷ []) (sym (add-zero i))
+from-last (suc n) i =
+    ap (from i) (let z : suc n + 1 ≡ suc (n + 1) = omega arith in z)
+    ∙ ap (λ (ks : List ℕ). i ∷ ks) (from-last n (suc i) ∙ ap (λ (k : ℕ). from (suc i) n ++ (k ∷ [])) (let z : suc i + n ≡ i + suc n = omega arith in z))
+
+map-append : (f : ℕ → ℕ) (xs ys : List ℕ) → map f (xs ++ ys) ≡ map f xs ++ map f ys
+map-append f [] ys = refl
+map-append f (x ∷ xs) ys = ap (λ (zs : List ℕ). f x ∷ zs) (map-append f xs ys)
+
+pub map-long : (f : ℕ → ℕ) (n i : ℕ) → length (map f (from i n)) ≡ n
+unfolding from
+map-long f zero i = refl
+map-long f (suc n) i = ap suc (map-long f n (suc i))
+
+map-at : (f : ℕ → ℕ) (n i k : ℕ) → k < n → getD (map f (from i n)) k 0 ≡ f (i + k)
+unfolding from
+map-at f zero i k h = absurd (omega arith)
+map-at f (suc n) i zero h = ap f (sym (add-zero i))
+map-at f (suc n) i (suc k) h = map-at f n (suc i) k (omega arith) ∙ ap f (let z : suc i + k ≡ i + suc k = omega arith in z)
+
+-- a turn of the loop that stores them
+pub codes-more : (f : ℕ → ℕ) (codes : List ℕ) (i v : ℕ) → codes ≡ putAt (zeros 12) 0 (map f (from 0 i)) → i < 12 → v ≡ f i → set codes i v ≡ putAt (zeros 12) 0 (map f (from 0 (i + 1)))
+codes-more f codes i v e h is =
+    let long : length (map f (from 0 i)) ≡ i = map-long f i 0 in let twelve : length (zeros 12) ≡ 12 = length-replicate {A = ℕ} 12 0 in
+    let at : i ≡ 0 + length (map f (from 0 i)) = omega arith in
+    ap (λ (w : List ℕ). set w i v) e ∙ ap (λ (k : ℕ). set (putAt (zeros 12) 0 (map f (from 0 i))) k v) at
+    ∙ put-more (zeros 12) 0 (map f (from 0 i)) v (omega arith)
+    ∙ ap (putAt (zeros 12) 0) (ap (λ (x : ℕ). map f (from 0 i) ++ (x ∷ [])) (is ∙ ap f (let z : i ≡ 0 + i = omega arith in z)) ∙ sym (map-append f (from 0 i) ((0 + i) ∷ [])) ∙ sym (ap (map f) (from-last i 0)))
+
+pub codes-none : (f : ℕ → ℕ) → replicate 12 0 ≡ putAt (zeros 12) 0 (map f (from 0 0))
+unfolding from
+codes-none f = sym (put-none (zeros 12) 0)
+
+pub code-is : (w : List ℕ) (m i : ℕ) → inputCode w m i ≡ code (112 ∷ decimal (slotAt w m (i + 1)))
+unfolding inputCode
+code-is w m i = refl
+
+-- ---- those of a graph that is placed
+
+module _ (w : List ℕ) (h : Header) (g : Graph) (p : Placed w h g) where
+  hold : Holding (p .before) h w g (placingOrder g)
+  hold = p .holding
+
+  fits : Fit h w
+  fits = fit-length h (p .before) w (p .fit) (hold .held .long)
+
+  -- the inputs stand behind variable 0
+  input-slot : (k : ℕ) → k < length (g .inputs) → (k + 1 < length (placingOrder g)) × (getD (placingOrder g) (k + 1) 0 ≡ getD (g .inputs) k 0)
+  unfolding placingOrder
+  input-slot k l =
+      let rest : List ℕ = placeF (length (g .ands)) (g .ands) (0 ∷ g .inputs) in (
+        omega (arith, length-append (g .inputs) rest),
+        ap (λ (i : ℕ). getD (0 ∷ g .inputs ++ rest) i 0) (add-one k) ∙ List·getD-append (g .inputs) rest 0 k l,
+      )
+
+  slot-is : (k : ℕ) → k < length (g .inputs) → slotAt w (h .size) (k + 1) ≡ getD (g .inputs) k 0
+  slot-is k l = let i = input-slot k l in hold .held .ordered .slots (k + 1) (i .0) ∙ i .1
+
+  pub placed-frame : Framing w h g
+  placed-frame = record {
+    room = fit-room h w fits;
+    inputs = hold .ins;
+    outputs = hold .outs;
+    few = omega (arith, hold .ins, p .few);
+    within = omega (arith, fits .lines);
+    fewOutputs = fits .outs;
+    slots = λ i l. slot-is i (omega (arith, hold .ins));
+  }
+
+  nets-long : length (inputNets g) ≡ length (g .inputs)
+  unfolding inputNets
+  nets-long = go (g .inputs)
+    where
+      go : (xs : List ℕ) → length (map (λ (v : ℕ). netName (literal false v)) xs) ≡ length xs
+      go [] = refl
+      go (x ∷ xs) = ap suc (go xs)
+
+  net-at : (k : ℕ) → k < length (g .inputs) → getD (inputNets g) k [] ≡ 112 ∷ decimal (getD (g .inputs) k 0)
+  unfolding inputNets
+  net-at k l = go (g .inputs) k l
+    where
+      go : (xs : List ℕ) (j : ℕ) → j < length xs → getD (map (λ (v : ℕ). netName (literal false v)) xs) j [] ≡ 112 ∷ decimal (getD xs j 0)
+      go [] j l = absurd (omega arith)
+      go (x ∷ xs) zero l = own-name x
+      go (x ∷ xs) (suc j) l = go xs j (omega arith)
+
+  pub codes-are : (ins : List ℕ) → ins ≡ putAt (zeros 12) 0 (map (inputCode w (h .size)) (from 0 (h .inputs))) → (k : ℕ) → k < h .inputs → getD ins k 0 ≡ code (getD (inputNets g) k [])
+  codes-are ins e k l =
+      let here : k < length (g .inputs) = omega (arith, hold .ins) in
+      let long : length (map (inputCode w (h .size)) (from 0 (h .inputs))) ≡ h .inputs = map-long (inputCode w (h .size)) (h .inputs) 0 in
+      let twelve : length (zeros 12) ≡ 12 = length-replicate {A = ℕ} 12 0 in
+      ap (λ (x : List ℕ). getD x k 0) e
+      ∙ ap (λ (i : ℕ). getD (putAt (zeros 12) 0 (map (inputCode w (h .size)) (from 0 (h .inputs)))) i 0) (let z : k ≡ 0 + k = omega arith in z)
+      ∙ get-put (zeros 12) 0 (map (inputCode w (h .size)) (from 0 (h .inputs))) (omega (arith, hold .ins, p .few)) k (omega arith)
+      ∙ map-at (inputCode w (h .size)) (h .inputs) 0 k l
+      ∙ ap (inputCode w (h .size)) (let z : 0 + k ≡ k = omega arith in z)
+      ∙ code-is w (h .size) k
+      ∙ ap (λ (v : ℕ). code (112 ∷ decimal v)) (slot-is k here)
+      ∙ sym (ap code (net-at k here))
+
+  pub nets-form : (u : List ℕ) → List·Memᴰ u (inputNets g) → T (isNet u)
+  unfolding inputNets literal
+  nets-form u m =
+      let v = map-out (λ (x : ℕ). netName (literal false x)) (g .inputs) m in
+      let small : v .0 ≤ 4095 = omega (arith, inputs-small (v .0) (v .1), fits .room .small) in
+      subst (λ (x : List ℕ). T (isNet x)) (sym (v .2)) (net-form (literal false (v .0)) (omega arith) .0)
+    where
+      inputs-small : (v : ℕ) → List·Memᴰ v (g .inputs) → v ≤ h .size
+      inputs-small v n = omega (arith, leb→le v (g .size) (all-of (λ (x : ℕ). leb x (g .size)) (g .inputs ++ andVars g) (p .accepted .inRange) v (Memᴰ·append-left (andVars g) n)), hold .size)
+
+  pub inputs-counted : h .inputs ≡ length (inputNets g)
+  inputs-counted = sym (nets-long ∙ hold .ins)

@@ -1,0 +1,68 @@
+-- `check_call::check_texts` meets its contract: demand 1 from the functions below it, what the answer means from the definitions' law. Assumes nothing.
+use borrow.Author.Needs.{needs}
+use Prim.Native.Nat.{ℕ}
+use native.Mathlib.Omega.{arith}
+use mathlib.Core.List.{List}
+use lib.ListN.{length}
+use Rattle.model.specs.CheckDemands.{CheckPromised}
+use Rattle.theory_check.specs.CheckRefusals.{CheckRefusals}
+use Rattle.theory_check.proofs.CheckCalls.{check-exactly}
+use Rattle.theory_check.proofs.Whole.{edited-compared, edited-meant, edited-equal}
+use Rattle.theory_check.proofs.Accepts.{printed-accepted}
+use Rattle.check_call.proofs.Steps.{long-text, library-stops, library-read}
+use Rattle.check_call.proofs.check_texts.Statement.{statement}
+use Rattle.check_call.proofs.check_texts.Tie as tie
+
+-- what is promised of the definitions' answer, whatever is returned
+said : (library graph netlist : List ℕ) (words : ℕ) → CheckPromised library graph netlist words × CheckRefusals library graph netlist words
+said library graph netlist words = (
+  record {
+    compared = edited-compared library graph netlist words;
+    meant = edited-meant library graph netlist words;
+    equal = edited-equal library graph netlist words;
+    accepts = printed-accepted library graph netlist words;
+  },
+  check-exactly library graph netlist words,
+)
+
+returns : tie.Need-returns
+returns c =
+    let a = c .before .before .before .before .before .args in
+    (long-text (a .cells .now) (a .graph .now) (a .netlist .now) (a .work .now) (λ x y z. omega arith), said (a .cells .now) (a .graph .now) (a .netlist .now) (length (a .work .now)))
+
+returns-2 : tie.Need-returns-2
+returns-2 c =
+    let a = c .before .before .before .before .before .before .args in
+    (long-text (a .cells .now) (a .graph .now) (a .netlist .now) (a .work .now) (λ x y z. omega arith), said (a .cells .now) (a .graph .now) (a .netlist .now) (length (a .work .now)))
+
+returns-3 : tie.Need-returns-3
+returns-3 c =
+    let a = c .before .before .before .before .before .before .before .args in
+    (long-text (a .cells .now) (a .graph .now) (a .netlist .now) (a .work .now) (λ x y z. omega arith), said (a .cells .now) (a .graph .now) (a .netlist .now) (length (a .work .now)))
+
+check-header-requires : tie.Need-check-header-requires
+check-header-requires c κs =
+    let t = c .before .before in let l = t .before .before in
+    let a = l .before .before .before .before .before .before .before .before .args in
+    (library-read (a .cells .now) (a .graph .now) (a .netlist .now) (a .work .now) (omega arith) (omega arith) (omega arith) (l .read .result) (l .read .ensures .0) (t .enum-told .given .1) .fitting, omega arith)
+
+returns-4 : tie.Need-returns-4
+returns-4 c =
+    let h = c .before .before in let t = h .before .before .before in let l = t .before .before in
+    let a = l .before .before .before .before .before .before .before .before .args in (
+      library-read (a .cells .now) (a .graph .now) (a .netlist .now) (a .work .now) (omega arith) (omega arith) (omega arith) (l .read .result) (l .read .ensures .0) (t .enum-told .given .1) .goes _ _ (h .check-header .ensures),
+      said (a .cells .now) (a .graph .now) (a .netlist .now) (length (a .work .now)),
+    )
+
+returns-5 : tie.Need-returns-5
+returns-5 c =
+    let k = c .before in let l = k .before .before in
+    let a = l .before .before .before .before .before .before .before .before .args in (
+      library-stops (a .cells .now) (a .graph .now) (a .netlist .now) (a .work .now) (omega arith) (omega arith) (omega arith) (l .read .result) (l .read .ensures .0) _ _ (k .v .given .1),
+      said (a .cells .now) (a .graph .now) (a .netlist .now) (length (a .work .now)),
+    )
+
+pub check-texts-spec : {M : Type 1} → statement M
+check-texts-spec = tie.close (tie.spec
+    returns returns-2 returns-3 (λ c κs. search needs) (λ c. search needs) check-header-requires (λ c. search needs) (λ c. search needs)
+    returns-4 returns-5)

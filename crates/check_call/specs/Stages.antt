@@ -1,0 +1,93 @@
+-- What the words and the array hold between the layers, and what is read from each on, in terms of `model`. Assumes nothing.
+use Prim.Native.Nat.{ℕ, _+_, _-_, _*_, _≤_, _<_}
+use mathlib.Core.Path.{_≡_}
+use mathlib.Core.List.{List, [], _∷_, List·Memᴰ}
+use lib.Dec.{T, leb}
+use lib.ListN.{length, take, getD}
+use Rattle.model.specs.Base.{each, lowest}
+use Rattle.model.specs.Limits.{need}
+use Rattle.model.specs.Reading.{Read, holds, next, unless}
+use Rattle.model.specs.Text.{decimal}
+use Rattle.model.specs.Cells.{cellsOf}
+use Rattle.model.specs.Graph.{Graph, placingOrder, unplaced}
+use Rattle.model.specs.GraphText.{readHeader, readGraph}
+use Rattle.model.specs.Netlist.{outName}
+use Rattle.model.specs.Check.{Driver, Edited, isNet, inputNets, readNetlist, judgeNets, unlessAt, lineEnds, checkRead, checkedWork}
+use Rattle.model.specs.declared.Library.{Library}
+use Rattle.model.specs.declared.Header.{Header}
+use Rattle.model.specs.declared.Checked.{Checked}
+use Rattle.base_words.specs.Layout.{slotAt}
+use Rattle.theory_graph.specs.Accepted.{Accepted}
+use Rattle.graph_placing.specs.Loaded.{Fit, Holding}
+use Rattle.check_names.specs.Codes.{code}
+use Rattle.check_reader.specs.Store.{driverWords}
+use Rattle.check_nets.specs.Wired.{noDriver}
+
+-- ---- what the words and the array hold
+
+-- the number of input i's net, as the words have it
+unfoldable pub inputCode : List ℕ → ℕ → ℕ → ℕ
+inputCode w m i = code (112 ∷ decimal (slotAt w m (i + 1)))
+
+-- after `load`
+pub record Loaded (w : List ℕ) (h : Header) (g : Graph) : Type 0 where
+  pub before : List ℕ
+  pub fit : Fit h before
+  pub holding : Holding before h w g (0 ∷ g .inputs)
+  pub accepted : unplaced g ≡ [] → Accepted g
+
+-- after `place`, with neither 15 nor 31
+pub record Placed (w : List ℕ) (h : Header) (g : Graph) : Type 0 where
+  pub before : List ℕ
+  pub fit : Fit h before
+  pub holding : Holding before h w g (placingOrder g)
+  pub accepted : Accepted g
+  pub few : length (g .inputs) ≤ 12
+
+-- drivers as they are read of a netlist with so many outputs: of at most four pins, their nets of the form; the outputs' stand last, in order
+pub record Formed (outs : ℕ) (ds : List Driver) : Type 0 where
+  pub pins : (d : Driver) → List·Memᴰ d ds → length (d .uses) ≤ 4
+  pub own : (d : Driver) → List·Memᴰ d ds → T (isNet (d .net))
+  pub used : (d : Driver) → List·Memᴰ d ds → (u : List ℕ) → List·Memᴰ u (d .uses) → T (isNet u)
+  pub room : outs ≤ length ds
+  pub last : (k : ℕ) → k < outs → getD ds (length ds - outs + k) noDriver .net ≡ outName k
+
+-- after `read`, without 32: the drivers stand in the array
+pub record Wireable (w : List ℕ) (h : Header) (nets : List ℕ) (n : ℕ) (g : Graph) (ds : List Driver) : Type 0 where
+  pub placed : Placed w h g
+  pub stored : take (8 * n) nets ≡ each driverWords ds
+  pub counted : n ≡ length ds
+  pub bounded : n ≤ 10923
+  pub formed : Formed (length (g .outputs)) ds
+
+-- ---- what is read
+
+-- 33
+unfoldable pub judgedRead : Graph → List Driver → Read Edited
+unfolding next judgeNets inputNets
+judgedRead g ds = next (judgeNets (inputNets g) ds) (λ es. holds (record { graph = g; drivers = es }))
+
+-- 32 before it
+unfoldable pub netlistRead : Library → Graph → List ℕ → Read Edited
+unfolding next readNetlist cellsOf judgedRead
+netlistRead lib g s = next (readNetlist (cellsOf lib) g s) (judgedRead g)
+
+-- 15 and 31 before it
+unfoldable pub placedRead : Library → Graph → List ℕ → Read Edited
+unfolding unlessAt lowest unplaced unless netlistRead
+placedRead lib g s = unlessAt (lowest (unplaced g)) 15 (unless (leb (length (g .inputs)) 12) 31 0 (netlistRead lib g s))
+
+-- 11 to 14, 20 and 21 before it
+unfoldable pub graphRead : Library → List ℕ → Header → List ℕ → Read Edited
+unfolding next readGraph placedRead
+graphRead lib graph h s = next (readGraph graph h) (λ g. placedRead lib g s)
+
+-- 7 to 10 and 19 before it
+unfoldable pub headerRead : Library → List ℕ → List ℕ → ℕ → Read Edited
+unfolding next readHeader unless need lineEnds graphRead
+headerRead lib graph s words = next (readHeader graph) (λ h. unless (leb (need (h .size) (h .outputs) + 8 * lineEnds s) words) 10 0 (graphRead lib graph h s))
+
+-- an answer, and what it leaves of work memory
+pub record Left (r : Read Edited) (work : List ℕ) (answer : Checked) (workLeft : List ℕ) : Type 0 where
+  pub answers : answer ≡ checkRead r
+  pub words : workLeft ≡ checkedWork (checkRead r) work

@@ -1,0 +1,47 @@
+-- `check_names::bound` meets its contract. The invariant: so many words are bound, and the others are due; the measure is how many are left. Assumes nothing.
+use borrow.Author.Needs.{needs}
+use mathlib.Core.Path.{_≡_, refl, sym, _∙_, ap, subst}
+use Prim.Native.Nat.{_+_, _-_, _≤_}
+use native.Mathlib.Omega.{arith}
+use lib.ListN.{set}
+use Rattle.check_names.specs.Bound.{pinAt}
+use Rattle.check_names.specs.declared.Pin.{Pin}
+use Rattle.check_names.proofs.Binding.{Part, part-start, part-none, part-step, part-end}
+use Rattle.check_names.proofs.bound.Statement.{statement}
+use Rattle.check_names.proofs.bound.Tie as tie
+
+abbrev Inv-loop : tie.InvT-loop
+Inv-loop l from n codes₀ at₀ j₀ codes at j = (j ≤ n) × (n ≤ 4) × Part l from n at j codes
+
+abbrev μ-loop : tie.MeasureT-loop
+μ-loop l from n codes₀ at₀ j₀ codes at j = n - j
+
+loop-holds : tie.Need-loop-holds Inv-loop μ-loop
+loop-holds c = (omega arith, c .before .pre, part-start (c .before .args .l .now) (c .before .args .from) (c .before .args .n) _ refl)
+
+returns : tie.Need-returns Inv-loop μ-loop
+returns c =
+    let k = c .before .before in let l = k .before .before .before in let a = l .before .before .args in
+    c .no-nets .ensures
+    ∙ sym (part-none (a .l .now) (a .from) (a .n) (l .loop .at) (l .loop .j) (l .loop .codes) (l .loop .inv .2) (k .before .before .loop-test .taken)
+    (sym (ap (λ (p : Pin). p .code) (k .pin-at .ensures ∙ ap (pinAt (a .l .now) (l .loop .at)) (k .before .letter .ensures))) ∙ c .before .if1 .taken))
+
+loop-again : tie.Need-loop-again Inv-loop μ-loop
+loop-again c =
+    let k = c .before in let l = k .before .before .before in let a = l .before .before .args in
+    let q : k .pin-at .result ≡ pinAt (a .l .now) (l .loop .at) (65 + l .loop .j) = k .pin-at .ensures ∙ ap (pinAt (a .l .now) (l .loop .at)) (k .before .letter .ensures) in (
+      omega arith,
+      l .loop .inv .1,
+      subst (λ (p : Pin). Part (a .l .now) (a .from) (a .n) (p .next) (l .loop .j + 1) (set (l .loop .codes) (l .loop .j) (p .code))) (sym q)
+          (part-step (a .l .now) (a .from) (a .n) (l .loop .at) (l .loop .j) (l .loop .codes) (l .loop .inv .2) (k .before .before .loop-test .taken) (l .loop .inv .1) (λ e. c .if1 .left (ap (λ (p : Pin). p .code) q ∙ e))),
+    )
+
+returns-2 : tie.Need-returns-2 Inv-loop μ-loop
+returns-2 c =
+    let l = c .before .before in let a = l .before .before .args in
+    c .own-net .ensures ∙ sym (part-end (a .l .now) (a .from) (a .n) (l .loop .at) (l .loop .j) (l .loop .codes) (l .loop .inv .2) (omega arith))
+
+pub bound-spec : {M : Type 1} → statement M
+bound-spec = tie.close (tie.spec
+    Inv-loop μ-loop loop-holds (λ c κs. search needs) (λ c κs. search needs) (λ c κs. search needs) returns (λ c. search needs)
+    (λ c. search needs) (λ c. search needs) (λ c. search needs) loop-again (λ c κs. search needs) returns-2)

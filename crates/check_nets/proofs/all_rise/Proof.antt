@@ -1,0 +1,34 @@
+-- `check_nets::all_rise` meets its contract. The invariant: the drivers passed rise; the measure is how many are left. Assumes nothing.
+use borrow.Author.Needs.{needs}
+use borrow.Author.Count.{below-more}
+use borrow.Author.Tests.{not-false}
+use Prim.Native.Nat.{ℕ, _-_, _<_}
+use native.Mathlib.Omega.{arith}
+use mathlib.Core.Bool.{false≢true}
+use Rattle.check_nets.specs.Ranks.{Rising}
+use Rattle.check_nets.proofs.all_rise.Statement.{statement}
+use Rattle.check_nets.proofs.all_rise.Tie as tie
+
+abbrev Inv-loop : tie.InvT-loop
+Inv-loop refs n ranks i₀ i = (k : ℕ) → k < i → Rising refs ranks 0 k
+
+abbrev μ-loop : tie.MeasureT-loop
+μ-loop refs n ranks i₀ i = n - i
+
+rises-requires : tie.Need-rises-requires Inv-loop μ-loop
+rises-requires c κs = (c .before .before .pre, c .loop-test .taken, omega arith)
+
+add-i : tie.Need-add-i Inv-loop μ-loop
+add-i c = omega (arith, c .before .before .before .before .pre .few)
+
+loop-again : tie.Need-loop-again Inv-loop μ-loop
+loop-again c = below-more _ _ (c .before .before .before .loop .inv) (c .before .rises .ensures (not-false _ (c .if1 .left)))
+
+returns-2 : tie.Need-returns-2 Inv-loop μ-loop
+returns-2 c = λ e i h. c .before .loop .inv i (omega (arith, c .loop-test .left))
+
+pub all-rise-spec : {M : Type 1} → statement M
+all-rise-spec =
+    tie.close
+    (tie.spec
+    Inv-loop μ-loop (λ c k h. absurd (omega arith)) rises-requires (λ c e. absurd (false≢true e)) add-i (λ c. search needs) loop-again returns-2)

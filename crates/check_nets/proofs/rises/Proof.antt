@@ -1,0 +1,39 @@
+-- `check_nets::rises` meets its contract. The invariant: the pins passed rise; the measure is how many are left. Assumes nothing.
+use borrow.Author.Needs.{needs}
+use borrow.Author.Count.{below-more}
+use borrow.Author.Tests.{not-false}
+use Prim.Native.Nat.{ℕ, _+_, _-_, _≤_, _<_}
+use native.Mathlib.Omega.{arith}
+use mathlib.Core.Path.{_≡_}
+use mathlib.Core.Bool.{false≢true}
+use lib.ListN.{getD}
+use Rattle.check_order.specs.Lists.{FeedsAt}
+use Rattle.check_nets.proofs.rises.Statement.{statement}
+use Rattle.check_nets.proofs.rises.Tie as tie
+
+abbrev Inv-loop : tie.InvT-loop
+Inv-loop refs n ranks i by least j₀ j = (least ≡ getD ranks i 0 + by) × ((t : ℕ) → t < j → (k : ℕ) → FeedsAt refs i t k → least ≤ getD ranks k 0)
+
+abbrev μ-loop : tie.MeasureT-loop
+μ-loop refs n ranks i by least j₀ j = 4 - j
+
+loop-holds : tie.Need-loop-holds Inv-loop μ-loop
+loop-holds c = (omega (arith, c .wide .ensures .0), λ t h. absurd (omega arith))
+
+pin-rises-requires : tie.Need-pin-rises-requires Inv-loop μ-loop
+pin-rises-requires c κs = let s = c .before .before .before .before in (s .pre .0, s .pre .1, c .loop-test .taken)
+
+loop-again : tie.Need-loop-again Inv-loop μ-loop
+loop-again c =
+    let l = c .before .before .before .loop .inv in
+    (l .0, below-more _ _ (l .1) (c .before .pin-rises .ensures (not-false _ (c .if1 .left))))
+
+returns-2 : tie.Need-returns-2 Inv-loop μ-loop
+returns-2 c = let l = c .before .loop .inv in λ e j k f. omega (arith, l .0, l .1 j (omega (arith, f .0, c .loop-test .left)) k f)
+
+pub rises-spec : {M : Type 1} → statement M
+rises-spec =
+    tie.close
+    (tie.spec
+    Inv-loop μ-loop (λ c. search needs) (λ c. search needs) (λ c κs. search needs) (λ c. search needs) loop-holds pin-rises-requires
+    (λ c e. absurd (false≢true e)) (λ c. search needs) (λ c. search needs) loop-again returns-2)

@@ -1,0 +1,113 @@
+-- A driver more on a list. Assumes nothing.
+use Prim.Native.Nat.{ℕ, zero, suc, _+_, _≤_, _<_}
+use native.Mathlib.Nat.{not-suc-le-zero}
+use native.Mathlib.Omega.{arith}
+use mathlib.Core.Path.{_≡_, refl, sym, ap, subst, _∙_}
+use mathlib.Core.Bool.{Bool, cond}
+use mathlib.Core.List.{List}
+use lib.Dec.{eqb}
+use lib.ListN.{length, getD, set, replicate, length-replicate, length-set}
+use lib.Seq.{getD-set-same, getD-set-other}
+use borrow.Author.Tests.{eq-eqb, ne-eqb}
+use Rattle.theory_graph.proofs.Lists.{by-eqb}
+use Rattle.check_order.specs.Lists.{left, Listed}
+
+-- ---- how many are not marked
+
+-- whether one is not
+bitOf : ℕ → ℕ
+bitOf x = cond (eqb x 0) 1 0
+
+bit-zero : (x : ℕ) → x ≡ 0 → bitOf x ≡ 1
+unfolding bitOf
+bit-zero x e = ap (λ (b : Bool). cond b 1 0) (eq-eqb x 0 e)
+
+bit-other : (x : ℕ) → (x ≡ 0 → ⊥) → bitOf x ≡ 0
+unfolding bitOf
+bit-other x e = ap (λ (b : Bool). cond b 1 0) (ne-eqb x 0 e)
+
+left-suc : (marks : List ℕ) (n : ℕ) → left marks (suc n) ≡ bitOf (getD marks n 0) + left marks n
+unfolding left bitOf
+left-suc marks n = refl
+
+left-zero : (marks : List ℕ) → left marks 0 ≡ 0
+unfolding left
+left-zero marks = refl
+
+pub left-all : (marks : List ℕ) → ((x : ℕ) → getD marks x 0 ≡ 0) → (n : ℕ) → left marks n ≡ n
+left-all marks z zero = left-zero marks
+left-all marks z (suc n) = omega (arith, left-suc marks n, bit-zero (getD marks n 0) (z n), left-all marks z n)
+
+left-same : (marks : List ℕ) (i v n : ℕ) → n ≤ i → left (set marks i v) n ≡ left marks n
+left-same marks i v zero h = left-zero (set marks i v) ∙ sym (left-zero marks)
+left-same marks i v (suc n) h =
+    omega (arith, left-suc (set marks i v) n, left-suc marks n, ap bitOf (getD-set-other marks i n v 0 (λ e. omega arith)), left-same marks i v n (omega arith))
+
+pub left-mark : (marks : List ℕ) (i n : ℕ) → i < n → i < length marks → getD marks i 0 ≡ 0 → left (set marks i 1) n + 1 ≡ left marks n
+left-mark marks i zero h inside z = absurd (not-suc-le-zero h)
+left-mark marks i (suc n) h inside z =
+    by-eqb i n
+    (λ e. omega (arith, left-suc (set marks i 1) n, left-suc marks n, left-same marks i 1 n (omega arith), was e, now e))
+    (λ ne. omega (arith, left-suc (set marks i 1) n, left-suc marks n, ap bitOf (getD-set-other marks i n 1 0 (λ e. ne (sym e))), left-mark marks i n (omega arith) inside z))
+  where
+    was : i ≡ n → bitOf (getD marks n 0) ≡ 1
+    was e = bit-zero (getD marks n 0) (ap (λ (k : ℕ). getD marks k 0) (sym e) ∙ z)
+
+    now : i ≡ n → bitOf (getD (set marks i 1) n 0) ≡ 0
+    now e = bit-other (getD (set marks i 1) n 0) (λ q. omega (arith, ap (λ (k : ℕ). getD (set marks i 1) k 0) e ∙ q, getD-set-same marks i 1 0 inside))
+
+pub left-some : (marks : List ℕ) (i n : ℕ) → i < n → getD marks i 0 ≡ 0 → 0 < left marks n
+left-some marks i zero h z = absurd (not-suc-le-zero h)
+left-some marks i (suc n) h z =
+    by-eqb i n
+    (λ e. omega (arith, left-suc marks n, bit-zero (getD marks n 0) (ap (λ (k : ℕ). getD marks k 0) (sym e) ∙ z)))
+    (λ ne. omega (arith, left-suc marks n, left-some marks i n (omega arith) z))
+
+pub left-any : (marks : List ℕ) (n : ℕ) → 0 < left marks n → (i : ℕ) × (i < n) × (getD marks i 0 ≡ 0)
+left-any marks zero h = absurd (omega (arith, left-zero marks))
+left-any marks (suc n) h =
+    by-eqb (getD marks n 0) 0
+    (λ e. (n, omega arith, e))
+    (λ ne. let r = left-any marks n (omega (arith, left-suc marks n, bit-other (getD marks n 0) ne)) in (r .0, omega (arith, r .1), r .2))
+
+-- ---- the list
+
+pub zeros : (m x : ℕ) → getD {A = ℕ} (replicate m 0) x 0 ≡ 0
+zeros zero x = refl
+zeros (suc m) zero = refl
+zeros (suc m) (suc x) = zeros m x
+
+-- none is listed yet
+pub listed-none : (n k : ℕ) (list : List ℕ) → k ≡ 10923 → length list ≡ 10923 → Listed n (replicate k 0) list 0
+listed-none n k list e long = record {
+  many = length-replicate k 0 ∙ e;
+  long = long;
+  each = λ p h. absurd (omega arith);
+  has = λ i h ne. absurd (ne (zeros k i));
+  count = omega (arith, left-all (replicate k 0) (zeros k) n);
+}
+
+module _ (n : ℕ) (marks list : List ℕ) (m : ℕ) (few : n ≤ 10923) (l : Listed n marks list m) where
+  pub listed-few : m ≤ n
+  listed-few = omega (arith, l .count)
+
+  pub listed-room : (i : ℕ) → i < n → getD marks i 0 ≡ 0 → m < n
+  listed-room i h z = omega (arith, l .count, left-some marks i n h z)
+
+  pub listed-next : (i : ℕ) → i < n → getD marks i 0 ≡ 0 → Listed n (set marks i 1) (set list m i) (m + 1)
+  listed-next i h z = record {
+    many = length-set marks i 1 ∙ l .many;
+    long = length-set list m i ∙ l .long;
+    each = λ p q. by-eqb p m
+        (λ e. subst (λ (x : ℕ). x < n) (sym (at p e)) h)
+        (λ ne. subst (λ (x : ℕ). x < n) (sym (getD-set-other list m p i 0 ne)) (l .each p (omega arith)));
+    has = λ y q ne. by-eqb y i
+        (λ e. (m, omega arith, at m refl ∙ sym e))
+        (λ ny.
+        let r = l .has y q (λ s. ne (getD-set-other marks i y 1 0 ny ∙ s)) in
+        (r .0, omega (arith, r .1), getD-set-other list m (r .0) i 0 (λ e. omega (arith, r .1)) ∙ r .2));
+    count = omega (arith, l .count, left-mark marks i n h (omega (arith, l .many)) z);
+  }
+    where
+      at : (p : ℕ) → p ≡ m → getD (set list m i) p 0 ≡ i
+      at p e = ap (λ (x : ℕ). getD (set list m i) x 0) e ∙ getD-set-same list m i 0 (omega (arith, l .long, listed-room i h z))

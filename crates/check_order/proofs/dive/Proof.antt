@@ -1,0 +1,78 @@
+-- `check_order::dive` meets its contract. The invariant: what is listed is in order. The measure is how many steps are left. Assumes nothing.
+use Prim.Native.Nat.{_*_}
+use native.Mathlib.Omega.{arith}
+use mathlib.Core.Path.{_≡_, refl, sym, _∙_}
+use Rattle.check_order.specs.Orders.{made, down, walkFrom}
+use Rattle.check_order.proofs.Making.{walk-goes, walk-ends, walk-none, dive-met, dive-walks}
+use Rattle.check_order.specs.Lists.{Walking}
+use Rattle.check_order.proofs.dive.Statement.{statement}
+use Rattle.check_order.proofs.dive.Tie as tie
+
+abbrev Inv-loop : tie.InvT-loop
+Inv-loop refs n marks₀ order₀ m i passed₀ stack₀ w₀ steps₀ marks order passed stack w steps =
+    Walking refs n w marks order × (walkFrom refs n (5 * n) (down 1 (made m marks₀ order₀) passed₀ stack₀) ≡ walkFrom refs n steps (down (w .depth) (made (w .count) marks order) passed stack))
+
+abbrev μ-loop : tie.MeasureT-loop
+μ-loop refs n marks₀ order₀ m i passed₀ stack₀ w₀ steps₀ marks order passed stack w steps = steps
+
+element-copy-out-if1 : tie.Need-element-copy-out-if1 Inv-loop μ-loop
+element-copy-out-if1 c = omega (arith, c .pre .0 .few, c .pre .1)
+
+returns : tie.Need-returns Inv-loop μ-loop
+returns c =
+    let s = c .before .before in
+    let a = s .args in
+    (s .pre .2, dive-met (a .refs .now) (a .n) (a .i) (a .m) (a .marks .now) (a .order .now) (a .passed .now) (a .stack .now) (c .if1 .taken))
+
+cast-stack : tie.Need-cast-stack Inv-loop μ-loop
+cast-stack c = let s = c .before .before in omega (arith, s .pre .0 .few, s .pre .1)
+
+mul-steps : tie.Need-mul-steps Inv-loop μ-loop
+mul-steps c = let s = c .before .before in omega (arith, s .pre .0 .few)
+
+loop-holds : tie.Need-loop-holds Inv-loop μ-loop
+loop-holds c = let s = c .before .before in (record { arranged = s .pre .2; deep = omega (arith, s .pre .1) }, refl)
+
+returns-2 : tie.Need-returns-2 Inv-loop μ-loop
+returns-2 c =
+    let l = c .before .before .before in
+    let e = l .before in
+    let a = e .before .before .args in
+    let w = down (l .loop .w .depth) (made (l .loop .w .count) (l .loop .marks) (l .loop .order)) (l .loop .passed) (l .loop .stack) in (
+      l .loop .inv .0 .arranged,
+      dive-walks (a .refs .now) (a .n) (a .i) (a .m) (a .marks .now) (a .order .now) (a .passed .now) (a .stack .now) (e .if1 .left) w
+          (sym (l .loop .inv .1 ∙ walk-ends (a .refs .now) (a .n) (l .loop .steps) w (c .if2 .taken))),
+    )
+
+step-requires : tie.Need-step-requires Inv-loop μ-loop
+step-requires c κs =
+    let e = c .before .before .before .before in
+    let l = e .before .before .before in
+    (l .before .before .before .pre .0, l .loop .inv .0, omega (arith, e .if2 .left))
+
+loop-again : tie.Need-loop-again Inv-loop μ-loop
+loop-again c =
+    let e = c .before .before .before .before .before in
+    let l = e .before .before .before in
+    let a = l .before .before .before .args in
+    let w = down (l .loop .w .depth) (made (l .loop .w .count) (l .loop .marks) (l .loop .order)) (l .loop .passed) (l .loop .stack) in
+    (c .step .ensures .0, l .loop .inv .1 ∙ walk-goes (a .refs .now) (a .n) (l .loop .steps) w _ (e .if2 .left) (c .step .ensures .1) (e .before .before .loop-test .taken))
+
+returns-3 : tie.Need-returns-3 Inv-loop μ-loop
+returns-3 c =
+    let l = c .before in
+    let e = l .before in
+    let a = e .before .before .args in
+    let w = down (l .loop .w .depth) (made (l .loop .w .count) (l .loop .marks) (l .loop .order)) (l .loop .passed) (l .loop .stack) in
+    let none : l .loop .steps ≡ 0 = omega (arith, c .loop-test .left) in (
+      l .loop .inv .0 .arranged,
+      dive-walks (a .refs .now) (a .n) (a .i) (a .m) (a .marks .now) (a .order .now) (a .passed .now) (a .stack .now) (e .if1 .left) w
+          (sym (l .loop .inv .1 ∙ walk-none (a .refs .now) (a .n) (l .loop .steps) w none)),
+    )
+
+pub dive-spec : {M : Type 1} → statement M
+dive-spec =
+    tie.close
+    (tie.spec
+    Inv-loop μ-loop element-copy-out-if1 returns cast-stack (λ c. omega arith) mul-steps loop-holds returns-2 step-requires (λ c. omega arith)
+    (λ c. omega arith) loop-again returns-3)

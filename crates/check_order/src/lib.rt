@@ -1,0 +1,280 @@
+// The drivers of an edited netlist in an order, each behind those that feed it. A sweep lists each driver whose pins are fed by inputs and listed drivers
+// alone,
+// so that what is listed is in order whatever was tried first; a walk from each driver down to what feeds it tries them so that without a circle all are
+// listed at once. Where a sweep lists none, what is left is stuck behind a circle.
+use check_reader::DRIVERS;
+use check_wires::PINS;
+ghost use mathlib.Core.Path.{_≡_};
+ghost use Prim.Native.Nat.{suc, _*_, _≤_, _<_};
+ghost use lib.ListN.{getD, set};
+ghost use Rattle.check_order.specs.Orders.{Made, made, placeOf, sweepFrom, settleFrom, down, flat, descendOf, stepOf, diveOf, divesFrom, arrangeOf};
+ghost use Rattle.check_order.specs.Lists.{Pinned, Fed, Tried, Arranged, Placed, Swept, Settled, Walking};
+
+// How deep the walk down is, and how many drivers are listed.
+pub struct Walk {
+    pub depth: usize,
+    pub count: usize,
+}
+
+// A word as an index.
+fn wide(x: u16) -> usize
+    ensures { λ r. ⌜ r ≡ x ⌝ }
+{
+    x as usize
+}
+
+// What stands at a pin.
+pub fn pin(refs: &[u16; PINS], at: usize) -> usize
+    requires { ⌜ at < 43692 ⌝ }
+    ensures { λ r. ⌜ r ≡ getD (now (refs .entry)) at 0 ⌝ }
+{
+    wide(refs[at])
+}
+
+// A driver at a place of a list.
+pub fn listed(list: &[u16; DRIVERS], p: usize) -> usize
+    requires { ⌜ p < 10923 ⌝ }
+    ensures { λ r. ⌜ r ≡ getD (now (list .entry)) p 0 ⌝ }
+{
+    wide(list[p])
+}
+
+// A driver listed at place m, and marked.
+pub fn append(marks: &mut [u8; DRIVERS], list: &mut [u16; DRIVERS], m: usize, i: usize)
+    requires { ⌜ (m < 10923) × (i < 10923) ⌝ }
+    ensures { λ _. ⌜ (now (marks .exit) ≡ set (now (marks .entry)) i 1) × (now (list .exit) ≡ set (now (list .entry)) m i) ⌝ }
+{
+    list[m] = i as u16;
+    marks[i] = 1;
+}
+
+// Pin j of driver i is fed by an input or a listed driver.
+fn is_fed(refs: &[u16; PINS], n: usize, marks: &[u8; DRIVERS], i: usize, j: usize) -> bool
+    requires { ⌜ Pinned (now refs) n × (i < n) × (j < 4) ⌝ }
+    ensures { λ r. ⌜ Fed (now (refs .entry)) (now (marks .entry)) i j r ⌝ }
+{
+    let x = pin(refs, 4 * i + j);
+    if x < 12 {
+        return true;
+    }
+    if marks[x - 12] == 0 {
+        return false;
+    }
+    true
+}
+
+// All four are.
+fn is_ready(refs: &[u16; PINS], n: usize, marks: &[u8; DRIVERS], i: usize) -> bool
+    requires { ⌜ Pinned (now refs) n × (i < n) ⌝ }
+    ensures { λ r. ⌜ Tried (now (refs .entry)) (now (marks .entry)) i r ⌝ }
+{
+    let mut j = 0;
+    while j < 4 {
+        if !is_fed(refs, n, marks, i, j) {
+            return false;
+        }
+        j += 1;
+    }
+    true
+}
+
+// Driver i listed, if it can be and is not yet.
+fn place(
+    refs: &[u16; PINS],
+    n: usize,
+    marks: &mut [u8; DRIVERS],
+    order: &mut [u16; DRIVERS],
+    m: usize,
+    i: usize,
+) -> usize
+    requires { ⌜ Pinned (now refs) n × (i < n) × Arranged (now refs) n (now marks) (now order) m ⌝ }
+    ensures { λ r. ⌜ Placed (now (refs .entry)) n i m (now (marks .entry)) r (now (marks .exit)) (now (order .exit)) ⌝ }
+    ensures { λ r. ⌜ made r (now (marks .exit)) (now (order .exit)) ≡ placeOf (now (refs .entry)) (made m (now (marks .entry)) (now (order .entry))) i ⌝ }
+{
+    if marks[i] != 0 {
+        return m;
+    }
+    if !is_ready(refs, n, marks, i) {
+        return m;
+    }
+    append(marks, order, m, i);
+    m + 1
+}
+
+// All drivers tried, as the lines stand.
+fn sweep(
+    refs: &[u16; PINS],
+    n: usize,
+    marks: &mut [u8; DRIVERS],
+    order: &mut [u16; DRIVERS],
+    m: usize,
+) -> usize
+    requires { ⌜ Pinned (now refs) n × Arranged (now refs) n (now marks) (now order) m ⌝ }
+    ensures { λ r. ⌜ Swept (now (refs .entry)) n n m (now (marks .entry)) r (now (marks .exit)) (now (order .exit)) ⌝ }
+    ensures { λ r. ⌜ made r (now (marks .exit)) (now (order .exit)) ≡ sweepFrom (now (refs .entry)) 0 n (made m (now (marks .entry)) (now (order .entry))) ⌝ }
+{
+    let mut r = m;
+    let mut i = 0;
+    while i < n {
+        r = place(refs, n, marks, order, r, i);
+        i += 1;
+    }
+    r
+}
+
+// Sweeps until one lists none.
+fn settle(
+    refs: &[u16; PINS],
+    n: usize,
+    marks: &mut [u8; DRIVERS],
+    order: &mut [u16; DRIVERS],
+    m: usize,
+) -> usize
+    requires { ⌜ Pinned (now refs) n × Arranged (now refs) n (now marks) (now order) m ⌝ }
+    ensures { λ r. ⌜ Settled (now (refs .entry)) n r (now (marks .exit)) (now (order .exit)) ⌝ }
+    ensures { λ r. ⌜ made r (now (marks .exit)) (now (order .exit)) ≡ settleFrom (now (refs .entry)) n (suc n)
+        (made m (now (marks .entry)) (now (order .entry))) ⌝ }
+{
+    let mut from = m;
+    let mut r = sweep(refs, n, marks, order, from);
+    while r > from {
+        from = r;
+        r = sweep(refs, n, marks, order, from);
+    }
+    r
+}
+
+// What feeds the pin at `at` put on the stack, if it is a driver that the walk has not come to.
+fn descend(
+    refs: &[u16; PINS],
+    n: usize,
+    passed: &[u8; DRIVERS],
+    stack: &mut [u16; DRIVERS],
+    depth: usize,
+    at: usize,
+) -> usize
+    requires { ⌜ Pinned (now refs) n × (at < 4 * n) × (depth ≤ n) ⌝ }
+    ensures { λ r. ⌜ (r ≤ n) × ((l : Made) → down r l (now (passed .entry)) (now (stack .exit)) ≡ descendOf (now (refs .entry)) n
+        (down depth l (now (passed .entry)) (now (stack .entry))) at) ⌝ }
+{
+    let x = pin(refs, at);
+    if x < 12 {
+        return depth;
+    }
+    if passed[x - 12] != 0 {
+        return depth;
+    }
+    if depth >= n {
+        return depth;
+    }
+    stack[depth] = (x - 12) as u16;
+    depth + 1
+}
+
+// A step at the driver on top: down at its next pin, or, with all its pins passed, it is tried and the walk goes up. Nothing is to be known of the stack, so
+// that a number that is no driver's ends the walk.
+fn step(
+    refs: &[u16; PINS],
+    n: usize,
+    marks: &mut [u8; DRIVERS],
+    order: &mut [u16; DRIVERS],
+    w: Walk,
+    stack: &mut [u16; DRIVERS],
+    passed: &mut [u8; DRIVERS],
+) -> Walk
+    requires { ⌜ Pinned (now refs) n × Walking (now refs) n w (now marks) (now order) × (0 < w .depth) ⌝ }
+    ensures { λ r. ⌜ Walking (now (refs .entry)) n r (now (marks .exit)) (now (order .exit)) ⌝ }
+    ensures { λ r. ⌜ down (r .depth) (made (r .count) (now (marks .exit)) (now (order .exit))) (now (passed .exit)) (now (stack .exit))
+        ≡ stepOf (now (refs .entry)) n (down (w .depth) (made (w .count) (now (marks .entry)) (now (order .entry)))
+        (now (passed .entry)) (now (stack .entry))) ⌝ }
+{
+    let depth = w.depth;
+    let count = w.count;
+    let top = listed(stack, depth - 1);
+    if top >= n {
+        return Walk { depth: 0, count };
+    }
+    let j = passed[top];
+    if j < 4 {
+        passed[top] = j + 1;
+        let next = descend(refs, n, passed, stack, depth, 4 * top + j as usize);
+        return Walk { depth: next, count };
+    }
+    let next = place(refs, n, marks, order, count, top);
+    Walk {
+        depth: depth - 1,
+        count: next,
+    }
+}
+
+// The walk down from a driver that none came to: five steps for each driver that it comes to.
+fn dive(
+    refs: &[u16; PINS],
+    n: usize,
+    marks: &mut [u8; DRIVERS],
+    order: &mut [u16; DRIVERS],
+    m: usize,
+    i: usize,
+    passed: &mut [u8; DRIVERS],
+    stack: &mut [u16; DRIVERS],
+) -> usize
+    requires { ⌜ Pinned (now refs) n × (i < n) × Arranged (now refs) n (now marks) (now order) m ⌝ }
+    ensures { λ r. ⌜ Arranged (now (refs .entry)) n (now (marks .exit)) (now (order .exit)) r ⌝ }
+    ensures { λ r. ⌜ down 0 (made r (now (marks .exit)) (now (order .exit))) (now (passed .exit)) (now (stack .exit))
+        ≡ flat (diveOf (now (refs .entry)) n (down 0 (made m (now (marks .entry)) (now (order .entry))) (now (passed .entry)) (now (stack .entry))) i) ⌝ }
+{
+    if passed[i] != 0 {
+        return m;
+    }
+    stack[0] = i as u16;
+    let mut w = Walk { depth: 1, count: m };
+    let mut steps = 5 * n;
+    while steps > 0 {
+        if w.depth == 0 {
+            return w.count;
+        }
+        w = step(refs, n, marks, order, w, stack, passed);
+        steps -= 1;
+    }
+    w.count
+}
+
+// Walks from each driver.
+fn dive_all(
+    refs: &[u16; PINS],
+    n: usize,
+    marks: &mut [u8; DRIVERS],
+    order: &mut [u16; DRIVERS],
+    passed: &mut [u8; DRIVERS],
+    stack: &mut [u16; DRIVERS],
+) -> usize
+    requires { ⌜ Pinned (now refs) n × Arranged (now refs) n (now marks) (now order) 0 ⌝ }
+    ensures { λ r. ⌜ Arranged (now (refs .entry)) n (now (marks .exit)) (now (order .exit)) r ⌝ }
+    ensures { λ r. ⌜ down 0 (made r (now (marks .exit)) (now (order .exit))) (now (passed .exit)) (now (stack .exit))
+        ≡ divesFrom (now (refs .entry)) n 0 n (down 0 (made 0 (now (marks .entry)) (now (order .entry))) (now (passed .entry)) (now (stack .entry))) ⌝ }
+{
+    let mut m = 0;
+    let mut i = 0;
+    while i < n {
+        m = dive(refs, n, marks, order, m, i, passed, stack);
+        i += 1;
+    }
+    m
+}
+
+// The order, as far as it goes.
+pub fn arrange(
+    refs: &[u16; PINS],
+    n: usize,
+    marks: &mut [u8; DRIVERS],
+    order: &mut [u16; DRIVERS],
+) -> usize
+    requires { ⌜ Pinned (now refs) n × Arranged (now refs) n (now marks) (now order) 0 ⌝ }
+    ensures listed { λ r. ⌜ Settled (now (refs .entry)) n r (now (marks .exit)) (now (order .exit)) ⌝ }
+    ensures answer { λ r. ⌜ made r (now (marks .exit)) (now (order .exit)) ≡ arrangeOf (now (refs .entry)) n (now (marks .entry)) (now (order .entry)) ⌝ }
+{
+    let mut passed = [0u8; DRIVERS];
+    let mut stack = [0u16; DRIVERS];
+    let m = dive_all(refs, n, marks, order, &mut passed, &mut stack);
+    settle(refs, n, marks, order, m)
+}

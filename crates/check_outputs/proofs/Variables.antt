@@ -1,0 +1,219 @@
+-- The words of the graph are its values:
+--     slots-ready         what the pass over the placing order asks for
+--     valueWord           a variable's values in block b
+--     slots-turn          each variable has its word by those of variables placed before it
+--     slot-of             a placed variable stands in a slot
+-- Assumes nothing.
+use Prim.Native.Nat.{ℕ, zero, suc, _+_, _-_, _*_, _/_, _≤_, _<_}
+use native.Mathlib.Omega.{arith}
+use native.Mathlib.Numerals.{add-one}
+use mathlib.Core.Path.{_≡_, refl, sym, ap, ap₂, _∙_}
+use mathlib.Core.Bool.{Bool, true, false, cond, _&&_}
+use mathlib.Core.List.{List, [], _∷_, _++_, List·Memᴰ, List·Memᴰ·head, List·Memᴰ·tail, Memᴰ·cast}
+use lib.Dec.{T, eqb, leb, eqb→eq}
+use lib.ListN.{length, getD, length-append, List·getD-append}
+use lib.Seq.{getD-append-add}
+use borrow.Author.Tests.{eqb-true, eqb-false, leb-true, leb-false}
+use Rattle.model.specs.Base.{bit, flip}
+use Rattle.model.specs.Graph.{And, Graph, Node, constant, input, undefined, both, node, placeF, placingOrder, varOf, negated, literalValue, nodeValue, valueOf}
+use Rattle.model.specs.Check.{Driver, settingOf}
+use Rattle.model.specs.Demands.{Distinct}
+use Rattle.model.specs.declared.Header.{Header}
+use Rattle.theory_graph.proofs.Lists.{getD-in, is-true, map-out}
+use Rattle.theory_graph.proofs.Placing.{placed-and}
+use Rattle.theory_graph.proofs.Values.{valueOf-valuation}
+use Rattle.theory_graph.proofs.GraphValue.{and-node, values-exist}
+use Rattle.theory_check.proofs.Whole.{inputs-once}
+use Rattle.base_words.specs.Layout.{placedOf, andKind, kindAt, leftAt, rightAt, slotAt}
+use Rattle.graph_placing.specs.Loaded.{Fit, kindOf, leftOf, rightOf}
+use Rattle.graph_placing.specs.Placing.{Operands}
+use Rattle.graph_placing.proofs.Slots.{fit-length, fit-room}
+use Rattle.graph_placing.proofs.Orders.{holding-operands, holds-nodes}
+use Rattle.cut_lists.specs.Represents.{Represents}
+use Rattle.cut_lists.proofs.Model.{slot-inside}
+use Rattle.cut_pass.proofs.Places.{earlier-slot}
+use Rattle.cover_choice.proofs.Counting.{all-placed}
+use Rattle.check_outputs.specs.Settings.{wordOf, inputWord, andWord}
+use Rattle.check_outputs.proofs.Bits.{bit-word, words-same, no-bits}
+use Rattle.check_outputs.specs.Filling.{andAt, slotWord, Slots, SlotsTurn}
+use Rattle.check_outputs.specs.Comparable.{Comparable}
+
+-- ---- the setting of an input
+
+pub setting-at : (s k : ℕ) (us : List ℕ) → Distinct us → (j : ℕ) → j < length us → settingOf s k us (getD us j 0) ≡ bit s (k + j)
+unfolding settingOf
+setting-at s k [] once j h = absurd (omega arith)
+setting-at s k (u ∷ us) once zero h =
+    ap (λ (t : Bool). cond t (bit s k) (settingOf s (suc k) us u)) (is-true (eqb u u) (lib.Dec.eqb-refl u)) ∙ ap (bit s) (let e : k ≡ k + 0 = omega arith in e)
+setting-at s k (u ∷ us) once (suc j) h =
+    go (eqb u (getD us j 0)) (eqb→eq u (getD us j 0)) ∙ setting-at s (suc k) us (once .1) j (omega arith) ∙ ap (bit s) (let e : suc k + j ≡ k + suc j = omega arith in e)
+  where
+    go : (t : Bool) → (T t → u ≡ getD us j 0) → cond t (bit s k) (settingOf s (suc k) us (getD us j 0)) ≡ settingOf s (suc k) us (getD us j 0)
+    go true y = absurd (once .0 (Memᴰ·cast (y tt) (getD-in us j 0 (omega arith))))
+    go false y = refl
+
+-- an element stands somewhere
+index-of : (u : ℕ) (xs : List ℕ) → List·Memᴰ u xs → (i : ℕ) × (i < length xs) × (getD xs i 0 ≡ u)
+index-of u (x ∷ xs) (List·Memᴰ·head e) = (0, omega arith, sym e)
+index-of u (x ∷ xs) (List·Memᴰ·tail m) = let r = index-of u xs m in (suc (r .0), omega (arith, r .1), r .2)
+
+module _ (w : List ℕ) (h : Header) (nets : List ℕ) (n : ℕ) (refs order : List ℕ) (g : Graph) (ds : List Driver) (c : Comparable w h nets n refs order g ds) where
+  pub fits : Fit h w
+  fits = fit-length h (c .before) w (c .fit) (c .holding .held .long)
+
+  operands : Operands w (h .size)
+  operands = holding-operands (c .before) h w g (placingOrder g) (c .holding)
+
+  lefts : (v : ℕ) → v ≤ h .size → leftAt w (h .size) v ≤ 2 * h .size + 1
+  lefts v l = go (node g v) refl
+    where
+      at : leftAt w (h .size) v ≡ leftOf (node g v)
+      at = c .holding .held .lefts v l
+
+      go : (k : Node) → node g v ≡ k → leftAt w (h .size) v ≤ 2 * h .size + 1
+      go constant e = omega (arith, at ∙ ap leftOf e)
+      go input e = omega (arith, at ∙ ap leftOf e)
+      go undefined e = omega (arith, at ∙ ap leftOf e)
+      go (both a b) e = operands .left v l (c .holding .held .kinds v l ∙ ap kindOf e)
+
+  rights : (v : ℕ) → v ≤ h .size → rightAt w (h .size) v ≤ 2 * h .size + 1
+  rights v l = go (node g v) refl
+    where
+      at : rightAt w (h .size) v ≡ rightOf (node g v)
+      at = c .holding .held .rights v l
+
+      go : (k : Node) → node g v ≡ k → rightAt w (h .size) v ≤ 2 * h .size + 1
+      go constant e = omega (arith, at ∙ ap rightOf e)
+      go input e = omega (arith, at ∙ ap rightOf e)
+      go undefined e = omega (arith, at ∙ ap rightOf e)
+      go (both a b) e = operands .right v l (c .holding .held .kinds v l ∙ ap kindOf e)
+
+  placed-is : placedOf h ≡ length (placingOrder g)
+  placed-is = omega (arith, c .holding .ins, c .holding .gates, all-placed g (c .accepted))
+
+  represents : Represents w (h .size) (placedOf h) g
+  represents =
+      let long : placedOf h ≡ length (placingOrder g) = placed-is in
+      record {
+        room = fit-room h w fits;
+        size = c .holding .size;
+        nodes = holds-nodes (c .before) h w g (placingOrder g) (c .holding);
+        lefts = lefts;
+        rights = rights;
+        within = omega (arith, fits .lines);
+        long = sym long;
+        order = λ i l. c .holding .held .ordered .slots i (omega arith);
+        places = λ i l. c .holding .held .ordered .places i (omega arith);
+      }
+
+  inside : (i : ℕ) → i < placedOf h → slotAt w (h .size) i ≤ h .size
+  inside = slot-inside w (h .size) (placedOf h) g represents (c .accepted)
+
+  pub slots-ready : Slots w (h .size) (h .inputs) (placedOf h)
+  slots-ready = record {
+    room = fit-room h w fits;
+    within = omega (arith, fits .lines);
+    few = omega (arith, c .holding .ins, c .few);
+    slots = inside;
+    lefts = lefts;
+    rights = rights;
+  }
+
+  -- ---- what stands in a slot
+
+  pub slot-of : (u : ℕ) → List·Memᴰ u (placingOrder g) → (i : ℕ) × (i < placedOf h) × (slotAt w (h .size) i ≡ u)
+  slot-of u there =
+      let r = index-of u (placingOrder g) there in
+      (r .0, omega (arith, r .1, placed-is), c .holding .held .ordered .slots (r .0) (r .1) ∙ r .2)
+
+  slot-is : (i : ℕ) → i < placedOf h → slotAt w (h .size) i ≡ getD (placingOrder g) i 0
+  slot-is i l = represents .order i l
+
+  first-slot : 0 < placedOf h → slotAt w (h .size) 0 ≡ 0
+  unfolding placingOrder
+  first-slot l = slot-is 0 l
+
+  rest : List ℕ
+  rest = placeF (length (g .ands)) (g .ands) (0 ∷ g .inputs)
+
+  input-slot : (k : ℕ) → k < length (g .inputs) → k + 1 < placedOf h → slotAt w (h .size) (k + 1) ≡ getD (g .inputs) k 0
+  unfolding placingOrder rest
+  input-slot k l s = slot-is (k + 1) s ∙ ap (λ (i : ℕ). getD (0 ∷ g .inputs ++ rest) i 0) (add-one k) ∙ List·getD-append (g .inputs) rest 0 k l
+
+  and-slot : (i : ℕ) → h .inputs < i → i < placedOf h → (a : And) × List·Memᴰ a (g .ands) × (slotAt w (h .size) i ≡ a .var)
+  unfolding placingOrder rest
+  and-slot i l s =
+      let j : ℕ = i - 1 - length (g .inputs) in let at : i ≡ suc (length (g .inputs) + j) = omega (arith, c .holding .ins) in
+      let e : slotAt w (h .size) i ≡ getD rest j 0 =
+      slot-is i s ∙ ap (λ (x : ℕ). getD (0 ∷ g .inputs ++ rest) x 0) at ∙ getD-append-add (g .inputs) rest j 0 in
+      let fewer : j < length rest = omega (arith, placed-is, length-append (g .inputs) rest, c .holding .ins) in
+      let o = map-out (λ (a : And). a .var) (g .ands) (placed-and (length (g .ands)) (g .ands) (0 ∷ g .inputs) (getD rest j 0) (getD-in rest j 0 fewer)) in
+      (o .0, o .1, e ∙ o .2)
+
+  -- the AND in a slot behind the inputs, by its operands in the words
+  slot-node : (i : ℕ) → h .inputs < i → i < placedOf h
+      → node g (slotAt w (h .size) i) ≡ both (leftAt w (h .size) (slotAt w (h .size) i)) (rightAt w (h .size) (slotAt w (h .size) i))
+  slot-node i l s =
+      let o = and-slot i l s in let v : ℕ = slotAt w (h .size) i in
+      let e : node g v ≡ both (o .0 .left) (o .0 .right) = ap (node g) (o .2) ∙ and-node g (c .accepted) (o .0) (o .1) in
+      e ∙ sym (ap₂ both (c .holding .held .lefts v (inside i s) ∙ ap leftOf e) (c .holding .held .rights v (inside i s) ∙ ap rightOf e))
+
+  kind-and : (i : ℕ) → h .inputs < i → i < placedOf h → kindAt w (h .size) (slotAt w (h .size) i) ≡ andKind
+  kind-and i l s = c .holding .held .kinds (slotAt w (h .size) i) (inside i s) ∙ ap kindOf (slot-node i l s)
+
+  -- ---- the values in block b
+
+  module _ (b : ℕ) where
+    pub valueWord : ℕ → ℕ
+    valueWord v = wordOf (λ t. valueOf g (settingOf (64 * b + t) 0 (g .inputs)) v)
+
+    pub value-bit : (v t : ℕ) → t < 64 → bit (valueWord v) t ≡ valueOf g (settingOf (64 * b + t) 0 (g .inputs)) v
+    unfolding valueWord
+    value-bit v t l = bit-word (λ t. valueOf g (settingOf (64 * b + t) 0 (g .inputs)) v) t l
+
+    turn-zero : (v : ℕ) → v ≡ 0 → valueWord v ≡ 0
+    unfolding valueWord
+    turn-zero v e =
+        words-same (λ t. valueOf g (settingOf (64 * b + t) 0 (g .inputs)) v) (λ t. false)
+        (λ t l. ap (valueOf g (settingOf (64 * b + t) 0 (g .inputs))) e ∙ values-exist g (c .accepted) (settingOf (64 * b + t) 0 (g .inputs)) .atConstant)
+        ∙ no-bits
+
+    turn-input : (v k : ℕ) → k < length (g .inputs) → v ≡ getD (g .inputs) k 0 → valueWord v ≡ inputWord k b
+    unfolding valueWord inputWord
+    turn-input v k l e =
+        words-same (λ t. valueOf g (settingOf (64 * b + t) 0 (g .inputs)) v) (λ t. bit (64 * b + t) k)
+        (λ t r.
+        ap (valueOf g (settingOf (64 * b + t) 0 (g .inputs))) e
+        ∙ values-exist g (c .accepted) (settingOf (64 * b + t) 0 (g .inputs)) .atInputs (getD (g .inputs) k 0) (getD-in (g .inputs) k 0 l)
+        ∙ setting-at (64 * b + t) 0 (g .inputs) (inputs-once g (c .accepted)) k l ∙ ap (bit (64 * b + t)) (let z : 0 + k ≡ k = omega arith in z))
+
+    turn-and : (v l r : ℕ) → node g v ≡ both l r → valueWord v ≡ andWord l (valueWord (l / 2)) r (valueWord (r / 2))
+    unfolding valueWord andWord nodeValue literalValue varOf
+    turn-and v l r e =
+        words-same (λ t. valueOf g (settingOf (64 * b + t) 0 (g .inputs)) v) (λ t. flip (negated l) (bit (valueWord (l / 2)) t) && flip (negated r) (bit (valueWord (r / 2)) t))
+        (λ t s.
+        valueOf-valuation g (c .accepted) (settingOf (64 * b + t) 0 (g .inputs)) v
+        ∙ ap (nodeValue (settingOf (64 * b + t) 0 (g .inputs)) (valueOf g (settingOf (64 * b + t) 0 (g .inputs))) v) e
+        ∙ sym (ap₂ (λ (x y : Bool). flip (negated l) x && flip (negated r) y) (value-bit (l / 2) t s) (value-bit (r / 2) t s)))
+
+    turn-slot : (i : ℕ) → i < placedOf h → valueWord (slotAt w (h .size) i) ≡ slotWord w (h .size) (h .inputs) b valueWord i
+    unfolding slotWord andAt
+    turn-slot i l = go (eqb i 0) (leb i (h .inputs)) refl refl
+      where
+        v : ℕ
+        v = slotAt w (h .size) i
+
+        go : (x y : Bool) → eqb i 0 ≡ x → leb i (h .inputs) ≡ y → valueWord v ≡ cond x 0 (cond y (inputWord (i - 1) b) (andAt w (h .size) valueWord (slotAt w (h .size) i)))
+        go true y e f = let z : i ≡ 0 = eqb-true i 0 e in turn-zero v (ap (slotAt w (h .size)) z ∙ first-slot (omega arith))
+        go false true e f =
+            let d = eqb-false i 0 e in let z : i ≤ h .inputs = leb-true i (h .inputs) f in let at : i ≡ i - 1 + 1 = omega (arith, d) in
+            let few : i - 1 < length (g .inputs) = omega (arith, d, c .holding .ins) in
+            turn-input v (i - 1) few (ap (slotAt w (h .size)) at ∙ input-slot (i - 1) few (omega arith))
+        go false false e f = turn-and v (leftAt w (h .size) v) (rightAt w (h .size) v) (slot-node i (leb-false i (h .inputs) f) l)
+
+    pub slots-turn : SlotsTurn w (h .size) (h .inputs) (placedOf h) b valueWord
+    slots-turn = record {
+      turn = turn-slot;
+      left-earlier = λ i s l. earlier-slot w (h .size) (placedOf h) g represents (c .accepted) i l (kind-and i s l) .0;
+      right-earlier = λ i s l. earlier-slot w (h .size) (placedOf h) g represents (c .accepted) i l (kind-and i s l) .1;
+    }

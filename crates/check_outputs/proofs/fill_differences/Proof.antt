@@ -1,0 +1,40 @@
+-- `check_outputs::fill_differences` meets its contract. The invariant: the outputs passed have their words. The measure is the outputs left.
+-- Assumes nothing.
+use lib.ListN.{length, getD, length-set}
+use mathlib.Core.Path.{_≡_, _∙_}
+use Prim.Native.Nat.{ℕ, _+_, _-_, _/_, _≤_, _<_}
+use native.Mathlib.Omega.{arith}
+use borrow.Author.Needs.{needs}
+use Rattle.base_words.specs.Layout.{outputAt}
+use Rattle.check_outputs.specs.Settings.{literalWord, differences}
+use Rattle.check_outputs.proofs.Turns.{filled-more}
+use Rattle.check_outputs.proofs.fill_differences.Statement.{statement}
+use Rattle.check_outputs.proofs.fill_differences.Tie as tie
+
+abbrev Inv-loop : tie.InvT-loop
+Inv-loop work m outputs first variables drivers wrong₀ k₀ wrong k =
+    (k ≤ outputs) × ((j : ℕ) → j < k → getD wrong j 0 ≡ differences (literalWord (outputAt work m j) (getD variables (outputAt work m j / 2) 0)) (getD drivers (first + j) 0)) × (length wrong ≡ 4096)
+
+abbrev μ-loop : tie.MeasureT-loop
+μ-loop work m outputs first variables drivers wrong₀ k₀ wrong k = outputs - k
+
+difference-requires : tie.Need-difference-requires Inv-loop μ-loop
+difference-requires c κs =
+    let at-loop = c .before .before in let start = at-loop .before .before in
+    (start .pre .0, omega arith, start .pre .3 (at-loop .loop .k) (omega arith))
+
+loop-again : tie.Need-loop-again Inv-loop μ-loop
+loop-again c =
+    let at-loop = c .before .before .before in let a = at-loop .before .before .args in let xs = at-loop .loop .wrong in
+    let k = at-loop .loop .k in let w = a .work .now in
+    let word : ℕ → ℕ = λ j. differences (literalWord (outputAt w (a .m) j) (getD (a .variables .now) (outputAt w (a .m) j / 2) 0)) (getD (a .drivers .now) (a .first + j) 0) in (
+      omega arith,
+      filled-more xs (λ j. j) word k (c .difference .result) (omega (arith, at-loop .loop .inv .2, at-loop .before .before .pre .1)) (c .difference .ensures) (at-loop .loop .inv .1),
+      length-set xs k (c .difference .result) ∙ at-loop .loop .inv .2,
+    )
+
+pub fill-differences-spec : {M : Type 1} → statement M
+fill-differences-spec = tie.close (tie.spec
+    Inv-loop μ-loop (λ c. (omega arith, (λ j h. absurd (omega arith)), c .before .pre .4)) (λ c. search needs) (λ c. search needs)
+    (λ c. search needs) difference-requires (λ c. search needs) (λ c. search needs) (λ c. search needs) (λ c. search needs) loop-again
+    (λ c. (c .before .loop .inv .2, λ j h. c .before .loop .inv .1 j (omega arith))))

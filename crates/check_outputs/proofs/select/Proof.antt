@@ -1,0 +1,12 @@
+-- `check_outputs::select` meets its contract, bit by bit. Assumes nothing.
+use Rattle.check_outputs.proofs.Gates.{select-bits}
+use native.Mathlib.Omega.{arith}
+use borrow.Author.Needs.{needs}
+use Rattle.check_outputs.proofs.select.Statement.{statement}
+use Rattle.check_outputs.proofs.select.Tie as tie
+
+returns : tie.Need-returns
+returns c = select-bits (c .args .s) (c .args .x) (c .args .y) (omega arith) (omega arith) (omega arith)
+
+pub select-spec : {M : Type 1} → statement M
+select-spec = tie.close (tie.spec (λ c. search needs) returns)

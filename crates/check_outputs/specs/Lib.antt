@@ -1,0 +1,6 @@
+-- `Settings`: words of 64 settings, and those of inputs, literals and gates.
+-- `Filling`: the words of variables and drivers in a block of settings, each from those before it. `Comparable`: a netlist that can be compared with its
+-- graph, and where its outputs are wrong.
+pub mod Settings
+pub mod Filling
+pub mod Comparable

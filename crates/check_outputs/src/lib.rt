@@ -1,0 +1,414 @@
+// "accepted exactly when every output equals the graph's for each of the 2^I input settings; otherwise the lowest setting that differs is returned,
+// input k as bit k, and that setting's first wrong output". 64 settings are evaluated at once: bit t of a word of block b is setting 64 b + t.
+use model::Checked;
+use model::Header;
+ghost use mathlib.Core.Path.{_≡_};
+ghost use mathlib.Core.List.{_∷_, [], List};
+ghost use Prim.Native.Nat.{_<_, ℕ, _+_, _-_, _*_, _/_, _%_, _^_, _≤_};
+ghost use Rattle.model.specs.Base.{bit};
+ghost use Rattle.check_outputs.specs.Settings.{inputWord, selected, gateWord, literalWord, andWord, differences};
+ghost use lib.ListN.{length, getD};
+ghost use Rattle.model.specs.Graph.{Graph};
+ghost use Rattle.model.specs.Check.{Driver, inputNets, settled, wrongAt, compareFrom};
+ghost use Rattle.base_words.specs.Layout.{Room, RoomFor, leftAt, rightAt, slotAt, outputAt};
+ghost use Rattle.graph_placing.specs.Placing.{seek};
+ghost use Rattle.check_outputs.specs.Filling.{andAt, slotWord, Slots, SlotsTurn, pinWord, driverWord, Readable, DriversTurn};
+ghost use Rattle.check_outputs.specs.Comparable.{Comparable, Wrong};
+
+// Values under 64 settings at once: bit t of a word of block b is the value under setting 64 b + t.
+
+// All bits 1.
+const ALL: u64 = 18446744073709551615;
+
+// Inputs 0 to 5 change inside a block, and in each block alike.
+const PATTERNS: [u64; 6] = [
+    0xaaaaaaaaaaaaaaaa,
+    0xcccccccccccccccc,
+    0xf0f0f0f0f0f0f0f0,
+    0xff00ff00ff00ff00,
+    0xffff0000ffff0000,
+    0xffffffff00000000,
+];
+
+// Whether bit t of a word is 1.
+pub fn is_set(x: u64, t: usize) -> bool
+    requires { ⌜ t < 64 ⌝ }
+    ensures { λ r. ⌜ r ≡ bit x t ⌝ }
+{
+    (x >> t) % 2 == 1
+}
+
+// Input k in block b. From input 6 on it is the same in the whole block.
+pub fn input_word(k: usize, b: u64) -> u64
+    requires { ⌜ k < 12 ⌝ }
+    ensures { λ r. ⌜ r ≡ inputWord k b ⌝ }
+{
+    if k < 6 {
+        return PATTERNS[k];
+    }
+    if is_set(b, k - 6) { ALL } else { 0 }
+}
+
+// One of two words, bit by bit.
+fn select(s: u64, x: u64, y: u64) -> u64
+    ensures { λ r. ⌜ r ≡ selected s x y ⌝ }
+{
+    (s & x) | ((ALL - s) & y)
+}
+
+// ---- a gate, by its last pin: where that is 1 the upper half of the table counts, where it is 0 the lower
+
+fn gate_of_none(table: u64) -> u64
+    ensures { λ r. ⌜ r ≡ gateWord table [] ⌝ }
+{
+    if table % 2 == 1 { ALL } else { 0 }
+}
+
+fn gate_of_one(table: u64, a: u64) -> u64
+    ensures { λ r. ⌜ r ≡ gateWord table (a ∷ []) ⌝ }
+{
+    select(a, gate_of_none(table / 2), gate_of_none(table))
+}
+
+fn gate_of_two(table: u64, a: u64, b: u64) -> u64
+    ensures { λ r. ⌜ r ≡ gateWord table (a ∷ b ∷ []) ⌝ }
+{
+    select(b, gate_of_one(table / 4, a), gate_of_one(table, a))
+}
+
+fn gate_of_three(table: u64, a: u64, b: u64, c: u64) -> u64
+    ensures { λ r. ⌜ r ≡ gateWord table (a ∷ b ∷ c ∷ []) ⌝ }
+{
+    select(c, gate_of_two(table / 16, a, b), gate_of_two(table, a, b))
+}
+
+// A gate of four pins; one of fewer has 0 at those that it lacks.
+pub fn gate_word(table: u64, a: u64, b: u64, c: u64, d: u64) -> u64
+    ensures { λ r. ⌜ r ≡ gateWord table (a ∷ b ∷ c ∷ d ∷ []) ⌝ }
+{
+    select(
+        d,
+        gate_of_three(table / 256, a, b, c),
+        gate_of_three(table, a, b, c),
+    )
+}
+
+// ---- literals
+
+// A literal whose variable is at x.
+pub fn literal_word(l: usize, x: u64) -> u64
+    ensures { λ r. ⌜ r ≡ literalWord l x ⌝ }
+{
+    if l % 2 == 1 { ALL - x } else { x }
+}
+
+// "an AND gives the AND of its literals"
+pub fn and_word(l: usize, x: u64, r: usize, y: u64) -> u64
+    ensures { λ z. ⌜ z ≡ andWord l x r y ⌝ }
+{
+    literal_word(l, x) & literal_word(r, y)
+}
+
+// Where two words differ.
+pub fn differing(x: u64, y: u64) -> u64
+    ensures { λ r. ⌜ r ≡ differences x y ⌝ }
+{
+    select(x, ALL - y, y)
+}
+
+// A word for each variable: "M exceeds 4,095" is turned back, and so are more outputs.
+const VARIABLES: usize = 4096;
+
+// As many drivers as a netlist of 65,536 bytes has room for, and four pins for each.
+const DRIVERS: usize = 10923;
+
+const PINS: usize = 43692;
+
+fn wide(x: u16) -> usize
+    ensures { λ r. ⌜ r ≡ x ⌝ }
+{
+    x as usize
+}
+
+fn narrow(x: u64) -> usize
+    ensures { λ r. ⌜ r ≡ x ⌝ }
+{
+    x as usize
+}
+
+fn block_of(s: usize) -> u64
+    ensures { λ r. ⌜ r ≡ s / 64 ⌝ }
+{
+    (s / 64) as u64
+}
+
+// "the 2^I input settings"
+fn settings_of(inputs: usize) -> usize
+    requires { ⌜ inputs ≤ 12 ⌝ }
+    ensures { λ r. ⌜ r ≡ 2 ^ inputs ⌝ }
+{
+    1 << inputs
+}
+
+// ---- the graph
+
+// The AND v.
+fn and_at(work: &[u16], m: usize, v: usize, variables: &[u64; VARIABLES]) -> u64
+    requires { ⌜ Room (now work) m × (v ≤ m) × (leftAt (now work) m v ≤ 2 * m + 1) × (rightAt (now work) m v ≤ 2 * m + 1) ⌝ }
+    ensures { λ r. ⌜ r ≡ andAt (now (work .entry)) m (λ u. getD (now (variables .entry)) u 0) v ⌝ }
+{
+    let l = base_words::left(work, m, v);
+    let r = base_words::right(work, m, v);
+    let x = variables[l / 2];
+    let y = variables[r / 2];
+    and_word(l, x, r, y)
+}
+
+// The variable in slot i: "variable 0 and the inputs first", then the ANDs.
+fn slot_word(
+    work: &[u16],
+    m: usize,
+    inputs: usize,
+    i: usize,
+    b: u64,
+    variables: &[u64; VARIABLES],
+) -> u64
+    requires { ⌜ Slots (now work) m inputs (i + 1) ⌝ }
+    ensures { λ r. ⌜ r ≡ slotWord (now (work .entry)) m inputs b (λ u. getD (now (variables .entry)) u 0) i ⌝ }
+{
+    if i == 0 {
+        return 0;
+    }
+    if i <= inputs {
+        return input_word(i - 1, b);
+    }
+    let v = base_words::slot(work, m, i);
+    and_at(work, m, v, variables)
+}
+
+// The words of all placed variables, in placing order.
+fn fill_slots(
+    work: &[u16],
+    m: usize,
+    inputs: usize,
+    n: usize,
+    b: u64,
+    variables: &mut [u64; VARIABLES],
+)
+    requires { ⌜ Slots (now work) m inputs n × (length (now variables) ≡ 4096) ⌝ }
+    ensures { λ _. ⌜ ((values : ℕ → ℕ) → SlotsTurn (now (work .entry)) m inputs n b values → (i : ℕ) → i < n → getD (now (variables .exit))
+        (slotAt (now (work .entry)) m i) 0 ≡ values (slotAt (now (work .entry)) m i)) ⌝ }
+{
+    let mut i = 0;
+    while i < n {
+        let x = slot_word(work, m, inputs, i, b, variables);
+        let v = base_words::slot(work, m, i);
+        variables[v] = x;
+        i += 1;
+    }
+}
+
+// ---- the netlist
+
+// Pin j of driver i, which has so many pins.
+fn pin_word(
+    refs: &[u16; PINS],
+    drivers: &[u64; DRIVERS],
+    i: usize,
+    j: usize,
+    count: usize,
+    b: u64,
+) -> u64
+    requires { ⌜ (i < 10923) × (j < 4) × (j < count → getD (now refs) (4 * i + j) 0 < 10935) ⌝ }
+    ensures { λ r. ⌜ r ≡ pinWord (now (refs .entry)) count b (λ u. getD (now (drivers .entry)) u 0) i j ⌝ }
+{
+    if count <= j {
+        return 0;
+    }
+    let r = wide(refs[4 * i + j]);
+    if 12 <= r {
+        return drivers[r - 12];
+    }
+    input_word(r, b)
+}
+
+// Driver i.
+fn driver_word(nets: &[u64], refs: &[u16; PINS], drivers: &[u64; DRIVERS], i: usize, b: u64) -> u64
+    requires { ⌜ Readable (now nets) (now refs) i ⌝ }
+    ensures { λ r. ⌜ r ≡ driverWord (now (nets .entry)) (now (refs .entry)) b (λ u. getD (now (drivers .entry)) u 0) i ⌝ }
+{
+    let table = nets[8 * i + 1];
+    let count = narrow(nets[8 * i + 2]);
+    gate_word(
+        table,
+        pin_word(refs, drivers, i, 0, count, b),
+        pin_word(refs, drivers, i, 1, count, b),
+        pin_word(refs, drivers, i, 2, count, b),
+        pin_word(refs, drivers, i, 3, count, b),
+    )
+}
+
+// The words of all drivers, each behind those that feed it.
+fn fill_drivers(
+    nets: &[u64],
+    n: usize,
+    refs: &[u16; PINS],
+    order: &[u16; DRIVERS],
+    b: u64,
+    drivers: &mut [u64; DRIVERS],
+)
+    requires { ⌜ (n ≤ 10923) × ((p : ℕ) → p < n → Readable (now nets) (now refs) (getD (now order) p 0)) × (length (now drivers) ≡ 10923) ⌝ }
+    ensures { λ _. ⌜ ((values : ℕ → ℕ) → DriversTurn (now (nets .entry)) (now (refs .entry)) (now (order .entry)) n b values → (p : ℕ) → p < n → getD
+        (now (drivers .exit)) (getD (now (order .entry)) p 0) 0 ≡ values (getD (now (order .entry)) p 0)) ⌝ }
+{
+    let mut p = 0;
+    while p < n {
+        let i = wide(order[p]);
+        let x = driver_word(nets, refs, drivers, i, b);
+        drivers[i] = x;
+        p += 1;
+    }
+}
+
+// ---- the outputs
+
+// Where output k, a driver's, differs from the graph's.
+fn difference(
+    work: &[u16],
+    m: usize,
+    outputs: usize,
+    k: usize,
+    variables: &[u64; VARIABLES],
+    driver: u64,
+) -> u64
+    requires { ⌜ RoomFor (now work) m outputs × (k < outputs) × (outputAt (now work) m k ≤ 2 * m + 1) ⌝ }
+    ensures { λ r. ⌜ r ≡ differences (literalWord (outputAt (now (work .entry)) m k)
+        (getD (now (variables .entry)) (outputAt (now (work .entry)) m k / 2) 0)) driver ⌝ }
+{
+    let l = base_words::output(work, m, outputs, k);
+    let x = variables[l / 2];
+    differing(literal_word(l, x), driver)
+}
+
+// Of all outputs; their drivers are the last ones.
+fn fill_differences(
+    work: &[u16],
+    m: usize,
+    outputs: usize,
+    first: usize,
+    variables: &[u64; VARIABLES],
+    drivers: &[u64; DRIVERS],
+    wrong: &mut [u64; VARIABLES],
+)
+    requires { ⌜ RoomFor (now work) m outputs × (outputs ≤ 4096) × (first + outputs ≤ 10923) × ((k : ℕ) → k < outputs → outputAt (now work) m k ≤ 2 * m + 1)
+        × (length (now wrong) ≡ 4096) ⌝ }
+    ensures { λ _. ⌜ length (now (wrong .exit)) ≡ 4096 ⌝ }
+    ensures { λ _. ⌜ ((k : ℕ) → k < outputs → getD (now (wrong .exit)) k 0 ≡ differences
+        (literalWord (outputAt (now (work .entry)) m k) (getD (now (variables .entry)) (outputAt (now (work .entry)) m k / 2) 0))
+        (getD (now (drivers .entry)) (first + k) 0)) ⌝ }
+{
+    let mut k = 0;
+    while k < outputs {
+        let y = drivers[first + k];
+        let x = difference(work, m, outputs, k, variables, y);
+        wrong[k] = x;
+        k += 1;
+    }
+}
+
+// Where the outputs are wrong in block b.
+fn evaluate(
+    work: &[u16],
+    h: Header,
+    nets: &[u64],
+    n: usize,
+    refs: &[u16; PINS],
+    order: &[u16; DRIVERS],
+    b: u64,
+    wrong: &mut [u64; VARIABLES],
+)
+    requires { ⌜ ((g : Graph) × (ds : List Driver) × Comparable (now work) h (now nets) n (now refs) (now order) g ds) × (length (now wrong) ≡ 4096) ⌝ }
+    ensures { λ _. ⌜ length (now (wrong .exit)) ≡ 4096 ⌝ }
+    ensures { λ _. ⌜ ((g : Graph) (ds : List Driver) → Comparable (now (work .entry)) h (now (nets .entry)) n (now (refs .entry)) (now (order .entry)) g ds →
+        Wrong g ds b (now (wrong .exit))) ⌝ }
+{
+    let mut variables = [0u64; VARIABLES];
+    let mut drivers = [0u64; DRIVERS];
+    fill_slots(
+        work,
+        h.size,
+        h.inputs,
+        base_words::placed(h),
+        b,
+        &mut variables,
+    );
+    fill_drivers(nets, n, refs, order, b, &mut drivers);
+    let first = n - h.outputs;
+    fill_differences(work, h.size, h.outputs, first, &variables, &drivers, wrong);
+}
+
+// Where the outputs are wrong in the block of setting s, evaluated where the block begins.
+fn reach(
+    work: &[u16],
+    h: Header,
+    nets: &[u64],
+    n: usize,
+    refs: &[u16; PINS],
+    order: &[u16; DRIVERS],
+    s: usize,
+    wrong: &mut [u64; VARIABLES],
+)
+    requires { ⌜ ((g : Graph) × (ds : List Driver) × Comparable (now work) h (now nets) n (now refs) (now order) g ds) × (length (now wrong) ≡ 4096) ⌝ }
+    requires { ⌜ ((g : Graph) (ds : List Driver) → Comparable (now work) h (now nets) n (now refs) (now order) g ds → ¬ (s % 64 ≡ 0) → Wrong g ds (s / 64)
+        (now wrong)) ⌝ }
+    ensures { λ _. ⌜ length (now (wrong .exit)) ≡ 4096 ⌝ }
+    ensures { λ _. ⌜ ((g : Graph) (ds : List Driver) → Comparable (now (work .entry)) h (now (nets .entry)) n (now (refs .entry)) (now (order .entry)) g ds →
+        Wrong g ds (s / 64) (now (wrong .exit))) ⌝ }
+{
+    if s % 64 == 0 {
+        evaluate(work, h, nets, n, refs, order, block_of(s), wrong);
+    }
+}
+
+// "that setting's first wrong output", or the number of outputs where none is wrong.
+fn first_wrong(wrong: &[u64; VARIABLES], outputs: usize, t: usize) -> usize
+    requires { ⌜ (outputs ≤ 4096) × (t < 64) ⌝ }
+    ensures { λ r. ⌜ r ≡ seek (λ k. bit (getD (now (wrong .entry)) k 0) t) outputs 0 ⌝ }
+{
+    let mut first = 0;
+    while first < outputs {
+        if is_set(wrong[first], t) {
+            return first;
+        }
+        first += 1;
+    }
+    first
+}
+
+// The netlist's outputs against the graph's, setting by setting.
+pub fn compare(
+    work: &[u16],
+    h: Header,
+    nets: &[u64],
+    n: usize,
+    refs: &[u16; PINS],
+    order: &[u16; DRIVERS],
+) -> Checked
+    requires { ⌜ ((g : Graph) × (ds : List Driver) × Comparable (now work) h (now nets) n (now refs) (now order) g ds) ⌝ }
+    ensures { λ r. ⌜ ((g : Graph) (ds : List Driver) → Comparable (now (work .entry)) h (now (nets .entry)) n (now (refs .entry)) (now (order .entry)) g ds →
+        r ≡ compareFrom (2 ^ length (g .inputs)) 0 (wrongAt g (settled (length ds) (inputNets g) ds))) ⌝ }
+{
+    let outputs = h.outputs;
+    let end = settings_of(h.inputs);
+    let mut wrong = [0u64; VARIABLES];
+    let mut s = 0;
+    while s < end {
+        reach(work, h, nets, n, refs, order, s, &mut wrong);
+        let k = first_wrong(&wrong, outputs, s % 64);
+        if k < outputs {
+            return Checked::Differs(s, k);
+        }
+        s += 1;
+    }
+    Checked::Accepted
+}

@@ -1,0 +1,38 @@
+-- `check_reader::due` meets its contract: the line is missing, another, or there. Assumes nothing.
+use borrow.Author.Needs.{needs}
+use borrow.Author.Tests.{not-true, not-false}
+use mathlib.Core.Path.{sym, _∙_}
+use Prim.Native.Nat.{_+_, _≤_}
+use native.Mathlib.Omega.{arith}
+use lib.ListN.{length}
+use Rattle.check_reader.proofs.Lines.{due-missing, due-other, due-fine, due-inside}
+use Rattle.check_reader.proofs.due.Statement.{statement}
+use Rattle.check_reader.proofs.due.Tie as tie
+
+returns : tie.Need-returns
+returns c = let a = c .before .before .before .args in due-missing (a .s .now) (a .w .now) (a .at) (c .if1 .taken)
+
+returns-2 : tie.Need-returns-2
+returns-2 c =
+    let i = c .before in let e = i .before in let a = e .before .before .before .args in
+    due-other (a .s .now) (a .w .now) (a .at) (e .if1 .left) (sym (i .is-line .ensures) ∙ not-true _ (c .if2 .taken))
+
+add-t8 : tie.Need-add-t8
+add-t8 c =
+    let i = c .before in let e = i .before in let b = e .before .before .before in let a = b .args in
+    let fits : a .at + length (a .w .now) ≤ length (a .s .now) = due-inside (a .s .now) (a .w .now) (a .at) (e .if1 .left) (sym (i .is-line .ensures) ∙ not-false _ (c .if2 .left)) in
+    omega (arith, b .pre)
+
+add-t9 : tie.Need-add-t9
+add-t9 c =
+    let i = c .before in let e = i .before in let b = e .before .before .before in let a = b .args in
+    let fits : a .at + length (a .w .now) ≤ length (a .s .now) = due-inside (a .s .now) (a .w .now) (a .at) (e .if1 .left) (sym (i .is-line .ensures) ∙ not-false _ (c .if2 .left)) in
+    omega (arith, b .pre)
+
+returns-3 : tie.Need-returns-3
+returns-3 c =
+    let i = c .before in let e = i .before in let a = e .before .before .before .args in
+    due-fine (a .s .now) (a .w .now) (a .at) (e .if1 .left) (sym (i .is-line .ensures) ∙ not-false _ (c .if2 .left))
+
+pub due-spec : {M : Type 1} → statement M
+due-spec = tie.close (tie.spec returns (λ c κs. search needs) returns-2 add-t8 add-t9 returns-3)

@@ -1,0 +1,50 @@
+-- `check_reader::outputs_due` meets its contract: the line that is due is printed. Assumes nothing.
+use borrow.Author.Needs.{needs}
+use mathlib.Core.Path.{sym, subst}
+use mathlib.Core.List.{List, []}
+use Prim.Native.Nat.{ℕ, _+_, _≤_}
+use native.Mathlib.Omega.{arith}
+use lib.ListN.{length, replicate, length-replicate}
+use lib.Seq.{length-take-le}
+use Rattle.model.specs.Text.{text}
+use Rattle.model.specs.Netlist.{outName}
+use Rattle.check_reader.specs.Frame.{namesFrom, Due}
+use Rattle.check_reader.proofs.Names.{outs-short}
+use Rattle.check_reader.proofs.Lines.{names-room, printed-long, printed-is}
+use Rattle.check_reader.proofs.outputs_due.Statement.{statement}
+use Rattle.check_reader.proofs.outputs_due.Tie as tie
+
+-- the line fits
+fits : (n : ℕ) → n ≤ 4096 → length (text ".outputs") + length (namesFrom outName 0 n) ≤ length {A = ℕ} (replicate 28680 0)
+unfolding text
+fits n h = omega (arith, length-replicate {A = ℕ} 28680 0, outs-short n h)
+
+put-outputs-requires : tie.Need-put-outputs-requires
+unfolding text
+put-outputs-requires c κs =
+    let p = c .before .before in let s = p .before .before .before .before in
+    (s .pre .1, names-room _ (text ".outputs") (namesFrom outName 0 (s .args .n)) (p .put-bytes .last .0) [] (p .put-bytes .result) 0 (fits (s .args .n) (s .pre .1)) (p .put-bytes .ensures))
+
+array-share-prefix-line : tie.Need-array-share-prefix-line
+unfolding text
+array-share-prefix-line c =
+    let o = c .before in let p = o .before .before .before in let s = p .before .before .before .before in
+    printed-long _ (text ".outputs") (namesFrom outName 0 (s .args .n)) (p .put-bytes .last .0) (o .put-outputs .last .1 .0) (p .put-bytes .result) (o .put-outputs .result) (fits (s .args .n) (s .pre .1)) (p .put-bytes .ensures) (o .put-outputs .ensures)
+
+slice-aggregate-due : tie.Need-slice-aggregate-due
+slice-aggregate-due c =
+    let o = c .before .before in
+    sym (length-take-le (o .put-outputs .result) (o .put-outputs .last .1 .0) (array-share-prefix-line (c .before)))
+
+returns : tie.Need-returns
+unfolding text
+returns c =
+    let o = c .before .before .before in let p = o .before .before .before in let s = p .before .before .before .before in
+    subst (λ (w : List ℕ). Due (s .args .s .now) w (s .args .at) (c .due .result))
+    (printed-is _ (text ".outputs") (namesFrom outName 0 (s .args .n)) (p .put-bytes .last .0) (o .put-outputs .last .1 .0) (p .put-bytes .result) (o .put-outputs .result) (fits (s .args .n) (s .pre .1)) (p .put-bytes .ensures) (o .put-outputs .ensures))
+    (c .due .ensures)
+
+pub outputs-due-spec : {M : Type 1} → statement M
+outputs-due-spec = tie.close (tie.spec
+    (λ c. search needs) (λ c. search needs) (λ c κs. search needs) (λ c. search needs) put-outputs-requires array-share-prefix-line
+    slice-aggregate-due (λ c κs. search needs) returns)

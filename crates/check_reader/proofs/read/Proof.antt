@@ -1,0 +1,24 @@
+-- `check_reader::read` meets its contract: the lines read, and the array cleared where one breaks its form. Assumes nothing.
+use borrow.Author.Needs.{needs}
+use mathlib.Core.Path.{_≡_, ap, _∙_}
+use Prim.Native.Nat.{ℕ}
+use native.Mathlib.Omega.{arith}
+use lib.ListN.{length, replicate}
+use Rattle.check_reader.proofs.Taking.{read-broken, read-whole}
+use Rattle.check_reader.proofs.read.Statement.{statement}
+use Rattle.check_reader.proofs.read.Tie as tie
+
+returns : tie.Need-returns
+returns c = λ g f.
+    let k = c .before .before in let t = k .before .before in let r = t .before .before .before in
+    let a = r .before .before .before .before .before .args in
+    let kept : length (r .read-lines .last .1 .1 .1 .1 .0) ≡ length (a .nets .now) = omega arith in
+    read-broken (a .s .now) (a .lib) g (r .read-lines .result) (a .nets .now) (r .read-lines .last .1 .1 .1 .1 .0) (r .read-lines .ensures g f) (t .if1 .taken) _ (k .clear .ensures ∙ ap (λ (n : ℕ). replicate n 0) kept)
+
+returns-2 : tie.Need-returns-2
+returns-2 c = λ g f.
+    let r = c .before .before .before in let a = r .before .before .before .before .before .args in
+    read-whole (a .s .now) (a .lib) g (r .read-lines .result) (a .nets .now) (r .read-lines .last .1 .1 .1 .1 .0) (r .read-lines .ensures g f) (c .if1 .left)
+
+pub read-spec : {M : Type 1} → statement M
+read-spec = tie.close (tie.spec (λ c κs. search needs) (λ c κs. search needs) (λ c. search needs) returns (λ c. search needs) returns-2)

@@ -1,0 +1,65 @@
+-- Lines that are due, and the first three of a netlist. Assumes nothing.
+use Prim.Native.Nat.{ℕ, zero, suc, _+_, _≤_, _<_}
+use mathlib.Core.Path.{_≡_}
+use mathlib.Core.Bool.{true, false, cond}
+use mathlib.Core.List.{List, [], _∷_, _++_}
+use lib.Dec.{ltb}
+use lib.ListN.{length, drop, getD}
+use Rattle.model.specs.Text.{Line, linesFrom, decimal}
+use Rattle.model.specs.Reading.{holds, fault}
+use Rattle.model.specs.Graph.{Graph}
+use Rattle.model.specs.Check.{isLine, pastLines}
+use Rattle.model.specs.declared.Header.{Header}
+use Rattle.base_words.specs.Layout.{Room, slotAt}
+use Rattle.base_text.specs.Lines.{lineAt}
+use Rattle.check_reader.specs.declared.Place.{Place}
+
+-- the lines of a text from a place on
+abbrev pub linesAt : List ℕ → ℕ → List Line
+linesAt s at = linesFrom at [] (drop at s)
+
+-- the names of n numbers from i on, each behind a space
+unfoldable pub namesFrom : (ℕ → List ℕ) → ℕ → ℕ → List ℕ
+namesFrom name i zero = []
+namesFrom name i (suc n) = (32 ∷ name i) ++ namesFrom name (suc i) n
+
+-- the net of input i, as the words have it
+unfoldable pub inputName : List ℕ → ℕ → ℕ → List ℕ
+inputName w m i = 112 ∷ decimal (slotAt w m (i + 1))
+
+-- the place behind the line w, if it stands at a place; else that place, and where no line begins the text's length
+unfoldable pub dueAt : List ℕ → List ℕ → ℕ → Place
+unfolding isLine lineAt
+dueAt s w at =
+    cond (ltb at (length s))
+    (cond (isLine w (lineAt s at)) (record { at = at + length w + 1; broken = false }) (record { at = at; broken = true }))
+    (record { at = length s; broken = true })
+
+-- so of lines one behind the other: the place behind all of them, or that of the first that is another or missing
+unfoldable pub dueFrom : List ℕ → List (List ℕ) → ℕ → Place
+unfolding dueAt
+dueFrom s [] at = record { at = at; broken = false }
+dueFrom s (w ∷ ws) at = let p = dueAt s w at in cond (p .broken) p (dueFrom s ws (p .at))
+
+-- the line w is due at a place: the lines behind it come next, or it is another or missing
+pub record Due (s w : List ℕ) (at : ℕ) (r : Place) : Type 0 where
+  pub is : r ≡ dueAt s w at
+  pub refused : r .broken ≡ true → (ws : List (List ℕ)) → pastLines (length s) (w ∷ ws) (linesAt s at) ≡ fault 32 (r .at)
+  pub next : r .broken ≡ false → (ws : List (List ℕ)) → pastLines (length s) (w ∷ ws) (linesAt s at) ≡ pastLines (length s) ws (linesAt s (r .at))
+  pub within : r .broken ≡ false → at < length s
+
+-- the graph whose inputs and outputs are named: its inputs stand behind variable 0 in the placing order, and there are at most twelve
+pub record Framing (w : List ℕ) (h : Header) (g : Graph) : Type 0 where
+  pub room : Room w (h .size)
+  pub inputs : length (g .inputs) ≡ h .inputs
+  pub outputs : length (g .outputs) ≡ h .outputs
+  pub few : h .inputs ≤ 12
+  pub within : h .inputs ≤ h .size
+  pub fewOutputs : h .outputs ≤ 4096
+  pub slots : (i : ℕ) → i < h .inputs → slotAt w (h .size) (i + 1) ≡ getD (g .inputs) i 0
+
+-- these lines come first: the lines behind them come next, or one of them is another or missing
+pub record Framed (s : List ℕ) (ws : List (List ℕ)) (r : Place) : Type 0 where
+  pub is : r ≡ dueFrom s ws 0
+  pub refused : r .broken ≡ true → pastLines (length s) ws (linesAt s 0) ≡ fault 32 (r .at)
+  pub next : r .broken ≡ false → pastLines (length s) ws (linesAt s 0) ≡ holds (linesAt s (r .at))

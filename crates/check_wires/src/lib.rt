@@ -1,0 +1,221 @@
+// What drives each net of an edited netlist: the first two parts of 33, and a number for what stands at each pin. A driver is eight numbers, as `check_reader`
+// stores them. Names are numbers already, so a net is found by the remainder of its number: the drivers of one remainder are a chain.
+use check_reader::DRIVERS;
+ghost use mathlib.Core.Path.{_≡_};
+ghost use Prim.Native.Nat.{_+_, _*_, _%_, _≤_, _<_};
+ghost use lib.ListN.{length, getD, set};
+ghost use Rattle.check_wires.specs.Chains.{Falling, ownAt, headOf, Chained, Found, InputOf};
+ghost use Rattle.check_wires.specs.Pins.{Drivers, Looked, PinLooked, RowLooked, Once, Written, Referred};
+
+// Four for each driver.
+pub const PINS: usize = 43692;
+
+// A prime: every letter of a name moves its remainder.
+const CHAINS: usize = 16381;
+
+// The input of this number.
+fn input_of(inputs: &[u64; 12], count: usize, x: u64) -> usize
+    requires { ⌜ count ≤ 12 ⌝ }
+    ensures { λ r. ⌜ InputOf (now (inputs .entry)) count x r ⌝ }
+{
+    let mut k = 0;
+    while k < count {
+        if inputs[k] == x {
+            return k;
+        }
+        k += 1;
+    }
+    12
+}
+
+// A word as an index.
+fn wide(x: u16) -> usize
+    ensures { λ r. ⌜ r ≡ x ⌝ }
+{
+    x as usize
+}
+
+// The head of a number's chain.
+fn head(heads: &[u16; CHAINS], x: u64) -> usize
+    ensures { λ r. ⌜ r ≡ headOf (now (heads .entry)) x ⌝ }
+{
+    wide(heads[(x % 16381) as usize])
+}
+
+// The next of a chain.
+fn next(links: &[u16; DRIVERS], k: usize) -> usize
+    requires { ⌜ k < 10923 ⌝ }
+    ensures { λ r. ⌜ r ≡ getD (now (links .entry)) k 0 ⌝ }
+{
+    wide(links[k])
+}
+
+// The driver of this number on the chain from a head.
+fn find(nets: &[u64], links: &[u16; DRIVERS], from: usize, x: u64) -> usize
+    requires { ⌜ Falling (now links) × (8 * from ≤ length (now nets)) × (from ≤ 10923) ⌝ }
+    ensures { λ r. ⌜ Found (now (nets .entry)) (now (links .entry)) from x r ⌝ }
+{
+    let mut h = from;
+    while h > 0 {
+        let k = h - 1;
+        if nets[8 * k + 7] == x {
+            return h;
+        }
+        h = next(links, k);
+    }
+    0
+}
+
+// What drives the net of this number, of the inputs and the first i drivers.
+fn look(
+    nets: &[u64],
+    i: usize,
+    inputs: &[u64; 12],
+    count: usize,
+    heads: &[u16; CHAINS],
+    links: &[u16; DRIVERS],
+    x: u64,
+) -> usize
+    requires { ⌜ (count ≤ 12) × Chained (now nets) (now heads) (now links) i × (8 * i ≤ length (now nets)) × (i ≤ 10923) ⌝ }
+    ensures { λ r. ⌜ Looked (now (nets .entry)) (now (inputs .entry)) count i x r ⌝ }
+{
+    let k = input_of(inputs, count, x);
+    if k < 12 {
+        return k;
+    }
+    let f = find(nets, links, head(heads, x), x);
+    if f == 0 {
+        return 12 + i;
+    }
+    11 + f
+}
+
+// Driver i at the head of its number's chain.
+fn enter(nets: &[u64], i: usize, heads: &mut [u16; CHAINS], links: &mut [u16; DRIVERS])
+    requires { ⌜ (i < 10923) × (8 * i + 8 ≤ length (now nets)) ⌝ }
+    ensures { λ _. ⌜ (now (links .exit) ≡ set (now (links .entry)) i (headOf (now (heads .entry)) (ownAt (now (nets .entry)) i)))
+        × (now (heads .exit) ≡ set (now (heads .entry)) (ownAt (now (nets .entry)) i % 16381) (i + 1)) ⌝ }
+{
+    let b = (nets[8 * i + 7] % 16381) as usize;
+    links[i] = heads[b];
+    heads[b] = (i + 1) as u16;
+}
+
+// "a line drives a net already driven": the first such driver, or n with all drivers on their chains.
+fn first_twice(
+    nets: &[u64],
+    n: usize,
+    inputs: &[u64; 12],
+    count: usize,
+    heads: &mut [u16; CHAINS],
+    links: &mut [u16; DRIVERS],
+) -> usize
+    requires { ⌜ Drivers (now nets) n count × Chained (now nets) (now heads) (now links) 0 ⌝ }
+    ensures { λ r. ⌜ Once (now (nets .entry)) (now (inputs .entry)) count n r ×
+        (r ≡ n → Chained (now (nets .entry)) (now (heads .exit)) (now (links .exit)) n) ⌝ }
+{
+    let mut i = 0;
+    while i < n {
+        let x = nets[8 * i + 7];
+        if look(nets, i, inputs, count, heads, links, x) != 12 + i {
+            return i;
+        }
+        enter(nets, i, heads, links);
+        i += 1;
+    }
+    i
+}
+
+// What stands at pin j of driver i.
+fn pin_of(
+    nets: &[u64],
+    n: usize,
+    inputs: &[u64; 12],
+    count: usize,
+    heads: &[u16; CHAINS],
+    links: &[u16; DRIVERS],
+    i: usize,
+    j: usize,
+) -> usize
+    requires { ⌜ Drivers (now nets) n count × Chained (now nets) (now heads) (now links) n × (i < n) × (j < 4) ⌝ }
+    ensures { λ r. ⌜ PinLooked (now (nets .entry)) (now (inputs .entry)) count n i j r ⌝ }
+{
+    if j as u64 >= nets[8 * i + 2] {
+        return 0;
+    }
+    look(nets, n, inputs, count, heads, links, nets[8 * i + 3 + j])
+}
+
+// The four pins of driver i.
+fn pins_of(
+    nets: &[u64],
+    n: usize,
+    inputs: &[u64; 12],
+    count: usize,
+    heads: &[u16; CHAINS],
+    links: &[u16; DRIVERS],
+    i: usize,
+    refs: &mut [u16; PINS],
+) -> bool
+    requires { ⌜ Drivers (now nets) n count × Chained (now nets) (now heads) (now links) n × (i < n) × (length (now refs) ≡ 43692) ⌝ }
+    ensures { λ r. ⌜ RowLooked (now (nets .entry)) (now (inputs .entry)) count n i r (now (refs .entry)) (now (refs .exit)) ⌝ }
+{
+    let mut j = 0;
+    while j < 4 {
+        let r = pin_of(nets, n, inputs, count, heads, links, i, j);
+        if r == 12 + n {
+            return false;
+        }
+        refs[4 * i + j] = r as u16;
+        j += 1;
+    }
+    true
+}
+
+// "one uses a net that no line drives": the first such driver, or n with every pin's number written.
+fn first_loose(
+    nets: &[u64],
+    n: usize,
+    inputs: &[u64; 12],
+    count: usize,
+    heads: &[u16; CHAINS],
+    links: &[u16; DRIVERS],
+    refs: &mut [u16; PINS],
+) -> usize
+    requires { ⌜ Drivers (now nets) n count × Chained (now nets) (now heads) (now links) n × (length (now refs) ≡ 43692) ⌝ }
+    ensures { λ r. ⌜ Written (now (nets .entry)) (now (inputs .entry)) count n r (now (refs .entry)) (now (refs .exit)) ⌝ }
+{
+    let mut i = 0;
+    while i < n {
+        if !pins_of(nets, n, inputs, count, heads, links, i, refs) {
+            return i;
+        }
+        i += 1;
+    }
+    i
+}
+
+// The first driver that the first part of 33 refuses, else the first that the second does, with zeros left; else n, with every pin's number.
+pub fn refer(
+    nets: &[u64],
+    n: usize,
+    inputs: &[u64; 12],
+    count: usize,
+    refs: &mut [u16; PINS],
+) -> usize
+    requires { ⌜ Drivers (now nets) n count × (length (now refs) ≡ 43692) ⌝ }
+    ensures { λ r. ⌜ Referred (now (nets .entry)) (now (inputs .entry)) count n r (now (refs .entry)) (now (refs .exit)) ⌝ }
+{
+    let mut heads = [0u16; CHAINS];
+    let mut links = [0u16; DRIVERS];
+    let t = first_twice(nets, n, inputs, count, &mut heads, &mut links);
+    if t < n {
+        *refs = [0u16; PINS];
+        return t;
+    }
+    let f = first_loose(nets, n, inputs, count, &heads, &links, refs);
+    if f < n {
+        *refs = [0u16; PINS];
+    }
+    f
+}

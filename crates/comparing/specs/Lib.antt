@@ -1,4 +1,0 @@
--- `Filling`: the words of variables and drivers in a block of settings, each from those before it. `Comparable`: a netlist that can be compared with its
--- graph, and where its outputs are wrong.
-pub mod Filling
-pub mod Comparable

@@ -1,0 +1,197 @@
+-- What stays where a pass writes only some columns between the counts and the cut lists:
+--     kept-same, kept-on, kept-put    nothing written, two passes, one store
+--     room-kept .. phase-kept         a word or a record elsewhere
+--     graph-kept, order-kept, cuts-kept, phases-kept      what the words hold
+-- Assumes nothing.
+use Prim.Native.Nat.{ℕ, _+_, _*_, _/_, _≤_, _<_}
+use native.Mathlib.Omega.{arith}
+use mathlib.Core.Path.{_≡_, refl, sym, ap, subst, _∙_}
+use mathlib.Core.Bool.{cond}
+use mathlib.Core.List.{List, [], _∷_}
+use mathlib.Core.Logic.{_⊎_, inl, inr}
+use lib.ListN.{length, getD}
+use Rattle.model.specs.Limits.{cutLimit}
+use Rattle.model.specs.Graph.{Graph, varOf, negated, placingOrder}
+use Rattle.model.specs.Cuts.{crowded}
+use Rattle.model.specs.Choice.{Phases, phaseOf}
+use Rattle.model.specs.declared.Cell.{Cell}
+use Rattle.model.specs.declared.Phase.{Phase}
+use Rattle.base_words.specs.Put.{putAt}
+use Rattle.base_words.specs.Layout.{Room, RoomFor, kindAt, leftAt, rightAt, slotAt, placeAt, countAt, lateAt, outputAt, neededAddr, lateAddr, positiveAddr, negativeAddr, countsTo, listsFrom}
+use Rattle.base_words.specs.Record.{leavesOf, leavesAt, functionOf, nodeOf, nodeAt, cutsAt}
+use Rattle.base_words.specs.Phases.{sourceOf, phaseIn, phasesAt, phaseAt, putNeeded}
+use Rattle.base_words.specs.Holding.{HoldsGraph, HoldsOrder, HoldsCuts, HoldsPhases}
+use Rattle.base_words.proofs.Putting.{length-put, get-put-below, get-put-above}
+use Rattle.base_words.proofs.Stored.{cut-same, cuts-same}
+use Rattle.base_words.proofs.Tabled.{function-same}
+use Rattle.theory_graph.specs.Accepted.{Accepted}
+use Rattle.theory_graph.proofs.Lists.{getD-in}
+use Rattle.theory_graph.proofs.Placing.{order-small}
+use Rattle.cover_choice.proofs.Counting.{few-placed, few-cuts, count-few}
+use Rattle.cover_choice.specs.Asked.{OutputsIn, SlotsIn, CutsIn, LateIn, MatchesIn}
+
+-- all words before a and from b on are as before, and so is their number
+pub record Kept (a b : ℕ) (v w : List ℕ) : Type 0 where
+  pub size : length w ≡ length v
+  pub before : (i : ℕ) → i < a → getD w i 0 ≡ getD v i 0
+  pub behind : (i : ℕ) → b ≤ i → getD w i 0 ≡ getD v i 0
+
+pub kept-same : (a b : ℕ) (w : List ℕ) → Kept a b w w
+kept-same a b w = record { size = refl; before = λ i h. refl; behind = λ i h. refl }
+
+pub kept-on : (a b : ℕ) (u v w : List ℕ) → Kept a b u v → Kept a b v w → Kept a b u w
+kept-on a b u v w p q =
+    record {
+      size = q .size ∙ p .size;
+      before = λ i h. q .before i h ∙ p .before i h;
+      behind = λ i h. q .behind i h ∙ p .behind i h;
+    }
+
+pub kept-put : (a b : ℕ) (w : List ℕ) (at : ℕ) (vs : List ℕ) → at + length vs ≤ length w → a ≤ at → at + length vs ≤ b → Kept a b w (putAt w at vs)
+kept-put a b w at vs fits l h =
+    record {
+      size = length-put w at vs fits;
+      before = λ i k. get-put-below w at vs fits i (omega arith);
+      behind = λ i k. get-put-above w at vs fits i (omega arith);
+    }
+
+-- the columns of the needed phases, and of both phases
+abbrev pub NeedsKept : ℕ → List ℕ → List ℕ → Type 0
+NeedsKept m v w = Kept (neededAddr m 0) (neededAddr m (m + 1)) v w
+
+abbrev pub PhasesKept : ℕ → List ℕ → List ℕ → Type 0
+PhasesKept m v w = Kept (positiveAddr m 0) (listsFrom m) v w
+
+pub need-kept : (w : List ℕ) (m l : ℕ) → Room w m → l / 2 ≤ m → NeedsKept m w (putNeeded w m l)
+unfolding putNeeded varOf
+need-kept w m l r h = kept-put (neededAddr m 0) (neededAddr m (m + 1)) w (neededAddr m (l / 2)) (_ ∷ []) (omega (arith, r .room)) (omega arith) (omega arith)
+
+module _ (m a b : ℕ) (v w : List ℕ) (k : Kept a b v w) (from : countsTo m ≤ a) (to : b ≤ listsFrom m) where
+  pub room-kept : Room v m → Room w m
+  room-kept r = record { small = r .small; room = omega (arith, r .room, k .size) }
+
+  pub room-for-kept : (o : ℕ) → RoomFor v m o → RoomFor w m o
+  room-for-kept o r = record { small = r .small; room = omega (arith, r .room, k .size) }
+
+  pub slot-kept : (i : ℕ) → i ≤ m → slotAt w m i ≡ slotAt v m i
+  slot-kept i h = k .before _ (omega arith)
+
+  pub place-kept : (i : ℕ) → i ≤ m → placeAt w m i ≡ placeAt v m i
+  place-kept i h = k .before _ (omega arith)
+
+  pub count-kept : (u : ℕ) → u ≤ m → countAt w m u ≡ countAt v m u
+  count-kept u h = k .before _ (omega arith)
+
+  pub output-kept : (i : ℕ) → outputAt w m i ≡ outputAt v m i
+  output-kept i = k .behind _ (omega arith)
+
+  pub function-kept : (u n : ℕ) → u ≤ m → n < cutLimit → functionOf w m u n ≡ functionOf v m u n
+  function-kept u n h l = function-same w v m (λ i a b. k .behind i (omega arith)) u n h l
+
+  pub node-kept : (u : ℕ) → u ≤ m → nodeAt w m u ≡ nodeAt v m u
+  unfolding nodeAt
+  node-kept u h =
+      let x : kindAt w m u ≡ kindAt v m u = k .before _ (omega arith) in
+      let y : leftAt w m u ≡ leftAt v m u = k .before _ (omega arith) in
+      let z : rightAt w m u ≡ rightAt v m u = k .before _ (omega arith) in
+      λ i. nodeOf (x i) (y i) (z i)
+
+  pub leaves-kept : (u n : ℕ) → u ≤ m → n < cutLimit → leavesAt w m u n ≡ leavesAt v m u n
+  leaves-kept u n h l = ap leavesOf (cut-same w v m (λ i a b. k .behind i (omega arith)) u h n l)
+
+  pub list-kept : (u : ℕ) → u ≤ m → countAt v m u ≤ cutLimit → cutsAt w m u ≡ cutsAt v m u
+  list-kept u h few = cuts-same w v m (λ i a b. k .behind i (omega arith)) u h (count-kept u h) few
+
+  pub cuts-in-kept : CutsIn v m → CutsIn w m
+  cuts-in-kept r =
+      record {
+        room = room-kept (r .room);
+        few = λ u h. omega (arith, count-kept u h, r .few u h);
+        within =
+            λ u n j h l i.
+            let c : n < countAt v m u = omega (arith, count-kept u h) in
+            let same : leavesAt w m u n ≡ leavesAt v m u n = leaves-kept u n h (omega (arith, r .few u h)) in
+            subst (λ (x : List ℕ). getD x j 0 ≤ m) (sym same) (r .within u n j h c (subst (λ (x : List ℕ). j < length x) same i));
+      }
+
+  pub slots-in-kept : (n : ℕ) → SlotsIn v m n → SlotsIn w m n
+  slots-in-kept n r = record { room = room-kept (r .room); few = r .few; within = λ i h. omega (arith, slot-kept i (omega (arith, r .few)), r .within i h) }
+
+  pub outputs-in-kept : (o : ℕ) → OutputsIn v m o → OutputsIn w m o
+  outputs-in-kept o r = record { room = room-for-kept o (r .room); within = λ i h. subst (λ (x : ℕ). x / 2 ≤ m) (sym (output-kept i)) (r .within i h) }
+
+  -- the phases, where they are not written
+  module _ (low : b ≤ positiveAddr m 0) where
+    in-kept : (at : ℕ) → positiveAddr m 0 ≤ at → phaseIn w at ≡ phaseIn v at
+    unfolding phaseIn
+    in-kept at h =
+        let e₀ : getD w at 0 ≡ getD v at 0 = k .behind at (omega arith) in
+        let e₁ : getD w (at + 1) 0 ≡ getD v (at + 1) 0 = k .behind (at + 1) (omega arith) in
+        let e₂ : getD w (at + 2) 0 ≡ getD v (at + 2) 0 = k .behind (at + 2) (omega arith) in
+        let e₃ : getD w (at + 3) 0 ≡ getD v (at + 3) 0 = k .behind (at + 3) (omega arith) in
+        λ i. record { source = sourceOf (e₀ i) (e₁ i); arrival = e₂ i + e₃ i * 65536 }
+
+    pub phases-same : (u : ℕ) → phasesAt w m u ≡ phasesAt v m u
+    phases-same u =
+        let p = in-kept (positiveAddr m u) (omega arith) in
+        let n = in-kept (negativeAddr m u) (omega arith) in
+        λ i. record { positive = p i; negative = n i }
+
+    pub phase-kept : (l : ℕ) → phaseAt w m l ≡ phaseAt v m l
+    unfolding phaseOf
+    phase-kept l = ap (λ (p : Phases). cond (negated l) (p .negative) (p .positive)) (phases-same (varOf l))
+
+    pub matches-in-kept : (cells : List Cell) → MatchesIn cells v m → MatchesIn cells w m
+    matches-in-kept cells r =
+        record {
+          usable = r .usable;
+          cuts = cuts-in-kept (r .cuts);
+          matches =
+              λ l h x e.
+              let o = r .matches l h x (ap (λ (p : Phase). p .source) (sym (phase-kept l)) ∙ e) in
+              record {
+                cut = omega (arith, o .cut, count-kept (l / 2) h);
+                cell = o .cell;
+                order = o .order;
+                places = rw (leaves-kept (l / 2) (x .cut) h (omega (arith, o .cut, r .cuts .few (l / 2) h))) (o .places);
+              };
+        }
+
+-- the arrivals of the inputs, where the columns behind theirs are written, or the one before it
+late-kept : (m a b : ℕ) (v w : List ℕ) → Kept a b v w → (lateAddr m (m + 1) ≤ a) ⊎ (b ≤ lateAddr m 0) → (u : ℕ) → u ≤ m → lateAt w m u ≡ lateAt v m u
+late-kept m a b v w k (inl h) u l = k .before (lateAddr m u) (omega arith)
+late-kept m a b v w k (inr h) u l = k .behind (lateAddr m u) (omega arith)
+
+pub late-in-kept : (m a b : ℕ) (v w : List ℕ) → Kept a b v w → lateAddr m (m + 1) ≤ a → LateIn v m → LateIn w m
+late-in-kept m a b v w k h r = record { within = λ u l. omega (arith, late-kept m a b v w k (inl h) u l, r .within u l) }
+
+-- what the words hold, of a graph of this size
+module _ (g : Graph) (a b : ℕ) (v w : List ℕ) (k : Kept a b v w) (from : countsTo (g .size) ≤ a) (to : b ≤ listsFrom (g .size)) where
+  pub graph-kept : (lateAddr (g .size) (g .size + 1) ≤ a) ⊎ (b ≤ lateAddr (g .size) 0) → HoldsGraph v g → HoldsGraph w g
+  graph-kept apart h =
+      record {
+        room = room-for-kept (g .size) a b v w k from to (length (g .outputs)) (h .room);
+        nodes = λ u l. node-kept (g .size) a b v w k from to u l ∙ h .nodes u l;
+        outputs = λ i l. output-kept (g .size) a b v w k from to i ∙ h .outputs i l;
+        late = λ u l. late-kept (g .size) a b v w k apart u l ∙ h .late u l;
+      }
+
+  pub order-kept : Accepted g → HoldsOrder v g → HoldsOrder w g
+  order-kept ok h =
+      record {
+        slots = λ i l. slot-kept (g .size) a b v w k from to i (omega (arith, few-placed g ok)) ∙ h .slots i l;
+        places =
+            λ i l.
+            place-kept (g .size) a b v w k from to (getD (placingOrder g) i 0) (order-small g ok (getD (placingOrder g) i 0) (getD-in (placingOrder g) i 0 l)) ∙ h .places i l;
+        waiting = λ u l n. place-kept (g .size) a b v w k from to u l ∙ h .waiting u l n;
+      }
+
+  pub cuts-kept : Accepted g → crowded g ≡ [] → HoldsCuts v g → HoldsCuts w g
+  cuts-kept ok free h =
+      record {
+        lists = λ u l. list-kept (g .size) a b v w k from to u l (count-few v g ok free h u l) ∙ h .lists u l;
+        functions = λ u p i l. function-kept (g .size) a b v w k from to u i (order-small g ok u p) (omega (arith, few-cuts g free u)) ∙ h .functions u p i l;
+      }
+
+  pub phases-kept : (cells : List Cell) → b ≤ positiveAddr (g .size) 0 → HoldsPhases v cells g → HoldsPhases w cells g
+  phases-kept cells low h = record { phases = λ l e. phase-kept (g .size) a b v w k from to low l ∙ h .phases l e }

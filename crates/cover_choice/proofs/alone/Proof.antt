@@ -1,0 +1,30 @@
+-- `cover_choice::alone` meets its contract: by the word of the cut's size. Assumes nothing.
+use mathlib.Core.Path.{sym, ap, _∙_}
+use Prim.Native.Nat.{ℕ}
+use lib.Dec.{eqb}
+use Rattle.base_words.specs.Record.{cutOf}
+use Rattle.base_words.proofs.Stored.{four-leaves}
+use Rattle.cover_choice.proofs.Leaves.{alone-one, alone-not}
+use borrow.Author.Needs.{needs}
+use Rattle.cover_choice.proofs.alone.Statement.{statement}
+use Rattle.cover_choice.proofs.alone.Tie as tie
+
+returns : tie.Need-returns
+returns c =
+    let first = c .before in
+    let tested = first .before in
+    let a = tested .before .before .before .args in
+    ap (λ (x : ℕ). eqb x (a .v)) (c .wide .ensures .0 ∙ first .leaf .ensures)
+    ∙ alone-one (cutOf (a .work .now) (a .m) (a .v) (a .k)) (a .v) (four-leaves (a .work .now) (a .m) (a .v) (a .k))
+    (sym (tested .before .cut-size .ensures) ∙ tested .if1 .taken)
+
+returns-2 : tie.Need-returns-2
+returns-2 c =
+    let a = c .before .before .before .args in
+    alone-not (cutOf (a .work .now) (a .m) (a .v) (a .k)) (a .v) (four-leaves (a .work .now) (a .m) (a .v) (a .k))
+    (λ e. c .if1 .left (c .before .cut-size .ensures ∙ e))
+
+pub alone-spec : {M : Type 1} → statement M
+alone-spec = tie.close
+    (tie.spec
+    (λ c κs. search needs) (λ c κs. search needs) (λ c κs. search needs) returns returns-2)

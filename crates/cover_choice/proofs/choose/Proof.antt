@@ -1,0 +1,37 @@
+-- `cover_choice::choose` meets its contract: the sheet is that of the cells to map with, and the listed cells' inverter is theirs. Assumes nothing.
+use mathlib.Core.Path.{sym, ap, subst, _∙_}
+use Rattle.model.specs.Cells.{cellsOf}
+use Rattle.cells_pairs.specs.Codes.{cellsBy}
+use Rattle.cells_matching.proofs.Pairing.{inverter-by}
+use Rattle.cover_choice.specs.Choosing.{chosenUp, ToolsIn, Unchosen}
+use borrow.Author.Needs.{needs}
+use Rattle.cover_choice.proofs.choose.Statement.{statement}
+use Rattle.cover_choice.proofs.choose.Tie as tie
+
+-- the sheet and the inverter
+tools : (c : tie.After-inverter-of) →
+    let a = c .before .before .before .before .args in
+    ToolsIn (cellsBy (cellsOf (a .lib)) (a .codes .now)) (a .sheet .now) (c .inverter-of .result)
+tools c =
+    let s = c .before .before .before .before in
+    record { built = s .pre .1; inverter = c .inverter-of .ensures ∙ sym (inverter-by (cellsOf (s .args .lib)) (s .args .codes .now)) }
+
+choose-variables-requires : tie.Need-choose-variables-requires
+choose-variables-requires c κs =
+    let i = c .before .before in
+    let s = i .before .before .before .before in
+    let a = s .args in
+    ((cellsBy (cellsOf (a .lib)) (a .codes .now), tools i), subst (Unchosen (a .work .now) (a .h .size)) (sym (c .placed .ensures)) (s .pre .2))
+
+returns : tie.Need-returns
+returns c =
+    let i = c .before .before .before .before .before in
+    let a = i .before .before .before .before .args in
+    c .before .before .choose-variables .ensures (cellsBy (cellsOf (a .lib)) (a .codes .now)) (tools i)
+    ∙ ap (chosenUp (cellsBy (cellsOf (a .lib)) (a .codes .now)) (a .work .now) (a .h .size)) (c .before .before .before .placed .ensures)
+
+pub choose-spec : {M : Type 1} → statement M
+choose-spec =
+    tie.close
+    (tie.spec
+    (λ c κs. search needs) (λ c κs. search needs) choose-variables-requires (λ c. search needs) returns)

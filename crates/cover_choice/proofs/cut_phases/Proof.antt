@@ -1,0 +1,91 @@
+-- `cover_choice::cut_phases` meets its contract: by whether the cut is the variable alone, and whether its function is a cell's in either phase. Assumes nothing.
+use mathlib.Core.Path.{_≡_, sym, ap, _∙_}
+use mathlib.Core.Bool.{true, false}
+use mathlib.Core.List.{List}
+use Prim.Native.Nat.{ℕ, _<_}
+use native.Mathlib.Omega.{arith}
+use Rattle.model.specs.Choice.{noPhase, earlier, choose}
+use Rattle.model.specs.Matching.{phaseTable}
+use Rattle.model.specs.declared.Phase.{Phase}
+use Rattle.cells_matching.proofs.Matching.{phase-end}
+use Rattle.base_words.specs.Record.{leavesAt}
+use Rattle.base_words.proofs.Tabled.{function-fits}
+use Rattle.cover_choice.specs.declared.CutMatch.{CutMatch}
+use Rattle.cover_choice.specs.Choosing.{foundPhase, foundOn}
+use Rattle.cover_choice.proofs.Found.{few-leaves, table-small, table-straight, on-none, at-alone, at-cut}
+use borrow.Author.Needs.{needs}
+use borrow.Author.Tests.{not-true}
+use Rattle.cover_choice.proofs.cut_phases.Statement.{statement}
+use Rattle.cover_choice.proofs.cut_phases.Tie as tie
+
+alone-requires : tie.Need-alone-requires
+alone-requires c κs =
+    let s = c .before .before in
+    (s .pre .1 .cuts .room, s .pre .2, omega (arith, s .pre .3, s .pre .1 .cuts .few (s .args .v) (s .pre .2)))
+
+-- with no match that of the cuts before stays
+stays : {found : Phase} (former : CutMatch) → noPhase ≡ found → foundPhase former ≡ earlier (foundPhase former) found
+stays former e = phase-end (former .cut) (former .best) ∙ ap (earlier (foundPhase former)) e
+
+returns : tie.Need-returns
+returns c =
+    let tested = c .before in
+    let a = tested .before .before .before .args in
+    let e = sym (tested .alone .ensures) ∙ c .if1 .taken in
+    λ cells sheet. (
+      stays (a .positive) (at-alone cells (a .work .now) (a .m) (a .v) false (a .k) e),
+      stays (a .negative) (at-alone cells (a .work .now) (a .m) (a .v) true (a .k) e),
+    )
+
+table-requires : tie.Need-table-requires
+table-requires c κs =
+    let s = c .before .before .before .before in
+    (s .pre .1 .cuts .room, s .pre .2, omega (arith, s .pre .3, s .pre .1 .cuts .few (s .args .v) (s .pre .2)))
+
+is-matched-requires : tie.Need-is-matched-requires
+is-matched-requires c κs = let s = c .before .before .before .before .before in omega (arith, s .pre .0 .1 .long)
+
+returns-2 : tie.Need-returns-2
+returns-2 c =
+    let asked = c .before in
+    let read = asked .before in
+    let tested = read .before .before in
+    let s = tested .before .before .before in
+    let a = s .args in
+    let w : List ℕ = a .work .now in
+    let few = few-leaves w (a .m) (a .v) (a .k) in
+    let e = sym (tested .alone .ensures) ∙ read .before .if1 .left in
+    let fits : read .table .result < 65536 = omega (arith, read .table .ensures, function-fits w (a .m) (a .v) (a .k) 65536 (λ i. omega (arith, tested .before .before .shared-slice-known .given i))) in
+    let none = asked .is-matched .ensures (not-true _ (c .if2 .taken)) in
+    λ cells sheet. (
+      stays (a .positive) (on-none cells (a .sheet .now) sheet w (a .m) 1073741823 (s .pre .1 .early) (omega arith) (leavesAt w (a .m) (a .v) (a .k)) few
+          (λ j i. s .pre .1 .cuts .within (a .v) (a .k) j (s .pre .2) (s .pre .3) i) (a .k) (read .table .result) fits (none .0)
+          ∙ ap (λ (f : ℕ). choose (foundOn cells w (a .m) (a .k) (leavesAt w (a .m) (a .v) (a .k)) f)) (read .table .ensures ∙ sym (table-straight _))
+          ∙ at-cut cells w (a .m) (a .v) false (a .k) e),
+      stays (a .negative) (on-none cells (a .sheet .now) sheet w (a .m) 1073741823 (s .pre .1 .early) (omega arith) (leavesAt w (a .m) (a .v) (a .k)) few
+          (λ j i. s .pre .1 .cuts .within (a .v) (a .k) j (s .pre .2) (s .pre .3) i) (a .k) (phaseTable true (read .table .result)) (table-small (read .table .result)) (none .1)
+          ∙ ap (λ (f : ℕ). choose (foundOn cells w (a .m) (a .k) (leavesAt w (a .m) (a .v) (a .k)) (phaseTable true f))) (read .table .ensures)
+          ∙ at-cut cells w (a .m) (a .v) true (a .k) e),
+    )
+
+returns-3 : tie.Need-returns-3
+returns-3 c =
+    let read = c .before .before .before in
+    let tested = read .before .before in
+    let a = tested .before .before .before .args in
+    let w : List ℕ = a .work .now in
+    let e = sym (tested .alone .ensures) ∙ read .before .if1 .left in
+    λ cells sheet. (
+      c .match-cut .ensures cells sheet .0
+          ∙ ap (earlier (foundPhase (a .positive))) (ap (λ (f : ℕ). choose (foundOn cells w (a .m) (a .k) (leavesAt w (a .m) (a .v) (a .k)) f)) (read .table .ensures ∙ sym (table-straight _))
+          ∙ at-cut cells w (a .m) (a .v) false (a .k) e),
+      c .match-cut .ensures cells sheet .1
+          ∙ ap (earlier (foundPhase (a .negative))) (ap (λ (f : ℕ). choose (foundOn cells w (a .m) (a .k) (leavesAt w (a .m) (a .v) (a .k)) (phaseTable true f))) (read .table .ensures)
+          ∙ at-cut cells w (a .m) (a .v) true (a .k) e),
+    )
+
+pub cut-phases-spec : {M : Type 1} → statement M
+cut-phases-spec =
+    tie.close
+    (tie.spec
+    alone-requires returns table-requires is-matched-requires returns-2 (λ c κs. search needs) returns-3)

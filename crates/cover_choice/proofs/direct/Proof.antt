@@ -1,0 +1,71 @@
+-- `cover_choice::direct` meets its contract: by what the variable is. Assumes nothing.
+use mathlib.Core.Path.{_≡_, sym, ap, _∙_}
+use mathlib.Core.Bool.{Bool, true, false}
+use mathlib.Core.List.{List}
+use mathlib.Core.Logic.{⊎-elim, inl, inr}
+use Prim.Native.Nat.{ℕ}
+use borrow.Author.Tests.{ne-eqb}
+use Rattle.model.specs.Choice.{noPhase}
+use Rattle.model.specs.declared.Cell.{Cell}
+use Rattle.base_words.specs.Layout.{constantKind, inputKind, andKind, kindAt, leftAt, rightAt}
+use Rattle.base_words.specs.Record.{nodeOf, nodeAt}
+use Rattle.cover_choice.specs.Choosing.{bestAt, ownPhase, directOf, directAt}
+use borrow.Author.Needs.{needs}
+use Rattle.cover_choice.proofs.direct.Statement.{statement}
+use Rattle.cover_choice.proofs.direct.Tie as tie
+
+module _ (cells : List Cell) (w : List ℕ) (m v : ℕ) (neg : Bool) where
+  of-constant : kindAt w m v ≡ constantKind → bestAt cells w m v neg ≡ directAt cells w m v neg
+  unfolding directAt nodeAt directOf
+  of-constant e = sym (ap (λ (k : ℕ). directOf cells w m v neg (nodeOf k (leftAt w m v) (rightAt w m v))) e)
+
+  of-and : kindAt w m v ≡ andKind → bestAt cells w m v neg ≡ directAt cells w m v neg
+  unfolding directAt nodeAt directOf
+  of-and e = sym (ap (λ (k : ℕ). directOf cells w m v neg (nodeOf k (leftAt w m v) (rightAt w m v))) e)
+
+  of-input : kindAt w m v ≡ inputKind → ownPhase w m v neg ≡ directAt cells w m v neg
+  unfolding directAt nodeAt directOf
+  of-input e = sym (ap (λ (k : ℕ). directOf cells w m v neg (nodeOf k (leftAt w m v) (rightAt w m v))) e)
+
+  of-undefined : (kindAt w m v ≡ constantKind → ⊥) → (kindAt w m v ≡ inputKind → ⊥) → (kindAt w m v ≡ andKind → ⊥) → noPhase ≡ directAt cells w m v neg
+  unfolding directAt nodeAt directOf
+  of-undefined a b c = rw (ne-eqb (kindAt w m v) constantKind a, ne-eqb (kindAt w m v) inputKind b, ne-eqb (kindAt w m v) andKind c)
+
+own-requires : tie.Need-own-requires
+own-requires c κs = let s = c .before .before .before .before in (s .pre .1 .cuts .room, s .pre .2)
+
+returns : tie.Need-returns
+returns c =
+    let a = c .before .before .before .before .before .args in
+    let k = sym (c .before .before .kind .ensures) in
+    λ cells sheet. (
+      c .best-phases .ensures cells sheet .0
+          ∙ ⊎-elim (λ e. of-constant cells (a .work .now) (a .m) (a .v) false (k ∙ e)) (λ e. of-and cells (a .work .now) (a .m) (a .v) false (k ∙ e)) (c .before .match .keys1),
+      c .best-phases .ensures cells sheet .1
+          ∙ ⊎-elim (λ e. of-constant cells (a .work .now) (a .m) (a .v) true (k ∙ e)) (λ e. of-and cells (a .work .now) (a .m) (a .v) true (k ∙ e)) (c .before .match .keys1),
+    )
+
+returns-2 : tie.Need-returns-2
+returns-2 c =
+    let a = c .before .before .before .before .before .args in
+    let k = sym (c .before .before .kind .ensures) ∙ c .before .match .keys2 in
+    λ cells sheet. (
+      c .own .ensures .0 ∙ of-input cells (a .work .now) (a .m) (a .v) false k,
+      c .own .ensures .1 ∙ of-input cells (a .work .now) (a .m) (a .v) true k,
+    )
+
+returns-3 : tie.Need-returns-3
+returns-3 c =
+    let a = c .before .before .before .before .before .args in
+    let k = c .before .before .kind .ensures in
+    let r = c .before .match .rest in
+    λ cells sheet. (
+      c .neither .ensures .0 ∙ of-undefined cells (a .work .now) (a .m) (a .v) false (λ e. r .0 .1 (inl (k ∙ e))) (λ e. r .1 (k ∙ e)) (λ e. r .0 .1 (inr (k ∙ e))),
+      c .neither .ensures .1 ∙ of-undefined cells (a .work .now) (a .m) (a .v) true (λ e. r .0 .1 (inl (k ∙ e))) (λ e. r .1 (k ∙ e)) (λ e. r .0 .1 (inr (k ∙ e))),
+    )
+
+pub direct-spec : {M : Type 1} → statement M
+direct-spec =
+    tie.close
+    (tie.spec
+    (λ c κs. search needs) (λ c κs. search needs) own-requires (λ c κs. search needs) returns returns-2 returns-3)

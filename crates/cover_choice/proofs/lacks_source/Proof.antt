@@ -1,0 +1,29 @@
+-- `cover_choice::lacks_source` meets its contract. Assumes nothing.
+use mathlib.Core.Path.{ap, subst, sym, _∙_}
+use Prim.Native.Nat.{ℕ, _≤_, _/_}
+use Rattle.model.specs.declared.Phase.{Phase}
+use Rattle.model.specs.Choice.{absent}
+use Rattle.base_words.specs.Phases.{phaseAt}
+use Rattle.base_words.proofs.Columns.{room-need}
+use borrow.Author.Needs.{needs}
+use Rattle.cover_choice.proofs.lacks_source.Statement.{statement}
+use Rattle.cover_choice.proofs.lacks_source.Tie as tie
+
+phase-requires : tie.Need-phase-requires
+phase-requires c κs =
+    let a = c .before .before .args in
+    let p = c .before .before .pre in (
+      room-need (a .work .now) (a .m) (a .outputs) (p .0 .room),
+      subst (λ (l : ℕ). l / 2 ≤ a .m) (sym (c .output .ensures)) (p .0 .within (a .k) (p .1)),
+    )
+
+returns : tie.Need-returns
+returns c =
+    let a = c .before .before .before .before .args in
+    c .is-absent .ensures
+    ∙ ap (λ (x : Phase). absent (x .source)) (c .before .phase .ensures ∙ ap (phaseAt (a .work .now) (a .m)) (c .before .before .output .ensures))
+
+pub lacks-source-spec : {M : Type 1} → statement M
+lacks-source-spec = tie.close
+    (tie.spec
+    (λ c κs. search needs) phase-requires (λ c κs. search needs) returns)

@@ -1,0 +1,55 @@
+-- `cover_choice::mark` meets its contract: marking the outputs leaves what marking the variables reads. Assumes nothing.
+use mathlib.Core.Path.{sym, ap, subst, _∙_}
+use mathlib.Core.List.{List}
+use Prim.Native.Nat.{ℕ}
+use native.Mathlib.Omega.{arith}
+use Rattle.model.specs.Cells.{cellsOf}
+use Rattle.base_words.specs.Layout.{placedOf}
+use Rattle.cells_pairs.specs.Codes.{cellsBy}
+use Rattle.cover_choice.specs.Asked.{MatchesIn, SlotsIn}
+use Rattle.cover_choice.specs.Marking.{fedDown, marked}
+use Rattle.cover_choice.proofs.Keeping.{NeedsKept}
+use Rattle.cover_choice.proofs.Marks.{outputs-kept, needs-matches, needs-slots}
+use borrow.Author.Needs.{needs}
+use Rattle.cover_choice.proofs.mark.Statement.{statement}
+use Rattle.cover_choice.proofs.mark.Tie as tie
+
+-- what marking the outputs leaves
+after : (c : tie.After-mark-outputs) →
+    let s = c .before .before .before .before .before in
+    let a = s .args in
+    MatchesIn (cellsBy (cellsOf (a .lib)) (a .codes .now)) (c .mark-outputs .last .0) (a .h .size) × SlotsIn (c .mark-outputs .last .0) (a .h .size) (placedOf (a .h))
+after c =
+    let s = c .before .before .before .before .before in
+    let a = s .args in
+    let w : List ℕ = a .work .now in
+    let m : ℕ = a .h .size in
+    let k : NeedsKept m w (c .mark-outputs .last .0) =
+    subst (NeedsKept m w) (sym (c .mark-outputs .ensures)) (outputs-kept m (a .h .outputs) 0 (a .h .outputs) w (s .pre .2) (omega arith)) in
+    (needs-matches m (cellsBy (cellsOf (a .lib)) (a .codes .now)) w _ k (s .pre .1), needs-slots m (placedOf (a .h)) w _ k (s .pre .3))
+
+mark-variables-requires : tie.Need-mark-variables-requires
+mark-variables-requires c κs =
+    let o = c .before .before .before .before .before in
+    let p = o .before .before in
+    let a = p .before .before .before .args in (
+      (cellsBy (cellsOf (a .lib)) (a .codes .now), after o .0, p .pin-counts .ensures),
+      subst (SlotsIn (o .mark-outputs .last .0) (a .h .size)) (sym (c .placed .ensures)) (after o .1),
+    )
+
+returns : tie.Need-returns
+unfolding marked
+returns c =
+    let v = c .before .before in
+    let o = v .before .before .before .before .before .before in
+    let p = o .before .before in
+    let a = p .before .before .before .args in
+    v .mark-variables .ensures (cellsBy (cellsOf (a .lib)) (a .codes .now)) (after o .0) (p .pin-counts .ensures)
+    ∙ ap (fedDown (cellsBy (cellsOf (a .lib)) (a .codes .now)) _ (a .h .size)) (v .before .placed .ensures)
+    ∙ ap (λ (x : List ℕ). fedDown (cellsBy (cellsOf (a .lib)) (a .codes .now)) x (a .h .size) (placedOf (a .h))) (o .mark-outputs .ensures)
+
+pub mark-spec : {M : Type 1} → statement M
+mark-spec =
+    tie.close
+    (tie.spec
+    (λ c κs. search needs) (λ c κs. search needs) (λ c κs. search needs) mark-variables-requires (λ c. search needs) returns)

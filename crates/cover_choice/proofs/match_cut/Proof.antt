@@ -1,0 +1,83 @@
+-- `cover_choice::match_cut` meets its contract: the best of either chain is the choice. Assumes nothing.
+use mathlib.Core.Path.{_≡_, sym, ap, subst, _∙_}
+use mathlib.Core.Bool.{true}
+use mathlib.Core.List.{List}
+use Prim.Native.Nat.{ℕ, _≤_, _<_}
+use native.Mathlib.Omega.{arith}
+use Rattle.model.specs.Choice.{earlier}
+use Rattle.model.specs.Matching.{phaseTable}
+use Rattle.model.specs.declared.Cut.{Cut}
+use Rattle.base_words.specs.Layout.{countAt}
+use Rattle.base_words.specs.Record.{cutOf, leavesOf, leavesAt}
+use Rattle.base_words.proofs.Stored.{four-leaves}
+use Rattle.cover_choice.specs.Asked.{LeavesIn, CutsIn}
+use Rattle.cover_choice.specs.Choosing.{timesAt, foundPhase}
+use Rattle.cells_matching.specs.Best.{Timely, bestOf, phaseAs}
+use Rattle.cover_choice.proofs.Leaves.{times-timely}
+use Rattle.cover_choice.proofs.Found.{few-leaves, table-small, on-best}
+use borrow.Author.Needs.{needs}
+use Rattle.cover_choice.proofs.match_cut.Statement.{statement}
+use Rattle.cover_choice.proofs.match_cut.Tie as tie
+
+-- the cut that is loaded
+loaded : (w : List ℕ) (m v k : ℕ) → CutsIn w m → v ≤ m → k < countAt w m v → LeavesIn w m (cutOf w m v k)
+loaded w m v k r inside low = record { room = r .room; four = four-leaves w m v k; within = λ j i. r .within v k j inside low i }
+
+-- the arrivals of its leaves
+are : (c : tie.After-times) →
+    let a = c .before .before .before .before .args in
+    c .times .result ≡ timesAt (a .work .now) (a .m) (leavesAt (a .work .now) (a .m) (a .v) (a .k))
+are c =
+    let a = c .before .before .before .before .args in
+    c .times .ensures ∙ ap (λ (x : Cut). timesAt (a .work .now) (a .m) (leavesOf x)) (c .before .load-cut .ensures)
+
+timely : (c : tie.After-times) → Timely (c .times .result)
+timely c =
+    let s = c .before .before .before .before in
+    let a = s .args in
+    subst Timely (sym (are c))
+    (times-timely (a .work .now) (a .m) (leavesAt (a .work .now) (a .m) (a .v) (a .k)) 1073741823 (s .pre .1 .early) (omega arith)
+    (λ j i. s .pre .1 .cuts .within (a .v) (a .k) j (s .pre .2) (s .pre .3) i))
+
+load-cut-requires : tie.Need-load-cut-requires
+load-cut-requires c κs =
+    let s = c .before .before in
+    (s .pre .1 .cuts .room, s .pre .2, omega (arith, s .pre .3, s .pre .1 .cuts .few (s .args .v) (s .pre .2)))
+
+times-requires : tie.Need-times-requires
+times-requires c κs =
+    let s = c .before .before .before in
+    let a = s .args in
+    subst (LeavesIn (a .work .now) (a .m)) (sym (c .load-cut .ensures)) (loaded (a .work .now) (a .m) (a .v) (a .k) (s .pre .1 .cuts) (s .pre .2) (s .pre .3))
+
+match-phase-requires : tie.Need-match-phase-requires
+match-phase-requires c κs = (c .before .before .before .before .before .pre .0, timely (c .before))
+
+match-phase-requires-2 : tie.Need-match-phase-requires-2
+match-phase-requires-2 c κs = (c .before .before .before .before .before .before .before .before .pre .0, timely (c .before .before .before .before))
+
+returns : tie.Need-returns
+returns c =
+    let turned = c .before .before in
+    let first = turned .before in
+    let t = first .before .before in
+    let s = t .before .before .before .before in
+    let a = s .args in
+    let w : List ℕ = a .work .now in
+    let few = few-leaves w (a .m) (a .v) (a .k) in
+    λ cells sheet. (
+      first .match-phase .ensures cells sheet
+          ∙ ap (earlier (foundPhase (a .positive))) (ap (λ (x : List ℕ). phaseAs (a .k) (bestOf cells (a .f) x)) (are t)
+          ∙ on-best cells (a .sheet .now) sheet w (a .m) 1073741823 (s .pre .1 .early) (omega arith) (leavesAt w (a .m) (a .v) (a .k)) few
+          (λ j i. s .pre .1 .cuts .within (a .v) (a .k) j (s .pre .2) (s .pre .3) i) (a .k) (a .f) (omega (arith, s .fits .f))),
+      c .match-phase2 .ensures cells sheet
+          ∙ ap (earlier (foundPhase (a .negative))) ((λ i. phaseAs (a .k) (bestOf cells (turned .in-phase .ensures i) (are t i)))
+          ∙ on-best cells (a .sheet .now) sheet w (a .m) 1073741823 (s .pre .1 .early) (omega arith) (leavesAt w (a .m) (a .v) (a .k)) few
+          (λ j i. s .pre .1 .cuts .within (a .v) (a .k) j (s .pre .2) (s .pre .3) i) (a .k) (phaseTable true (a .f)) (table-small (a .f))),
+    )
+
+pub match-cut-spec : {M : Type 1} → statement M
+match-cut-spec =
+    tie.close
+    (tie.spec
+    load-cut-requires times-requires match-phase-requires (λ c κs. search needs) match-phase-requires-2 returns)

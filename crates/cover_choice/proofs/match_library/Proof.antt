@@ -1,0 +1,24 @@
+-- `cover_choice::match_library` meets its contract: the pairs matched and then the listed cells are all cells matched. Assumes nothing.
+use mathlib.Core.Path.{ap, _∙_}
+use Rattle.model.specs.Cells.{cellsOf}
+use Rattle.cells_matching.specs.Sheet.{listMatched}
+use Rattle.cells_matching.proofs.Pairing.{pairs-first}
+use borrow.Author.Needs.{needs}
+use Rattle.cover_choice.proofs.match_library.Statement.{statement}
+use Rattle.cover_choice.proofs.match_library.Tie as tie
+
+returns : tie.Need-returns
+returns c =
+    let second = c .before .before in
+    let first = second .before .before .before .before in
+    let s = first .before .before .before .before in
+    let a = s .args in
+    second .match-listed .ensures
+    ∙ ap (listMatched (cellsOf (a .lib)) 0) (first .build-pairs .ensures)
+    ∙ pairs-first (a .lib) (a .codes .now) (a .sheet .now) (s .pre .0 .joinable .whole)
+
+pub match-library-spec : {M : Type 1} → statement M
+match-library-spec =
+    tie.close
+    (tie.spec
+    (λ c κs. search needs) (λ c κs. search needs) (λ c. search needs) returns)

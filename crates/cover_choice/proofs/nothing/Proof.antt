@@ -1,0 +1,12 @@
+-- `cover_choice::nothing` meets its contract. Assumes nothing.
+use mathlib.Core.Path.{refl}
+use Rattle.model.specs.Choice.{noPhase}
+use Rattle.cover_choice.proofs.nothing.Statement.{statement}
+use Rattle.cover_choice.proofs.nothing.Tie as tie
+
+returns : tie.Need-returns
+unfolding noPhase
+returns c = refl
+
+pub nothing-spec : {M : Type 1} → statement M
+nothing-spec = tie.close (tie.spec returns)

@@ -1,0 +1,26 @@
+-- What the passes before have left in the words. Assumes nothing.
+use mathlib.Core.Path.{_≡_}
+use mathlib.Core.List.{List, []}
+use Prim.Native.Nat.{ℕ, _≤_}
+use lib.ListN.{length}
+use Rattle.model.specs.Graph.{Graph}
+use Rattle.model.specs.Cuts.{crowded}
+use Rattle.model.specs.declared.Header.{Header}
+use Rattle.base_words.specs.Holding.{HoldsGraph, HoldsOrder, HoldsCuts}
+use Rattle.theory_graph.specs.Accepted.{Accepted}
+
+-- the numbers of the header are those of the graph
+pub record HeaderOf (h : Header) (g : Graph) : Type 0 where
+  pub size : h .size ≡ g .size
+  pub inputs : h .inputs ≡ length (g .inputs)
+  pub outputs : h .outputs ≡ length (g .outputs)
+  pub ands : h .ands ≡ length (g .ands)
+
+-- the words hold a graph that no refusal turned back, whose inputs arrive by 65,535, its placing order and its cuts
+pub record Held (w : List ℕ) (g : Graph) : Type 0 where
+  pub accepted : Accepted g
+  pub free : crowded g ≡ []
+  pub soon : (v : ℕ) → g .late v ≤ 65535
+  pub graph : HoldsGraph w g
+  pub order : HoldsOrder w g
+  pub cuts : HoldsCuts w g

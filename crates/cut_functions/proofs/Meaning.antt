@@ -1,0 +1,45 @@
+-- The functions that `functions` leaves are those of `model`, where the words represent a graph:
+--     word-is-table               a cut's function in the words is `cutTable`
+--     functions-of                so for all cuts of a variable
+-- Assumes nothing.
+use mathlib.Core.Path.{_≡_, refl, sym, ap, _∙_}
+use mathlib.Core.List.{List, [], _∷_, map}
+use Prim.Native.Nat.{ℕ, zero, suc, _/_, _≤_, _<_}
+use native.Mathlib.Omega.{arith}
+use lib.ListN.{length}
+use Rattle.model.specs.Graph.{Graph, node, span}
+use Rattle.model.specs.Cuts.{cutTable}
+use Rattle.base_words.specs.Layout.{kindAt, leftAt, rightAt, placeAt}
+use Rattle.base_words.specs.Record.{nodeAt, cutsAt, AllGood, Sound}
+use Rattle.cut_functions.specs.Table.{leafWord, nodeWord, orWord, walkWord, Placed}
+use Rattle.cut_functions.specs.Filling.{cutWord, functionsOf}
+use Rattle.cut_functions.proofs.Walks.{node-word, fuel}
+use Rattle.cut_functions.proofs.Truth.{walk-table}
+
+module _ (w : List ℕ) (m : ℕ) (p : Placed w m) (ls : List ℕ) where
+  module _ (g : Graph) (nodes : (u : ℕ) → u ≤ m → nodeAt w m u ≡ node g u) where
+    word-nodes : (f u : ℕ) → u ≤ m → walkWord f (nodeAt w m) ls u ≡ walkWord f (node g) ls u
+    unfolding walkWord nodeAt
+    word-nodes zero u h = refl
+    word-nodes (suc f) u h =
+        ap (orWord (leafWord ls 0 u))
+        (node-word (walkWord f (nodeAt w m) ls) (walkWord f (node g) ls) (kindAt w m u) (leftAt w m u) (rightAt w m u)
+        (λ k. word-nodes f (leftAt w m u / 2) (omega (arith, p .lefts u h)))
+        (λ k. word-nodes f (rightAt w m u / 2) (omega (arith, p .rights u h)))
+        ∙ ap (nodeWord (walkWord f (node g) ls)) (nodes u h))
+
+    -- "A cut's function" in the words is that of `model`, for a variable that is placed
+    pub word-is-table : length ls ≤ 4 → (v : ℕ) → v ≤ m → 0 < placeAt w m v → placeAt w m v ≤ span g → cutWord w m v ls ≡ cutTable g ls v
+    unfolding cutWord
+    word-is-table few v h alive long =
+        fuel w m p ls (placeAt w m v) (span g) v h alive (omega arith) long ∙ word-nodes (span g) v h ∙ sym (walk-table g ls few v)
+
+-- all functions of a placed variable
+pub functions-of : (w : List ℕ) (m : ℕ) → Placed w m → (g : Graph) → ((u : ℕ) → u ≤ m → nodeAt w m u ≡ node g u) → (v : ℕ) → v ≤ m → Sound w m v
+    → 0 < placeAt w m v → placeAt w m v ≤ span g → functionsOf w m v ≡ map (λ (c : List ℕ). cutTable g c v) (cutsAt w m v)
+unfolding functionsOf
+functions-of w m p g nodes v h s alive long = each (cutsAt w m v) (s .good)
+  where
+    each : (cs : List (List ℕ)) → AllGood cs → map (cutWord w m v) cs ≡ map (λ (c : List ℕ). cutTable g c v) cs
+    each [] good = refl
+    each (c ∷ cs) good = λ i. word-is-table w m p c g nodes (good .0 .0) v h alive long i ∷ each cs (good .1) i

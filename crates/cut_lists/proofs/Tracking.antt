@@ -1,0 +1,150 @@
+-- The keys of a node's cuts, as far as there is room, are those of the cuts that `model` gives it.
+--     Tracks                      keys and a list of cuts: the same, or both too many
+--     node-tracks                 so it is for the cuts of each node
+--     keep-append                 what is kept of two lists, one after the other
+-- Assumes nothing.
+use mathlib.Core.Path.{_≡_, refl, sym, ap, _∙_, subst}
+use mathlib.Core.Logic.{_⊎_, inl, inr}
+use mathlib.Core.Bool.{Bool, true, false, cond}
+use mathlib.Core.List.{List, [], _∷_, _++_, map}
+use Prim.Native.Nat.{ℕ, suc, _≤_, _<_, compare, Ordering, Ordering·lt, Ordering·eq, Ordering·gt}
+use native.Mathlib.Omega.{arith}
+use lib.Dec.{ltb, leb}
+use lib.ListN.{length, length-map}
+use borrow.Author.Tests.{ltb-true, ltb-false, leb-true}
+use Rattle.model.specs.Base.{put, insert, union, keep, each}
+use Rattle.model.specs.Graph.{Node, constant, input, undefined, both, varOf}
+use Rattle.model.specs.Cuts.{compareCuts, unions, nodeCuts}
+use Rattle.theory_graph.proofs.Lists.{keep-append}
+use Rattle.base_words.specs.Record.{Leaves, Good, AllGood}
+use Rattle.cut_lists.specs.Keys.{key, added, addedCut, rowKeys, crossKeys, nodeKeys, keyRoom}
+use Rattle.cut_lists.proofs.Merging.{three, insert-first, insert-same, insert-past}
+use Rattle.cut_lists.proofs.Rows.{leaves-from, leaves-rising}
+use Rattle.cut_lists.proofs.Ordering.{keys-insert}
+
+-- good cuts stay good
+insert-leaves : (lo x : ℕ) (l : List ℕ) → lo ≤ x → x < 4096 → Leaves lo l → Leaves lo (insert compare x l)
+unfolding insert
+insert-leaves lo x [] h b g = (h, b, tt)
+insert-leaves lo x (y ∷ ys) h b g =
+    three x y
+    (λ e. subst (Leaves lo) (sym (insert-first x (y ∷ ys) (e, leaves-rising (suc y) ys (g .2)))) (h, b, (e, g .1, g .2)))
+    (λ e. subst (Leaves lo) (sym (insert-same x y ys e)) g)
+    (λ e. subst (Leaves lo) (sym (insert-past x y ys e)) (g .0, g .1, insert-leaves (suc y) x ys e b (g .2)))
+
+pub union-leaves : (lo : ℕ) (xs ys : List ℕ) → Leaves lo xs → Leaves lo ys → Leaves lo (union compare xs ys)
+unfolding union
+union-leaves lo [] ys g h = h
+union-leaves lo (x ∷ xs) ys g h =
+    insert-leaves lo x (union compare xs ys) (g .0) (g .1) (union-leaves lo xs ys (leaves-from xs (omega (arith, g .0)) (g .2)) h)
+
+insert-good : (z : List ℕ) (cs : List (List ℕ)) → Good z → AllGood cs → AllGood (insert compareCuts z cs)
+unfolding insert put
+insert-good z [] gz g = (gz, tt)
+insert-good z (c ∷ cs) gz g = by (compareCuts z c) (insert-good z cs gz (g .1))
+  where
+    by : (o : Ordering) → AllGood (insert compareCuts z cs) → AllGood (put o z c cs (insert compareCuts z cs))
+    by Ordering·lt h = (gz, g)
+    by Ordering·eq h = g
+    by Ordering·gt h = (g .0, h)
+
+insert-more : (z : List ℕ) (cs : List (List ℕ)) → length cs ≤ length (insert compareCuts z cs)
+unfolding insert put
+insert-more z [] = omega arith
+insert-more z (c ∷ cs) = by (compareCuts z c) (insert-more z cs)
+  where
+    by : (o : Ordering) → length cs ≤ length (insert compareCuts z cs) → length (c ∷ cs) ≤ length (put o z c cs (insert compareCuts z cs))
+    by Ordering·lt h = omega arith
+    by Ordering·eq h = omega arith
+    by Ordering·gt h = omega arith
+
+-- the keys ks are those of good cuts, which are all of the list `full`, or too many as those are
+pub record Tracks (ks : List ℕ) (full : List (List ℕ)) : Type 0 where
+  pub cuts : List (List ℕ)
+  pub keys : ks ≡ map key cuts
+  pub good : AllGood cuts
+  pub agree : (cuts ≡ full) ⊎ ((keyRoom ≤ length cuts) × (keyRoom ≤ length full))
+
+added-tracks : (z : List ℕ) (ks : List ℕ) (full : List (List ℕ)) → Good z → Tracks ks full → Tracks (added (key z) ks) (insert compareCuts z full)
+unfolding added
+added-tracks z ks full gz t = by (ltb (length ks) keyRoom) refl
+  where
+    n : length ks ≡ length (t .cuts)
+    n = ap length (t .keys) ∙ simp length-map
+
+    room : length ks < keyRoom → (t .cuts ≡ full) ⊎ ((keyRoom ≤ length (t .cuts)) × (keyRoom ≤ length full))
+        → (insert compareCuts z (t .cuts) ≡ insert compareCuts z full) ⊎ ((keyRoom ≤ length (insert compareCuts z (t .cuts))) × (keyRoom ≤ length (insert compareCuts z full)))
+    room h (inl e) = inl (ap (insert compareCuts z) e)
+    room h (inr e) = absurd (omega (arith, n, e .0))
+
+    no-room : keyRoom ≤ length ks → (t .cuts ≡ full) ⊎ ((keyRoom ≤ length (t .cuts)) × (keyRoom ≤ length full)) → keyRoom ≤ length full
+    no-room h (inl e) = omega (arith, n, ap length e)
+    no-room h (inr e) = e .1
+
+    by : (b : Bool) → ltb (length ks) keyRoom ≡ b → Tracks (cond b (insert compare (key z) ks) ks) (insert compareCuts z full)
+    by true e =
+        record {
+          cuts = insert compareCuts z (t .cuts);
+          keys = ap (insert compare (key z)) (t .keys) ∙ keys-insert z (t .cuts) gz (t .good);
+          good = insert-good z (t .cuts) gz (t .good);
+          agree = room (ltb-true (length ks) keyRoom e) (t .agree);
+        }
+    by false e =
+        let l : keyRoom ≤ length ks = ltb-false (length ks) keyRoom e in
+        record {
+          cuts = t .cuts;
+          keys = t .keys;
+          good = t .good;
+          agree = inr (omega (arith, n), omega (arith, no-room l (t .agree), insert-more z full));
+        }
+
+abbrev narrow : List ℕ → Bool
+narrow c = leb (length c) 4
+
+row-tracks : (c : List ℕ) (ds : List (List ℕ)) (ks : List ℕ) (full : List (List ℕ)) → Good c → AllGood ds → Tracks ks full
+    → Tracks (rowKeys c ds ks) (union compareCuts (keep narrow (map (union compare c) ds)) full)
+unfolding rowKeys addedCut union keep
+row-tracks c [] ks full gc gd t = t
+row-tracks c (d ∷ ds) ks full gc gd t = by (leb (length (union compare c d)) 4) refl (row-tracks c ds ks full gc (gd .1) t)
+  where
+    rest : List (List ℕ)
+    rest = keep narrow (map (union compare c) ds)
+
+    by : (b : Bool) → leb (length (union compare c d)) 4 ≡ b → Tracks (rowKeys c ds ks) (union compareCuts rest full)
+        → Tracks (cond b (added (key (union compare c d)) (rowKeys c ds ks)) (rowKeys c ds ks)) (union compareCuts (cond b (union compare c d ∷ rest) rest) full)
+    by true e r =
+        added-tracks (union compare c d) (rowKeys c ds ks) (union compareCuts rest full)
+        (leb-true (length (union compare c d)) 4 e, union-leaves 0 c d (gc .1) (gd .0 .1)) r
+    by false e r = r
+
+union-append : (xs ys zs : List (List ℕ)) → union compareCuts (xs ++ ys) zs ≡ union compareCuts xs (union compareCuts ys zs)
+unfolding union
+union-append [] ys zs = refl
+union-append (x ∷ xs) ys zs = ap (insert compareCuts x) (union-append xs ys zs)
+
+cross-tracks : (cs ds : List (List ℕ)) → AllGood cs → AllGood ds → Tracks (crossKeys cs ds) (union compareCuts (unions cs ds) [])
+unfolding crossKeys unions each keep union
+cross-tracks [] ds gc gd = record { cuts = []; keys = refl; good = tt; agree = inl refl }
+cross-tracks (c ∷ cs) ds gc gd =
+    let e : union compareCuts (unions (c ∷ cs) ds) [] ≡ union compareCuts (keep narrow (map (union compare c) ds)) (union compareCuts (unions cs ds) []) =
+    ap (λ (l : List (List ℕ)). union compareCuts l []) (keep-append narrow (map (union compare c) ds) (each (λ (a : List ℕ). map (union compare a) ds) cs))
+    ∙ union-append (keep narrow (map (union compare c) ds)) (unions cs ds) [] in
+    subst (Tracks (crossKeys (c ∷ cs) ds)) (sym e) (row-tracks c ds (crossKeys cs ds) _ (gc .0) gd (cross-tracks cs ds (gc .1) gd))
+
+-- the operands of a node are variables of which the cuts are good
+abbrev pub Reads : (ℕ → List (List ℕ)) → Node → Type 0
+Reads look constant = Unit {0}
+Reads look input = Unit {0}
+Reads look undefined = Unit {0}
+Reads look (both l r) = AllGood (look (varOf l)) × AllGood (look (varOf r))
+
+alone : (v : ℕ) → v < 4096 → Good (v ∷ [])
+alone v h = (omega arith, (omega arith, h, tt))
+
+pub node-tracks : (look : ℕ → List (List ℕ)) (v : ℕ) (k : Node) → v < 4096 → Reads look k → Tracks (nodeKeys look v k) (nodeCuts look v k)
+unfolding nodeKeys nodeCuts union
+node-tracks look v constant h g = record { cuts = [] ∷ []; keys = refl; good = ((omega arith, tt), tt); agree = inl refl }
+node-tracks look v input h g = record { cuts = (v ∷ []) ∷ []; keys = refl; good = (alone v h, tt); agree = inl refl }
+node-tracks look v undefined h g = record { cuts = []; keys = refl; good = tt; agree = inl refl }
+node-tracks look v (both l r) h g =
+    added-tracks (v ∷ []) _ (union compareCuts (unions (look (varOf l)) (look (varOf r))) []) (alone v h) (cross-tracks (look (varOf l)) (look (varOf r)) (g .0) (g .1))

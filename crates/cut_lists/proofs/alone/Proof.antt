@@ -1,0 +1,13 @@
+-- `cut_lists::alone` meets its contract. Assumes nothing.
+use native.Mathlib.Omega.{arith}
+use borrow.Author.Needs.{needs}
+use Rattle.cut_lists.specs.Keys.{keyFrom, key}
+use Rattle.cut_lists.proofs.alone.Statement.{statement}
+use Rattle.cut_lists.proofs.alone.Tie as tie
+
+returns : tie.Need-returns
+unfolding key keyFrom
+returns c = omega arith
+
+pub alone-spec : {M : Type 1} → statement M
+alone-spec = tie.close (tie.spec (λ c. search needs) (λ c. search needs) returns)

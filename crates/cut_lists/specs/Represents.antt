@@ -1,0 +1,24 @@
+-- The words in which the placing leaves a graph: its nodes and its placing order, and no cuts. Assumes nothing.
+use mathlib.Core.Path.{_≡_}
+use mathlib.Core.List.{List}
+use Prim.Native.Nat.{ℕ, _+_, _*_, _≤_, _<_}
+use lib.ListN.{length, getD}
+use Rattle.model.specs.Graph.{Graph, node, placingOrder}
+use Rattle.base_words.specs.Layout.{Room, leftAt, rightAt, slotAt, placeAt, countAt}
+use Rattle.base_words.specs.Record.{nodeAt}
+
+-- the words hold graph g of M = m, of which n variables are placed. All of this stands below the counts, and no layer above changes it
+pub record Represents (w : List ℕ) (m n : ℕ) (g : Graph) : Type 0 where
+  pub room : Room w m
+  pub size : g .size ≡ m
+  pub nodes : (v : ℕ) → v ≤ m → nodeAt w m v ≡ node g v
+  pub lefts : (v : ℕ) → v ≤ m → leftAt w m v ≤ 2 * m + 1
+  pub rights : (v : ℕ) → v ≤ m → rightAt w m v ≤ 2 * m + 1
+  pub within : n ≤ m + 1
+  pub long : length (placingOrder g) ≡ n
+  pub order : (i : ℕ) → i < n → slotAt w m i ≡ getD (placingOrder g) i 0
+  pub places : (i : ℕ) → i < n → placeAt w m (getD (placingOrder g) i 0) ≡ i + 1
+
+-- no variable has cuts yet
+pub record Uncut (w : List ℕ) (m : ℕ) : Type 0 where
+  pub none-yet : (v : ℕ) → v ≤ m → countAt w m v ≡ 0

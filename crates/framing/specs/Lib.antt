@@ -1,2 +1,0 @@
--- `Frame`: lines that are due, and the first three of a netlist.
-pub mod Frame

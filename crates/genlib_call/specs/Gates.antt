@@ -1,0 +1,60 @@
+-- What the functions that judge a gate answer. Assumes nothing.
+use Prim.Native.Nat.{ℕ, _+_, _≤_}
+use mathlib.Core.Path.{_≡_}
+use mathlib.Core.Bool.{_&&_}
+use mathlib.Core.Option.{Option, none, some}
+use mathlib.Core.List.{List, [], _∷_}
+use lib.Dec.{leb}
+use lib.ListN.{length, drop}
+use Rattle.model.specs.Reading.{Read, holds, fault, unless, from?}
+use Rattle.model.specs.GenlibWords.{tokens}
+use Rattle.model.specs.GenlibFormula.{pinsOf, shallow}
+use Rattle.model.specs.Genlib.{Gate, gateFrom}
+use Rattle.genlib_celltext.specs.Gates.{gateIn, Stands}
+use Rattle.genlib_expression.specs.Places.{part, namesAt}
+use Rattle.genlib_expression.specs.declared.Pins.{Pins}
+use Rattle.genlib_call.specs.declared.Delays.{Delays}
+use Rattle.genlib_call.specs.declared.Delays.the-variants.{Four, Broken}
+use Rattle.genlib_call.specs.declared.Judged.{Judged}
+use Rattle.genlib_call.specs.declared.Judged.the-variants.{Cell, Refused}
+
+-- d0 to d3, if all are figures
+abbrev pub delaysIn : Delays → Option (List ℕ)
+delaysIn (Four a b c d) = some (a ∷ b ∷ c ∷ d ∷ [])
+delaysIn Broken = none
+
+-- the name of a gate that was found stands in the text
+abbrev pub GateIs : List ℕ → Judged → Type 0
+GateIs s (Cell g) = Stands s g
+GateIs s (Refused n) = Unit {0}
+
+-- what was found, as `model` reads it
+abbrev pub gateOption : List ℕ → Judged → Option Gate
+gateOption s (Cell g) = some (gateIn s g)
+gateOption s (Refused n) = none
+
+-- no other refusal than 24
+abbrev pub Only24 : Judged → Type 0
+Only24 (Cell g) = Unit {0}
+Only24 (Refused n) = n ≡ 24
+
+-- what was found of the group at a place
+abbrev pub judgedRead : List ℕ → ℕ → Judged → Read Gate
+judgedRead s at (Cell g) = holds (gateIn s g)
+judgedRead s at (Refused n) = fault n at
+
+-- 23 and 24
+unfoldable pub sizedRead : List (List (List ℕ)) → List (List ℕ) → ℕ → Read Gate
+unfolding unless from? pinsOf shallow gateFrom
+sizedRead lines ts at = unless (leb (length (pinsOf (drop 5 ts))) 4 && shallow 0 (drop 5 ts)) 23 at (from? (gateFrom lines ts) 24 at)
+
+-- w is the part of s from `at` on
+pub record InLine (s : List ℕ) (at : ℕ) (w : List ℕ) : Type 0 where
+  pub fits : at + length w ≤ length s
+  pub same : w ≡ part s at (at + length w)
+  pub short : length w ≤ 65536
+
+-- p holds the pins of the expression of line w
+pub record Few (w : List ℕ) (p : Pins) : Type 0 where
+  pub four : p .n ≤ 4
+  pub names : namesAt w p ≡ pinsOf (drop 5 (tokens w))

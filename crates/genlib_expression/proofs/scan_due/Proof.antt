@@ -1,0 +1,27 @@
+-- `genlib_expression::scan_due` meets its contract, by its four ways. Assumes nothing.
+use borrow.Author.Tests.{eq-eqb, ne-eqb}
+use Rattle.genlib_expression.specs.Places.{dueStep}
+use borrow.Author.Needs.{needs}
+use Rattle.genlib_expression.proofs.scan_due.Statement.{statement}
+use Rattle.genlib_expression.proofs.scan_due.Tie as tie
+
+returns : tie.Need-returns
+unfolding dueStep
+returns c = rw (eq-eqb _ _ (c .if1 .taken))
+
+returns-2 : tie.Need-returns-2
+unfolding dueStep
+returns-2 c = rw (ne-eqb _ _ (c .before .if1 .left), eq-eqb _ _ (c .if2 .taken))
+
+returns-3 : tie.Need-returns-3
+unfolding dueStep
+returns-3 c = rw (ne-eqb _ _ (c .before .before .if1 .left), ne-eqb _ _ (c .before .if2 .left), c .if3 .taken)
+
+returns-4 : tie.Need-returns-4
+unfolding dueStep
+returns-4 c = rw (ne-eqb _ _ (c .before .before .if1 .left), ne-eqb _ _ (c .before .if2 .left), c .if3 .left)
+
+pub scan-due-spec : {M : Type 1} → statement M
+scan-due-spec = tie.close
+    (tie.spec
+    returns (λ c. search needs) returns-2 returns-3 returns-4)

@@ -1,0 +1,42 @@
+-- `genlib_expression::turn` meets its contract. The invariant: what the signs from here on make of the value is what all of them make of the first; the measure is what is left of the line. Assumes nothing.
+use borrow.Author.Needs.{needs}
+use mathlib.Core.Path.{_≡_, refl, sym, ap, _∙_}
+use native.Mathlib.Omega.{arith}
+use Prim.Native.Nat.{_-_, _≤_}
+use native.Mathlib.Nat.{le-refl}
+use lib.ListN.{length}
+use Rattle.model.specs.GenlibFormula.{turns}
+use Rattle.genlib_expression.specs.Places.{restAt}
+use Rattle.genlib_expression.proofs.Tokens.{behind-yes, behind-no}
+use Rattle.genlib_expression.proofs.Values.{turns-stop, turns-step}
+use Rattle.genlib_expression.proofs.turn.Statement.{statement}
+use Rattle.genlib_expression.proofs.turn.Tie as tie
+
+abbrev Inv-loop : tie.InvT-loop
+Inv-loop w from b start value₀ at₀ value at = (from ≤ at) × (at ≤ length w) × (turns b start (restAt w from) ≡ turns b value (restAt w at))
+
+abbrev μ-loop : tie.MeasureT-loop
+μ-loop w from b start value₀ at₀ value at = length w - at
+
+loop-holds : tie.Need-loop-holds Inv-loop μ-loop
+loop-holds c = (le-refl _, c .before .pre, refl)
+
+returns : tie.Need-returns Inv-loop μ-loop
+returns c =
+    let l = c .before .before .loop in
+    (l .inv .0, l .inv .1, sym (l .inv .2 ∙ turns-stop _ _ _ (behind-no _ _ _ _ (c .before .behind .ensures) (c .if1 .taken))))
+
+loop-less : tie.Need-loop-less Inv-loop μ-loop
+loop-less c = let y = behind-yes _ _ _ _ (c .before .behind .ensures) (c .if1 .left) in omega arith
+
+loop-again : tie.Need-loop-again Inv-loop μ-loop
+loop-again c =
+    let l = c .before .before .loop in
+    let y = behind-yes _ _ _ _ (c .before .behind .ensures) (c .if1 .left) in
+    (omega arith, y .3, l .inv .2 ∙ turns-step _ _ _ (y .0) ∙ ap (turns _ _) (y .1))
+
+pub turn-spec : {M : Type 1} → statement M
+turn-spec =
+    tie.close
+    (tie.spec
+    Inv-loop μ-loop loop-holds (λ c κs. search needs) returns loop-less loop-again)

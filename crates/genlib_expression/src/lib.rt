@@ -1,0 +1,644 @@
+// The expression of a GATE line: its tokens, its form, its pins and its table.
+// "The expression has any number of `!` before a factor and of `'` after it, `*`, `+`, brackets, CONST0 and CONST1; a sum is made of products, a product of
+// factors, and a bracketed factor of a sum again." Its form and its value are those of the crate `model`, which reads the list of a line's tokens; here a
+// place in the line stands for the tokens from there on.
+ghost use mathlib.Core.Path.{_≡_};
+ghost use mathlib.Core.Bool.{true, _&&_, _||_};
+ghost use Prim.Native.Nat.{ℕ, _^_, _≤_, _<_};
+ghost use lib.ListN.{length, drop};
+ghost use Rattle.model.specs.Base.{bit, same, flip};
+ghost use Rattle.model.specs.Text.{isNameByte};
+ghost use Rattle.model.specs.GenlibWords.{isBlank, isWordByte, isWord, span};
+ghost use Rattle.model.specs.GenlibFormula.{shallow, scan, isDone, formed, isPin, withName, addPins, pinsOf, indexOf, nameValue, valueOf, rowBits, turns};
+ghost use Rattle.model.specs.GenlibFormula.{closeBracket, named, factorOf, productOf, sumOf, within};
+ghost use Rattle.genlib_expression.specs.Places.{Nth, partsAt, dueStep, closeStep, endStep, afterStep, scanStep, depthOf, openedBy, spanEnd, endAt};
+ghost use Rattle.genlib_expression.specs.Places.{tokenAt, behindAt, restAt, namesAt, takenAt, turnedAt, Within, pushed, Listed, WordPart, withPin, addPin};
+ghost use Rattle.genlib_expression.specs.Places.{pinsFrom, noPins};
+use model::Scan;
+
+// A token's place in its line.
+pub struct Token {
+    pub from: usize,
+    pub to: usize,
+}
+
+// Where each of the first four pins stands in the line first; `n` is their number, 5 where there are more.
+pub struct Pins {
+    pub n: usize,
+    pub at: [usize; 4],
+}
+
+// The values in rows 0 to 15 as a table, and the place behind what has them.
+enum Parsed {
+    At(u16, usize),
+    Broken,
+}
+
+// A value that signs may have turned, and the place behind them.
+struct Turned {
+    value: bool,
+    at: usize,
+}
+
+// ---- bytes
+
+// "Spaces or tabs part words and may stand beside signs and at a line's ends"
+fn is_blank(b: u8) -> bool
+    ensures { λ r. ⌜ r ≡ isBlank b ⌝ }
+{
+    match b {
+        b' ' | b'\t' => true,
+        _ => false,
+    }
+}
+
+// A word is a name or a figure: "Names are of letters, digits and underscores, figures of digits with or without a point and more digits."
+fn is_word_byte(b: u8) -> bool
+    ensures { λ r. ⌜ r ≡ isWordByte b ⌝ }
+{
+    if base_text::is_name_byte(b) {
+        return true;
+    }
+    match b {
+        b'.' => true,
+        _ => false,
+    }
+}
+
+// ---- tokens
+
+// The first place from `from` on that is no blank.
+pub fn skip(w: &[u8], from: usize) -> usize
+    ensures { λ r. ⌜ r ≡ spanEnd isBlank (now (w .entry)) from ⌝ }
+{
+    let mut at = from;
+    while at < w.len() {
+        if !is_blank(w[at]) {
+            return at;
+        }
+        at += 1;
+    }
+    at
+}
+
+// The end of the word that begins at a place.
+pub fn word_end(w: &[u8], from: usize) -> usize
+    ensures { λ r. ⌜ r ≡ spanEnd isWordByte (now (w .entry)) from ⌝ }
+{
+    let mut at = from;
+    while at < w.len() {
+        if !is_word_byte(w[at]) {
+            return at;
+        }
+        at += 1;
+    }
+    at
+}
+
+// The end of the name that begins at a place.
+pub fn name_end(w: &[u8], from: usize) -> usize
+    ensures { λ r. ⌜ r ≡ spanEnd isNameByte (now (w .entry)) from ⌝ }
+{
+    let mut at = from;
+    while at < w.len() {
+        if !base_text::is_name_byte(w[at]) {
+            return at;
+        }
+        at += 1;
+    }
+    at
+}
+
+// The end of the token that begins at a place: a word is the longest run of its bytes, any other byte is a token of its own.
+fn token_end(w: &[u8], from: usize) -> usize
+    ensures { λ r. ⌜ r ≡ endAt (now (w .entry)) from ⌝ }
+{
+    if w.len() <= from {
+        return from;
+    }
+    if is_word_byte(w[from]) {
+        word_end(w, from + 1)
+    } else {
+        from + 1
+    }
+}
+
+// The next token from a place on; at the line's end an empty one.
+pub fn next_token(w: &[u8], at: usize) -> Token
+    ensures { λ r. ⌜ r ≡ tokenAt (now (w .entry)) at ⌝ }
+{
+    let from = skip(w, at);
+    let to = token_end(w, from);
+    Token { from, to }
+}
+
+// The place behind the sign b where that is the next token, else the place itself.
+fn behind(w: &[u8], at: usize, b: u8) -> usize
+    ensures { λ r. ⌜ r ≡ behindAt (now (w .entry)) at b ⌝ }
+{
+    let from = skip(w, at);
+    if from < w.len() {
+        if w[from] == b {
+            return token_end(w, from);
+        }
+    }
+    at
+}
+
+// Token k of a line; an empty one behind the last.
+pub fn nth(w: &[u8], k: usize) -> Token
+    ensures { λ r. ⌜ Nth (now (w .entry)) k r ⌝ }
+{
+    let mut t = next_token(w, 0);
+    let mut i = 0;
+    while i < k {
+        let to = t.to;
+        t = next_token(w, to);
+        i += 1;
+    }
+    t
+}
+
+// The bytes are a name.
+pub fn is_word(w: &[u8]) -> bool
+    ensures { λ r. ⌜ r ≡ isWord (now (w .entry)) ⌝ }
+{
+    if w.len() == 0 {
+        return false;
+    }
+    name_end(w, 0) == w.len()
+}
+
+// ---- the form of an expression
+
+// What a token with the first byte b makes of a form in which a factor is due: `!` and `(` leave it due, a name is one.
+fn scan_due(depth: usize, b: u8, name: bool) -> Scan
+    requires { ⌜ depth < 18446744073709551615 ⌝ }
+    ensures { λ r. ⌜ r ≡ dueStep depth b name ⌝ }
+{
+    if b == b'!' {
+        return Scan::Due(depth);
+    }
+    if b == b'(' {
+        return Scan::Due(depth + 1);
+    }
+    if name {
+        Scan::After(depth)
+    } else {
+        Scan::Broken
+    }
+}
+
+// A `)` closes a bracket that is open.
+fn scan_close(depth: usize) -> Scan
+    ensures { λ r. ⌜ r ≡ closeStep depth ⌝ }
+{
+    if depth > 0 {
+        Scan::After(depth - 1)
+    } else {
+        Scan::Broken
+    }
+}
+
+// A `;` ends the form where no bracket is open.
+fn scan_end(depth: usize, b: u8) -> Scan
+    ensures { λ r. ⌜ r ≡ endStep depth b ⌝ }
+{
+    if b == b';' {
+        if depth == 0 {
+            return Scan::Done;
+        }
+    }
+    Scan::Broken
+}
+
+// The same in a form behind a factor: `'` and `)` stay behind one, `*` and `+` ask for the next.
+fn scan_after(depth: usize, b: u8) -> Scan
+    ensures { λ r. ⌜ r ≡ afterStep depth b ⌝ }
+{
+    if b == b'\'' {
+        return Scan::After(depth);
+    }
+    if b == b')' {
+        return scan_close(depth);
+    }
+    if b == b'*' {
+        return Scan::Due(depth);
+    }
+    if b == b'+' {
+        return Scan::Due(depth);
+    }
+    scan_end(depth, b)
+}
+
+// The state behind a token: at first a factor is due, and behind the `;` no token may stand.
+fn scan_token(s: Scan, b: u8, name: bool) -> Scan
+    requires { ⌜ depthOf s < 18446744073709551615 ⌝ }
+    ensures { λ r. ⌜ r ≡ scanStep s b name ⌝ }
+{
+    match s {
+        Scan::Due(depth) => scan_due(depth, b, name),
+        Scan::After(depth) => scan_after(depth, b),
+        Scan::Done => Scan::Broken,
+        Scan::Broken => Scan::Broken,
+    }
+}
+
+// The `;` was the last token.
+fn is_done(s: Scan) -> bool
+    ensures { λ r. ⌜ r ≡ isDone s ⌝ }
+{
+    match s {
+        Scan::Done => true,
+        Scan::Due(_) => false,
+        Scan::After(_) => false,
+        Scan::Broken => false,
+    }
+}
+
+// The state behind a token by its place; an empty one changes nothing.
+fn scan_at(w: &[u8], t: Token, s: Scan) -> Scan
+    requires { ⌜ (t .from ≤ t .to) × (t .to ≤ length (now w)) × (depthOf s < 18446744073709551615) ⌝ }
+    ensures { λ r. ⌜ r ≡ scan s (partsAt (now (w .entry)) t) ⌝ }
+{
+    let from = t.from;
+    let to = t.to;
+    if from < to {
+        let name = is_word(&w[from..to]);
+        scan_token(s, w[from], name)
+    } else {
+        s
+    }
+}
+
+// From a place on the line has an expression and `;`, at any depth of brackets: a fault of form is 22, which is tried before 23. So the form is scanned
+// flat, in one state and a depth.
+pub fn is_formed(w: &[u8], from: usize) -> bool
+    requires { ⌜ from ≤ length (now w) ⌝ }
+    ensures { λ r. ⌜ r ≡ formed (restAt (now (w .entry)) from) ⌝ }
+{
+    let mut s = Scan::Due(0);
+    let mut at = from;
+    while at < w.len() {
+        let t = next_token(w, at);
+        s = scan_at(w, t, s);
+        at = t.to;
+    }
+    is_done(s)
+}
+
+// The brackets that are open behind a token with this first byte.
+fn step_depth(depth: usize, b: u8) -> usize
+    requires { ⌜ depth ≤ 16 ⌝ }
+    ensures { λ r. ⌜ r ≡ openedBy depth b ⌝ }
+{
+    if b == b'(' {
+        return depth + 1;
+    }
+    if b == b')' {
+        if depth > 0 {
+            return depth - 1;
+        }
+    }
+    depth
+}
+
+// No "brackets over 16 deep". A bracket is a token of its own, so the bytes are counted and no token is measured.
+pub fn is_shallow(w: &[u8], from: usize) -> bool
+    requires { ⌜ from ≤ length (now w) ⌝ }
+    ensures { λ r. ⌜ r ≡ shallow 0 (restAt (now (w .entry)) from) ⌝ }
+{
+    let mut depth = 0;
+    let mut at = from;
+    while at < w.len() {
+        depth = step_depth(depth, w[at]);
+        if depth > 16 {
+            return false;
+        }
+        at += 1;
+    }
+    true
+}
+
+// ---- pins
+
+// The word that begins at a place has the same bytes. No more of it is looked at than these, however long it is.
+fn word_is(w: &[u8], from: usize, t: &[u8]) -> bool
+    ensures { λ r. ⌜ r ≡ same (now (t .entry)) (span isWordByte (drop from (now (w .entry)))) ⌝ }
+{
+    let mut at = from;
+    let mut i = 0;
+    while i < t.len() {
+        if at >= w.len() {
+            return false;
+        }
+        if w[at] != t[i] {
+            return false;
+        }
+        if !is_word_byte(w[at]) {
+            return false;
+        }
+        at += 1;
+        i += 1;
+    }
+    if at >= w.len() {
+        return true;
+    }
+    !is_word_byte(w[at])
+}
+
+// The place of a name among the pins, or their number.
+fn index(w: &[u8], p: Pins, t: &[u8]) -> usize
+    requires { ⌜ p .n ≤ 4 ⌝ }
+    ensures { λ r. ⌜ (r ≡ indexOf (now (t .entry)) (namesAt (now (w .entry)) p)) × (r ≤ 4) ⌝ }
+{
+    let n = p.n;
+    let mut i = 0;
+    while i < n {
+        let from = p.at[i];
+        if word_is(w, from, t) {
+            return i;
+        }
+        i += 1;
+    }
+    n
+}
+
+// A name other than CONST0 and CONST1.
+pub fn is_pin(t: &[u8]) -> bool
+    ensures { λ r. ⌜ r ≡ isPin (now (t .entry)) ⌝ }
+{
+    if !is_word(t) {
+        return false;
+    }
+    if base_text::same_bytes(t, b"CONST0") {
+        return false;
+    }
+    if base_text::same_bytes(t, b"CONST1") {
+        return false;
+    }
+    true
+}
+
+// A pin more.
+fn push_pin(mut p: Pins, from: usize) -> Pins
+    requires { ⌜ p .n < 4 ⌝ }
+    ensures { λ r. ⌜ r ≡ pushed p from ⌝ }
+{
+    let n = p.n;
+    p.at[n] = from;
+    p.n = n + 1;
+    p
+}
+
+// The list with a name that is added if it is not in it; a fifth makes `n` 5.
+fn with_pin(w: &[u8], from: usize, t: &[u8], p: Pins) -> Pins
+    requires { ⌜ (p .n ≤ 4) × (length (p .at) ≡ 4) × (now t ≡ span isWordByte (drop from (now w))) ⌝ }
+    ensures { λ r. ⌜ (length (r .at) ≡ 4) × Listed (now (w .entry)) (withName (namesAt (now (w .entry)) p) (now (t .entry))) r ×
+        (r ≡ withPin (now (w .entry)) p from (now (t .entry))) ⌝ }
+{
+    let n = p.n;
+    if index(w, p, t) < n {
+        return p;
+    }
+    if n < 4 {
+        return push_pin(p, from);
+    }
+    let at = p.at;
+    Pins { n: 5, at }
+}
+
+// The list with a token, if it is a pin.
+fn add_pin(w: &[u8], t: Token, p: Pins) -> Pins
+    requires { ⌜ (p .n ≤ 4) × (length (p .at) ≡ 4) × (t .from ≤ t .to) × (t .to ≤ length (now w)) × WordPart (now w) t ⌝ }
+    ensures { λ r. ⌜ (length (r .at) ≡ 4) × Listed (now (w .entry)) (addPins (namesAt (now (w .entry)) p) (partsAt (now (w .entry)) t)) r ×
+        (r ≡ addPin (now (w .entry)) p t) ⌝ }
+{
+    let from = t.from;
+    let to = t.to;
+    if from < to {
+        if is_pin(&w[from..to]) {
+            return with_pin(w, from, &w[from..to], p);
+        }
+    }
+    p
+}
+
+// The pins from a place on: "Pins take their order of first appearance." The search stops at the fifth, for 23.
+pub fn find_pins(w: &[u8], from: usize) -> Pins
+    requires { ⌜ from ≤ length (now w) ⌝ }
+    ensures { λ r. ⌜ (length (r .at) ≡ 4) × Listed (now (w .entry)) (pinsOf (restAt (now (w .entry)) from)) r ×
+        (r ≡ pinsFrom (length (now (w .entry))) (now (w .entry)) noPins from) ⌝ }
+{
+    let mut p = Pins { n: 0, at: [0; 4] };
+    let mut at = from;
+    while at < w.len() {
+        let t = next_token(w, at);
+        p = add_pin(w, t, p);
+        if p.n > 4 {
+            return p;
+        }
+        at = t.to;
+    }
+    p
+}
+
+// ---- the value of an expression, in 16 rows at once
+
+// Two tables joined by `*`, row by row.
+fn both(a: u16, b: u16) -> u16
+    ensures { λ r. ⌜ ((row : ℕ) → row < 16 → bit r row ≡ (bit a row && bit b row)) ⌝ }
+{
+    a & b
+}
+
+// Two tables joined by `+`.
+fn either(a: u16, b: u16) -> u16
+    ensures { λ r. ⌜ ((row : ℕ) → row < 16 → bit r row ≡ (bit a row || bit b row)) ⌝ }
+{
+    a | b
+}
+
+// A table, turned in every row where signs say so.
+fn differ(odd: bool, t: u16) -> u16
+    ensures { λ r. ⌜ ((row : ℕ) → row < 16 → bit r row ≡ flip odd (bit t row)) ⌝ }
+{
+    base_truth::in_phase(odd, t)
+}
+
+// A value, turned once for each sign b that stands there: "any number of `!` before a factor and of `'` after it".
+fn turn(w: &[u8], from: usize, b: u8, start: bool) -> Turned
+    requires { ⌜ from ≤ length (now w) ⌝ }
+    ensures { λ r. ⌜ (from ≤ r .at) × (r .at ≤ length (now (w .entry))) × (turnedAt (now (w .entry)) r ≡ turns b start (restAt (now (w .entry)) from)) ⌝ }
+{
+    let mut value = start;
+    let mut at = from;
+    loop {
+        let next = behind(w, at, b);
+        if next == at {
+            return Turned { value, at };
+        }
+        value = !value;
+        at = next;
+    }
+}
+
+// A name's values: "bit j of r is pin j".
+fn name_value(w: &[u8], p: Pins, t: &[u8]) -> u16
+    requires { ⌜ p .n ≤ 4 ⌝ }
+    ensures { λ r. ⌜ ((row : ℕ) → row < 16 → bit r row ≡ nameValue (namesAt (now (w .entry)) p) row (now (t .entry))) ⌝ }
+{
+    if base_text::same_bytes(t, b"CONST0") {
+        return 0;
+    }
+    if base_text::same_bytes(t, b"CONST1") {
+        return 65535;
+    }
+    let i = index(w, p, t);
+    if i < 4 { base_truth::pattern(i) } else { 0 }
+}
+
+// The bracket that must close behind a value, which `!` before it may turn, and the `'` behind it.
+fn close(w: &[u8], at: usize, odd: bool, v: u16) -> Parsed
+    requires { ⌜ at ≤ length (now w) ⌝ }
+    ensures { λ r. ⌜ Within at (length (now (w .entry))) r × ((row : ℕ) → row < 16 → takenAt (now (w .entry)) row r ≡ closeBracket (flip odd (bit v row))
+        (restAt (now (w .entry)) at)) ⌝ }
+{
+    let next = behind(w, at, b')');
+    if next == at {
+        return Parsed::Broken;
+    }
+    let q = turn(w, next, b'\'', odd);
+    Parsed::At(differ(q.value, v), q.at)
+}
+
+// A name, and the `'` behind it.
+fn name(w: &[u8], at: usize, p: Pins, odd: bool) -> Parsed
+    requires { ⌜ (at ≤ length (now w)) × (p .n ≤ 4) ⌝ }
+    ensures { λ r. ⌜ Within at (length (now (w .entry))) r × ((row : ℕ) → row < 16 → takenAt (now (w .entry)) row r ≡ named (nameValue
+        (namesAt (now (w .entry)) p) row) odd (restAt (now (w .entry)) at)) ⌝ }
+{
+    let t = next_token(w, at);
+    let from = t.from;
+    let to = t.to;
+    if is_word(&w[from..to]) {
+        let v = name_value(w, p, &w[from..to]);
+        let q = turn(w, to, b'\'', odd);
+        Parsed::At(differ(q.value, v), q.at)
+    } else {
+        Parsed::Broken
+    }
+}
+
+// "a sum is made of products, a product of factors, and a bracketed factor of a sum again": three functions in a cycle. `depth`, the brackets
+// that may still open, falls from `factor` to `sum`, so the stack is at most three calls for each of them, whatever the text; the bytes that remain fall from
+// turn to turn of each loop.
+fn sum(w: &[u8], from: usize, p: Pins, depth: usize) -> Parsed
+    requires { ⌜ (from ≤ length (now w)) × (p .n ≤ 4) ⌝ }
+    ensures within { λ r. ⌜ Within from (length (now (w .entry))) r ⌝ }
+    ensures same { λ r. ⌜ ((row : ℕ) → row < 16 → (k : ℕ) → length (now (w .entry)) < k → takenAt (now (w .entry)) row r ≡ sumOf
+        (nameValue (namesAt (now (w .entry)) p) row) k (within (nameValue (namesAt (now (w .entry)) p) row) k depth) (restAt (now (w .entry)) from)) ⌝ }
+{
+    let mut v = 0u16;
+    let mut at = from;
+    loop {
+        match product(w, at, p, depth) {
+            Parsed::At(u, n) => {
+                v = either(v, u);
+                let next = behind(w, n, b'+');
+                if next == n {
+                    return Parsed::At(v, n);
+                }
+                at = next;
+            }
+            Parsed::Broken => {
+                return Parsed::Broken;
+            }
+        }
+    }
+}
+
+// The factors that `*` joins.
+fn product(w: &[u8], from: usize, p: Pins, depth: usize) -> Parsed
+    requires { ⌜ (from ≤ length (now w)) × (p .n ≤ 4) ⌝ }
+    ensures within { λ r. ⌜ Within from (length (now (w .entry))) r ⌝ }
+    ensures same { λ r. ⌜ ((row : ℕ) → row < 16 → (k : ℕ) → length (now (w .entry)) < k → takenAt (now (w .entry)) row r ≡ productOf
+        (nameValue (namesAt (now (w .entry)) p) row) k (within (nameValue (namesAt (now (w .entry)) p) row) k depth) (restAt (now (w .entry)) from)) ⌝ }
+{
+    let mut v = 65535u16;
+    let mut at = from;
+    loop {
+        match factor(w, at, p, depth) {
+            Parsed::At(u, n) => {
+                v = both(v, u);
+                let next = behind(w, n, b'*');
+                if next == n {
+                    return Parsed::At(v, n);
+                }
+                at = next;
+            }
+            Parsed::Broken => {
+                return Parsed::Broken;
+            }
+        }
+    }
+}
+
+// `!` before it and `'` after it turn a name or a bracketed sum.
+fn factor(w: &[u8], from: usize, p: Pins, depth: usize) -> Parsed
+    requires { ⌜ (from ≤ length (now w)) × (p .n ≤ 4) ⌝ }
+    ensures within { λ r. ⌜ Within from (length (now (w .entry))) r ⌝ }
+    ensures same { λ r. ⌜ ((row : ℕ) → row < 16 → (k : ℕ) → length (now (w .entry)) < k → takenAt (now (w .entry)) row r ≡ factorOf
+        (nameValue (namesAt (now (w .entry)) p) row) (within (nameValue (namesAt (now (w .entry)) p) row) k depth) (restAt (now (w .entry)) from)) ⌝ }
+{
+    let t = turn(w, from, b'!', false);
+    let at = t.at;
+    let odd = t.value;
+    let inside = behind(w, at, b'(');
+    if inside == at {
+        return name(w, at, p, odd);
+    }
+    if depth == 0 {
+        return Parsed::Broken;
+    }
+    match sum(w, inside, p, depth - 1) {
+        Parsed::At(v, n) => close(w, n, odd, v),
+        Parsed::Broken => Parsed::Broken,
+    }
+}
+
+// ---- the table
+
+// The values in the 16 rows. No bracket is over 16 deep, else the gate is refused by 23.
+fn row_values(w: &[u8], from: usize, p: Pins) -> u16
+    requires { ⌜ (from ≤ length (now w)) × (p .n ≤ 4) × (length (now w) ≤ 65536) ⌝ }
+    ensures { λ r. ⌜ ((row : ℕ) → row < 16 → bit r row ≡ valueOf (nameValue (namesAt (now (w .entry)) p) row) (restAt (now (w .entry)) from)) ⌝ }
+{
+    match sum(w, from, p, 16) {
+        Parsed::At(v, _) => v,
+        Parsed::Broken => 0,
+    }
+}
+
+// "its 2^pins rows", each with 1.
+fn rows(pins: usize) -> u16
+    requires { ⌜ pins ≤ 4 ⌝ }
+    ensures { λ r. ⌜ r ≡ rowBits (λ row. true) 0 (2 ^ pins) ⌝ }
+{
+    match pins {
+        0 => 1,
+        1 => 3,
+        2 => 15,
+        3 => 255,
+        _ => 65535,
+    }
+}
+
+// "The written table must equal the expression in its 2^pins rows and be 0 above"
+pub fn table(w: &[u8], from: usize, p: Pins) -> u16
+    requires { ⌜ (from ≤ length (now w)) × (p .n ≤ 4) × (length (now w) ≤ 65536) ⌝ }
+    ensures { λ r. ⌜ r ≡ rowBits (λ row. valueOf (nameValue (namesAt (now (w .entry)) p) row) (restAt (now (w .entry)) from)) 0 (2 ^ p .n) ⌝ }
+{
+    let n = p.n;
+    row_values(w, from, p) & rows(n)
+}

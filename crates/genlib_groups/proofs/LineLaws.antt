@@ -1,0 +1,128 @@
+-- Laws of the line at a place: its bounds, its contents and its first word. Assumes nothing.
+use Prim.Native.Nat.{ℕ, suc, _+_, _-_, _≤_, _<_}
+use native.Mathlib.Nat.{zero-add, le-of-lt}
+use native.Mathlib.Omega.{arith}
+use mathlib.Core.Path.{_≡_, refl, sym, ap, subst, _∙_}
+use mathlib.Core.Bool.{Bool, true, false, cond}
+use mathlib.Core.List.{List, [], _∷_}
+use lib.Dec.{ltb}
+use lib.ListN.{length, take, drop, length-drop}
+use borrow.Author.Tests.{ltb-true, ltb-false, le-ltb}
+use Rattle.model.specs.Base.{same}
+use Rattle.model.specs.Text.{ended, isNameByte}
+use Rattle.model.specs.GenlibWords.{isBlank, span, tokens}
+use Rattle.model.specs.Genlib.{firstName, startsGate, lineIs, lineTokens}
+use Rattle.base_text.specs.declared.Span.{Span}
+use Rattle.base_text.specs.Fields.{pickBytes, pickN, endOf, stops}
+use Rattle.base_text.specs.Lines.{lineOf, endingOf, lineAt, spanAt}
+use Rattle.base_text.proofs.Words.{end-fits}
+use Rattle.base_text.proofs.Bridge.{lines-at, lines-none}
+use Rattle.base_text.proofs.Spans.{span-from as stop-from, span-fits, span-contents, span-ended, span-long, span-next}
+use Rattle.genlib_expression.specs.Places.{spanEnd, part}
+use Rattle.genlib_expression.proofs.Spans.{span-from, span-le, span-part}
+use Rattle.genlib_groups.specs.Lines.{linesOf, gateWord}
+
+-- ---- a line
+
+-- what is known of the line at a place
+pub record Bounded (s : List ℕ) (at : ℕ) (l : Span) : Type 0 where
+  pub starts : at ≤ l .stop
+  pub stopped : l .stop ≤ length s
+  pub ordered : l .stop ≤ l .next
+  pub later : at < l .next
+  pub within : l .next ≤ length s
+  pub bytes : part s at (l .stop) ≡ lineAt s at .bytes
+  pub ends : ltb (l .stop) (l .next) ≡ ended (lineAt s at)
+  pub lines : linesOf s at ≡ lineAt s at ∷ linesOf s (l .next)
+
+-- a line and its end are within the text, and a line without its end is all that is left
+line-room : (l : List ℕ) → (length (lineOf l) + endingOf l ≤ length l) × (endingOf l ≡ 0 → length (lineOf l) ≡ length l)
+unfolding lineOf endingOf
+line-room [] = (omega arith, λ e. refl)
+line-room (b ∷ l) = go (stops (b ∷ l)) refl (line-room l)
+  where
+    some : 0 < endOf (b ∷ l) → endOf (b ∷ l) ≡ 0 → ⊥
+    some p e = omega arith
+
+    go : (t : Bool) → stops (b ∷ l) ≡ t → (length (lineOf l) + endingOf l ≤ length l) × (endingOf l ≡ 0 → length (lineOf l) ≡ length l)
+        → (length (pickBytes t [] (b ∷ lineOf l)) + pickN t (endOf (b ∷ l)) (endingOf l) ≤ suc (length l))
+        × (pickN t (endOf (b ∷ l)) (endingOf l) ≡ 0 → length (pickBytes t [] (b ∷ lineOf l)) ≡ suc (length l))
+    go true p h =
+        let q : 0 < endOf (b ∷ l) = ltb-true 0 (endOf (b ∷ l)) p in
+        (omega (arith, end-fits (b ∷ l) 0 (some q)), λ e. absurd (some q e))
+    go false p h = (omega (arith, h .0), λ e. ap suc (h .1 e))
+
+module _ (s : List ℕ) (at : ℕ) (h : at < length s) where
+  room : (spanAt s at .next ≤ length s) × (lineAt s at .ending ≡ 0 → spanAt s at .next ≡ length s)
+  unfolding spanAt lineAt
+  room = let r = line-room (drop at s) in (omega (arith, r .0, length-drop at s), λ e. omega (arith, r .1 e, length-drop at s))
+
+  after : at < spanAt s at .next
+  after = go (ltb 0 (lineAt s at .ending)) refl
+    where
+      go : (t : Bool) → ltb 0 (lineAt s at .ending) ≡ t → at < spanAt s at .next
+      go true p = let q = ltb-true 0 (lineAt s at .ending) p in omega (arith, stop-from s at, span-long s at)
+      go false p =
+          let q = ltb-false 0 (lineAt s at .ending) p in
+          let z : lineAt s at .ending ≡ 0 = omega arith in
+          omega (arith, room .1 z)
+
+  behind : linesOf s at ≡ lineAt s at ∷ linesOf s (spanAt s at .next)
+  behind = lines-at s at h ∙ rw (sym (span-next s at)) (go (ended (lineAt s at)) refl)
+    where
+      go : (t : Bool) → ended (lineAt s at) ≡ t → lineAt s at ∷ cond t (linesOf s (spanAt s at .next)) [] ≡ lineAt s at ∷ linesOf s (spanAt s at .next)
+      go true p = refl
+      go false p =
+          let q = ltb-false 0 (lineAt s at .ending) p in
+          let z : lineAt s at .ending ≡ 0 = omega arith in
+          rw (lines-none s (spanAt s at .next) (omega (arith, room .1 z)))
+
+  here : Bounded s at (spanAt s at)
+  here = record {
+    starts = stop-from s at;
+    stopped = span-fits s at (le-of-lt h);
+    ordered = omega (arith, span-long s at);
+    later = after;
+    within = room .0;
+    bytes = span-contents s at;
+    ends = span-ended s at;
+    lines = behind;
+  }
+
+  pub bounded : (l : Span) → l ≡ spanAt s at → Bounded s at l
+  bounded l e = subst (Bounded s at) (sym e) here
+
+-- ---- what a line is, by its contents
+
+module _ (s : List ℕ) (at : ℕ) (l : Span) (b : Bounded s at l) where
+  pub starts-gate : same (firstName (part s at (l .stop))) gateWord ≡ startsGate (lineAt s at)
+  unfolding startsGate gateWord
+  starts-gate = rw (b .bytes)
+
+  pub tokens-at : tokens (part s at (l .stop)) ≡ lineTokens (lineAt s at)
+  unfolding lineTokens
+  tokens-at = rw (b .bytes)
+
+  module _ (p : List (List ℕ) → Bool) where
+    -- a line without its end passes nothing
+    pub not-ended : l .stop ≡ l .next → lineIs p (lineAt s at) ≡ false
+    unfolding lineIs
+    not-ended e = rw (sym (b .ends) ∙ le-ltb (l .stop) (l .next) (omega arith))
+
+    pub is-ended : (l .stop ≡ l .next → ⊥) → lineIs p (lineAt s at) ≡ p (tokens (part s at (l .stop)))
+    unfolding lineIs
+    is-ended ne = rw (sym (b .ends) ∙ some (ltb (l .stop) (l .next)) refl, b .bytes)
+      where
+        some : (t : Bool) → ltb (l .stop) (l .next) ≡ t → t ≡ true
+        some true q = refl
+        some false q = let k = ltb-false (l .stop) (l .next) q in absurd (ne (omega (arith, b .ordered)))
+
+-- ---- the first word
+
+module _ (w : List ℕ) (from to : ℕ) (e : from ≡ spanEnd isBlank w 0) (f : to ≡ spanEnd isNameByte w from) where
+  pub gate-bounds : (from ≤ to) × (to ≤ length w)
+  gate-bounds = (omega (arith, span-from isNameByte w from), omega (arith, span-le isNameByte w from (omega (arith, span-le isBlank w 0 (omega arith)))))
+
+  pub gate-part : part w from to ≡ firstName w
+  unfolding firstName spanEnd
+  gate-part = ap (λ (n : ℕ). take (n - from) (drop from w)) f ∙ span-part isNameByte w from ∙ ap (λ (n : ℕ). span isNameByte (drop n w)) (e ∙ zero-add (length (span isBlank w)))

@@ -1,0 +1,53 @@
+-- `genlib_groups::all_figures` meets its contract. The invariant: all tokens are figures where all that are left are; the measure is what is left of the line. Assumes nothing.
+use mathlib.Core.Path.{_≡_, refl, sym, ap, _∙_}
+use native.Mathlib.Omega.{arith}
+use Prim.Native.Nat.{_-_, _≤_}
+use borrow.Author.Tests.{not-true, not-false}
+use lib.ListN.{length}
+use Rattle.model.specs.Base.{all}
+use Rattle.model.specs.GenlibWords.{isFigure}
+use Rattle.genlib_expression.specs.Places.{restAt}
+use Rattle.genlib_expression.proofs.Walk.{step, nothing-left}
+use borrow.Author.Needs.{needs}
+use Rattle.genlib_groups.proofs.all_figures.Statement.{statement}
+use Rattle.genlib_groups.proofs.all_figures.Tie as tie
+
+abbrev Inv-loop : tie.InvT-loop
+Inv-loop w from at₀ at = (at ≤ length w) × (all isFigure (restAt w from) ≡ all isFigure (restAt w at))
+
+abbrev μ-loop : tie.MeasureT-loop
+μ-loop w from at₀ at = length w - at
+
+loop-holds : tie.Need-loop-holds Inv-loop μ-loop
+loop-holds c = (c .before .pre, refl)
+
+part-is-figure-end : tie.Need-part-is-figure-end Inv-loop μ-loop
+part-is-figure-end c = step _ _ (c .before .before .before .loop .inv .0) _ (c .before .next-token .ensures) .within
+
+returns : tie.Need-returns Inv-loop μ-loop
+unfolding all
+returns c = let k = step _ _ (c .before .before .before .before .before .before .loop .inv .0) _ (c .before .before .before .before .next-token .ensures) in sym (c .before .before .before .before .before .before .loop .inv .1 ∙ ap (all isFigure) (k .one (c .before .before .before .if1 .taken)) ∙ rw (sym (c .before .is-figure .ensures) ∙ not-true _ (c .if2 .taken)))
+
+loop-less : tie.Need-loop-less Inv-loop μ-loop
+loop-less c = let k = step _ _ (c .before .before .before .before .before .before .loop .inv .0) _ (c .before .before .before .before .next-token .ensures) in omega (arith, k .later (c .before .before .before .before .before .loop-test .taken))
+
+loop-again : tie.Need-loop-again Inv-loop μ-loop
+unfolding all
+loop-again c = let k = step _ _ (c .before .before .before .before .before .before .loop .inv .0) _ (c .before .before .before .before .next-token .ensures) in (k .within, c .before .before .before .before .before .before .loop .inv .1 ∙ ap (all isFigure) (k .one (c .before .before .before .if1 .taken)) ∙ rw (sym (c .before .is-figure .ensures) ∙ not-false _ (c .if2 .left)))
+
+loop-less-2 : tie.Need-loop-less-2 Inv-loop μ-loop
+loop-less-2 c = let k = step _ _ (c .before .before .before .loop .inv .0) _ (c .before .next-token .ensures) in omega (arith, k .later (c .before .before .loop-test .taken))
+
+loop-again-2 : tie.Need-loop-again-2 Inv-loop μ-loop
+loop-again-2 c = let k = step _ _ (c .before .before .before .loop .inv .0) _ (c .before .next-token .ensures) in (k .within, c .before .before .before .loop .inv .1 ∙ ap (all isFigure) (k .none (c .if1 .left) .0) ∙ sym (ap (all isFigure) (k .none (c .if1 .left) .1)))
+
+returns-2 : tie.Need-returns-2 Inv-loop μ-loop
+unfolding all
+returns-2 c = sym (c .before .loop .inv .1 ∙ ap (all isFigure) (nothing-left _ _ (c .loop-test .left)))
+
+pub all-figures-spec : {M : Type 1} → statement M
+all-figures-spec =
+    tie.close
+    (tie.spec
+    Inv-loop μ-loop loop-holds (λ c κs. search needs) (λ c. search needs) (λ c. search needs) part-is-figure-end (λ c κs. search needs) returns
+    loop-less loop-again loop-less-2 loop-again-2 returns-2)

@@ -1,0 +1,67 @@
+-- The first line of an arrivals' text, and what lies behind it. Assumes nothing.
+use Prim.Native.Nat.{ℕ, _-_, _<_, _≤_}
+use native.Mathlib.Omega.{arith}
+use mathlib.Core.Path.{_≡_, refl, sym, ap, _∙_}
+use mathlib.Core.Bool.{true, false, cond, _&&_}
+use mathlib.Core.List.{List, [], _∷_}
+use lib.ListN.{length, take, drop}
+use Rattle.model.specs.Base.{same}
+use Rattle.model.specs.Text.{ended, linesFrom}
+use Rattle.model.specs.Reading.{unless, verdictOf}
+use Rattle.model.specs.ArrivalsText.{readLate, readLateLines, readArrivals}
+use Rattle.model.specs.declared.Verdict.the-variants.{Accepted, Refused}
+use Rattle.base_text.specs.declared.Span.{Span}
+use Rattle.base_text.specs.Lines.{lineAt, pastLine, spanAt}
+use Rattle.base_text.proofs.Bytes.{and-left}
+use Rattle.base_text.proofs.Bridge.{lines-at}
+use Rattle.base_text.proofs.Spans.{span-contents, span-ended, span-next, span-fits}
+use Rattle.graph_arrivals.specs.Reading.{headLine, isHead}
+use Rattle.graph_arrivals.specs.Storing.{putAll, passed, listedLines, listed}
+use Rattle.graph_arrivals.proofs.Lines.{linesOf}
+
+-- an empty text
+pub none-listed : (inputs m : ℕ) (s w : List ℕ) → length s ≡ 0 → (Accepted ≡ verdictOf (readArrivals inputs s)) × (w ≡ putAll w m (listed inputs s))
+unfolding readArrivals readLateLines linesFrom verdictOf listed listedLines putAll
+none-listed inputs m [] w e = (refl, refl)
+none-listed inputs m (b ∷ s) w e = absurd (omega arith)
+
+module _ (inputs : ℕ) (s : List ℕ) (some : 0 < length s) where
+  read-by : readArrivals inputs s ≡ unless (ended (lineAt s 0) && same (lineAt s 0 .bytes) headLine) 25 0 (readLate inputs [] (cond (ended (lineAt s 0)) (linesOf s (pastLine s 0)) []))
+  unfolding readArrivals readLateLines headLine lineAt
+  read-by = ap (readLateLines inputs) (lines-at s 0 some)
+
+  listed-by : listed inputs s ≡ cond (ended (lineAt s 0) && same (lineAt s 0 .bytes) headLine) (passed inputs [] (cond (ended (lineAt s 0)) (linesOf s (pastLine s 0)) [])) []
+  unfolding listed listedLines headLine
+  listed-by = ap (listedLines inputs) (lines-at s 0 some)
+
+  -- the test of the first line
+  first-is : isHead s (spanAt s 0) ≡ (ended (lineAt s 0) && same (lineAt s 0 .bytes) headLine)
+  unfolding isHead
+  first-is =
+      let z : spanAt s 0 .stop - 0 ≡ spanAt s 0 .stop = omega arith in
+      let e : take (spanAt s 0 .stop) s ≡ lineAt s 0 .bytes = ap (λ (k : ℕ). take k s) (sym z) ∙ span-contents s 0 in
+      rw (span-ended s 0, e)
+
+  -- the first line, as it is handed back
+  module _ (l : Span) (is : l ≡ spanAt s 0) where
+    pub first-fits : l .stop ≤ length s
+    first-fits = omega (arith, ap (λ (x : Span). x .stop) is, span-fits s 0 (omega arith))
+
+    pub head-not : isHead s l ≡ false → (m : ℕ) (w : List ℕ) → (Refused 25 0 ≡ verdictOf (readArrivals inputs s)) × (w ≡ putAll w m (listed inputs s))
+    unfolding unless verdictOf putAll
+    head-not e m w =
+        let x = sym first-is ∙ sym (ap (isHead s) is) ∙ e in
+        (sym (ap verdictOf read-by ∙ rw x), sym (ap (putAll w m) listed-by ∙ rw x))
+
+    pub head-read : isHead s l ≡ true → readArrivals inputs s ≡ readLate inputs [] (linesFrom (l .next) [] (drop (l .next) s))
+    unfolding unless
+    head-read e =
+        let x = sym first-is ∙ sym (ap (isHead s) is) ∙ e in
+        let u : ended (lineAt s 0) ≡ true = and-left (ended (lineAt s 0)) (same (lineAt s 0 .bytes) headLine) x in
+        read-by ∙ rw (x, u) (ap (λ (k : ℕ). readLate inputs [] (linesOf s k)) (sym (ap (λ (y : Span). y .next) is ∙ span-next s 0)))
+
+    pub head-listed : isHead s l ≡ true → listed inputs s ≡ passed inputs [] (linesFrom (l .next) [] (drop (l .next) s))
+    head-listed e =
+        let x = sym first-is ∙ sym (ap (isHead s) is) ∙ e in
+        let u : ended (lineAt s 0) ≡ true = and-left (ended (lineAt s 0)) (same (lineAt s 0 .bytes) headLine) x in
+        listed-by ∙ rw (x, u) (ap (λ (k : ℕ). passed inputs [] (linesOf s k)) (sym (ap (λ (y : Span). y .next) is ∙ span-next s 0)))

@@ -1,0 +1,43 @@
+-- `graph_arrivals::read` meets its contract: no text, or the first line and then the lines from where the next begins. Assumes nothing.
+use borrow.Author.Needs.{needs}
+use mathlib.Core.Path.{_≡_, sym, ap, _∙_}
+use mathlib.Core.List.{List}
+use native.Mathlib.Omega.{arith}
+use Rattle.model.specs.Reading.{Read, verdictOf, rulingOf, verdictRuling}
+use Rattle.model.specs.ArrivalsText.{Late}
+use Rattle.model.specs.declared.Verdict.{Verdict}
+use Rattle.model.proofs.Answers.{verdict-ruled}
+use Rattle.graph_arrivals.specs.Storing.{putAll}
+use Rattle.graph_arrivals.proofs.First.{none-listed, first-fits, head-not, head-read, head-listed}
+use Rattle.graph_arrivals.proofs.read.Statement.{statement}
+use Rattle.graph_arrivals.proofs.read.Tie as tie
+
+-- a verdict's number and place beside it
+told : (v : Verdict) (q : Read (List Late)) {W : Type 0} → (v ≡ verdictOf q) × W → (v ≡ verdictOf q) × ((verdictRuling v ≡ rulingOf q) × W)
+told v q e = (e .0, (verdict-ruled v q (e .0), e .1))
+
+returns : tie.Need-returns
+returns c =
+    let args = c .before .before .before .args in
+    told _ _ (none-listed (args .h .inputs) (args .h .size) (args .s .now) (args .work .now) (omega arith))
+
+is-head-requires : tie.Need-is-head-requires
+is-head-requires c κs = first-fits 0 (c .before .before .before .before .args .s .now) (omega arith) _ (c .line .ensures)
+
+returns-2 : tie.Need-returns-2
+returns-2 c =
+    let at-read = c .before .before in let at-head = at-read .before .before .before in
+    let args = at-head .before .before .before .before .before .args in
+    let h = sym (at-head .is-head .ensures) ∙ at-read .before .before .if2 .taken in
+    let r = head-read (args .h .inputs) (args .s .now) (omega arith) _ (at-head .before .line .ensures) h in
+    let l = head-listed (args .h .inputs) (args .s .now) (omega arith) _ (at-head .before .line .ensures) h in
+    told _ _ (at-read .read-lines .ensures .0 ∙ sym (ap verdictOf r), at-read .read-lines .ensures .1 ∙ sym (ap (putAll (args .work .now) (args .h .size)) l))
+
+returns-3 : tie.Need-returns-3
+returns-3 c =
+    let at-head = c .before in let args = at-head .before .before .before .before .before .args in
+    told _ _ (head-not (args .h .inputs) (args .s .now) (omega arith) _ (at-head .before .line .ensures) (sym (at-head .is-head .ensures) ∙ c .if2 .left) (args .h .size) (args .work .now))
+
+pub read-spec : {M : Type 1} → statement M
+read-spec = tie.close (tie.spec
+    returns (λ c κs. search needs) is-head-requires (λ c κs. search needs) (λ c. search needs) returns-2 returns-3)

@@ -1,0 +1,40 @@
+-- What each reader of the arrivals' text answers, composed of what the readers of the crate text find. Assumes nothing.
+use Prim.Native.Nat.{ℕ}
+use mathlib.Core.Bool.{Bool, true, false, _&&_}
+use mathlib.Core.List.{List}
+use lib.Dec.{eqb, ltb}
+use lib.ListN.{take, getD}
+use Rattle.model.specs.Base.{same}
+use Rattle.model.specs.Text.{text}
+use Rattle.base_text.specs.Fields.{onNumber, numberThen, numberEnd}
+use Rattle.base_text.specs.declared.Cursor.{Cursor}
+use Rattle.base_text.specs.declared.Span.{Span}
+use Rattle.graph_arrivals.specs.declared.Entry.{Entry}
+use Rattle.graph_arrivals.specs.declared.Entry.the-variants.{Is as AnEntry, Broken}
+use Rattle.graph_arrivals.specs.declared.Judged.{Judged}
+use Rattle.graph_arrivals.specs.declared.Judged.the-variants.{Is as Good, Refused as Bad}
+
+-- the first line's contents
+unfoldable pub headLine : List ℕ
+unfolding text
+headLine = text "input arrival"
+
+-- a line has its end, and its contents are those
+unfoldable pub isHead : List ℕ → Span → Bool
+isHead s l = ltb (l .stop) (l .next) && same (take (l .stop) s) headLine
+
+-- the two numbers of the line at a place
+unfoldable pub entryAt : List ℕ → ℕ → Entry
+entryAt s at = onNumber (numberThen s at 32) (λ i c. onNumber (numberEnd s (c .at)) (λ t d. AnEntry i t d) Broken) Broken
+
+abbrev pub onEntry : {A : Type 0} → Entry → (ℕ → ℕ → Cursor → A) → A → A
+onEntry (AnEntry i t c) f e = f i t c
+onEntry Broken f e = e
+
+abbrev pub pickJudged : Bool → Judged → Judged → Judged
+pickJudged true a b = a
+pickJudged false a b = b
+
+-- 25, then 26: an index of I or more, or one that has its mark
+unfoldable pub judgedAt : List ℕ → ℕ → ℕ → List ℕ → Judged
+judgedAt s at inputs marks = onEntry (entryAt s at) (λ i t c. pickJudged (ltb i inputs && eqb (getD marks i 0) 0) (Good i t c) (Bad 26)) (Bad 25)

@@ -1,0 +1,145 @@
+// The arrivals' text, read: each listed input's arrival put into the lent words, or the first refusal of 25 and 26 with its place.
+// "first line `input arrival`, then an input's index from 0 and its arrival, each 0 to 65,535, spaced and ended as library lines are, without
+// leading zeros. Inputs not listed arrive at 0."
+use base_text::Cursor;
+use base_text::Number;
+use base_text::Span;
+use model::Header;
+use model::Verdict;
+ghost use mathlib.Core.Path.{_≡_};
+ghost use mathlib.Core.List.{[]};
+ghost use Prim.Native.Nat.{_+_, _≤_, _<_};
+ghost use lib.ListN.{length, drop, replicate};
+ghost use Rattle.model.specs.Text.{linesFrom};
+ghost use Rattle.model.specs.Reading.{verdictOf, rulingOf, verdictRuling};
+ghost use Rattle.model.specs.ArrivalsText.{readLate, readArrivals};
+ghost use Rattle.base_words.specs.Layout.{Room, slotAt};
+ghost use Rattle.graph_arrivals.specs.Reading.{isHead, entryAt, judgedAt};
+ghost use Rattle.graph_arrivals.specs.Storing.{Listable, putLate, putAll, passed, listed};
+
+// A line that has its form: the index, the arrival, and the next line.
+pub enum Entry {
+    Is(u16, u16, Cursor),
+    Broken,
+}
+
+// The same, or the number of the line's refusal.
+pub enum Judged {
+    Is(u16, u16, Cursor),
+    Refused(usize),
+}
+
+fn wide(x: u16) -> usize
+    ensures { λ r. ⌜ r ≡ x ⌝ }
+{
+    x as usize
+}
+
+// ---- a line
+
+// The first line is `input arrival`.
+fn is_head(s: &[u8], first: Span) -> bool
+    requires { ⌜ first .stop ≤ length (now s) ⌝ }
+    ensures { λ r. ⌜ r ≡ isHead (now (s .entry)) first ⌝ }
+{
+    let stop = first.stop;
+    if first.next <= stop {
+        return false;
+    }
+    base_text::same_bytes(&s[..stop], b"input arrival")
+}
+
+// The index and the arrival of a line.
+fn read_late(s: &[u8], at: usize) -> Entry
+    ensures { λ r. ⌜ r ≡ entryAt (now (s .entry)) at ⌝ }
+{
+    let c = Cursor { at };
+    match c.number_then(s, 32) {
+        Number::Value(index, c0) => match c0.number_end(s) {
+            Number::Value(time, c1) => Entry::Is(index, time, c1),
+            Number::Broken => Entry::Broken,
+        },
+        Number::Broken => Entry::Broken,
+    }
+}
+
+// "25 when a line breaks its form; 26 when an index is I or more, or is repeated": a listed index has its mark, whatever arrival it is listed with.
+fn judge(s: &[u8], at: usize, inputs: usize, marks: &[u8; 4096]) -> Judged
+    requires { ⌜ inputs ≤ 4096 ⌝ }
+    ensures { λ r. ⌜ r ≡ judgedAt (now (s .entry)) at inputs (now (marks .entry)) ⌝ }
+{
+    match read_late(s, at) {
+        Entry::Is(index, time, next) => {
+            let i = wide(index);
+            if i >= inputs {
+                return Judged::Refused(26);
+            }
+            if marks[i] == 0 {
+                Judged::Is(index, time, next)
+            } else {
+                Judged::Refused(26)
+            }
+        }
+        Entry::Broken => Judged::Refused(25),
+    }
+}
+
+// ---- the words
+
+// The arrival of the input at an index: its variable stands in the placing order behind variable 0 and the inputs before it.
+fn store_late(work: &mut [u16], m: usize, index: u16, time: u16)
+    requires { ⌜ Room (now work) m × (index + 1 ≤ m) × (slotAt (now work) m (index + 1) ≤ m) ⌝ }
+    ensures { λ _. ⌜ now (work .exit) ≡ putLate (now (work .entry)) m index time ⌝ }
+{
+    let i = wide(index);
+    let v = base_words::slot(work, m, i + 1);
+    base_words::set_late(work, m, v, time);
+}
+
+fn no_marks() -> [u8; 4096]
+    ensures { λ r. ⌜ r ≡ replicate 4096 0 ⌝ }
+{
+    [0u8; 4096]
+}
+
+// The lines from a place on, "both line by line .., at the line's offset".
+fn read_lines(s: &[u8], from: usize, h: Header, work: &mut [u16]) -> Verdict
+    requires { ⌜ Listable (now work) (h .size) (h .inputs) ⌝ }
+    ensures { λ r. ⌜ r ≡ verdictOf (readLate (h .inputs) [] (linesFrom from [] (drop from (now (s .entry))))) ⌝ }
+    ensures { λ _. ⌜ now (work .exit) ≡ putAll (now (work .entry)) (h .size) (passed (h .inputs) [] (linesFrom from [] (drop from (now (s .entry))))) ⌝ }
+{
+    let mut marks = no_marks();
+    let mut at = from;
+    while at < s.len() {
+        match judge(s, at, h.inputs, &marks) {
+            Judged::Is(index, time, next) => {
+                store_late(work, h.size, index, time);
+                let i = wide(index);
+                marks[i] = 1;
+                at = next.at;
+            }
+            Judged::Refused(number) => {
+                return Verdict::Refused(number, at);
+            }
+        }
+    }
+    Verdict::Accepted
+}
+
+// The arrivals of a text, "or empty for none"; the words hold those of the lines before the first refusal.
+pub fn read(s: &[u8], h: Header, work: &mut [u16]) -> Verdict
+    requires { ⌜ Listable (now work) (h .size) (h .inputs) ⌝ }
+    ensures answer { λ r. ⌜ r ≡ verdictOf (readArrivals (h .inputs) (now (s .entry))) ⌝ }
+    ensures ruling { λ r. ⌜ verdictRuling r ≡ rulingOf (readArrivals (h .inputs) (now (s .entry))) ⌝ }
+    ensures stored { λ _. ⌜ now (work .exit) ≡ putAll (now (work .entry)) (h .size) (listed (h .inputs) (now (s .entry))) ⌝ }
+{
+    if s.len() == 0 {
+        return Verdict::Accepted;
+    }
+    let first = base_text::line(s, 0);
+    if is_head(s, first) {
+        read_lines(s, first.next, h, work)
+    } else {
+        Verdict::Refused(25, 0)
+    }
+}

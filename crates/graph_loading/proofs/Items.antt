@@ -1,0 +1,252 @@
+-- The items of a text, in either form, and the words that hold their graph:
+--     due-missing, due-none, due-whole     a line of the model's, by its literals
+--     Stored           the words after some items more; stored-none, stored-more, stored-behind
+--     stored-defined, stored-holding     what they hold after all items
+--     graph-held       and so after a text that holds a graph
+-- Assumes nothing.
+use mathlib.Core.Path.{_≡_, refl, sym, ap, _∙_, subst}
+use mathlib.Core.Bool.{Bool, true, false, not, cond, _&&_, _||_}
+use mathlib.Core.Option.{none, some}
+use mathlib.Core.List.{List, [], _∷_, _++_, map, append-nil, append-assoc, map-append}
+use Prim.Native.Nat.{ℕ, suc, _+_, _/_, _≤_}
+use native.Mathlib.Omega.{arith}
+use lib.Dec.{eqb}
+use lib.ListN.{getD}
+use lib.Seq.{append-snoc}
+use borrow.Author.Tests.{eq-eqb, ne-eqb}
+use Rattle.model.specs.Base.{elem, any, all, keep}
+use Rattle.model.specs.Text.{Line}
+use Rattle.model.specs.Reading.{Read, holds, fault, next, unless, from?, verdictOf}
+use Rattle.model.specs.Graph.{And, Graph, node, varOf}
+use Rattle.model.specs.GraphText.{Kind, anInput, anOutput, anAnd, defines, Item, itemLiterals, readDue, readItems, uses, definedBy, checkUses, sameKind, isKind, graphOf, readGraph}
+use Rattle.model.specs.declared.Header.{Header}
+use Rattle.model.specs.declared.Verdict.the-variants.{Accepted}
+use Rattle.base_words.specs.Layout.{undefinedKind, constantKind, kindAt}
+use Rattle.theory_graph.proofs.Lists.{by-eqb, keep-append}
+use Rattle.graph_placing.specs.Loaded.{kindOf, Holding}
+use Rattle.graph_loading.specs.declared.Literals.{Literals}
+use Rattle.graph_loading.specs.Tests.{dueCount, literalsFit, mayDefine}
+use Rattle.graph_loading.proofs.Storing.{nothing}
+use Rattle.graph_loading.proofs.Tests.{code, dueKind, itemList, Short, itemOf, all-fit}
+use Rattle.graph_loading.proofs.States.{andOf, grown, more, State}
+
+-- ---- what is read
+
+pub fault-holds : {A : Type 0} {a b : ℕ} {x : A} → fault a b ≡ holds x → ⊥
+fault-holds {a = a} {b} {x} e = let z : _≡_ {A = ℕ} 0 1 = cc in omega arith
+
+pub verdict-next : {A B : Type 0} (r : Read A) (f : A → B) → verdictOf (next r (λ a. holds (f a))) ≡ verdictOf r
+unfolding verdictOf next
+verdict-next (holds a) f = refl
+verdict-next (fault a b) f = refl
+
+pub next-holds : {A B : Type 0} (r : Read A) (f : A → B) (b : B) → next r (λ a. holds (f a)) ≡ holds b → (a : A) × (r ≡ holds a) × (b ≡ f a)
+unfolding next
+next-holds (holds a) f b e = (a, refl, cc)
+next-holds (fault n k) f b e = absurd (fault-holds e)
+
+pub accepted-holds : {A : Type 0} (r : Read A) → verdictOf r ≡ Accepted → (a : A) × (r ≡ holds a)
+unfolding verdictOf
+accepted-holds (holds a) e = (a, refl)
+accepted-holds (fault n k) e = let z : _≡_ {A = ℕ} 0 1 = cc in absurd (omega arith)
+
+-- what 14 lets pass is what was read
+pub check-same : (known : List ℕ) (is js : List Item) → checkUses known is ≡ holds js → is ≡ js
+unfolding checkUses unless
+check-same known [] js e = cc
+check-same known (i ∷ is) js e = go (all (λ (l : ℕ). elem (varOf l) (0 ∷ known)) (uses i)) (check-same known is) e
+  where
+    go : (t : Bool) → ((ks : List Item) → checkUses known is ≡ holds ks → is ≡ ks) → unless t 14 (i .offset) (next (checkUses known is) (λ ks. holds (i ∷ ks))) ≡ holds js → i ∷ is ≡ js
+    go false more q = absurd (fault-holds q)
+    go true more q = let n = next-holds (checkUses known is) (λ ks. i ∷ ks) js q in ap (λ (ks : List Item). i ∷ ks) (more (n .0) (n .1)) ∙ sym (n .2)
+
+-- ---- the model's line
+
+pub due-missing : (isClosed : Line → Bool) (end m : ℕ) (before : List ℕ) (k : Kind) (ks : List Kind) → readDue isClosed end m before (k ∷ ks) [] ≡ fault 11 end
+unfolding readDue
+due-missing isClosed end m before k ks = refl
+
+pub due-none : (isClosed : Line → Bool) (x : Line) (end m : ℕ) (before : List ℕ) (k : Kind) (ks : List Kind) (ls : List Line)
+    → itemLiterals isClosed k x ≡ none → readDue isClosed end m before (k ∷ ks) (x ∷ ls) ≡ fault 11 (x .offset)
+unfolding readDue next from?
+due-none isClosed x end m before k ks ls e = rw e
+
+pub due-whole : (isClosed : Line → Bool) (x : Line) (end m : ℕ) (before : List ℕ) (k : Kind) (ks : List Kind) (ls : List Line) (l : Literals)
+    → itemLiterals isClosed k x ≡ some (itemList k l) → Short k l
+    → readDue isClosed end m before (k ∷ ks) (x ∷ ls)
+    ≡ unless (literalsFit m l && mayDefine (code k) (l .first)) 12 (x .offset)
+    (unless (not (defines k && elem (varOf (l .first)) before)) 13 (x .offset)
+    (next (readDue isClosed end m (more k before l) ks ls) (λ is. holds (itemOf k (x .offset) l ∷ is))))
+unfolding readDue next from? defines mayDefine
+due-whole isClosed x end m before anInput ks ls l e s = rw (e, sym (all-fit m anInput l s))
+due-whole isClosed x end m before anOutput ks ls l e s = rw (e, sym (all-fit m anOutput l s))
+due-whole isClosed x end m before anAnd ks ls l e s = rw (e, sym (all-fit m anAnd l s))
+
+-- ---- the graph of the items
+
+-- a graph, and the lines of some items behind it
+unfoldable pub joined : Graph → List Item → Graph
+joined g is = record {
+  size = g .size;
+  inputs = g .inputs ++ graphOf (g .size) is .inputs;
+  outputs = g .outputs ++ graphOf (g .size) is .outputs;
+  ands = g .ands ++ graphOf (g .size) is .ands;
+  late = g .late;
+}
+
+pub joined-none : (g : Graph) → joined g [] ≡ g
+unfolding joined graphOf keep
+joined-none g i = record { size = g .size; inputs = append-nil (g .inputs) i; outputs = append-nil (g .outputs) i; ands = append-nil (g .ands) i; late = g .late }
+
+pub joined-first : (m : ℕ) (is : List Item) → joined (nothing m) is ≡ graphOf m is
+unfolding joined graphOf
+joined-first m is = refl
+
+pub joined-more : (k : Kind) (g : Graph) (at : ℕ) (l : Literals) (is : List Item) → joined (grown k g l) is ≡ joined g (itemOf k at l ∷ is)
+unfolding joined graphOf keep isKind sameKind varOf
+joined-more anInput g at l is = ap (λ (xs : List ℕ). record { size = g .size; inputs = xs; outputs = g .outputs ++ graphOf (g .size) is .outputs; ands = g .ands ++ graphOf (g .size) is .ands; late = g .late }) (append-snoc (g .inputs) (l .first / 2) (graphOf (g .size) is .inputs))
+joined-more anOutput g at l is = ap (λ (xs : List ℕ). record { size = g .size; inputs = g .inputs ++ graphOf (g .size) is .inputs; outputs = xs; ands = g .ands ++ graphOf (g .size) is .ands; late = g .late }) (append-snoc (g .outputs) (l .first) (graphOf (g .size) is .outputs))
+joined-more anAnd g at l is = ap (λ (xs : List And). record { size = g .size; inputs = g .inputs ++ graphOf (g .size) is .inputs; outputs = g .outputs ++ graphOf (g .size) is .outputs; ands = xs; late = g .late }) (append-snoc (g .ands) (andOf l) (graphOf (g .size) is .ands))
+
+-- items, and those behind them
+parts-append : {A : Type 0} (xs : List A) (p : Item → Bool) (f : Item → A) (is js : List Item) → (xs ++ map f (keep p is)) ++ map f (keep p js) ≡ xs ++ map f (keep p (is ++ js))
+parts-append {A} xs p f is js =
+    append-assoc xs (map f (keep p is)) (map f (keep p js))
+    ∙ ap (λ (ys : List A). xs ++ ys) (sym (ap (map f) (keep-append p is js) ∙ map-append f (keep p is) (keep p js)))
+
+joined-append : (g : Graph) (is js : List Item) → joined (joined g is) js ≡ joined g (is ++ js)
+unfolding joined graphOf
+joined-append g is js i = record {
+  size = g .size;
+  inputs = parts-append (g .inputs) (isKind anInput) (λ (x : Item). varOf (getD (x .literals) 0 0)) is js i;
+  outputs = parts-append (g .outputs) (isKind anOutput) (λ (x : Item). getD (x .literals) 0 0) is js i;
+  ands = parts-append (g .ands) (isKind anAnd) (λ (x : Item). record { var = varOf (getD (x .literals) 0 0); left = getD (x .literals) 1 0; right = getD (x .literals) 2 0 }) is js i;
+  late = g .late;
+}
+
+-- what the items define
+or-nil : (a : Bool) → (a || false) ≡ a
+or-nil true = refl
+or-nil false = refl
+
+or-swap : (a b c : Bool) → (b || (a || c)) ≡ ((a || b) || c)
+or-swap true true c = refl
+or-swap true false c = refl
+or-swap false b c = refl
+
+pub defined-more : (k : Kind) (at : ℕ) (l : Literals) (before : List ℕ) (is : List Item) (v : ℕ)
+    → (elem v (definedBy is) || elem v (more k before l)) ≡ (elem v (definedBy (itemOf k at l ∷ is)) || elem v before)
+unfolding definedBy defines elem any
+defined-more anInput at l before is v = or-swap (eqb v (varOf (l .first))) (any (eqb v) (definedBy is)) (any (eqb v) before)
+defined-more anOutput at l before is v = refl
+defined-more anAnd at l before is v = or-swap (eqb v (varOf (l .first))) (any (eqb v) (definedBy is)) (any (eqb v) before)
+
+or-behind : (e c a b : Bool) → (c || ((e || a) || b)) ≡ (e || (c || (a || b)))
+or-behind true true a b = refl
+or-behind true false a b = refl
+or-behind false c a b = refl
+
+or-assoc : (e a b : Bool) → (e || (a || b)) ≡ ((e || a) || b)
+or-assoc true a b = refl
+or-assoc false a b = refl
+
+defined-behind : (v : ℕ) (is js : List Item) (before : List ℕ) → (elem v (definedBy js) || (elem v (definedBy is) || elem v before)) ≡ (elem v (definedBy (is ++ js)) || elem v before)
+unfolding definedBy elem any
+defined-behind v [] js before = refl
+defined-behind v (x ∷ is) js before = go (defines (x .kind)) (defined-behind v is js before)
+  where
+    first : ℕ
+    first = varOf (getD (x .literals) 0 0)
+
+    go : (t : Bool) → (any (eqb v) (definedBy js) || (any (eqb v) (definedBy is) || any (eqb v) before)) ≡ (any (eqb v) (definedBy (is ++ js)) || any (eqb v) before)
+        → (any (eqb v) (definedBy js) || (any (eqb v) (cond t (first ∷ definedBy is) (definedBy is)) || any (eqb v) before))
+        ≡ (any (eqb v) (cond t (first ∷ definedBy (is ++ js)) (definedBy (is ++ js))) || any (eqb v) before)
+    go false later = later
+    go true later =
+        or-behind (eqb v first) (any (eqb v) (definedBy js)) (any (eqb v) (definedBy is)) (any (eqb v) before)
+        ∙ ap (λ (b : Bool). eqb v first || b) later
+        ∙ or-assoc (eqb v first) (any (eqb v) (definedBy (is ++ js))) (any (eqb v) before)
+
+-- ---- the words after some items
+
+-- the words x hold the graph g with n items more, which stand from due line k on; w₀ were the words before
+pub record Stored (h : Header) (w₀ : List ℕ) (n k : ℕ) (x : List ℕ) (before : List ℕ) (g : Graph) (is : List Item) : Type 0 where
+  pub defined : List ℕ
+  pub state : State h w₀ (k + n) x defined (joined g is)
+  pub knows : (v : ℕ) → elem v defined ≡ (elem v (definedBy is) || elem v before)
+
+module _ (h : Header) (w₀ : List ℕ) where
+  pub stored-none : (k : ℕ) (x : List ℕ) (before : List ℕ) (g : Graph) → State h w₀ k x before g → Stored h w₀ 0 k x before g []
+  unfolding definedBy elem any
+  stored-none k x before g st = record {
+    defined = before;
+    state = subst (λ (j : ℕ). State h w₀ j x before (joined g [])) (sym (omega arith)) (subst (State h w₀ k x before) (sym (joined-none g)) st);
+    knows = λ v. refl;
+  }
+
+  -- a line, and the items behind it
+  pub stored-more : (n k at : ℕ) (x : List ℕ) (before : List ℕ) (g : Graph) (l : Literals) (js : List Item)
+      → Stored h w₀ n (k + 1) x (more (dueKind h k) before l) (grown (dueKind h k) g l) js → Stored h w₀ (suc n) k x before g (itemOf (dueKind h k) at l ∷ js)
+  stored-more n k at x before g l js s =
+      let e : k + 1 + n ≡ k + suc n = omega arith in
+      record {
+        defined = s .defined;
+        state = subst (λ (j : ℕ). State h w₀ j x (s .defined) (joined g (itemOf (dueKind h k) at l ∷ js))) e (subst (State h w₀ (k + 1 + n) x (s .defined)) (joined-more (dueKind h k) g at l js) (s .state));
+        knows = λ v. s .knows v ∙ defined-more (dueKind h k) at l before js v;
+      }
+
+  -- items, and those behind them
+  pub stored-behind : (n m k : ℕ) (y x : List ℕ) (before : List ℕ) (g : Graph) (is js : List Item) (s : Stored h w₀ n k y before g is)
+      → Stored h w₀ m (k + n) x (s .defined) (joined g is) js → Stored h w₀ (n + m) k x before g (is ++ js)
+  stored-behind n m k y x before g is js s t =
+      let e : k + n + m ≡ k + (n + m) = omega arith in
+      record {
+        defined = t .defined;
+        state = subst (λ (j : ℕ). State h w₀ j x (t .defined) (joined g (is ++ js))) e (subst (State h w₀ (k + n + m) x (t .defined)) (joined-append g is js) (t .state));
+        knows = λ v. t .knows v ∙ ap (λ (b : Bool). elem v (definedBy js) || b) (s .knows v) ∙ defined-behind v is js before;
+      }
+
+-- ---- the words after all items
+
+module _ (h : Header) (w : List ℕ) (x : List ℕ) (is : List Item) (s : Stored h w (dueCount h) 0 x [] (nothing (h .size)) is) where
+  -- what is defined has a kind
+  pub stored-defined : (v : ℕ) → v ≤ h .size → elem v (0 ∷ definedBy is) ≡ not (eqb (kindAt x (h .size) v) undefinedKind)
+  unfolding elem any node
+  stored-defined v l = by-eqb v 0
+      (λ z.
+      let k : kindAt x (h .size) v ≡ constantKind = s .state .held .kinds v l ∙ ap (λ (u : ℕ). kindOf (node (joined (nothing (h .size)) is) u)) z in
+      rw (eq-eqb v 0 z, k))
+      (λ d. rw (ne-eqb v 0 d) (sym (or-nil (any (eqb v) (definedBy is))) ∙ sym (s .knows v) ∙ s .state .known v l d))
+
+  pub stored-holding : Holding w h x (graphOf (h .size) is) (0 ∷ graphOf (h .size) is .inputs)
+  unfolding graphOf
+  stored-holding =
+      let st : State h w (0 + dueCount h) x (s .defined) (graphOf (h .size) is) = subst (State h w (0 + dueCount h) x (s .defined)) (joined-first (h .size) is) (s .state) in
+      record {
+        size = refl;
+        ins = omega (arith, st .ins);
+        outs = omega (arith, st .outs);
+        gates = omega (arith, st .gates);
+        held = st .held;
+        small = st .small;
+        sure = st .sure;
+      }
+
+-- ---- the words after a text that holds a graph
+
+module _ (s : List ℕ) (h : Header) where
+  pub graph-is : readGraph s h ≡ next (readItems s h) (λ is. next (checkUses (definedBy is) is) (λ js. holds (graphOf (h .size) js)))
+  unfolding readGraph
+  graph-is = refl
+
+  pub graph-held : (w x : List ℕ) → ((is : List Item) → readItems s h ≡ holds is → Stored h w (dueCount h) 0 x [] (nothing (h .size)) is)
+      → (g : Graph) → readGraph s h ≡ holds g → Holding w h x g (0 ∷ g .inputs)
+  unfolding next
+  graph-held w x stored g e = go (readItems s h) refl (sym graph-is ∙ e)
+    where
+      go : (r : Read (List Item)) → readItems s h ≡ r → next r (λ is. next (checkUses (definedBy is) is) (λ js. holds (graphOf (h .size) js))) ≡ holds g → Holding w h x g (0 ∷ g .inputs)
+      go (fault a b) q p = absurd (fault-holds p)
+      go (holds is) q p =
+          let n = next-holds (checkUses (definedBy is) is) (graphOf (h .size)) g p in
+          subst (λ (y : Graph). Holding w h x y (0 ∷ y .inputs)) (ap (graphOf (h .size)) (check-same (definedBy is) is (n .0) (n .1)) ∙ sym (n .2))
+          (stored-holding h w x is (stored is q))

@@ -1,0 +1,11 @@
+-- `graph_loading::due_kind` meets its contract. Assumes nothing.
+use borrow.Author.Tests.{lt-ltb, le-ltb}
+use borrow.Author.Needs.{needs}
+use Rattle.graph_loading.proofs.due_kind.Statement.{statement}
+use Rattle.graph_loading.proofs.due_kind.Tie as tie
+
+pub due-kind-spec : {M : Type 1} → statement M
+due-kind-spec = tie.close (tie.spec
+    (λ c. rw (lt-ltb _ _ (c .if1 .taken))) (λ c. search needs)
+    (λ c. rw (le-ltb _ _ (c .before .before .if1 .left), lt-ltb _ _ (c .if2 .taken)))
+    (λ c. rw (le-ltb _ _ (c .before .before .if1 .left), le-ltb _ _ (c .if2 .left))))

@@ -1,0 +1,11 @@
+-- `graph_loading::taken` meets its contract. Assumes nothing.
+use borrow.Author.Tests.{eq-eqb, ne-eqb}
+use Rattle.graph_loading.specs.Tests.{isTaken}
+use borrow.Author.Needs.{needs}
+use Rattle.graph_loading.proofs.taken.Statement.{statement}
+use Rattle.graph_loading.proofs.taken.Tie as tie
+
+pub taken-spec : {M : Type 1} → statement M
+unfolding isTaken
+taken-spec = tie.close (tie.spec
+    (λ c. rw (eq-eqb _ _ (c .if1 .taken))) (λ c κs. search needs) (λ c. rw (ne-eqb _ _ (c .before .if1 .left), c .kind .ensures)))

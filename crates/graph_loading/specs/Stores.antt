@@ -1,0 +1,26 @@
+-- What a due line leaves in the words, and the words before the first. Assumes nothing.
+use Prim.Native.Nat.{ℕ, _+_, _-_, _/_}
+use mathlib.Core.List.{List, [], _∷_}
+use lib.Dec.{ltb}
+use Rattle.model.specs.declared.Header.{Header}
+use Rattle.base_words.specs.Put.{putAt, zeros}
+use Rattle.base_words.specs.Layout.{constantKind, inputKind, andKind, outputAddr, listsFrom}
+use Rattle.base_words.specs.Record.{putNode}
+use Rattle.graph_placing.specs.Placing.{pickWords, putPlaced}
+use Rattle.graph_loading.specs.declared.Literals.{Literals}
+
+-- all columns zero but for variable 0, which stands first in the placing order
+unfoldable pub opened : List ℕ → ℕ → List ℕ
+unfolding putPlaced
+opened w m = putPlaced (putNode (putAt w 0 (zeros (listsFrom m))) m 0 constantKind 0 0) m 0 0
+
+unfoldable pub storedInput : List ℕ → ℕ → ℕ → ℕ → List ℕ
+unfolding putPlaced
+storedInput w m k v = putPlaced (putNode w m v inputKind 0 0) m (k + 1) v
+
+unfoldable pub storedLine : List ℕ → Header → ℕ → Literals → List ℕ
+unfolding storedInput
+storedLine w h k l =
+    pickWords (ltb k (h .inputs)) (storedInput w (h .size) k (l .first / 2))
+    (pickWords (ltb k (h .inputs + h .outputs)) (putAt w (outputAddr (h .size) (k - h .inputs)) (l .first ∷ []))
+    (putNode w (h .size) (l .first / 2) andKind (l .left) (l .right)))

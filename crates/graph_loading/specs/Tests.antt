@@ -1,0 +1,46 @@
+-- The due lines' kinds, the tests of a line's literals, and the turn that a line takes. Assumes nothing.
+use Prim.Native.Nat.{ℕ, _+_, _*_, _/_, _%_, _≤_}
+use mathlib.Core.Bool.{Bool, true, false, not, _&&_, _||_}
+use mathlib.Core.List.{List}
+use lib.Dec.{eqb, ltb, leb}
+use Rattle.model.specs.declared.Header.{Header}
+use Rattle.base_words.specs.Layout.{undefinedKind, inputKind, andKind, kindAt}
+use Rattle.graph_placing.specs.Placing.{pickN}
+use Rattle.graph_loading.specs.declared.Literals.{Literals}
+use Rattle.graph_loading.specs.declared.Turn.{Turn}
+use Rattle.graph_loading.specs.declared.Turn.the-variants.{To, Refused as Stop}
+
+-- the kind of node that due line k defines: an output line defines none
+abbrev pub dueCode : Header → ℕ → ℕ
+dueCode h k = pickN (ltb k (h .inputs)) inputKind (pickN (ltb k (h .inputs + h .outputs)) undefinedKind andKind)
+
+abbrev pub dueCount : Header → ℕ
+dueCount h = h .inputs + h .outputs + h .ands
+
+abbrev pub literals : ℕ → ℕ → ℕ → ℕ → Literals
+literals a l r end = record { first = a; left = l; right = r; next = end }
+
+-- no "literal exceeds 2M+1"
+unfoldable pub literalsFit : ℕ → Literals → Bool
+literalsFit m l = leb (l .first) (2 * m + 1) && (leb (l .left) (2 * m + 1) && leb (l .right) (2 * m + 1))
+
+pub record LiteralsFit (m : ℕ) (l : Literals) : Type 0 where
+  pub first : l .first ≤ 2 * m + 1
+  pub left : l .left ≤ 2 * m + 1
+  pub right : l .right ≤ 2 * m + 1
+
+-- no "input or left literal is odd or 0"
+unfoldable pub mayDefine : ℕ → ℕ → Bool
+mayDefine kind first = eqb kind undefinedKind || (eqb (first % 2) 0 && not (eqb first 0))
+
+-- "An input or left variable is already defined."
+unfoldable pub isTaken : List ℕ → ℕ → ℕ → ℕ → Bool
+isTaken w m kind first = not (eqb kind undefinedKind) && not (eqb (kindAt w m (first / 2)) undefinedKind)
+
+abbrev pub pickTurn : Bool → Turn → Turn → Turn
+pickTurn true a b = a
+pickTurn false a b = b
+
+abbrev pub onTurn : {A : Type 0} → Turn → (ℕ → A) → (ℕ → ℕ → A) → A
+onTurn (To at) f e = f at
+onTurn (Stop n k) f e = e n k

@@ -1,0 +1,17 @@
+-- `graph_placing::waits` meets its contract. Assumes nothing.
+use mathlib.Core.Path.{sym}
+use borrow.Author.Tests.{eq-eqb, ne-eqb}
+use Rattle.base_words.specs.Layout.{andKind}
+use Rattle.graph_placing.specs.Placing.{isWaiting}
+use borrow.Author.Needs.{needs}
+use Rattle.graph_placing.proofs.waits.Statement.{statement}
+use Rattle.graph_placing.proofs.waits.Tie as tie
+
+returns-2 : tie.Need-returns-2
+unfolding isWaiting
+returns-2 c = rw (sym (c .before .before .kind .ensures), eq-eqb _ andKind (c .before .if1 .left), c .place .ensures)
+
+pub waits-spec : {M : Type 1} → statement M
+unfolding isWaiting
+waits-spec = tie.close (tie.spec
+    (λ c κs. search needs) (λ c. rw (sym (c .before .kind .ensures), ne-eqb _ andKind (c .if1 .taken))) (λ c κs. search needs) returns-2)

@@ -1,0 +1,12 @@
+-- `graph_placing::wake` meets its contract, whether the AND is ready or not. Assumes nothing.
+use mathlib.Core.Path.{sym}
+use borrow.Author.Needs.{needs}
+use Rattle.graph_placing.proofs.wake.Statement.{statement}
+use Rattle.graph_placing.proofs.wake.Tie as tie
+
+returns : tie.Need-returns
+returns c = rw (sym (c .before .before .before .ready .ensures), c .before .before .if1 .taken) (c .add .ensures)
+
+pub wake-spec : {M : Type 1} → statement M
+wake-spec = tie.close (tie.spec
+    (λ c κs. search needs) (λ c κs. search needs) returns (λ c. rw (sym (c .before .ready .ensures), c .if1 .left)))

@@ -1,0 +1,100 @@
+-- What the lines use is defined, as the words that they are stored in have it:
+--     Passing          a loop over numbers from 0 on: what those from here on pass is what all pass
+--     line-known       where the words say that all is defined, it is so of each line
+-- Assumes nothing.
+use mathlib.Core.Path.{_≡_, sym, ap, _∙_, subst}
+use mathlib.Core.Bool.{Bool, true, false, _&&_}
+use mathlib.Core.List.{List, _∷_, List·Memᴰ}
+use Prim.Native.Nat.{ℕ, suc, _+_, _-_, _*_, _/_, _≤_, _<_}
+use native.Mathlib.Numerals.{add-one}
+use native.Mathlib.Omega.{arith}
+use lib.Dec.{T, leb}
+use lib.ListN.{getD}
+use borrow.Author.Tests.{eq-eqb}
+use Rattle.model.specs.Base.{from, below, all}
+use Rattle.model.specs.Graph.{node, varOf}
+use Rattle.model.specs.GraphText.{Kind, anInput, anOutput, anAnd, Item, sameKind, isKind, graphOf}
+use Rattle.model.specs.declared.Header.{Header}
+use Rattle.base_words.specs.Layout.{constantKind, andKind, kindAt, leftAt, rightAt, outputAt}
+use Rattle.theory_graph.proofs.Lists.{map-in, keep-in, below-in, all-of, is-true}
+use Rattle.base_text.proofs.Bytes.{and-left, and-right}
+use Rattle.graph_placing.specs.Loaded.{kindOf, leftOf, rightOf, Holding}
+use Rattle.graph_placing.proofs.Orders.{mem-index}
+use Rattle.graph_loading.specs.declared.Literals.{Literals}
+use Rattle.graph_loading.proofs.Tests.{code, Short, itemOf}
+use Rattle.graph_loading.proofs.States.{andOf}
+use Rattle.graph_reader.specs.Lines.{isKnown, usesKnown, outputKnown, operandsKnown, wordsKnown}
+
+-- ---- a loop over the numbers below n
+
+pub record Passing (p : ℕ → Bool) (n i : ℕ) : Type 0 where
+  pub upto : i ≤ n
+  pub rest : all p (below n) ≡ all p (from i (n - i))
+
+pub passing-first : (p : ℕ → Bool) (n : ℕ) → Passing p n 0
+unfolding below
+passing-first p n = let e : n ≡ n - 0 = omega arith in record { upto = omega arith; rest = ap (λ (k : ℕ). all p (from 0 k)) e }
+
+module _ (p : ℕ → Bool) (n i : ℕ) (r : Passing p n i) where
+  passing-one : i < n → all p (below n) ≡ (p i && all p (from (i + 1) (n - (i + 1))))
+  unfolding all from
+  passing-one l =
+      let e : n - i ≡ suc (n - (i + 1)) = omega arith in
+      r .rest ∙ ap (λ (k : ℕ). all p (from i k)) e ∙ ap (λ (j : ℕ). p i && all p (from j (n - (i + 1)))) (sym (add-one i))
+
+  pub passing-on : i < n → p i ≡ true → Passing p n (i + 1)
+  passing-on l e = record { upto = omega arith; rest = passing-one l ∙ rw e }
+
+  pub passing-stop : i < n → p i ≡ false → all p (below n) ≡ false
+  passing-stop l e = passing-one l ∙ rw e
+
+  pub passing-end : n ≤ i → all p (below n) ≡ true
+  unfolding all from
+  passing-end l = let e : n - i ≡ 0 = omega arith in r .rest ∙ ap (λ (k : ℕ). all p (from i k)) e
+
+each-below : (p : ℕ → Bool) (n : ℕ) → all p (below n) ≡ true → (i : ℕ) → i < n → p i ≡ true
+each-below p n e i l = is-true (p i) (all-of p (below n) (subst T (sym e) tt) i (below-in n i l))
+
+-- ---- the lines
+
+and-known : (w : List ℕ) (m v : ℕ) → operandsKnown w m v ≡ true → kindAt w m v ≡ andKind → (isKnown w m (leftAt w m v) && isKnown w m (rightAt w m v)) ≡ true
+unfolding operandsKnown
+and-known w m v e k = rw (eq-eqb (kindAt w m v) andKind k) at e
+
+module _ (h : Header) (w₀ w : List ℕ) (is : List Item) (hold : Holding w₀ h w (graphOf (h .size) is) (0 ∷ graphOf (h .size) is .inputs)) (known : wordsKnown w h ≡ true) where
+  output-is : (i : ℕ) → i < h .outputs → isKnown w (h .size) (outputAt w (h .size) i) ≡ true
+  unfolding wordsKnown outputKnown
+  output-is i l =
+      and-right (leb (outputAt w (h .size) i) (2 * h .size + 1)) (isKnown w (h .size) (outputAt w (h .size) i))
+      (each-below (outputKnown w (h .size)) (h .outputs) (and-left (all (outputKnown w (h .size)) (below (h .outputs))) (all (operandsKnown w (h .size)) (below (h .size + 1))) known) i l)
+
+  and-is : (v : ℕ) → v ≤ h .size → kindAt w (h .size) v ≡ andKind → (isKnown w (h .size) (leftAt w (h .size) v) && isKnown w (h .size) (rightAt w (h .size) v)) ≡ true
+  unfolding wordsKnown
+  and-is v l =
+      and-known w (h .size) v
+      (each-below (operandsKnown w (h .size)) (h .size + 1) (and-right (all (outputKnown w (h .size)) (below (h .outputs))) (all (operandsKnown w (h .size)) (below (h .size + 1))) known) v (omega arith))
+
+  zero-is : isKnown w (h .size) 0 ≡ true
+  unfolding isKnown node
+  zero-is = let k : kindAt w (h .size) 0 ≡ constantKind = hold .held .kinds 0 (omega arith) in rw k
+
+  outputs-have : (at : ℕ) (l : Literals) → List·Memᴰ (itemOf anOutput at l) is → List·Memᴰ (l .first) (graphOf (h .size) is .outputs)
+  unfolding graphOf isKind sameKind
+  outputs-have at l i = map-in (λ (x : Item). getD (x .literals) 0 0) (keep-in (isKind anOutput) i tt)
+
+  ands-have : (at : ℕ) (l : Literals) → List·Memᴰ (itemOf anAnd at l) is → List·Memᴰ (andOf l) (graphOf (h .size) is .ands)
+  unfolding graphOf isKind sameKind varOf
+  ands-have at l i = map-in (λ (x : Item). record { var = varOf (getD (x .literals) 0 0); left = getD (x .literals) 1 0; right = getD (x .literals) 2 0 }) (keep-in (isKind anAnd) i tt)
+
+  pub line-known : (k : Kind) (at : ℕ) (l : Literals) → Short k l → List·Memᴰ (itemOf k at l) is → usesKnown w (h .size) (code k) l ≡ true
+  unfolding usesKnown
+  line-known anInput at l e i = rw (e .0, e .1, zero-is)
+  line-known anOutput at l e i =
+      let j = mem-index (graphOf (h .size) is .outputs) (l .first) (outputs-have at l i) in
+      ap (isKnown w (h .size)) (sym (hold .held .outs (j .0) (j .1) ∙ j .2)) ∙ output-is (j .0) (omega (arith, j .1, hold .outs))
+  line-known anAnd at l e i =
+      let a = hold .sure (andOf l) (ands-have at l i) in
+      let k : kindAt w (h .size) (l .first / 2) ≡ andKind = hold .held .kinds (l .first / 2) (a .var) ∙ ap kindOf (a .node) in
+      let x : leftAt w (h .size) (l .first / 2) ≡ l .left = hold .held .lefts (l .first / 2) (a .var) ∙ ap leftOf (a .node) in
+      let y : rightAt w (h .size) (l .first / 2) ≡ l .right = hold .held .rights (l .first / 2) (a .var) ∙ ap rightOf (a .node) in
+      rw (x, y) at (and-is (l .first / 2) (a .var) k)

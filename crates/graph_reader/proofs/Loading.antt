@@ -1,0 +1,138 @@
+-- A turn of the loop over the due lines is a line of the crate model's:
+--     step             the line at a place is refused by both, or read by both
+-- Assumes nothing.
+use mathlib.Core.Path.{_≡_, refl, sym, ap, _∙_}
+use mathlib.Core.Bool.{Bool, true, false, not, cond, _&&_}
+use mathlib.Core.Option.{none, some}
+use mathlib.Core.List.{List, [], _∷_}
+use Prim.Native.Nat.{ℕ, _+_, _≤_, _<_}
+use lib.Dec.{ltb}
+use lib.ListN.{length, drop}
+use borrow.Author.Tests.{ltb-true, ltb-false}
+use Rattle.model.specs.Base.{elem}
+use Rattle.model.specs.Text.{Line, ended}
+use Rattle.model.specs.Reading.{Read, holds, fault, next, unless}
+use Rattle.model.specs.Graph.{Graph, varOf}
+use Rattle.model.specs.GraphText.{Kind, defines, closed, due, itemLiterals, readDue}
+use Rattle.model.specs.declared.Header.{Header}
+use Rattle.base_text.specs.Lines.{lineAt, pastLine}
+use Rattle.base_text.proofs.Bridge.{lines-at, lines-none}
+use Rattle.graph_placing.specs.Loaded.{Fit}
+use Rattle.graph_loading.specs.declared.Literals.{Literals}
+use Rattle.graph_loading.specs.declared.Turn.the-variants.{To, Refused as Stop}
+use Rattle.graph_loading.specs.Tests.{dueCode, dueCount, literalsFit, mayDefine, isTaken}
+use Rattle.graph_loading.specs.Stores.{storedLine}
+use Rattle.graph_loading.proofs.Tests.{code, dueKind, due-code, itemList, Short, itemOf, taken-is}
+use Rattle.graph_loading.proofs.States.{grown, more, State, state-more}
+use Rattle.graph_loading.proofs.Lines.{linesOf}
+use Rattle.graph_loading.proofs.Items.{due-missing, due-none, due-whole}
+use Rattle.graph_reader.specs.declared.LineRead.the-variants.{Read as ALine, Broken as NoLine}
+use Rattle.graph_reader.specs.declared.Judged.the-variants.{Good, Bad}
+use Rattle.graph_reader.specs.Lines.{lineRead, pickJudged, judgedAt}
+use Rattle.graph_reader.specs.Passes.{turnAt, turnWords}
+use Rattle.graph_reader.proofs.Judging.{turn-none, turn-good, turn-bad}
+use Rattle.graph_reader.proofs.DueLines.{due-at, LineView, broken, whole, view}
+
+-- ---- a turn
+
+unless-stop : {A : Type 0} (t : Bool) (n k : ℕ) (r : Read A) → t ≡ false → unless t n k r ≡ fault n k
+unfolding unless
+unless-stop t n k r e = rw e
+
+unless-pass : {A : Type 0} (t : Bool) (n k : ℕ) (r : Read A) → t ≡ true → unless t n k r ≡ r
+unfolding unless
+unless-pass t n k r e = rw e
+
+module _ (s : List ℕ) (at end m : ℕ) (before : List ℕ) (k : Kind) (ks : List Kind) (ls : List Line) where
+  line-none : itemLiterals (closed false) k (lineAt s at) ≡ none → readDue (closed false) end m before (k ∷ ks) (lineAt s at ∷ ls) ≡ fault 11 at
+  unfolding lineAt
+  line-none = due-none (closed false) (lineAt s at) end m before k ks ls
+
+  line-whole : (l : Literals) → itemLiterals (closed false) k (lineAt s at) ≡ some (itemList k l) → Short k l
+      → readDue (closed false) end m before (k ∷ ks) (lineAt s at ∷ ls)
+      ≡ unless (literalsFit m l && mayDefine (code k) (l .first)) 12 at
+      (unless (not (defines k && elem (varOf (l .first)) before)) 13 at
+      (next (readDue (closed false) end m (more k before l) ks ls) (λ is. holds (itemOf k at l ∷ is))))
+  unfolding lineAt
+  line-whole = due-whole (closed false) (lineAt s at) end m before k ks ls
+
+pub data Step (s : List ℕ) (h : Header) (w₀ : List ℕ) (k at : ℕ) (w : List ℕ) (before : List ℕ) (g : Graph) : Type 0 where
+  stops : (a b : ℕ) → turnAt s at w h k ≡ Stop a b → readDue (closed false) (length s) (h .size) before (drop k (due h)) (linesOf s at) ≡ fault a b → Step s h w₀ k at w before g
+  goes : (l : Literals) → lineRead s at (dueCode h k) ≡ ALine l → Short (dueKind h k) l → literalsFit (h .size) l ≡ true
+      → turnAt s at w h k ≡ To (l .next) → turnWords s at w h k ≡ storedLine w h k l
+      → readDue (closed false) (length s) (h .size) before (drop k (due h)) (linesOf s at)
+      ≡ next (readDue (closed false) (length s) (h .size) (more (dueKind h k) before l) (drop (k + 1) (due h)) (linesOf s (l .next))) (λ is. holds (itemOf (dueKind h k) at l ∷ is))
+      → State h w₀ (k + 1) (storedLine w h k l) (more (dueKind h k) before l) (grown (dueKind h k) g l)
+      → Step s h w₀ k at w before g
+
+module _ (s : List ℕ) (h : Header) (w₀ : List ℕ) (fit : Fit h w₀) (k at : ℕ) (w : List ℕ) (before : List ℕ) (g : Graph) (st : State h w₀ k w before g) (b : k < dueCount h) where
+  judged : (l : Literals) (t u x : Bool) → lineRead s at (dueCode h k) ≡ ALine l → literalsFit (h .size) l ≡ t → mayDefine (dueCode h k) (l .first) ≡ u → isTaken w (h .size) (dueCode h k) (l .first) ≡ x
+      → judgedAt s at w (h .size) (dueCode h k) ≡ pickJudged (t && u) (pickJudged x (Bad 13) (Good l)) (Bad 12)
+  unfolding judgedAt
+  judged l t u x r f m c = rw (r, f, m, c)
+
+  unread : lineRead s at (dueCode h k) ≡ NoLine → judgedAt s at w (h .size) (dueCode h k) ≡ Bad 11
+  unfolding judgedAt
+  unread r = rw r
+
+  past-end : length s ≤ at → Step s h w₀ k at w before g
+  past-end e =
+      stops 11 (length s) (turn-none s at w h k e .0)
+      (ap (λ (ks : List Kind). readDue (closed false) (length s) (h .size) before ks (linesOf s at)) (due-at h k b)
+      ∙ ap (readDue (closed false) (length s) (h .size) before (dueKind h k ∷ drop (k + 1) (due h))) (lines-none s at e)
+      ∙ due-missing (closed false) (length s) (h .size) before (dueKind h k) (drop (k + 1) (due h)))
+
+  module _ (inText : at < length s) where
+    rest : List Line
+    rest = cond (ended (lineAt s at)) (linesOf s (pastLine s at)) []
+
+    first-line : readDue (closed false) (length s) (h .size) before (drop k (due h)) (linesOf s at) ≡ readDue (closed false) (length s) (h .size) before (dueKind h k ∷ drop (k + 1) (due h)) (lineAt s at ∷ rest)
+    unfolding rest
+    first-line =
+        ap (λ (ks : List Kind). readDue (closed false) (length s) (h .size) before ks (linesOf s at)) (due-at h k b)
+        ∙ ap (readDue (closed false) (length s) (h .size) before (dueKind h k ∷ drop (k + 1) (due h))) (lines-at s at inText)
+
+    behind : (l : Literals) → ended (lineAt s at) ≡ true → l .next ≡ pastLine s at → rest ≡ linesOf s (l .next)
+    unfolding rest
+    behind l e n = rw e (ap (linesOf s) (sym n))
+
+    with-line : (l : Literals) → lineRead s at (dueCode h k) ≡ ALine l → itemLiterals (closed false) (dueKind h k) (lineAt s at) ≡ some (itemList (dueKind h k) l) → Short (dueKind h k) l → rest ≡ linesOf s (l .next)
+        → (t u x : Bool) → literalsFit (h .size) l ≡ t → mayDefine (dueCode h k) (l .first) ≡ u → isTaken w (h .size) (dueCode h k) (l .first) ≡ x
+        → Step s h w₀ k at w before g
+    with-line l r i short on t u x f m c = tried t u x f m c (judged l t u x r f m c)
+      where
+        model : readDue (closed false) (length s) (h .size) before (drop k (due h)) (linesOf s at)
+            ≡ unless (literalsFit (h .size) l && mayDefine (dueCode h k) (l .first)) 12 at
+            (unless (not (defines (dueKind h k) && elem (varOf (l .first)) before)) 13 at
+            (next (readDue (closed false) (length s) (h .size) (more (dueKind h k) before l) (drop (k + 1) (due h)) (linesOf s (l .next))) (λ is. holds (itemOf (dueKind h k) at l ∷ is))))
+        model =
+            first-line
+            ∙ line-whole s at (length s) (h .size) before (dueKind h k) (drop (k + 1) (due h)) rest l i short
+            ∙ rw (due-code h k, on)
+
+        taken : literalsFit (h .size) l ≡ true → mayDefine (dueCode h k) (l .first) ≡ true → (defines (dueKind h k) && elem (varOf (l .first)) before) ≡ isTaken w (h .size) (dueCode h k) (l .first)
+        taken a d = taken-is (h .size) w before (dueKind h k) l (st .known) a (rw (due-code h k) d) ∙ rw (due-code h k)
+
+        tried : (t u x : Bool) → literalsFit (h .size) l ≡ t → mayDefine (dueCode h k) (l .first) ≡ u → isTaken w (h .size) (dueCode h k) (l .first) ≡ x
+            → judgedAt s at w (h .size) (dueCode h k) ≡ pickJudged (t && u) (pickJudged x (Bad 13) (Good l)) (Bad 12) → Step s h w₀ k at w before g
+        tried false u x f m c j = stops 12 at (turn-bad s at w h k 12 inText j .0) (model ∙ unless-stop _ 12 at _ (rw f))
+        tried true false x f m c j = stops 12 at (turn-bad s at w h k 12 inText j .0) (model ∙ unless-stop _ 12 at _ (rw (f, m)))
+        tried true true true f m c j = stops 13 at (turn-bad s at w h k 13 inText j .0) (model ∙ unless-pass _ 12 at _ (rw (f, m)) ∙ unless-stop _ 13 at _ (rw (taken f m ∙ c)))
+        tried true true false f m c j =
+            goes l r short f (turn-good s at w h k l inText j .0) (turn-good s at w h k l inText j .1)
+            (model ∙ unless-pass _ 12 at _ (rw (f, m)) ∙ unless-pass _ 13 at _ (rw (taken f m ∙ c)))
+            (state-more h w₀ fit k w before g st l b f c)
+
+    by-view : LineView s at (dueKind h k) → Step s h w₀ k at w before g
+    by-view (broken r i) =
+        stops 11 at (turn-bad s at w h k 11 inText (unread (rw (sym (due-code h k)) r)) .0)
+        (first-line ∙ line-none s at (length s) (h .size) before (dueKind h k) (drop (k + 1) (due h)) rest i)
+    by-view (whole l r i short e n) =
+        with-line l (rw (sym (due-code h k)) r) i short (behind l e n) (literalsFit (h .size) l) (mayDefine (dueCode h k) (l .first)) (isTaken w (h .size) (dueCode h k) (l .first)) refl refl refl
+
+  pub step : Step s h w₀ k at w before g
+  step = go (ltb at (length s)) refl
+    where
+      go : (t : Bool) → ltb at (length s) ≡ t → Step s h w₀ k at w before g
+      go true e = by-view (ltb-true at (length s) e) (view (dueKind h k) s at)
+      go false e = past-end (ltb-false at (length s) e)

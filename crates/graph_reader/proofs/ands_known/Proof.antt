@@ -1,0 +1,28 @@
+-- `graph_reader::ands_known` meets its contract. The invariant: what the variables from here on pass is what all pass; the measure is what is left.
+-- Assumes nothing.
+use borrow.Author.Needs.{needs}
+use borrow.Author.Tests.{not-true, not-false}
+use mathlib.Core.Path.{sym, _∙_}
+use Prim.Native.Nat.{_+_, _-_}
+use native.Mathlib.Omega.{arith}
+use Rattle.graph_reader.specs.Lines.{operandsKnown}
+use Rattle.graph_reader.proofs.Knowing.{Passing, passing-first, passing-on, passing-stop, passing-end}
+use Rattle.graph_reader.proofs.ands_known.Statement.{statement}
+use Rattle.graph_reader.proofs.ands_known.Tie as tie
+
+abbrev Inv-loop : tie.InvT-loop
+Inv-loop work m v₀ v = Passing (operandsKnown work m) (m + 1) v
+
+abbrev μ-loop : tie.MeasureT-loop
+μ-loop work m v₀ v = m + 1 - v
+
+returns : tie.Need-returns Inv-loop μ-loop
+returns c = sym (passing-stop _ _ _ (c .before .before .before .loop .inv) (omega arith) (sym (c .before .operands-known .ensures) ∙ not-true _ (c .if1 .taken)))
+
+loop-again : tie.Need-loop-again Inv-loop μ-loop
+loop-again c = passing-on _ _ _ (c .before .before .before .loop .inv) (omega arith) (sym (c .before .operands-known .ensures) ∙ not-false _ (c .if1 .left))
+
+pub ands-known-spec : {M : Type 1} → statement M
+ands-known-spec = tie.close (tie.spec
+    Inv-loop μ-loop (λ c. passing-first _ _) (λ c κs. search needs) returns (λ c. search needs) (λ c. search needs) loop-again
+    (λ c. sym (passing-end _ _ _ (c .before .loop .inv) (omega arith))))

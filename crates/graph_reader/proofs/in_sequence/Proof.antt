@@ -1,0 +1,13 @@
+-- `graph_reader::in_sequence` meets its contract. Assumes nothing.
+use Rattle.model.specs.GraphText.{inSequence}
+use borrow.Author.Needs.{needs}
+use Rattle.graph_reader.proofs.in_sequence.Statement.{statement}
+use Rattle.graph_reader.proofs.in_sequence.Tie as tie
+
+returns : tie.Need-returns
+unfolding inSequence
+returns c = rw (c .before .before .if1 .taken)
+
+pub in-sequence-spec : {M : Type 1} → statement M
+unfolding inSequence
+in-sequence-spec = tie.close (tie.spec (λ c. search needs) returns (λ c. rw (c .if1 .left)))

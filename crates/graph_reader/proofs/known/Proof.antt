@@ -1,0 +1,9 @@
+-- `graph_reader::known` meets its contract. Assumes nothing.
+use Rattle.graph_reader.specs.Lines.{isKnown}
+use borrow.Author.Needs.{needs}
+use Rattle.graph_reader.proofs.known.Statement.{statement}
+use Rattle.graph_reader.proofs.known.Tie as tie
+
+pub known-spec : {M : Type 1} → statement M
+unfolding isKnown
+known-spec = tie.close (tie.spec (λ c κs. search needs) (λ c. rw (c .kind .ensures)))

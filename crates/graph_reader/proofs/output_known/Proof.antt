@@ -1,0 +1,17 @@
+-- `graph_reader::output_known` meets its contract. Assumes nothing.
+use mathlib.Core.Path.{sym}
+use borrow.Author.Tests.{le-leb, lt-leb}
+use Rattle.graph_reader.specs.Lines.{outputKnown}
+use borrow.Author.Needs.{needs}
+use Rattle.graph_reader.proofs.output_known.Statement.{statement}
+use Rattle.graph_reader.proofs.output_known.Tie as tie
+
+returns-2 : tie.Need-returns-2
+unfolding outputKnown
+returns-2 c = rw (sym (c .before .before .before .output .ensures), le-leb _ _ (c .before .if1 .left)) (c .known .ensures)
+
+pub output-known-spec : {M : Type 1} → statement M
+unfolding outputKnown
+output-known-spec = tie.close (tie.spec
+    (λ c κs. search needs) (λ c. search needs) (λ c. search needs)
+    (λ c. rw (sym (c .before .before .output .ensures), lt-leb _ _ (c .if1 .taken))) (λ c κs. search needs) returns-2)

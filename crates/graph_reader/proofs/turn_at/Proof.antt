@@ -1,0 +1,37 @@
+-- `graph_reader::turn_at` meets its contract: each return knows what the line was found to be. Assumes nothing.
+use mathlib.Core.Path.{sym, ap, _∙_}
+use Rattle.graph_reader.specs.Lines.{judgedAt}
+use Rattle.graph_loading.proofs.Tests.{fit-known}
+use Rattle.graph_reader.proofs.Judging.{judged-good, turn-none, turn-good, turn-bad}
+use borrow.Author.Needs.{needs}
+use Rattle.graph_reader.proofs.turn_at.Statement.{statement}
+use Rattle.graph_reader.proofs.turn_at.Tie as tie
+
+returns : tie.Need-returns
+returns c =
+    let start = c .before .before .before in
+    let t = turn-none (start .args .s .now) (start .args .at) (start .args .work .now) (start .args .h) (start .args .k) (c .if1 .taken) in (sym (t .0), sym (t .1))
+
+store-line-requires : tie.Need-store-line-requires
+store-line-requires c κs = (search needs, search needs, fit-known _ _ (judged-good _ _ _ _ _ _ (sym (c .before .before .before .before .judge .ensures) ∙ c .before .before .l .given .1) .1))
+
+returns-2 : tie.Need-returns-2
+returns-2 c =
+    let at-store-line = c .before .before in let at-l = at-store-line .before .before .before in let at-judge = at-l .before .before in
+    let at-due-kind = at-judge .before in let at-if1 = at-due-kind .before .before in let start = at-if1 .before .before .before in
+    let e = ap (judgedAt (start .args .s .now) (start .args .at) (start .args .work .now) (start .args .h .size)) (sym (at-due-kind .due-kind .ensures)) ∙ sym (at-judge .judge .ensures) ∙ at-l .l .given .1 in
+    let t = turn-good (start .args .s .now) (start .args .at) (start .args .work .now) (start .args .h) (start .args .k) _ (at-if1 .if1 .left) e in
+    (sym (t .0), at-store-line .store-line .ensures ∙ sym (t .1))
+
+returns-3 : tie.Need-returns-3
+returns-3 c =
+    let at-judge = c .before .before .before in let at-due-kind = at-judge .before in let at-if1 = at-due-kind .before .before in
+    let start = at-if1 .before .before .before in
+    let e = ap (judgedAt (start .args .s .now) (start .args .at) (start .args .work .now) (start .args .h .size)) (sym (at-due-kind .due-kind .ensures)) ∙ sym (at-judge .judge .ensures) ∙ c .before .n .given .1 in
+    let t = turn-bad (start .args .s .now) (start .args .at) (start .args .work .now) (start .args .h) (start .args .k) _ (at-if1 .if1 .left) e in
+    (sym (t .0), sym (t .1))
+
+pub turn-at-spec : {M : Type 1} → statement M
+turn-at-spec = tie.close (tie.spec
+    returns (λ c κs. search needs) (λ c κs. search needs) (λ c. search needs) store-line-requires (λ c. search needs) (λ c. search needs)
+    returns-2 (λ c. search needs) returns-3)

@@ -1,0 +1,64 @@
+-- What the passes over the due lines answer and leave in the words: a turn for each line, one after the other. Assumes nothing.
+use Prim.Native.Nat.{ℕ, zero, suc, _+_}
+use mathlib.Core.Bool.{_&&_}
+use mathlib.Core.List.{List}
+use lib.Dec.{ltb}
+use lib.ListN.{length}
+use Rattle.model.specs.declared.Header.{Header}
+use Rattle.model.specs.declared.Verdict.{Verdict}
+use Rattle.model.specs.declared.Verdict.the-variants.{Accepted, Refused}
+use Rattle.graph_placing.specs.Placing.{pickWords}
+use Rattle.graph_loading.specs.declared.Literals.{Literals}
+use Rattle.graph_loading.specs.declared.Turn.{Turn}
+use Rattle.graph_loading.specs.declared.Turn.the-variants.{To, Refused as Stop}
+use Rattle.graph_loading.specs.Tests.{dueCode, dueCount, literalsFit, pickTurn, onTurn}
+use Rattle.graph_loading.specs.Stores.{storedLine, opened}
+use Rattle.graph_binary.specs.Passes.{binaryWords}
+use Rattle.graph_reader.specs.declared.Judged.{Judged}
+use Rattle.graph_reader.specs.declared.Judged.the-variants.{Good, Bad}
+use Rattle.graph_reader.specs.Lines.{lineRead, onLine, judgedAt, usesKnown}
+
+abbrev pub onJudged : {A : Type 0} → Judged → (Literals → A) → (ℕ → A) → A
+onJudged (Good l) f e = f l
+onJudged (Bad n) f e = e n
+
+-- ---- 11 to 13
+
+unfoldable pub turnAt : List ℕ → ℕ → List ℕ → Header → ℕ → Turn
+turnAt s at w h k =
+    pickTurn (ltb at (length s)) (onJudged (judgedAt s at w (h .size) (dueCode h k)) (λ l. To (l .next)) (λ n. Stop n at)) (Stop 11 (length s))
+
+unfoldable pub turnWords : List ℕ → ℕ → List ℕ → Header → ℕ → List ℕ
+turnWords s at w h k =
+    pickWords (ltb at (length s)) (onJudged (judgedAt s at w (h .size) (dueCode h k)) (λ l. storedLine w h k l) (λ n. w)) w
+
+-- n due lines from line k on, the first of them at a place
+unfoldable pub linesVerdict : List ℕ → Header → ℕ → ℕ → ℕ → List ℕ → Verdict
+linesVerdict s h zero k at w = Accepted
+linesVerdict s h (suc n) k at w = onTurn (turnAt s at w h k) (λ end. linesVerdict s h n (k + 1) end (turnWords s at w h k)) Refused
+
+unfoldable pub linesWords : List ℕ → Header → ℕ → ℕ → ℕ → List ℕ → List ℕ
+linesWords s h zero k at w = w
+linesWords s h (suc n) k at w = onTurn (turnAt s at w h k) (λ end. linesWords s h n (k + 1) end (turnWords s at w h k)) (λ _ _. turnWords s at w h k)
+
+-- ---- 14
+
+unfoldable pub checkAt : List ℕ → ℕ → List ℕ → Header → ℕ → Turn
+checkAt s at w h k =
+    onLine (lineRead s at (dueCode h k)) (λ l.
+    pickTurn (literalsFit (h .size) l && usesKnown w (h .size) (dueCode h k) l) (To (l .next)) (Stop 14 at)) (Stop 14 at)
+
+unfoldable pub checkVerdict : List ℕ → Header → ℕ → ℕ → ℕ → List ℕ → Verdict
+checkVerdict s h zero k at w = Accepted
+checkVerdict s h (suc n) k at w = onTurn (checkAt s at w h k) (λ end. checkVerdict s h n (k + 1) end w) Refused
+
+-- ---- the whole
+
+-- the words after the due lines of an ASCII text are read, up to the first refusal
+unfoldable pub asciiWords : List ℕ → List ℕ → Header → List ℕ
+unfolding opened linesWords
+asciiWords w s h = linesWords s h (dueCount h) 0 (h .next) (opened w (h .size))
+
+-- and after a text of either form
+unfoldable pub loadedWords : List ℕ → List ℕ → Header → List ℕ
+loadedWords w s h = pickWords (h .binary) (binaryWords w s h) (asciiWords w s h)

@@ -1,9 +1,0 @@
--- `library::refused` meets its contract. Assumes nothing.
-use borrow.Author.Needs.{needs}
-use Rattle.model.specs.Cells.{libraryAnswer}
-use Rattle.library.proofs.refused.Statement.{statement}
-use Rattle.library.proofs.refused.Tie as tie
-
-pub refused-spec : {M : Type 1} → statement M
-unfolding libraryAnswer
-refused-spec = tie.close (tie.spec (λ c κs. search needs) (λ c. rw (c .empty .ensures)))

@@ -1,0 +1,44 @@
+-- `mapper_two::map_cells` meets its contract: with pairs, or with the listed cells alone. Assumes nothing.
+use mathlib.Core.Path.{sym, subst}
+use mathlib.Core.Bool.{Bool, false}
+use mathlib.Core.List.{[]}
+use Rattle.model.specs.Channels.{channelOf}
+use Rattle.cells_pairs.proofs.Forming.{with-none}
+use Rattle.mapper.proofs.Libraries.{joinable-of, all-few, plain-ok, blank-listed}
+use Rattle.mapper_two.specs.Pairs.{TwoLeft}
+use Rattle.mapper_two.proofs.Leaving.{two-done}
+use borrow.Author.Needs.{needs}
+use Rattle.mapper_two.proofs.map_cells.Statement.{statement}
+use Rattle.mapper_two.proofs.map_cells.Tie as tie
+
+returns : tie.Need-returns
+returns c =
+    let p = c .before .before .before .before .before .before in
+    let t = p .before .before .before .before in
+    let a = t .before .before .before .before .before .before .before .before .args in
+    let x = channelOf (a .g1 .now) (a .a1 .now) (a .t1 .now) in
+    let y = channelOf (a .g2 .now) (a .a2 .now) (a .t2 .now) in
+    subst (λ (b : Bool). TwoLeft b (a .ranged) (a .lib) x y (a .work .now) (a .t1 .now) (a .t2 .now) (p .map-pairs .result) (p .map-pairs .last .1 .1 .1 .1 .1 .1 .0) (p .map-pairs .last .1 .1 .1 .1 .1 .1 .1 .0) (p .map-pairs .last .1 .1 .1 .1 .1 .1 .1 .1 .0)) (sym (t .if1 .taken)) (p .map-pairs .ensures)
+
+map-first-requires : tie.Need-map-first-requires
+map-first-requires c κs =
+    let n = c .before .before .before .before .before in
+    let s = n .before .before .before .before .before .before .before .before .before in
+    (plain-ok (s .args .lib) (s .pre), blank-listed (s .args .lib) (s .pre) (n .no-sheet .ensures))
+
+returns-2 : tie.Need-returns-2
+returns-2 c =
+    let h = c .before .before .before .before .before .before .before in
+    let e = h .before .before .before .before .before .before .before in
+    let s = e .before .before .before .before .before .before .before .before in
+    let a = s .args in
+    let x = channelOf (a .g1 .now) (a .a1 .now) (a .t1 .now) in
+    let y = channelOf (a .g2 .now) (a .a2 .now) (a .t2 .now) in
+    subst (λ (b : Bool). TwoLeft b (a .ranged) (a .lib) x y (a .work .now) (a .t1 .now) (a .t2 .now) (h .map-first .result) (h .map-first .last .1 .1 .1 .1 .1 .1 .1 .1 .0) (h .map-first .last .1 .1 .1 .1 .1 .1 .1 .1 .1 .0) (h .map-first .last .1 .1 .1 .1 .1 .1 .1 .1 .1 .1 .0)) (sym (e .if1 .left))
+    (two-done false (a .ranged) (a .lib) [] (with-none (a .lib) (joinable-of (a .lib) (s .pre))) x y (a .work .now) (a .t1 .now) (a .t2 .now) _
+    (all-few (a .lib) [] (plain-ok (a .lib) (s .pre))) _ _ _ (h .map-first .ensures))
+
+pub map-cells-spec : {M : Type 1} → statement M
+map-cells-spec = tie.close (tie.spec
+    (λ c κs. search needs) (λ c. search needs) (λ c. search needs) (λ c. search needs) returns (λ c κs. search needs) (λ c. search needs)
+    (λ c. search needs) (λ c. search needs) map-first-requires (λ c. search needs) (λ c. search needs) (λ c. search needs) returns-2)

@@ -1,0 +1,73 @@
+-- `mapper_two::map_pairs` meets its contract: the numbers written are those of all pairs, or 30 comes. Assumes nothing.
+use native.Mathlib.Omega.{arith}
+use Prim.Native.Nat.{ℕ}
+use mathlib.Core.Path.{_≡_, sym, ap, subst, _∙_}
+use mathlib.Core.Bool.{true}
+use mathlib.Core.List.{List}
+use lib.ListN.{length, take}
+use Rattle.model.specs.Cells.{cellsOf}
+use Rattle.model.specs.Channels.{channelOf}
+use Rattle.cells_pairs.specs.Codes.{pairCodes}
+use Rattle.cells_pairs.proofs.Cells.{by-length}
+use Rattle.cells_pairs.proofs.Forming.{with-all, codes-few}
+use Rattle.mapper.specs.Stages.{LibraryOk}
+use Rattle.mapper.proofs.Libraries.{joinable-of, all-few, joined-ok, blank-joined, formed-are}
+use Rattle.mapper_two.specs.Pairs.{firstFor, PairLeft}
+use Rattle.mapper_two.proofs.Leaving.{two-done, two-early}
+use borrow.Author.Needs.{needs}
+use Rattle.mapper_two.proofs.map_pairs.Statement.{statement}
+use Rattle.mapper_two.proofs.map_pairs.Tie as tie
+
+-- the numbers written first in the array
+codes-are : (f : tie.After-form) → let a = f .before .before .before .before .before .before .before .before .before .args in take (f .form .result) (f .form .last .0) ≡ pairCodes (cellsOf (a .lib))
+codes-are f = let a = f .before .before .before .before .before .before .before .before .before .args in ap (take (f .form .result)) (f .form .ensures .leaves) ∙ formed-are _ (pairCodes (cellsOf (a .lib))) (f .form .result) (f .form .ensures .ends)
+
+form-requires : tie.Need-form-requires
+form-requires c κs = let s = c .before .before .before .before .before .before .before .before in (joinable-of (s .args .lib) (s .pre), codes-few (s .args .lib) (joinable-of (s .args .lib) (s .pre)))
+
+add-if1 : tie.Need-add-if1
+add-if1 c =
+    let f = c .before .before in
+    let s = f .before .before .before .before .before .before .before .before .before in
+    omega (arith, f .form .ensures .ends, codes-few (s .args .lib) (joinable-of (s .args .lib) (s .pre)), s .pre .usable .few)
+
+returns : tie.Need-returns
+returns c =
+    let f = c .before .before .before .before in
+    let s = f .before .before .before .before .before .before .before .before .before in
+    let a = s .args in
+    let x = channelOf (a .g1 .now) (a .a1 .now) (a .t1 .now) in
+    let y = channelOf (a .g2 .now) (a .a2 .now) (a .t2 .now) in
+    let many = by-length (cellsOf (a .lib)) (pairCodes (cellsOf (a .lib))) in
+    two-early true (a .ranged) (a .lib) (pairCodes (cellsOf (a .lib))) (with-all (a .lib) (joinable-of (a .lib) (s .pre))) x y (a .work .now) (a .t1 .now) (a .t2 .now) _
+    (omega (arith, many, f .form .ensures .ends, s .pre .usable .whole, c .before .if1 .taken)) (c .both .ensures)
+
+slice-aggregate-map-first : tie.Need-slice-aggregate-map-first
+slice-aggregate-map-first c = let f = c .before .before .before .before .before in omega (arith, ap length (codes-are f), f .form .ensures .ends)
+
+map-first-requires : tie.Need-map-first-requires
+map-first-requires c κs =
+    let n = c .before .before .before .before .before in
+    let f = n .before .before .before .before in
+    let s = f .before .before .before .before .before .before .before .before .before in
+    let ok = subst (LibraryOk (s .args .lib)) (sym (codes-are f)) (joined-ok (s .args .lib) (s .pre) (omega (arith, f .form .ensures .ends, n .before .if1 .left))) in
+    (ok, blank-joined (s .args .lib) _ ok (n .no-paired-sheet .ensures))
+
+returns-2 : tie.Need-returns-2
+returns-2 c =
+    let h = c .before .before .before .before .before .before .before in
+    let e = h .before .before .before .before .before .before .before in
+    let f = e .before .before .before in
+    let s = f .before .before .before .before .before .before .before .before .before in
+    let a = s .args in
+    let x = channelOf (a .g1 .now) (a .a1 .now) (a .t1 .now) in
+    let y = channelOf (a .g2 .now) (a .a2 .now) (a .t2 .now) in
+    let ok = joined-ok (a .lib) (s .pre) (omega (arith, f .form .ensures .ends, e .if1 .left)) in
+    two-done true (a .ranged) (a .lib) (pairCodes (cellsOf (a .lib))) (with-all (a .lib) (joinable-of (a .lib) (s .pre))) x y (a .work .now) (a .t1 .now) (a .t2 .now) _
+    (all-few (a .lib) (pairCodes (cellsOf (a .lib))) ok) _ _ _
+    (subst (λ (ks : List ℕ). PairLeft (a .ranged) (a .lib) ks x y (firstFor (length (a .work .now)) x y) (a .work .now) (a .t1 .now) (a .t2 .now) (h .map-first .result) (h .map-first .last .1 .1 .1 .1 .1 .1 .1 .1 .0) (h .map-first .last .1 .1 .1 .1 .1 .1 .1 .1 .1 .0) (h .map-first .last .1 .1 .1 .1 .1 .1 .1 .1 .1 .1 .0)) (codes-are f) (h .map-first .ensures))
+
+pub map-pairs-spec : {M : Type 1} → statement M
+map-pairs-spec = tie.close (tie.spec
+    (λ c. search needs) form-requires add-if1 (λ c κs. search needs) returns (λ c κs. search needs) (λ c. search needs)
+    slice-aggregate-map-first (λ c. search needs) map-first-requires (λ c. search needs) (λ c. search needs) (λ c. search needs) returns-2)

@@ -1,0 +1,281 @@
+// Two channels in one call: two graphs mapped over one cell list and one work memory, "with a text memory each".
+use model::Answer;
+use model::Header;
+use model::HeaderAnswer;
+use model::Library;
+use model::Two;
+use model::Verdict;
+ghost use mathlib.Core.Path.{_≡_};
+ghost use mathlib.Core.Bool.{true};
+ghost use Prim.Native.Nat.{_≤_};
+ghost use lib.ListN.{length};
+ghost use Rattle.model.specs.Limits.{need};
+ghost use Rattle.model.specs.Reading.{holds};
+ghost use Rattle.model.specs.GraphText.{readHeader};
+ghost use Rattle.model.specs.Channels.{channelOf};
+ghost use Rattle.promises.specs.TwoDemands.{MappingTwo};
+ghost use Rattle.model.specs.declared.Answer.the-variants.{Refused};
+ghost use Rattle.cells_matching.specs.Sheet.{Blank};
+ghost use Rattle.mapper.specs.Stages.{LibraryRead, LibraryOk, allOf};
+ghost use Rattle.mapper_two.specs.Pairs.{PairLeft, TwoLeft, sumFor, secondFor, firstFor};
+
+// "both return that number and place"
+fn both(number: usize, place: usize) -> Two
+    ensures { λ r. ⌜ r ≡ record { first = Refused number place; second = Refused number place } ⌝ }
+{
+    Two {
+        first: Answer::Refused(number, place),
+        second: Answer::Refused(number, place),
+    }
+}
+
+// Each channel as if alone: a pass asks nothing of what the words hold, so the second may find there what the first left. The sheet is made once for both,
+// and the words are cleared once.
+fn map_both_on(
+    g1: &[u8],
+    a1: &[u8],
+    h1: Header,
+    g2: &[u8],
+    a2: &[u8],
+    h2: Header,
+    lib: Library,
+    ks: &[u16],
+    ranged: bool,
+    sheet: &mut [u32],
+    work: &mut [u16],
+    t1: &mut [u8],
+    t2: &mut [u8],
+) -> Two
+    requires { ⌜ LibraryOk lib (now ks) × (readHeader (now g1) ≡ holds h1) × (readHeader (now g2) ≡ holds h2) ×
+        (need (h1 .size) (h1 .outputs) ≤ length (now work)) × (need (h2 .size) (h2 .outputs) ≤ length (now work)) × Blank (length (allOf lib (now ks)))
+        (now sheet) ⌝ }
+    ensures { λ r. ⌜ PairLeft ranged lib (now (ks .entry)) (channelOf (now (g1 .entry)) (now (a1 .entry)) (now (t1 .entry)))
+        (channelOf (now (g2 .entry)) (now (a2 .entry)) (now (t2 .entry))) (holds (record { first = h1; second = h2 })) (now (work .entry))
+        (now (t1 .entry)) (now (t2 .entry)) r (now (work .exit)) (now (t1 .exit)) (now (t2 .exit)) ⌝ }
+{
+    cover_choice::match_library(lib, ks, sheet);
+    let first = mapper::load_graph(g1, a1, h1, lib, ks, ranged, sheet, work, t1);
+    let second = mapper::load_graph(g2, a2, h2, lib, ks, ranged, sheet, work, t2);
+    base_words::clear_all(work);
+    Two {
+        first: first,
+        second: second,
+    }
+}
+
+// 10: "compares the lent words with the sum of both needs".
+fn map_pair(
+    g1: &[u8],
+    a1: &[u8],
+    h1: Header,
+    g2: &[u8],
+    a2: &[u8],
+    h2: Header,
+    lib: Library,
+    ks: &[u16],
+    ranged: bool,
+    sheet: &mut [u32],
+    work: &mut [u16],
+    t1: &mut [u8],
+    t2: &mut [u8],
+) -> Two
+    requires { ⌜ LibraryOk lib (now ks) × (readHeader (now g1) ≡ holds h1) × (readHeader (now g2) ≡ holds h2) × Blank
+        (length (allOf lib (now ks))) (now sheet) ⌝ }
+    ensures { λ r. ⌜ PairLeft ranged lib (now (ks .entry)) (channelOf (now (g1 .entry)) (now (a1 .entry)) (now (t1 .entry)))
+        (channelOf (now (g2 .entry)) (now (a2 .entry)) (now (t2 .entry))) (sumFor (length (now (work .entry))) h1 h2) (now (work .entry))
+        (now (t1 .entry)) (now (t2 .entry)) r (now (work .exit)) (now (t1 .exit)) (now (t2 .exit)) ⌝ }
+{
+    let first = base_words::need_words(h1.size, h1.outputs);
+    let second = base_words::need_words(h2.size, h2.outputs);
+    if work.len() < first + second {
+        return both(10, 0);
+    }
+    map_both_on(g1, a1, h1, g2, a2, h2, lib, ks, ranged, sheet, work, t1, t2)
+}
+
+// The second channel's refusals tried before 10, once the first has none: 1, 7 to 9 and 19.
+fn map_second(
+    g1: &[u8],
+    a1: &[u8],
+    h1: Header,
+    g2: &[u8],
+    a2: &[u8],
+    lib: Library,
+    ks: &[u16],
+    ranged: bool,
+    sheet: &mut [u32],
+    work: &mut [u16],
+    t1: &mut [u8],
+    t2: &mut [u8],
+) -> Two
+    requires { ⌜ LibraryOk lib (now ks) × (readHeader (now g1) ≡ holds h1) × Blank (length (allOf lib (now ks))) (now sheet) ⌝ }
+    ensures { λ r. ⌜ PairLeft ranged lib (now (ks .entry)) (channelOf (now (g1 .entry)) (now (a1 .entry)) (now (t1 .entry)))
+        (channelOf (now (g2 .entry)) (now (a2 .entry)) (now (t2 .entry)))
+        (secondFor (length (now (work .entry))) (channelOf (now (g2 .entry)) (now (a2 .entry)) (now (t2 .entry))) h1) (now (work .entry))
+        (now (t1 .entry)) (now (t2 .entry)) r (now (work .exit)) (now (t1 .exit)) (now (t2 .exit)) ⌝ }
+{
+    if g2.len() > 65536 {
+        return both(1, 0);
+    }
+    if a2.len() > 65536 {
+        return both(1, 0);
+    }
+    match graph_reader::header(g2) {
+        HeaderAnswer::Read(h2) => {
+            map_pair(g1, a1, h1, g2, a2, h2, lib, ks, ranged, sheet, work, t1, t2)
+        }
+        HeaderAnswer::Refused(number, place) => both(number, place),
+    }
+}
+
+// The first channel's header, 7 to 9 and 19.
+fn map_first(
+    g1: &[u8],
+    a1: &[u8],
+    g2: &[u8],
+    a2: &[u8],
+    lib: Library,
+    ks: &[u16],
+    ranged: bool,
+    sheet: &mut [u32],
+    work: &mut [u16],
+    t1: &mut [u8],
+    t2: &mut [u8],
+) -> Two
+    requires { ⌜ LibraryOk lib (now ks) × Blank (length (allOf lib (now ks))) (now sheet) ⌝ }
+    ensures { λ r. ⌜ PairLeft ranged lib (now (ks .entry)) (channelOf (now (g1 .entry)) (now (a1 .entry)) (now (t1 .entry)))
+        (channelOf (now (g2 .entry)) (now (a2 .entry)) (now (t2 .entry)))
+        (firstFor (length (now (work .entry))) (channelOf (now (g1 .entry)) (now (a1 .entry)) (now (t1 .entry)))
+        (channelOf (now (g2 .entry)) (now (a2 .entry)) (now (t2 .entry)))) (now (work .entry)) (now (t1 .entry)) (now (t2 .entry)) r
+        (now (work .exit)) (now (t1 .exit)) (now (t2 .exit)) ⌝ }
+{
+    match graph_reader::header(g1) {
+        HeaderAnswer::Read(h1) => {
+            map_second(g1, a1, h1, g2, a2, lib, ks, ranged, sheet, work, t1, t2)
+        }
+        HeaderAnswer::Refused(number, place) => both(number, place),
+    }
+}
+
+// The listed cells and their pairs, or 30: "when cells and pairs exceed 256, after 6, place 0".
+fn map_pairs(
+    g1: &[u8],
+    a1: &[u8],
+    g2: &[u8],
+    a2: &[u8],
+    lib: Library,
+    ranged: bool,
+    work: &mut [u16],
+    t1: &mut [u8],
+    t2: &mut [u8],
+) -> Two
+    requires { ⌜ LibraryRead lib ⌝ }
+    ensures { λ r. ⌜ TwoLeft true ranged lib (channelOf (now (g1 .entry)) (now (a1 .entry)) (now (t1 .entry)))
+        (channelOf (now (g2 .entry)) (now (a2 .entry)) (now (t2 .entry))) (now (work .entry)) (now (t1 .entry)) (now (t2 .entry)) r
+        (now (work .exit)) (now (t1 .exit)) (now (t2 .exit)) ⌝ }
+{
+    let mut ks = [0u16; 4096];
+    let n = cells_pairs::form(&mut ks, lib);
+    if lib.n + n > 256 {
+        return both(30, 0);
+    }
+    let mut sheet = cells_matching::no_paired_sheet();
+    map_first(
+        g1,
+        a1,
+        g2,
+        a2,
+        lib,
+        &ks[..n],
+        ranged,
+        &mut sheet,
+        work,
+        t1,
+        t2,
+    )
+}
+
+// The cells that both channels are mapped with: "Where a call wants them", pairs too. A call without pairs does not pay for their part of the sheet.
+fn map_cells(
+    g1: &[u8],
+    a1: &[u8],
+    g2: &[u8],
+    a2: &[u8],
+    lib: Library,
+    ranged: bool,
+    paired: bool,
+    work: &mut [u16],
+    t1: &mut [u8],
+    t2: &mut [u8],
+) -> Two
+    requires { ⌜ LibraryRead lib ⌝ }
+    ensures { λ r. ⌜ TwoLeft paired ranged lib (channelOf (now (g1 .entry)) (now (a1 .entry)) (now (t1 .entry)))
+        (channelOf (now (g2 .entry)) (now (a2 .entry)) (now (t2 .entry))) (now (work .entry)) (now (t1 .entry)) (now (t2 .entry)) r
+        (now (work .exit)) (now (t1 .exit)) (now (t2 .exit)) ⌝ }
+{
+    if paired {
+        return map_pairs(g1, a1, g2, a2, lib, ranged, work, t1, t2);
+    }
+    let none = [0u16; 1];
+    let mut sheet = cells_matching::no_sheet();
+    map_first(
+        g1,
+        a1,
+        g2,
+        a2,
+        lib,
+        &none[..0],
+        ranged,
+        &mut sheet,
+        work,
+        t1,
+        t2,
+    )
+}
+
+// Two channels mapped: each netlist at the start of its text memory, or its refusal. `model.TwoDemands.TwoPromised` is the page of what is promised.
+pub fn map_two(
+    cells: &[u8],
+    graph1: &[u8],
+    arrivals1: &[u8],
+    graph2: &[u8],
+    arrivals2: &[u8],
+    paired: bool,
+    work: &mut [u16],
+    text1: &mut [u8],
+    text2: &mut [u8],
+) -> Two
+    ensures { λ r. ⌜ MappingTwo paired (now (cells .entry)) (now (graph1 .entry)) (now (arrivals1 .entry)) (now (graph2 .entry)) (now (arrivals2 .entry))
+        (now (work .entry)) (now (text1 .entry)) (now (text2 .entry)) r (now (work .exit)) (now (text1 .exit)) (now (text2 .exit)) ⌝ }
+{
+    if cells.len() > 65536 {
+        return both(1, 0);
+    }
+    if graph1.len() > 65536 {
+        return both(1, 0);
+    }
+    if arrivals1.len() > 65536 {
+        return both(1, 0);
+    }
+    let l = cells_reader::read(cells);
+    let v = l.verdict;
+    match v {
+        Verdict::Accepted => {
+            let lib = l.library;
+            let ranged = cells_reader::is_ranged(cells);
+            map_cells(
+                graph1,
+                arrivals1,
+                graph2,
+                arrivals2,
+                lib,
+                ranged,
+                paired,
+                work,
+                text1,
+                text2,
+            )
+        }
+        Verdict::Refused(number, place) => both(number, place),
+    }
+}

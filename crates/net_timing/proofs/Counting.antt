@@ -1,0 +1,52 @@
+-- The timing lines one by one, their lengths, and that they are `model`'s. Assumes nothing.
+use Prim.Native.Nat.{ℕ, suc, _+_, _-_, _≤_, _<_}
+use native.Mathlib.Omega.{arith}
+use mathlib.Core.Path.{_≡_, refl, sym, ap, ap₂, _∙_}
+use mathlib.Core.List.{List, [], _∷_, _++_, append-assoc, List·Memᴰ, List·Memᴰ·head, List·Memᴰ·tail}
+use lib.ListN.{length, length-append, getD}
+use Rattle.model.specs.Base.{from, each}
+use Rattle.model.specs.Text.{text}
+use Rattle.model.specs.Timing.{timingLines}
+use Rattle.base_words.specs.Layout.{outputAt, lowAt}
+use Rattle.base_words.specs.Phases.{phaseAt}
+use Rattle.net_timing.specs.Lines.{timesText, timesLength, lineText, lineLength, lineOf, linesFrom}
+use Rattle.net_writer.proofs.Counting.{each-next, each-none}
+
+pub times-length : (low high : ℕ) → length (timesText low high) ≡ timesLength low high
+unfolding timesText
+times-length low high = simp length-append (omega arith)
+
+pub line-length : (k low high : ℕ) → length (lineText k low high) ≡ lineLength k low high
+unfolding lineText text
+line-length k low high = simp length-append (omega (arith, times-length low high))
+
+-- ---- line by line
+
+module _ (w : List ℕ) (m n : ℕ) where
+  pub lines-next : (i : ℕ) → i < n → linesFrom w m i (n - i) ≡ lineOf w m i ++ linesFrom w m (i + 1) (n - (i + 1))
+  unfolding linesFrom
+  lines-next i h = each-next (lineOf w m) n i h
+
+  pub lines-none : (i : ℕ) → n ≤ i → linesFrom w m i (n - i) ≡ []
+  unfolding linesFrom
+  lines-none i h = each-none (lineOf w m) n i h
+
+-- ---- the lines of a graph's outputs
+
+-- where the words have the outputs and their two arrivals
+pub lines-are : (w : List ℕ) (m : ℕ) (low high : ℕ → ℕ) (i : ℕ) (ls : List ℕ) → ((j : ℕ) → j < length ls → outputAt w m (i + j) ≡ getD ls j 0)
+    → ((l : ℕ) → List·Memᴰ l ls → (lowAt w m l ≡ low l) × (phaseAt w m l .arrival ≡ high l)) → linesFrom w m i (length ls) ≡ timingLines low high i ls
+unfolding linesFrom each from timingLines lineText timesText
+lines-are w m low high i [] o h = refl
+lines-are w m low high i (l ∷ ls) o h =
+    let z : i + 0 ≡ i = omega arith in
+    let is : outputAt w m i ≡ l = ap (outputAt w m) (sym z) ∙ o 0 (omega arith) in
+    let k = h l (List·Memᴰ·head refl) in
+    ap₂ (λ (x : List ℕ) (y : List ℕ). x ++ y)
+    (ap (λ (x : ℕ). lineText i (lowAt w m x) (phaseAt w m x .arrival)) is ∙ ap₂ (λ (a b : ℕ). lineText i a b) (k .0) (k .1))
+    (lines-are w m low high (suc i) ls
+    (λ j b. let s : suc i + j ≡ i + suc j = omega arith in ap (outputAt w m) s ∙ o (suc j) (omega arith)) (λ x m′. h x (List·Memᴰ·tail m′)))
+    ∙ joined
+  where
+    joined : lineText i (low l) (high l) ++ timingLines low high (suc i) ls ≡ timingLines low high i (l ∷ ls)
+    joined = simp append-assoc

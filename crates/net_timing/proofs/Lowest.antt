@@ -1,0 +1,217 @@
+-- Laws of the pass that times the chosen phases with the lowest delays:
+--     after-is            a sum that has room
+--     latest-held, latest-same    the latest of low arrivals that are known, by the delays of the nets alone
+--     pins-none, pins-turn        the pins of a match, from the last to the first
+--     put-kept, turn-kept         only words of the low arrivals are written
+--     lows-phase .. lows-retimable        so what is read in the pass stays
+--     turn-positive, turn-negative, turn-other    what a turn stores is there, and every other low arrival stays
+-- Assumes nothing.
+use Prim.Native.Nat.{ℕ, zero, suc, _+_, _-_, _*_, _/_, _≤_, _<_, max}
+use native.Mathlib.Omega.{arith}
+use mathlib.Core.Path.{_≡_, refl, sym, ap, ap₂, subst, _∙_}
+use mathlib.Core.Bool.{Bool, cond}
+use mathlib.Core.List.{List, [], _∷_, map, List·Memᴰ, List·Memᴰ·head, List·Memᴰ·tail}
+use lib.Dec.{leb, le→leb}
+use lib.ListN.{length, getD, drop}
+use lib.Seq.{drop-cons, drop-length, getD-drop}
+use Rattle.model.specs.Base.{bit}
+use Rattle.model.specs.Limits.{cutLimit}
+use Rattle.model.specs.Graph.{varOf, negated}
+use Rattle.model.specs.Matching.{fedNets}
+use Rattle.model.specs.Choice.{phaseOf, latest}
+use Rattle.model.specs.declared.Cell.{Cell}
+use Rattle.model.specs.declared.Phase.{Phase}
+use Rattle.theory_graph.proofs.Lists.{is-true}
+use Rattle.theory_graph.proofs.Literals.{lit-var}
+use Rattle.base_truth.specs.Variant.{placesOf, pinNet}
+use Rattle.base_truth.proofs.Variants.{places-four}
+use Rattle.base_truth.proofs.Nets.{nets-length, nets-get}
+use Rattle.base_words.specs.Layout.{Room, listsTo, outputAddr, lowAt, slotAt, countAt, positiveAddr, negativeAddr}
+use Rattle.base_words.specs.Record.{leavesOf, leavesAt}
+use Rattle.base_words.specs.Phases.{sourceOf, phaseIn, phaseAt}
+use Rattle.base_words.proofs.Lows.{low-length, low-before, low-behind, low-put, low-apart}
+use Rattle.base_words.proofs.Stored.{cut-same}
+use Rattle.cover_choice.specs.Asked.{SlotsIn, CutsIn}
+use Rattle.cover_choice.proofs.Keeping.{Kept, kept-on}
+use Rattle.net_timing.specs.Retiming.{after, latestLow, turnedLow, ownAt, putLow, retimedTurn, InverterIn, Retimable}
+
+-- ---- sums
+
+pub after-is : (t d : ℕ) → t + d ≤ 4294967295 → after t d ≡ t + d
+after-is t d h = ap (λ (b : Bool). cond b (t + d) t) (is-true (leb (t + d) 4294967295) (le→leb (t + d) 4294967295 h))
+
+pub latest-held : (w : List ℕ) (m : ℕ) (f : ℕ → ℕ) (nets ds : List ℕ) → ((x : ℕ) → List·Memᴰ x nets → (lowAt w m x ≡ f x) × (f x ≤ 1073741823)) → ((j : ℕ) → getD ds j 0 < 131072)
+    → latestLow w m nets ds ≡ latest (map f nets) ds
+unfolding latestLow latest
+latest-held w m f [] ds h s = refl
+latest-held w m f (x ∷ nets) [] h s =
+    let k = h x (List·Memᴰ·head refl) in
+    ap₂ max (ap (λ (t : ℕ). after t 0) (k .0) ∙ after-is (f x) 0 (omega (arith, k .1)) ∙ (let z : f x + 0 ≡ f x = omega arith in z)) (latest-held w m f nets [] (λ y i. h y (List·Memᴰ·tail i)) s)
+latest-held w m f (x ∷ nets) (d ∷ ds) h s =
+    let k = h x (List·Memᴰ·head refl) in
+    ap₂ max (ap (λ (t : ℕ). after t d) (k .0) ∙ after-is (f x) d (omega (arith, k .1, s 0))) (latest-held w m f nets ds (λ y i. h y (List·Memᴰ·tail i)) (λ j. s (suc j)))
+
+-- delays past the nets do not count
+pub latest-same : (w : List ℕ) (m : ℕ) (nets ds es : List ℕ) → ((j : ℕ) → j < length nets → getD ds j 0 ≡ getD es j 0) → latestLow w m nets ds ≡ latestLow w m nets es
+unfolding latestLow
+latest-same w m [] ds es h = refl
+latest-same w m (x ∷ nets) ds es h =
+    ap₂ (λ (d t : ℕ). max (after (lowAt w m x) d) t) (h 0 (omega arith))
+    (latest-same w m nets (drop 1 ds) (drop 1 es)
+    (λ j b. let z : 1 + j ≡ suc j = omega arith in getD-drop 1 ds j 0 ∙ ap (λ (i : ℕ). getD ds i 0) z ∙ h (suc j) (omega arith) ∙ ap (λ (i : ℕ). getD es i 0) (sym z) ∙ sym (getD-drop 1 es j 0)))
+
+-- ---- the pins of a match
+
+-- the variable of a net
+pub net-var : (leaves : List ℕ) (order mask j m : ℕ) → getD leaves (getD (placesOf order) j 0) 0 ≤ m → pinNet (placesOf order) mask leaves j / 2 ≤ m
+unfolding varOf
+net-var leaves order mask j m h = omega (arith, lit-var (bit mask j) (getD leaves (getD (placesOf order) j 0) 0))
+
+module _ (w : List ℕ) (m : ℕ) (leaves : List ℕ) (order mask pins : ℕ) (lows : List ℕ) (known : order < 24) (few : pins ≤ 4) where
+  abbrev nets : List ℕ
+  nets = fedNets pins (placesOf order) mask leaves
+
+  four : pins ≤ length (placesOf order)
+  four = omega (arith, places-four order known)
+
+  -- none is left
+  pub pins-none : latestLow w m (drop pins nets) (drop pins lows) ≡ 0
+  unfolding latestLow
+  pins-none = ap (λ (ls : List ℕ). latestLow w m ls (drop pins lows)) (ap (λ (i : ℕ). drop i nets) (sym (nets-length pins (placesOf order) mask leaves four)) ∙ drop-length nets)
+
+  -- one more
+  one-more : (j : ℕ) → j < pins
+      → max (after (lowAt w m (pinNet (placesOf order) mask leaves j)) (getD lows j 0)) (latestLow w m (drop (suc j) nets) (drop (suc j) lows)) ≡ latestLow w m (drop j nets) (drop j lows)
+  unfolding latestLow
+  one-more j h =
+      let l : length nets ≡ pins = nets-length pins (placesOf order) mask leaves four in
+      ap (λ (x : ℕ). max (after (lowAt w m x) (getD lows j 0)) (latestLow w m (drop (suc j) nets) (drop (suc j) lows))) (sym (nets-get pins (placesOf order) mask leaves j four h))
+      ∙ ap₂ (λ (d : ℕ) (ds : List ℕ). max (after (lowAt w m (getD nets j 0)) d) (latestLow w m (drop (suc j) nets) ds)) (sym (first-of lows j)) (sym (drop-one lows j))
+      ∙ ap (λ (ls : List ℕ). latestLow w m ls (drop j lows)) (sym (drop-cons nets j 0 (omega arith)))
+    where
+      first-of : (ds : List ℕ) (k : ℕ) → getD (drop k ds) 0 0 ≡ getD ds k 0
+      first-of ds zero = refl
+      first-of [] (suc k) = refl
+      first-of (d ∷ ds) (suc k) = first-of ds k
+
+      drop-one : (ds : List ℕ) (k : ℕ) → drop 1 (drop k ds) ≡ drop (suc k) ds
+      drop-one ds zero = refl
+      drop-one [] (suc k) = refl
+      drop-one (d ∷ ds) (suc k) = drop-one ds k
+
+  pub pins-turn : (k : ℕ) → 0 < k → k ≤ pins
+      → max (after (lowAt w m (pinNet (placesOf order) mask leaves (k - 1))) (getD lows (k - 1) 0)) (latestLow w m (drop k nets) (drop k lows))
+      ≡ latestLow w m (drop (k - 1) nets) (drop (k - 1) lows)
+  pins-turn k a b =
+      let e : suc (k - 1) ≡ k = omega arith in
+      ap (λ (i : ℕ). max (after (lowAt w m (pinNet (placesOf order) mask leaves (k - 1))) (getD lows (k - 1) 0)) (latestLow w m (drop i nets) (drop i lows))) (sym e)
+      ∙ one-more (k - 1) (omega arith)
+
+-- ---- words
+
+-- only words of the functions are written
+abbrev pub LowsKept : ℕ → List ℕ → List ℕ → Type 0
+LowsKept m v w = Kept (listsTo m) (outputAddr m 0) v w
+
+pub put-kept : (w : List ℕ) (m l t : ℕ) → Room w m → l / 2 ≤ m → LowsKept m w (putLow w m l t)
+put-kept w m l t r h = record { size = low-length w m l t r h; before = low-before w m l t r h; behind = low-behind w m l t r h }
+
+pub kept-room : (m : ℕ) (v w : List ℕ) → LowsKept m v w → Room v m → Room w m
+kept-room m v w k r = record { small = r .small; room = omega (arith, r .room, k .size) }
+
+-- ---- what stays in the pass
+
+module _ (m : ℕ) (v w : List ℕ) (k : LowsKept m v w) where
+  pub lows-phase : (l : ℕ) → l / 2 ≤ m → phaseAt w m l ≡ phaseAt v m l
+  unfolding phaseOf phaseIn varOf
+  lows-phase l h =
+      let p = at (positiveAddr m (l / 2)) (omega arith) in
+      let n = at (negativeAddr m (l / 2)) (omega arith) in
+      λ i. cond (negated l) (n i) (p i)
+    where
+      at : (a : ℕ) → a + 4 ≤ listsTo m → phaseIn w a ≡ phaseIn v a
+      at a b =
+          let e₀ : getD w a 0 ≡ getD v a 0 = k .before a (omega arith) in
+          let e₁ : getD w (a + 1) 0 ≡ getD v (a + 1) 0 = k .before (a + 1) (omega arith) in
+          let e₂ : getD w (a + 2) 0 ≡ getD v (a + 2) 0 = k .before (a + 2) (omega arith) in
+          let e₃ : getD w (a + 3) 0 ≡ getD v (a + 3) 0 = k .before (a + 3) (omega arith) in
+          λ i. record { source = sourceOf (e₀ i) (e₁ i); arrival = e₂ i + e₃ i * 65536 }
+
+  pub lows-leaves : (u : ℕ) → u ≤ m → (n : ℕ) → n < cutLimit → leavesAt w m u n ≡ leavesAt v m u n
+  lows-leaves u h n l = ap leavesOf (cut-same w v m (λ i a b. k .before i b) u h n l)
+
+  count-kept : (u : ℕ) → u ≤ m → countAt w m u ≡ countAt v m u
+  count-kept u h = k .before _ (omega arith)
+
+  pub lows-slots : (n : ℕ) → SlotsIn v m n → SlotsIn w m n
+  lows-slots n r = record {
+    room = kept-room m v w k (r .room);
+    few = r .few;
+    within = λ i h. let e : slotAt w m i ≡ slotAt v m i = k .before _ (omega (arith, r .few)) in subst (λ (x : ℕ). x ≤ m) (sym e) (r .within i h);
+  }
+
+  lows-cuts : CutsIn v m → CutsIn w m
+  lows-cuts r = record {
+    room = kept-room m v w k (r .room);
+    few = λ u h. omega (arith, count-kept u h, r .few u h);
+    within =
+        λ u n j h l i.
+        let c : n < countAt v m u = omega (arith, count-kept u h) in
+        let same : leavesAt w m u n ≡ leavesAt v m u n = lows-leaves u h n (omega (arith, r .few u h)) in
+        subst (λ (x : List ℕ). getD x j 0 ≤ m) (sym same) (r .within u n j h c (subst (λ (x : List ℕ). j < length x) same i));
+  }
+
+  pub lows-retimable : (cells : List Cell) → Retimable cells v m → Retimable cells w m
+  lows-retimable cells r = record {
+    matches = record {
+      usable = r .matches .usable;
+      cuts = lows-cuts (r .matches .cuts);
+      matches =
+          λ l h x e.
+          let o = r .matches .matches l h x (ap (λ (p : Phase). p .source) (sym (lows-phase l h)) ∙ e) in
+          record {
+            cut = omega (arith, o .cut, count-kept (l / 2) h);
+            cell = o .cell;
+            order = o .order;
+            places = rw (lows-leaves (l / 2) h (x .cut) (omega (arith, o .cut, r .matches .cuts .few (l / 2) h))) (o .places);
+          };
+    };
+    inverters = λ l h. subst (λ (p : Phase). InverterIn cells (p .source)) (sym (lows-phase l h)) (r .inverters l h);
+  }
+
+-- ---- a turn
+
+module _ (cells : List Cell) (w : List ℕ) (m v : ℕ) (room : Room w m) (inside : v ≤ m) where
+  -- what is stored of a phase
+  abbrev pub stored : ℕ → ℕ → ℕ
+  stored l o = turnedLow cells (ownAt cells w m l) (ownAt cells w m o) (phaseAt w m l .source)
+
+  first : List ℕ
+  first = putLow w m (2 * v) (stored (2 * v) (2 * v + 1))
+
+  first-kept : LowsKept m w first
+  unfolding first
+  first-kept = put-kept w m (2 * v) (stored (2 * v) (2 * v + 1)) room (omega arith)
+
+  first-room : Room first m
+  first-room = kept-room m w first first-kept room
+
+  pub turn-kept : LowsKept m w (retimedTurn cells w m v)
+  unfolding retimedTurn first
+  turn-kept = kept-on (listsTo m) (outputAddr m 0) w first (retimedTurn cells w m v) first-kept (put-kept first m (2 * v + 1) (stored (2 * v + 1) (2 * v)) first-room (omega arith))
+
+  pub turn-positive : lowAt (retimedTurn cells w m v) m (2 * v) ≡ stored (2 * v) (2 * v + 1)
+  unfolding retimedTurn first
+  turn-positive =
+      low-apart first m (2 * v + 1) (stored (2 * v + 1) (2 * v)) first-room (omega arith) (2 * v) (λ e. omega arith)
+      ∙ low-put w m (2 * v) (stored (2 * v) (2 * v + 1)) room (omega arith)
+
+  pub turn-negative : lowAt (retimedTurn cells w m v) m (2 * v + 1) ≡ stored (2 * v + 1) (2 * v)
+  unfolding retimedTurn first
+  turn-negative = low-put first m (2 * v + 1) (stored (2 * v + 1) (2 * v)) first-room (omega arith)
+
+  pub turn-other : (l : ℕ) → (l / 2 ≡ v → ⊥) → lowAt (retimedTurn cells w m v) m l ≡ lowAt w m l
+  unfolding retimedTurn first
+  turn-other l n =
+      low-apart first m (2 * v + 1) (stored (2 * v + 1) (2 * v)) first-room (omega arith) l (λ e. n (omega arith))
+      ∙ low-apart w m (2 * v) (stored (2 * v) (2 * v + 1)) room (omega arith) l (λ e. n (omega arith))

@@ -1,0 +1,68 @@
+-- `net_timing::match_low` meets its contract: the leaves, the pins and the delays that are read are those of the match.
+-- Assumes nothing.
+use mathlib.Core.Path.{_≡_, sym, ap, subst, _∙_}
+use mathlib.Core.List.{List}
+use Prim.Native.Nat.{ℕ, _*_, _≤_}
+use native.Mathlib.Omega.{arith}
+use lib.ListN.{length, drop}
+use lib.Seq.{getD-drop}
+use Rattle.model.specs.Cells.{cellAt}
+use Rattle.model.specs.Matching.{fedNets}
+use Rattle.model.specs.declared.Cut.{Cut}
+use Rattle.base_truth.specs.Variant.{placesOf}
+use Rattle.base_truth.proofs.Variants.{places-four}
+use Rattle.base_truth.proofs.Nets.{nets-length}
+use Rattle.base_words.specs.Record.{cutOf}
+use Rattle.cover_choice.specs.Asked.{PinsIn}
+use Rattle.cover_choice.proofs.Marks.{match-pins, match-nets}
+use Rattle.net_timing.specs.Retiming.{latestLow, matchLow}
+use Rattle.net_timing.proofs.Lowest.{latest-same}
+use borrow.Author.Needs.{needs}
+use Rattle.net_timing.proofs.match_low.Statement.{statement}
+use Rattle.net_timing.proofs.match_low.Tie as tie
+
+load-cut-requires : tie.Need-load-cut-requires
+load-cut-requires c κs =
+    let s = c .before in
+    (s .pre .1 .room, s .pre .2, omega (arith, s .pre .0 .2 .cut, s .pre .1 .few (s .args .v) (s .pre .2)))
+
+pins-low-requires : tie.Need-pins-low-requires
+pins-low-requires c κs =
+    let k = c .before .before .before in
+    let s = k .before .before in
+    let a = s .args in
+    let cells = s .pre .0 .0 in
+    let e : c .wide .result ≡ cellAt cells (a .x .cell) .pins = c .wide .ensures ∙ s .pre .0 .3 .listed (a .x .cell) (s .pre .0 .2 .cell) in (
+      s .pre .1 .room,
+      subst (λ (n : ℕ). PinsIn (k .load-cut .result .leaves) (a .m) (a .x .order) n) (sym e)
+          (subst (λ (y : Cut). PinsIn (y .leaves) (a .m) (a .x .order) (cellAt cells (a .x .cell) .pins)) (sym (k .load-cut .ensures))
+          (match-pins cells (a .work .now) (a .m) (a .v) (a .x) (s .pre .0 .1) (s .pre .1) (s .pre .2) (s .pre .0 .2))),
+      omega (arith, s .pre .0 .2 .cell, s .pre .0 .1 .few),
+    )
+
+returns : tie.Need-returns
+unfolding matchLow
+returns c cells ok i pins lows =
+    let t = c .before in
+    let k = t .before .before .before in
+    let s = k .before .before in
+    let a = s .args in
+    let n : ℕ = cellAt cells (a .x .cell) .pins in
+    let places : List ℕ = placesOf (a .x .order) in
+    let leaves : List ℕ = cutOf (a .work .now) (a .m) (a .v) (a .x .cut) .leaves in
+    let e : t .wide .result ≡ n = t .wide .ensures ∙ pins .listed (a .x .cell) (i .cell) in
+    let table : List ℕ = drop (4 * a .x .cell) (a .lows .now) in
+    let four : n ≤ 4 = ok .pins (a .x .cell) in
+    let long : n ≤ length places = omega (arith, places-four (a .x .order) (i .order)) in
+    c .pins-low .ensures
+    ∙ ap (λ (j : ℕ). latestLow (a .work .now) (a .m) (fedNets j places (a .x .mask) (k .load-cut .result .leaves)) table) e
+    ∙ ap (λ (y : Cut). latestLow (a .work .now) (a .m) (fedNets n places (a .x .mask) (y .leaves)) table) (k .load-cut .ensures)
+    ∙ latest-same (a .work .now) (a .m) (fedNets n places (a .x .mask) leaves) table (cellAt cells (a .x .cell) .lows)
+    (λ j b. getD-drop (4 * a .x .cell) (a .lows .now) j 0 ∙ lows .listed (a .x .cell) j (i .cell) (omega (arith, b, nets-length n places (a .x .mask) leaves long)))
+    ∙ ap (λ (ls : List ℕ). latestLow (a .work .now) (a .m) ls (cellAt cells (a .x .cell) .lows)) (sym (match-nets cells (a .work .now) (a .m) (a .v) (a .x) ok (s .pre .1) (s .pre .2) i))
+
+pub match-low-spec : {M : Type 1} → statement M
+match-low-spec =
+    tie.close
+    (tie.spec
+    load-cut-requires (λ c. search needs) (λ c. search needs) (λ c κs. search needs) (λ c. search needs) pins-low-requires returns)

@@ -1,0 +1,71 @@
+-- `net_timing::pins_low` meets its contract. The invariant: the latest of the pins from here on; the measure is what is left of them.
+-- Assumes nothing.
+use borrow.Author.Needs.{needs}
+use mathlib.Core.Path.{_≡_, sym, ap, ap₂, subst, _∙_}
+use mathlib.Core.List.{List}
+use Prim.Native.Nat.{ℕ, _-_, _/_, _≤_, max}
+use native.Mathlib.Omega.{arith}
+use lib.ListN.{drop, getD}
+use lib.Seq.{getD-drop}
+use Rattle.model.specs.Matching.{fedNets}
+use Rattle.base_truth.specs.Variant.{placesOf, pinNet}
+use Rattle.base_words.specs.Layout.{lowAt}
+use Rattle.net_timing.specs.Retiming.{after, latestLow}
+use Rattle.net_timing.proofs.Lowest.{net-var, pins-none, pins-turn}
+use Rattle.net_timing.proofs.pins_low.Statement.{statement}
+use Rattle.net_timing.proofs.pins_low.Tie as tie
+
+abbrev Inv-loop : tie.InvT-loop
+Inv-loop work m leaves order mask pins lows at t₀ j₀ t j = (j ≤ pins) × (t ≡ latestLow work m (drop j (fedNets pins (placesOf order) mask leaves)) (drop j (drop at lows)))
+
+abbrev μ-loop : tie.MeasureT-loop
+μ-loop work m leaves order mask pins lows at t₀ j₀ t j = j
+
+loop-holds : tie.Need-loop-holds Inv-loop μ-loop
+loop-holds c =
+    let s = c .before in
+    let a = s .args in
+    (omega arith, sym (pins-none (a .work .now) (a .m) (a .leaves) (a .order) (a .mask) (a .pins) (drop (a .at) (a .lows .now)) (s .pre .1 .known) (s .pre .1 .four)))
+
+low-requires : tie.Need-low-requires Inv-loop μ-loop
+low-requires c κs =
+    let l = c .before .before in
+    let s = l .before .before in
+    let a = s .args in (
+      s .pre .0,
+      subst (λ (x : ℕ). x / 2 ≤ a .m) (sym (c .pin-net .ensures .0))
+          (net-var (a .leaves) (a .order) (a .mask) (l .loop .j - 1) (a .m) (s .pre .1 .within (l .loop .j - 1) (omega (arith, l .loop .inv .0, c .before .loop-test .taken)))),
+    )
+
+loop-again : tie.Need-loop-again Inv-loop μ-loop
+loop-again c =
+    let read = c .before .before .before in
+    let n = read .before in
+    let l = n .before .before in
+    let s = l .before .before in
+    let a = s .args in
+    let k : ℕ = l .loop .j in
+    let ds : List ℕ = drop (a .at) (a .lows .now) in (
+      omega (arith, l .loop .inv .0),
+      c .larger .ensures
+          ∙ ap (λ (x : ℕ). max x (l .loop .t))
+          (c .before .later .ensures
+          ∙ ap₂ after (read .low .ensures ∙ ap (lowAt (a .work .now) (a .m)) (n .pin-net .ensures .0)) (sym (getD-drop (a .at) (a .lows .now) (k - 1) 0)))
+          ∙ ap (max (after (lowAt (a .work .now) (a .m) (pinNet (placesOf (a .order)) (a .mask) (a .leaves) (k - 1))) (getD ds (k - 1) 0))) (l .loop .inv .1)
+          ∙ pins-turn (a .work .now) (a .m) (a .leaves) (a .order) (a .mask) (a .pins) ds (s .pre .1 .known) (s .pre .1 .four) k (n .before .loop-test .taken) (l .loop .inv .0),
+    )
+
+returns : tie.Need-returns Inv-loop μ-loop
+returns c =
+    let l = c .before in
+    let a = l .before .before .args in
+    let e : l .loop .j ≡ 0 = omega (arith, c .loop-test .left) in
+    l .loop .inv .1 ∙ ap (λ (i : ℕ). latestLow (a .work .now) (a .m) (drop i (fedNets (a .pins) (placesOf (a .order)) (a .mask) (a .leaves))) (drop i (drop (a .at) (a .lows .now)))) e
+
+pub pins-low-spec : {M : Type 1} → statement M
+pins-low-spec =
+    tie.close
+    (tie.spec
+    Inv-loop μ-loop loop-holds (λ c. omega arith) (λ c κs. search needs) low-requires (λ c. omega arith) (λ c. omega arith) (λ c. omega arith)
+    (λ c κs. search needs)
+    (λ c κs. search needs) (λ c. omega arith) loop-again returns)

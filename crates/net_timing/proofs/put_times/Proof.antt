@@ -1,0 +1,30 @@
+-- `net_timing::put_times` meets its contract: a space and a number, twice, and the end of the line.
+-- Assumes nothing.
+use Prim.Native.Nat.{_≤_}
+use native.Mathlib.Omega.{arith}
+use borrow.Author.Needs.{needs}
+use lib.ListN.{length}
+use Rattle.base_text.proofs.Progress.{as-wrote}
+use Rattle.net_writer.proofs.Behind.{then}
+use Rattle.net_timing.specs.Lines.{timesText}
+use Rattle.net_timing.proofs.put_times.Statement.{statement}
+use Rattle.net_timing.proofs.put_times.Tie as tie
+
+returns : tie.Need-returns
+unfolding timesText
+returns c =
+    let p = c .before .before in
+    let high = p .before .before .before .before in
+    let space = high .before .before .before .before in
+    let low = space .before .before .before .before in
+    let first = low .before .before .before .before in
+    let h : p .put-byte3 .result ≤ length (p .put-byte3 .last .0) = omega arith in
+    then h (first .put-byte .ensures) (then h (as-wrote (low .put-number .ensures))
+    (then h (space .put-byte2 .ensures) (then h (as-wrote (high .put-number2 .ensures)) (p .put-byte3 .ensures))))
+
+pub put-times-spec : {M : Type 1} → statement M
+put-times-spec =
+    tie.close
+    (tie.spec
+    (λ c κs. omega arith) (λ c κs. omega arith) (λ c κs. omega arith) (λ c κs. omega arith) (λ c κs. omega arith)
+    (λ c. search needs) returns)

@@ -1,0 +1,46 @@
+-- `net_timing::turned` meets its contract: an inverter to map with, or what the phase has of its own.
+-- Assumes nothing.
+use mathlib.Core.Path.{_≡_, ap, subst, _∙_}
+use Prim.Native.Nat.{ℕ, _+_, _*_}
+use native.Mathlib.Omega.{arith}
+use lib.ListN.{getD}
+use Rattle.net_timing.specs.Retiming.{after, turnedLow, InverterIn}
+use borrow.Author.Needs.{needs}
+use Rattle.net_timing.proofs.turned.Statement.{statement}
+use Rattle.net_timing.proofs.turned.Tie as tie
+
+inverter-low-requires : tie.Need-inverter-low-requires
+inverter-low-requires c κs =
+    let s = c .before .before .before in
+    subst (InverterIn (s .pre .0)) (c .before .s .given .1) (s .pre .1) .1
+
+returns : tie.Need-returns
+unfolding turnedLow
+returns c cells i lows =
+    let k = c .before .before .before in
+    let s = k .before .before in
+    let n : ℕ = k .s .given .0 .0 in
+    let h = subst (InverterIn cells) (k .s .given .1) i .0 in
+    let z : 4 * n ≡ 4 * n + 0 = omega arith in
+    rw (k .s .given .1)
+    (c .later .ensures
+    ∙ ap (after (s .args .other)) (c .before .inverter-low .ensures ∙ ap (λ (y : ℕ). getD (s .args .lows .now) y 0) z ∙ lows .listed n 0 h (omega arith)))
+
+returns-2 : tie.Need-returns-2
+unfolding turnedLow
+returns-2 c cells i lows = rw (c .enum-told .given .1)
+
+returns-3 : tie.Need-returns-3
+unfolding turnedLow
+returns-3 c cells i lows = rw (c .enum-told2 .given .1)
+
+returns-4 : tie.Need-returns-4
+unfolding turnedLow
+returns-4 c cells i lows = rw (c .enum-told3 .given .1)
+
+pub turned-spec : {M : Type 1} → statement M
+turned-spec =
+    tie.close
+    (tie.spec
+    (λ c. search needs) inverter-low-requires (λ c κs. search needs) (λ c. search needs) (λ c. search needs) (λ c. search needs) returns returns-2 returns-3
+    returns-4)

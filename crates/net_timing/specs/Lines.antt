@@ -1,0 +1,35 @@
+-- The timing lines, as the lent words have them. Assumes nothing.
+use mathlib.Core.List.{List, [], _∷_, _++_}
+use Prim.Native.Nat.{ℕ, _+_}
+use lib.ListN.{length}
+use Rattle.model.specs.Base.{from, each}
+use Rattle.model.specs.Text.{text, decimal}
+use Rattle.model.specs.Netlist.{outName}
+use Rattle.base_words.specs.Layout.{outputAt, lowAt}
+use Rattle.base_words.specs.Phases.{phaseAt}
+
+-- a low and a high arrival, each behind a space, and the end of the line
+unfoldable pub timesText : ℕ → ℕ → List ℕ
+unfolding decimal
+timesText low high = 32 ∷ decimal low ++ (32 ∷ decimal high ++ (10 ∷ []))
+
+-- "as `# timing o0 30 35`"
+unfoldable pub lineText : ℕ → ℕ → ℕ → List ℕ
+unfolding text outName timesText
+lineText k low high = text "# timing " ++ (outName k ++ timesText low high)
+
+-- the bytes of both, counted by their parts
+abbrev pub timesLength : ℕ → ℕ → ℕ
+timesLength low high = length (decimal low) + length (decimal high) + 3
+
+abbrev pub lineLength : ℕ → ℕ → ℕ → ℕ
+lineLength k low high = length (outName k) + length (decimal low) + length (decimal high) + 12
+
+-- the line of output k
+abbrev pub lineOf : List ℕ → ℕ → ℕ → List ℕ
+lineOf w m k = lineText k (lowAt w m (outputAt w m k)) (phaseAt w m (outputAt w m k) .arrival)
+
+-- the lines of n outputs from output i on
+unfoldable pub linesFrom : List ℕ → ℕ → ℕ → ℕ → List ℕ
+unfolding each from lineText
+linesFrom w m i n = each (lineOf w m) (from i n)

@@ -1,0 +1,95 @@
+-- The low arrivals of the chosen phases, from the words and into them. Assumes nothing.
+use Prim.Native.Nat.{ℕ, zero, suc, _+_, _*_, _/_, _≤_, _<_, max}
+use mathlib.Core.Path.{_≡_}
+use mathlib.Core.Bool.{cond}
+use mathlib.Core.List.{List, [], _∷_}
+use lib.Dec.{leb}
+use lib.ListN.{length, getD, set, drop}
+use Rattle.model.specs.Cells.{cellAt}
+use Rattle.model.specs.Matching.{matchNets}
+use Rattle.model.specs.declared.Cell.{Cell}
+use Rattle.model.specs.declared.Match.{Match}
+use Rattle.model.specs.declared.Source.{Source}
+use Rattle.model.specs.declared.Source.the-variants.{Input, Cell as Matched, Inverter as Inverted, Nothing}
+use Rattle.base_words.specs.Put.{putAt}
+use Rattle.base_words.specs.Layout.{slotAt, lateAt, lowAddr, lowAt, lowWords}
+use Rattle.base_words.specs.Record.{leavesAt}
+use Rattle.base_words.specs.Phases.{phaseAt}
+use Rattle.cover_choice.specs.Asked.{MatchesIn}
+
+-- a time and a delay, as long as their sum is a number of the code's
+abbrev pub after : ℕ → ℕ → ℕ
+after t d = cond (leb (t + d) 4294967295) (t + d) t
+
+-- "the largest of feeding arrival plus pin delay", of the low arrivals that the words have
+unfoldable pub latestLow : List ℕ → ℕ → List ℕ → List ℕ → ℕ
+latestLow w m [] ds = 0
+latestLow w m (l ∷ ls) ds = max (after (lowAt w m l) (getD ds 0 0)) (latestLow w m ls (drop 1 ds))
+
+-- of a match of v
+unfoldable pub matchLow : List Cell → List ℕ → ℕ → ℕ → Match → ℕ
+unfolding latestLow matchNets cellAt
+matchLow cells w m v x = latestLow w m (matchNets cells (leavesAt w m v (x .cut)) x) (cellAt cells (x .cell) .lows)
+
+-- of a phase that no inverter drives
+unfoldable pub ownLow : List Cell → List ℕ → ℕ → ℕ → Source → ℕ
+unfolding matchLow
+ownLow cells w m l Input = lateAt w m (l / 2)
+ownLow cells w m l Nothing = 0
+ownLow cells w m l (Matched x) = matchLow cells w m (l / 2) x
+ownLow cells w m l (Inverted c) = 0
+
+-- of a phase, by its own and the other phase's
+unfoldable pub turnedLow : List Cell → ℕ → ℕ → Source → ℕ
+unfolding cellAt
+turnedLow cells own other Input = own
+turnedLow cells own other Nothing = own
+turnedLow cells own other (Matched x) = own
+turnedLow cells own other (Inverted c) = after other (getD (cellAt cells c .lows) 0 0)
+
+-- the two low arrivals of a variable's phases, negative where so asked
+abbrev pub ownAt : List Cell → List ℕ → ℕ → ℕ → ℕ
+ownAt cells w m l = ownLow cells w m l (phaseAt w m l .source)
+
+-- the words with a low arrival stored
+abbrev pub putLow : List ℕ → ℕ → ℕ → ℕ → List ℕ
+putLow w m l t = putAt w (lowAddr m l) (lowWords t)
+
+-- the words once v is timed
+unfoldable pub retimedTurn : List Cell → List ℕ → ℕ → ℕ → List ℕ
+unfolding ownLow turnedLow
+retimedTurn cells w m v =
+    putLow
+    (putLow w m (2 * v) (turnedLow cells (ownAt cells w m (2 * v)) (ownAt cells w m (2 * v + 1)) (phaseAt w m (2 * v) .source)))
+    m (2 * v + 1) (turnedLow cells (ownAt cells w m (2 * v + 1)) (ownAt cells w m (2 * v)) (phaseAt w m (2 * v + 1) .source))
+
+-- the words once the first n placed variables are
+unfoldable pub retimedUp : List Cell → List ℕ → ℕ → ℕ → List ℕ
+unfolding retimedTurn
+retimedUp cells w m zero = w
+retimedUp cells w m (suc n) = retimedTurn cells (retimedUp cells w m n) m (slotAt (retimedUp cells w m n) m n)
+
+-- ---- what is asked
+
+-- an inverter is a cell to map with
+abbrev pub InverterIn : List Cell → Source → Type 0
+InverterIn cells Input = Unit {0}
+InverterIn cells Nothing = Unit {0}
+InverterIn cells (Matched x) = Unit {0}
+InverterIn cells (Inverted c) = (c < length cells) × (c < 256)
+
+-- every source of the words is of these cells and of the graph
+pub record Retimable (cells : List Cell) (w : List ℕ) (m : ℕ) : Type 0 where
+  pub matches : MatchesIn cells w m
+  pub inverters : (l : ℕ) → l / 2 ≤ m → InverterIn cells (phaseAt w m l .source)
+
+-- ---- the table of the lowest delays, four to a cell
+
+-- the table with the four of cell k
+unfoldable pub fourAt : List ℕ → ℕ → List ℕ → List ℕ
+fourAt xs k ds =
+    set (set (set (set xs (4 * k) (getD ds 0 0)) (4 * k + 1) (getD ds 1 0)) (4 * k + 2) (getD ds 2 0)) (4 * k + 3) (getD ds 3 0)
+
+-- the lowest delays of each cell, by number
+pub record LowsOf (cells : List Cell) (lows : List ℕ) : Type 0 where
+  pub listed : (c j : ℕ) → c < length cells → j < 4 → getD lows (4 * c + j) 0 ≡ getD (cellAt cells c .lows) j 0

@@ -1,0 +1,315 @@
+-- Lengths of names, pins and lines, and figures of gates.
+-- Assumes nothing.
+use mathlib.Core.Path.{_≡_, refl, sym, ap, _∙_}
+use mathlib.Core.Bool.{Bool, true, false, cond}
+use mathlib.Core.List.{List, [], _∷_, _++_, map, append-assoc, append-nil}
+use Prim.Native.Nat.{ℕ, suc, _+_, _-_, _*_, _/_, _%_, _≤_, _<_, max}
+use native.Mathlib.Nat.{add-zero}
+use native.Mathlib.Numerals.{add-one}
+use native.Mathlib.Omega.{arith}
+use borrow.Author.Tests.{eq-eqb, ne-eqb}
+use lib.ListN.{length, take, drop, getD, length-append, drop-of-length-le}
+use lib.Seq.{drop-cons, length-take-le, getD-take}
+use Rattle.model.specs.Base.{from, each}
+use Rattle.model.specs.Text.{text, decimal}
+use Rattle.model.specs.Cells.{nameOf}
+use Rattle.model.specs.Graph.{varOf}
+use Rattle.model.specs.Netlist.{ofPhase, ofPair, Gate, netName, label, outName, pinWords, gateLine, wireLine, sum, largest}
+use Rattle.model.specs.declared.Cell.{Cell}
+use Rattle.model.specs.declared.Header.{Header}
+use Rattle.model.specs.declared.Figures.{Figures}
+use Rattle.base_words.specs.Layout.{outputAt}
+use Rattle.base_words.specs.Phases.{phaseAt, isNeeded}
+use Rattle.base_text.proofs.Decimal.{dec-below}
+use Rattle.net_gates.specs.declared.Instance.{Instance}
+use Rattle.net_gates.specs.declared.Driver.{Driver}
+use Rattle.net_writer.specs.declared.Tally.{Tally}
+use Rattle.net_writer.specs.declared.Measured.{Measured}
+use Rattle.net_gates.specs.Gates.{netOf, gateOf, gatesOf}
+use Rattle.net_writer.specs.Lines.{netWords, pinWord, lineOf, lineLength, gateBy, gateAt, gatesFrom, tallied, noTally, inputNet, inputNamesFrom, outputNamesFrom, spaced, wireLength, wireLinesFrom, latestFrom, frameText, frameLength, figuresText, figuresLength, allGates, figuresIn, textIn, textLength, measuredIn}
+
+-- ---- names
+
+pub net-length : (l : ℕ) → length (netName l) ≡ length (decimal (l / 2)) + 1
+unfolding netName varOf
+net-length l = sym (add-one (length (decimal (l / 2))))
+
+pub out-length : (k : ℕ) → length (outName k) ≡ length (decimal k) + 1
+unfolding outName
+out-length k = sym (add-one (length (decimal k)))
+
+-- the digits of a number below 2 ^ 32, and of three
+pub ten-digits : (n : ℕ) → n < 4294967296 → length (decimal n) ≤ 10
+ten-digits n h = dec-below 9 n (omega arith)
+
+pub figures-short : (f : Figures) → f .gates < 4294967296 → f .area < 4294967296 → f .arrival < 4294967296 → figuresLength f ≤ 59
+figures-short f g a t = omega (arith, ten-digits (f .gates) g, ten-digits (f .area) a, ten-digits (f .arrival) t)
+
+-- ---- nets of given numbers
+
+pub label-inside : (n : ℕ) → n % 2 ≡ 1 → label (netOf n) ≡ 115 ∷ netName (n / 2)
+unfolding netOf label
+label-inside n e = ap (λ (b : Bool). label (cond b (ofPair (n / 2)) (ofPhase (n / 2)))) (eq-eqb (n % 2) 1 e)
+
+pub label-phase : (n : ℕ) → (n % 2 ≡ 1 → ⊥) → label (netOf n) ≡ netName (n / 2)
+unfolding netOf label
+label-phase n h = ap (λ (b : Bool). label (cond b (ofPair (n / 2)) (ofPhase (n / 2)))) (ne-eqb (n % 2) 1 h)
+
+-- ---- pins
+
+-- one pin's word, and those of more pins behind it
+pub pin-cons : (b l : ℕ) (ls : List ℕ) → netWords b (l ∷ ls) ≡ pinWord b l ++ netWords (b + 1) ls
+unfolding pinWords
+pin-cons b l ls = rw (add-one b)
+
+-- the pins from number j on
+pub pins-at : (b : ℕ) (ls : List ℕ) (j : ℕ) → j < length ls
+    → netWords (b + j) (drop j ls) ≡ pinWord (b + j) (getD ls j 0) ++ netWords (b + (j + 1)) (drop (j + 1) ls)
+pins-at b ls j h =
+    let e : b + j + 1 ≡ b + (j + 1) = omega arith in
+    ap (netWords (b + j)) (drop-cons ls j 0 h ∙ ap (λ (k : ℕ). getD ls j 0 ∷ drop k ls) (sym (add-one j)))
+    ∙ pin-cons (b + j) (getD ls j 0) (drop (j + 1) ls)
+    ∙ ap (λ (k : ℕ). pinWord (b + j) (getD ls j 0) ++ netWords k (drop (j + 1) ls)) e
+
+-- those of an array's first pins
+module _ (nets : List ℕ) (count : ℕ) (four : length nets ≡ 4) (few : count ≤ 4) where
+  long : length (take count nets) ≡ count
+  long = length-take-le count nets (omega arith)
+
+  pub pins-next : (j : ℕ) → j < count
+      → netWords (65 + j) (drop j (take count nets))
+      ≡ pinWord (65 + j) (getD nets j 0) ++ netWords (65 + (j + 1)) (drop (j + 1) (take count nets))
+  pins-next j h =
+      pins-at 65 (take count nets) j (omega (arith, long))
+      ∙ ap (λ (x : ℕ). pinWord (65 + j) x ++ netWords (65 + (j + 1)) (drop (j + 1) (take count nets))) (getD-take count nets j 0 h)
+
+  pub pins-none : (j : ℕ) → count ≤ j → netWords (65 + j) (drop j (take count nets)) ≡ []
+  unfolding pinWords
+  pins-none j h = ap (netWords (65 + j)) (drop-of-length-le (take count nets) {i = j} (omega (arith, long)))
+
+-- ---- gate lines
+
+pub line-is : (c : Cell) (nets : List ℕ) (net : ℕ)
+    → lineOf c nets net ≡ text ".gate " ++ (take (c .len) (c .name) ++ (netWords 65 nets ++ (pinWord 79 net ++ (10 ∷ []))))
+unfolding gateLine text nameOf pinWords
+line-is c nets net =
+    ap (λ (x : List ℕ). text ".gate " ++ (take (c .len) (c .name) ++ (netWords 65 nets ++ ((32 ∷ 79 ∷ 61 ∷ x) ++ (10 ∷ [])))))
+    (append-nil (label (netOf net)))
+
+pub line-length : (c : Cell) (nets : List ℕ) (net : ℕ) → length (lineOf c nets net) ≡ lineLength c nets net
+unfolding text
+line-length c nets net = ap length (line-is c nets net) ∙ simp length-append (omega arith)
+
+-- ---- numbers from i on
+
+pub from-next : (i n : ℕ) → i < n → from i (n - i) ≡ i ∷ from (i + 1) (n - (i + 1))
+unfolding from
+from-next i n h =
+    let e : n - i ≡ suc (n - (i + 1)) = omega arith in
+    ap (from i) e ∙ ap (λ (k : ℕ). i ∷ from k (n - (i + 1))) (sym (add-one i))
+
+pub from-none : (i n : ℕ) → n ≤ i → from i (n - i) ≡ []
+unfolding from
+from-none i n h = let e : n - i ≡ 0 = omega arith in ap (from i) e
+
+-- what stands for each of them
+module _ {B : Type 0} (f : ℕ → List B) (n : ℕ) where
+  pub each-next : (i : ℕ) → i < n → each f (from i (n - i)) ≡ f i ++ each f (from (i + 1) (n - (i + 1)))
+  unfolding each
+  each-next i h = ap (each f) (from-next i n h)
+
+  pub each-none : (i : ℕ) → n ≤ i → each f (from i (n - i)) ≡ []
+  unfolding each
+  each-none i h = ap (each f) (from-none i n h)
+
+-- ---- gates
+
+module _ {A B : Type 0} (f : A → List B) where
+  pub each-append : (xs ys : List A) → each f (xs ++ ys) ≡ each f xs ++ each f ys
+  unfolding each
+  each-append [] ys = refl
+  each-append (x ∷ xs) ys = ap (λ (l : List B). f x ++ l) (each-append xs ys) ∙ sym (append-assoc (f x) (each f xs) (each f ys))
+
+pub map-append : {A B : Type 0} (f : A → B) (xs ys : List A) → map f (xs ++ ys) ≡ map f xs ++ map f ys
+map-append f [] ys = refl
+map-append f (x ∷ xs) ys = ap (λ (l : List _). f x ∷ l) (map-append f xs ys)
+
+pub sum-append : (xs ys : List ℕ) → sum (xs ++ ys) ≡ sum xs + sum ys
+unfolding sum
+sum-append [] ys = omega arith
+sum-append (x ∷ xs) ys = omega (arith, sum-append xs ys)
+
+module _ (w book : List ℕ) (m n : ℕ) where
+  pub gates-next : (l : ℕ) → l < n → gatesFrom w book m l (n - l) ≡ gateAt w book m l ++ gatesFrom w book m (l + 1) (n - (l + 1))
+  unfolding gatesFrom
+  gates-next l h = each-next (gateAt w book m) n l h
+
+  pub gates-none : (l : ℕ) → n ≤ l → gatesFrom w book m l (n - l) ≡ []
+  unfolding gatesFrom
+  gates-none l h = each-none (gateAt w book m) n l h
+
+  pub lines-next : (l : ℕ) → l < n → each gateLine (gatesFrom w book m l (n - l)) ≡ each gateLine (gateAt w book m l) ++ each gateLine (gatesFrom w book m (l + 1) (n - (l + 1)))
+  lines-next l h = ap (each gateLine) (gates-next l h) ∙ each-append gateLine (gateAt w book m l) (gatesFrom w book m (l + 1) (n - (l + 1)))
+
+  pub lines-none : (l : ℕ) → n ≤ l → each gateLine (gatesFrom w book m l (n - l)) ≡ []
+  unfolding each
+  lines-none l h = ap (each gateLine) (gates-none l h)
+
+-- the gate of phase l, by whether the phase is needed
+module _ (w book : List ℕ) (m l : ℕ) where
+  pub gate-needed : isNeeded w m l ≡ true → gateAt w book m l ≡ gateBy w book m l (phaseAt w m l .source)
+  unfolding gateAt
+  gate-needed e = ap (λ (b : Bool). cond b (gateBy w book m l (phaseAt w m l .source)) []) e
+
+  pub gate-idle : isNeeded w m l ≡ false → gateAt w book m l ≡ []
+  unfolding gateAt
+  gate-idle e = ap (λ (b : Bool). cond b (gateBy w book m l (phaseAt w m l .source)) []) e
+
+-- the gates of a driver, by whether it is there and a pair
+module _ (d : Driver) where
+  pub gates-two : d .there ≡ true → d .pair ≡ true → gatesOf d ≡ gateOf (d .inner) ∷ gateOf (d .root) ∷ []
+  unfolding gatesOf
+  gates-two e f = λ i. cond (e i) (cond (f i) (gateOf (d .inner) ∷ gateOf (d .root) ∷ []) (gateOf (d .root) ∷ [])) []
+
+  pub gates-one : d .there ≡ true → d .pair ≡ false → gatesOf d ≡ gateOf (d .root) ∷ []
+  unfolding gatesOf
+  gates-one e f = λ i. cond (e i) (cond (f i) (gateOf (d .inner) ∷ gateOf (d .root) ∷ []) (gateOf (d .root) ∷ [])) []
+
+  pub gates-absent : d .there ≡ false → gatesOf d ≡ []
+  unfolding gatesOf
+  gates-absent e = ap (λ (b : Bool). cond b (cond (d .pair) (gateOf (d .inner) ∷ gateOf (d .root) ∷ []) (gateOf (d .root) ∷ [])) []) e
+
+  pub lines-two : d .there ≡ true → d .pair ≡ true → each gateLine (gatesOf d) ≡ gateLine (gateOf (d .inner)) ++ gateLine (gateOf (d .root))
+  unfolding each
+  lines-two e f = ap (each gateLine) (gates-two e f) ∙ ap (λ (bs : List ℕ). gateLine (gateOf (d .inner)) ++ bs) (append-nil (gateLine (gateOf (d .root))))
+
+  pub lines-one : d .there ≡ true → d .pair ≡ false → each gateLine (gatesOf d) ≡ gateLine (gateOf (d .root))
+  unfolding each
+  lines-one e f = ap (each gateLine) (gates-one e f) ∙ append-nil (gateLine (gateOf (d .root)))
+
+  pub lines-absent : d .there ≡ false → each gateLine (gatesOf d) ≡ []
+  unfolding each
+  lines-absent e = ap (each gateLine) (gates-absent e)
+
+-- an instance's line
+pub line-of : (g : Instance) → gateLine (gateOf g) ≡ lineOf (g .cell) (take (g .count) (g .nets)) (g .net)
+unfolding gateOf
+line-of g = refl
+
+-- what is counted one after the other
+pub tally-append : (t : Tally) (ts us : List Gate) → tallied (tallied t ts) us ≡ tallied t (ts ++ us)
+unfolding tallied
+tally-append t ts us =
+    let bytes : t .length + length (each gateLine ts) + length (each gateLine us) ≡ t .length + length (each gateLine (ts ++ us)) =
+    omega (arith, ap length (each-append gateLine ts us) ∙ length-append (each gateLine ts) (each gateLine us)) in
+    let count : t .gates + length ts + length us ≡ t .gates + length (ts ++ us) = omega (arith, length-append ts us) in
+    let area : t .area + sum (map (λ (u : Gate). u .cell .area) ts) + sum (map (λ (u : Gate). u .cell .area) us) ≡ t .area + sum (map (λ (u : Gate). u .cell .area) (ts ++ us)) =
+    omega (arith, ap sum (map-append (λ (u : Gate). u .cell .area) ts us) ∙ sum-append (map (λ (u : Gate). u .cell .area) ts) (map (λ (u : Gate). u .cell .area) us)) in
+    λ i. record { length = bytes i; gates = count i; area = area i }
+
+pub tally-none : (t : Tally) → tallied t [] ≡ t
+unfolding tallied each sum
+tally-none t = λ i. record { length = add-zero (t .length) i; gates = add-zero (t .gates) i; area = add-zero (t .area) i }
+
+pub tally-one : (t : Tally) (u : Gate) → tallied t (u ∷ []) ≡ record { length = t .length + length (gateLine u); gates = t .gates + 1; area = t .area + u .cell .area }
+unfolding tallied each sum
+tally-one t u =
+    let bytes : t .length + length (gateLine u ++ []) ≡ t .length + length (gateLine u) = ap (λ (x : List ℕ). t .length + length x) (append-nil (gateLine u)) in
+    let area : t .area + (u .cell .area + 0) ≡ t .area + u .cell .area = omega arith in
+    λ i. record { length = bytes i; gates = t .gates + 1; area = area i }
+
+-- ---- names lines
+
+-- the names of the numbers from i on
+module _ (name : ℕ → List ℕ) (n : ℕ) where
+  spaced-next : (i : ℕ) → i < n → spaced (map name (from i (n - i))) ≡ (32 ∷ []) ++ (name i ++ spaced (map name (from (i + 1) (n - (i + 1)))))
+  unfolding spaced each
+  spaced-next i h = ap (λ (ks : List ℕ). spaced (map name ks)) (from-next i n h)
+
+  spaced-none : (i : ℕ) → n ≤ i → spaced (map name (from i (n - i))) ≡ []
+  unfolding spaced each
+  spaced-none i h = ap (λ (ks : List ℕ). spaced (map name ks)) (from-none i n h)
+
+module _ (w : List ℕ) (m n : ℕ) where
+  pub inputs-next : (i : ℕ) → i < n → spaced (inputNamesFrom w m i (n - i)) ≡ (32 ∷ []) ++ (netName (inputNet w m i) ++ spaced (inputNamesFrom w m (i + 1) (n - (i + 1))))
+  unfolding inputNamesFrom
+  inputs-next i h = spaced-next (λ (k : ℕ). netName (inputNet w m k)) n i h
+
+  pub inputs-none : (i : ℕ) → n ≤ i → spaced (inputNamesFrom w m i (n - i)) ≡ []
+  unfolding inputNamesFrom
+  inputs-none i h = spaced-none (λ (k : ℕ). netName (inputNet w m k)) n i h
+
+module _ (n : ℕ) where
+  pub outputs-next : (i : ℕ) → i < n → spaced (outputNamesFrom i (n - i)) ≡ (32 ∷ []) ++ (outName i ++ spaced (outputNamesFrom (i + 1) (n - (i + 1))))
+  unfolding outputNamesFrom
+  outputs-next i h = spaced-next outName n i h
+
+  pub outputs-none : (i : ℕ) → n ≤ i → spaced (outputNamesFrom i (n - i)) ≡ []
+  unfolding outputNamesFrom
+  outputs-none i h = spaced-none outName n i h
+
+-- ---- the outputs' wires
+
+pub wire-length : (k l : ℕ) → length (wireLine k l) ≡ wireLength k l
+unfolding wireLine text
+wire-length k l = simp length-append (omega arith)
+
+module _ (w : List ℕ) (m n : ℕ) where
+  pub wires-next : (i : ℕ) → i < n → wireLinesFrom w m i (n - i) ≡ wireLine i (outputAt w m i) ++ wireLinesFrom w m (i + 1) (n - (i + 1))
+  unfolding wireLinesFrom
+  wires-next i h = each-next (λ (k : ℕ). wireLine k (outputAt w m k)) n i h
+
+  pub wires-none : (i : ℕ) → n ≤ i → wireLinesFrom w m i (n - i) ≡ []
+  unfolding wireLinesFrom
+  wires-none i h = each-none (λ (k : ℕ). wireLine k (outputAt w m k)) n i h
+
+-- ---- the latest
+
+module _ (w : List ℕ) (m n : ℕ) where
+  pub latest-next : (i : ℕ) → i < n → latestFrom w m i (n - i) ≡ max (phaseAt w m (outputAt w m i) .arrival) (latestFrom w m (i + 1) (n - (i + 1)))
+  unfolding latestFrom largest
+  latest-next i h = ap (λ (ks : List ℕ). largest (map (λ (k : ℕ). phaseAt w m (outputAt w m k) .arrival) ks)) (from-next i n h)
+
+  pub latest-none : (i : ℕ) → n ≤ i → latestFrom w m i (n - i) ≡ 0
+  unfolding latestFrom largest
+  latest-none i h = ap (λ (ks : List ℕ). largest (map (λ (k : ℕ). phaseAt w m (outputAt w m k) .arrival) ks)) (from-none i n h)
+
+-- ---- the first lines and the last
+
+pub frame-length : (w : List ℕ) (m inputs outputs : ℕ) → length (frameText w m inputs outputs) ≡ frameLength w m inputs outputs
+unfolding frameText text
+frame-length w m inputs outputs = simp length-append (omega arith)
+
+pub figures-length : (f : Figures) → length (figuresText f) ≡ figuresLength f
+unfolding figuresText text
+figures-length f = simp length-append (omega arith)
+
+pub longer : (xs ys : List ℕ) → length xs ≤ length (xs ++ ys)
+longer xs ys = omega (arith, length-append xs ys)
+
+-- ---- what is measured
+
+pub text-length : (w book : List ℕ) (h : Header) (f : Figures) → length (textIn w book h f) ≡ textLength w book h f
+unfolding textIn allGates
+text-length w book h f = simp length-append
+
+module _ (w book : List ℕ) (h : Header) (t : Tally) (counted : t ≡ tallied noTally (gatesFrom w book (h .size) 0 (2 * (h .size + 1)))) where
+  pub figures-in : (a : ℕ) → a ≡ latestFrom w (h .size) 0 (h .outputs) → _≡_ {A = Figures} (record { gates = t .gates; area = t .area; arrival = a }) (figuresIn w book h)
+  unfolding figuresIn allGates tallied
+  figures-in a e =
+      let gates : t .gates ≡ length (allGates w book h) = ap (λ (x : Tally). x .gates) counted ∙ omega arith in
+      let area : t .area ≡ sum (map (λ (u : Gate). u .cell .area) (allGates w book h)) = ap (λ (x : Tally). x .area) counted ∙ omega arith in
+      λ i. record { gates = gates i; area = area i; arrival = e i }
+
+  pub measured-in : (f : Figures) (frame wires figures : ℕ) → f ≡ figuresIn w book h
+      → frame ≡ frameLength w (h .size) (h .inputs) (h .outputs)
+      → wires ≡ length (wireLinesFrom w (h .size) 0 (h .outputs)) → figures ≡ figuresLength f
+      → _≡_ {A = Measured} (record { length = frame + t .length + wires + figures; figures = f }) (measuredIn w book h)
+  unfolding measuredIn tallied
+  measured-in f frame wires figures e p q r =
+      let lines = each gateLine (gatesFrom w book (h .size) 0 (2 * (h .size + 1))) in
+      let counts : t .length ≡ length lines = ap (λ (x : Tally). x .length) counted ∙ omega arith in
+      let whole : frame + t .length + wires + figures ≡ length (textIn w book h f) =
+      omega (arith, text-length w book h f, frame-length w (h .size) (h .inputs) (h .outputs), figures-length f) in
+      (λ i. record { length = whole i; figures = f })
+      ∙ ap (λ (x : Figures). record { length = length (textIn w book h x); figures = x }) e

@@ -1,0 +1,33 @@
+-- `net_writer::put_gate` meets its contract: `.gate`, the name, the pins, the output and the line's end.
+-- Assumes nothing.
+use Prim.Native.Nat.{_≤_}
+use native.Mathlib.Omega.{arith}
+use borrow.Author.Needs.{needs}
+use lib.ListN.{length, take}
+use Rattle.model.specs.Text.{text}
+use Rattle.net_writer.proofs.Counting.{line-is}
+use Rattle.net_writer.proofs.Behind.{then, reads}
+use Rattle.net_writer.proofs.put_gate.Statement.{statement}
+use Rattle.net_writer.proofs.put_gate.Tie as tie
+
+returns : tie.Need-returns
+unfolding text
+returns c =
+    let p = c .before .before in
+    let output = p .before .before .before .before in
+    let pins = output .before .before .before .before in
+    let name = pins .before .before .before .before in
+    let keyword = name .before .before .before .before in
+    let s = keyword .before .before .before .before .before in
+    let a = s .args in
+    let h : p .put-byte .result ≤ length (p .put-byte .last .0) = omega (arith, s .pre .1) in
+    reads (line-is (a .c) (take (a .count) (a .nets)) (a .net))
+    (then h (keyword .put-bytes .ensures) (then h (name .put-name .ensures)
+    (then h (pins .put-pins .ensures) (then h (output .put-pin .ensures) (p .put-byte .ensures)))))
+
+pub put-gate-spec : {M : Type 1} → statement M
+put-gate-spec =
+    tie.close
+    (tie.spec
+    (λ c. search needs) (λ c κs. omega arith) (λ c κs. omega arith) (λ c κs. omega arith) (λ c κs. omega arith) (λ c κs. omega arith)
+    (λ c. search needs) returns)

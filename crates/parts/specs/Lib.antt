@@ -1,2 +1,0 @@
--- `Parts`: where a text of several ends.
-pub mod Parts

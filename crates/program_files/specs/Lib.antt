@@ -1,0 +1,4 @@
+-- `Parts`: where a text of several ends.
+-- `Loading`: what a file that was read leaves in the buffer.
+pub mod Parts
+pub mod Loading

@@ -1,0 +1,24 @@
+-- `tally_call::report` meets its contract: the tally that the numbers are, and its bytes read back. Assumes nothing.
+use lib.ListN.{length}
+use Rattle.model.specs.Genlib.{writtenAnswer, writtenAfter}
+use Rattle.model.specs.Tally.{reportOf}
+use mathlib.Core.Path.{_≡_, ap, _∙_}
+use Rattle.model.specs.declared.Tally.{Tally}
+use Rattle.model.proofs.Answers.{written-ruled}
+use Rattle.theory_tally.proofs.CountCalls.{report-exactly}
+use Rattle.tally_call.specs.Numbers.{tallyOf}
+use Rattle.tally_call.proofs.RoundTrip.{report-sums}
+use borrow.Author.Needs.{needs}
+use Rattle.tally_call.proofs.report.Statement.{statement}
+use Rattle.tally_call.proofs.report.Tie as tie
+
+returns : tie.Need-returns
+returns c =
+    let a = c .before .before .before .before .before .before .before .before .args in let t = c .before .before .before .before .load in
+    let r = c .before .before .report in
+    let answer : r .result ≡ writtenAnswer (reportOf (tallyOf (a .tally .now)) (a .cells .now) (length (a .text .now))) = r .ensures .0 ∙ ap (λ (x : Tally). writtenAnswer (reportOf x (a .cells .now) (length (a .text .now)))) (t .ensures) in
+    let bytes : r .last .1 .1 .0 ≡ writtenAfter (reportOf (tallyOf (a .tally .now)) (a .cells .now) (length (a .text .now))) (a .text .now) = r .ensures .1 .0 ∙ ap (λ (x : Tally). writtenAfter (reportOf x (a .cells .now) (length (a .text .now))) (a .text .now)) (t .ensures) in
+    (answer, (bytes, (report-sums (a .cells .now) (a .tally .now) (a .text .now) (r .last .1 .1 .0) (r .result) answer bytes, (report-exactly _ _ _, written-ruled _ (reportOf (tallyOf (a .tally .now)) (a .cells .now) (length (a .text .now))) answer))))
+
+pub report-spec : {M : Type 1} → statement M
+report-spec = tie.close (tie.spec (λ c κs. search needs) (λ c κs. search needs) (λ c. search needs) returns)

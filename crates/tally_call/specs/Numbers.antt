@@ -1,0 +1,33 @@
+-- A tally as 97 numbers: the gates of the 32 cells, their areas, the netlists in which each occurs, and the netlists counted. Assumes nothing.
+use Prim.Native.Nat.{ℕ}
+use mathlib.Core.Bool.{Bool, true, false}
+use mathlib.Core.List.{List, [], _∷_}
+use lib.Dec.{eqb}
+use lib.ListN.{length, take, drop, getD, replicate}
+use Rattle.model.specs.Reading.{Read, holds, fault}
+use Rattle.model.specs.declared.Tally.{Tally}
+use Rattle.base_words.specs.Put.{putAt}
+
+-- the tally that any call refuses for its figures
+abbrev pub overfull : Tally
+overfull = record { gates = replicate 32 0; areas = replicate 32 0; occurs = replicate 32 0; netlists = 1099511627777 }
+
+abbrev pub pickTally : Bool → Tally → Tally → Tally
+pickTally true a b = a
+pickTally false a b = b
+
+-- numbers as a tally: others than 97 are refused as a figure over 2^40 is
+unfoldable pub tallyOf : List ℕ → Tally
+tallyOf s =
+    pickTally (eqb (length s) 97) (record { gates = take 32 (drop 0 s); areas = take 32 (drop 32 s); occurs = take 32 (drop 64 s); netlists = getD s 96 0 }) overfull
+
+-- a tally put into numbers
+unfoldable pub stored : List ℕ → Tally → List ℕ
+unfolding putAt
+stored s t = putAt (putAt (putAt (putAt s 0 (t .gates)) 32 (t .areas)) 64 (t .occurs)) 96 (t .netlists ∷ [])
+
+-- the numbers after a call: "A refused netlist adds nothing."
+unfoldable pub numbersAfter : Read Tally → List ℕ → List ℕ
+unfolding stored
+numbersAfter (holds u) s = stored s u
+numbersAfter (fault n k) s = s

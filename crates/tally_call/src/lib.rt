@@ -1,0 +1,116 @@
+// A tally lent as 97 numbers: the gates of the 32 cells, their areas, the netlists in which each occurs, and the netlists counted. A slice of another length is
+// refused as a figure over 2^40 is.
+ghost use mathlib.Core.Path.{_≡_};
+ghost use Prim.Native.Nat.{_+_, _≤_};
+ghost use lib.ListN.{length, take, drop};
+ghost use Rattle.model.specs.Reading.{verdictOf, rulingOf, verdictRuling};
+ghost use Rattle.model.specs.Genlib.{writtenAnswer, writtenPair, writtenBy, writtenAfter};
+ghost use Rattle.model.specs.Tally.{countText, reportOf};
+ghost use Rattle.base_words.specs.Put.{putAt};
+ghost use Rattle.theory_tally.specs.CountRefusals.{CountRefusals, ReportRefusals};
+ghost use Rattle.tally_call.specs.Numbers.{overfull, tallyOf, stored, numbersAfter};
+ghost use Rattle.tally_call.specs.Demands.{CountSums, ReportSums};
+use model::Tally;
+use model::Verdict;
+use model::Written;
+
+// The 32 numbers from a place on.
+fn column(s: &[u64], from: usize) -> [u64; 32]
+    requires { ⌜ from + 32 ≤ length (now s) ⌝ }
+    ensures { λ r. ⌜ r ≡ take 32 (drop from (now (s .entry))) ⌝ }
+{
+    let mut xs = [0u64; 32];
+    let mut i = 0;
+    while i < 32 {
+        xs[i] = s[from + i];
+        i += 1;
+    }
+    xs
+}
+
+fn no_tally() -> Tally
+    ensures { λ r. ⌜ r ≡ overfull ⌝ }
+{
+    Tally {
+        gates: [0; 32],
+        areas: [0; 32],
+        occurs: [0; 32],
+        netlists: 1099511627777,
+    }
+}
+
+fn load(s: &[u64]) -> Tally
+    ensures { λ r. ⌜ r ≡ tallyOf (now (s .entry)) ⌝ }
+{
+    if s.len() != 97 {
+        return no_tally();
+    }
+    let gates = column(s, 0);
+    let areas = column(s, 32);
+    let occurs = column(s, 64);
+    Tally {
+        gates,
+        areas,
+        occurs,
+        netlists: s[96],
+    }
+}
+
+// 32 numbers, from a place on.
+fn put_column(out: &mut [u64], at: usize, xs: [u64; 32])
+    requires { ⌜ at + 32 ≤ length (now out) ⌝ }
+    ensures { λ _. ⌜ (now (out .exit) ≡ putAt (now (out .entry)) at xs) × (length xs ≡ 32) ⌝ }
+{
+    let mut i = 0;
+    while i < 32 {
+        out[at + i] = xs[i];
+        i += 1;
+    }
+}
+
+fn store(out: &mut [u64], t: Tally)
+    requires { ⌜ length (now out) ≡ 97 ⌝ }
+    ensures { λ _. ⌜ now (out .exit) ≡ stored (now (out .entry)) t ⌝ }
+{
+    let gates = t.gates;
+    let areas = t.areas;
+    let occurs = t.occurs;
+    put_column(out, 0, gates);
+    put_column(out, 32, areas);
+    put_column(out, 64, occurs);
+    out[96] = t.netlists;
+}
+
+// A netlist counted into a lent tally: a refusal leaves it as it was.
+pub fn count(cells: &[u8], netlist: &[u8], tally: &mut [u64]) -> Verdict
+    ensures answer { λ r. ⌜ r ≡ verdictOf (countText (tallyOf (now (tally .entry))) (now (cells .entry)) (now (netlist .entry))) ⌝ }
+    ensures numbers { λ _. ⌜ now (tally .exit) ≡ numbersAfter (countText (tallyOf (now (tally .entry))) (now (cells .entry)) (now (netlist .entry)))
+        (now (tally .entry)) ⌝ }
+    ensures sums { λ r. ⌜ CountSums (now (cells .entry)) (now (netlist .entry)) (now (tally .entry)) (now (tally .exit)) r ⌝ }
+    ensures refusals { λ _. ⌜ CountRefusals (tallyOf (now (tally .entry))) (now (cells .entry)) (now (netlist .entry)) ⌝ }
+    ensures ruling { λ r. ⌜ verdictRuling r ≡ rulingOf (countText (tallyOf (now (tally .entry))) (now (cells .entry)) (now (netlist .entry))) ⌝ }
+{
+    let t = load(tally);
+    let r = tally_counting::count(t, cells, netlist);
+    let verdict = r.verdict;
+    let u = r.tally;
+    match verdict {
+        Verdict::Accepted => {
+            store(tally, u);
+            Verdict::Accepted
+        }
+        Verdict::Refused(number, place) => Verdict::Refused(number, place),
+    }
+}
+
+// The report of a lent tally.
+pub fn report(cells: &[u8], tally: &[u64], text: &mut [u8]) -> Written
+    ensures answer { λ r. ⌜ r ≡ writtenAnswer (reportOf (tallyOf (now (tally .entry))) (now (cells .entry)) (length (now (text .entry)))) ⌝ }
+    ensures bytes { λ _. ⌜ now (text .exit) ≡ writtenAfter (reportOf (tallyOf (now (tally .entry))) (now (cells .entry)) (length (now (text .entry))))
+        (now (text .entry)) ⌝ }
+    ensures sums { λ r. ⌜ ReportSums (now (cells .entry)) (now (tally .entry)) (now (text .exit)) r ⌝ }
+    ensures refusals { λ _. ⌜ ReportRefusals (tallyOf (now (tally .entry))) (now (cells .entry)) (length (now (text .entry))) ⌝ }
+    ensures ruling { λ r. ⌜ writtenPair r ≡ writtenBy (reportOf (tallyOf (now (tally .entry))) (now (cells .entry)) (length (now (text .entry)))) ⌝ }
+{
+    tally_report::report(load(tally), cells, text)
+}

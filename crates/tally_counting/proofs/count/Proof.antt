@@ -1,0 +1,67 @@
+-- `tally_counting::count` meets its contract: 1, the library's, then 28 and 29. Assumes nothing.
+use native.Mathlib.Omega.{arith}
+use mathlib.Core.Path.{_≡_, sym, ap, subst, _∙_}
+use mathlib.Core.Bool.{Bool}
+use mathlib.Core.List.{List}
+use Rattle.model.specs.Reading.{Read, rulingOf, verdictRuling}
+use Rattle.model.specs.Cells.{cellsOf}
+use Rattle.model.specs.LibraryText.{readLibrary, isRanged}
+use Rattle.model.specs.Tally.{countText, countedAnswer}
+use Rattle.model.specs.declared.Cell.{Cell}
+use Rattle.model.specs.declared.Library.{Library}
+use Rattle.model.specs.declared.Tally.{Tally}
+use Rattle.model.specs.declared.Counted.{Counted}
+use Rattle.model.proofs.Answers.{counted-ruled}
+use Rattle.tally_lines.specs.Kinds.{Listed}
+use Rattle.tally_counting.specs.Adding.{Blank}
+use Rattle.tally_counting.specs.Netlists.{countRead}
+use Rattle.tally_counting.proofs.Answers.{accepted, turned-back, cells-back, listed, blanks, count-long, count-long-too, count-refused, count-read}
+use borrow.Author.Needs.{needs}
+use Rattle.tally_counting.proofs.count.Statement.{statement}
+use Rattle.tally_counting.proofs.count.Tie as tie
+
+-- the answer, and the number and place that it stands for
+both : (t : Tally) (r : Counted) (q : Read Tally) → r ≡ countedAnswer t q → (r ≡ countedAnswer t q) × (verdictRuling (r .verdict) ≡ rulingOf q)
+both t r q e = (e, counted-ruled t r q e)
+
+returns : tie.Need-returns
+returns c =
+    let a = c .before .before .before .before .args in
+    both (a .t) _ (countText (a .t) (a .cells .now) (a .netlist .now)) (c .refused .ensures ∙ sym (ap (countedAnswer (a .t)) (count-long (a .t) (a .cells .now) (a .netlist .now) (omega arith))))
+
+returns-2 : tie.Need-returns-2
+returns-2 c =
+    let a = c .before .before .before .before .before .args in
+    both (a .t) _ (countText (a .t) (a .cells .now) (a .netlist .now)) (c .refused2 .ensures ∙ sym (ap (countedAnswer (a .t)) (count-long-too (a .t) (a .cells .now) (a .netlist .now) (omega arith))))
+
+count-in-requires : tie.Need-count-in-requires
+count-in-requires c κs =
+    let a = c .before .before .before .before .before .before .before .before .before .args in
+    let r = c .before .before .before .before .read in
+    let o = accepted (readLibrary (a .cells .now)) (r .result) (r .ensures .0) (c .before .enum-told .given .1) in
+    (omega arith, subst Listed (sym (o .isLibrary)) (listed (a .cells .now) (o .cells) (o .isRead)), subst Blank (sym (o .isLibrary)) (blanks (a .cells .now) (o .cells) (o .isRead)))
+
+returns-3 : tie.Need-returns-3
+returns-3 c =
+    let p = c .before .before .before .before .before .before .before .before .before in let a = p .before .args in
+    let r = c .before .before .before .before .before .read in
+    let o = accepted (readLibrary (a .cells .now)) (r .result) (r .ensures .0) (c .before .before .enum-told .given .1) in
+    both (a .t) _ (countText (a .t) (a .cells .now) (a .netlist .now)) (
+    c .count-in .ensures
+    ∙ ap (λ (b : Bool). countedAnswer (a .t) (countRead (a .t) b (cellsOf (r .result .library)) (a .netlist .now))) (c .before .is-ranged .ensures)
+    ∙ ap (λ (l : Library). countedAnswer (a .t) (countRead (a .t) (isRanged (a .cells .now)) (cellsOf l) (a .netlist .now))) (o .isLibrary)
+    ∙ ap (λ (cs : List Cell). countedAnswer (a .t) (countRead (a .t) (isRanged (a .cells .now)) cs (a .netlist .now))) (cells-back (o .cells))
+    ∙ sym (ap (countedAnswer (a .t)) (count-read (a .t) (a .cells .now) (a .netlist .now) (omega arith) (omega arith) (o .cells) (o .isRead))))
+
+returns-4 : tie.Need-returns-4
+returns-4 c =
+    let p = c .before .before .before .before .before .before .before .before .before in let a = p .before .args in
+    let r = c .before .before .before .before .before .read in
+    both (a .t) _ (countText (a .t) (a .cells .now) (a .netlist .now)) (
+    c .refused3 .ensures
+    ∙ sym (ap (countedAnswer (a .t)) (count-refused (a .t) (a .cells .now) (a .netlist .now) (omega arith) (omega arith) _ _ (turned-back (readLibrary (a .cells .now)) (r .result) (r .ensures .0) _ _ (c .before .before .verdict .given .1)))))
+
+pub count-spec : {M : Type 1} → statement M
+count-spec = tie.close (tie.spec
+    (λ c κs. search needs) returns (λ c κs. search needs) returns-2 (λ c κs. search needs) (λ c. search needs) (λ c κs. search needs)
+    count-in-requires (λ c. search needs) (λ c κs. search needs) returns-3 returns-4)

@@ -1,0 +1,18 @@
+-- `tally_counting::read_frame` meets its contract: the three lines in order. Assumes nothing.
+use lib.ListN.{length}
+use Rattle.model.specs.Tally.{frame}
+use Rattle.tally_counting.specs.Forms.{formTest}
+use Rattle.tally_counting.specs.Reached.{linesOf}
+use Rattle.tally_counting.proofs.DueLines.{due-three}
+use borrow.Author.Needs.{needs}
+use Rattle.tally_counting.proofs.read_frame.Statement.{statement}
+use Rattle.tally_counting.proofs.read_frame.Tie as tie
+
+returns : tie.Need-returns
+unfolding frame formTest
+returns c =
+    let s = c .before .before .before .before .args .s .now in
+    (due-three (length s) (linesOf s 0) _ _ _ _ _ _ (c .before .before .due .ensures .0) (c .before .then-due .ensures .0) (c .then-due2 .ensures .0), c .then-due2 .ensures .1)
+
+pub read-frame-spec : {M : Type 1} → statement M
+read-frame-spec = tie.close (tie.spec (λ c κs. search needs) (λ c κs. search needs) (λ c κs. search needs) returns)

@@ -1,0 +1,41 @@
+-- `tally_counting::read_wires` meets its contract. The invariant: what is due from here on is what is left of all that is due; the measure is the outputs left.
+-- Assumes nothing.
+use native.Mathlib.Omega.{arith}
+use mathlib.Core.Path.{_≡_, sym, _∙_}
+use Prim.Native.Nat.{_-_, _≤_}
+use lib.ListN.{length}
+use Rattle.model.specs.Reading.{next}
+use Rattle.model.specs.Tally.{dueLines, wirePairs}
+use Rattle.tally_counting.specs.Forms.{formTest}
+use Rattle.tally_counting.specs.Reached.{readIn}
+use Rattle.tally_counting.proofs.DueLines.{pairsFrom, wires-first, wires-step, wires-end}
+use Rattle.tally_counting.proofs.read_wires.Statement.{statement}
+use Rattle.tally_counting.proofs.read_wires.Tie as tie
+
+abbrev Inv-loop : tie.InvT-loop
+Inv-loop s outs r₀ k₀ r k = (r .at ≤ length s) × (next (readIn s r₀) (dueLines (length s) (wirePairs outs)) ≡ next (readIn s r) (dueLines (length s) (pairsFrom k (outs - k))))
+
+abbrev μ-loop : tie.MeasureT-loop
+μ-loop s outs r₀ k₀ r k = outs - k
+
+loop-holds : tie.Need-loop-holds Inv-loop μ-loop
+loop-holds c = (omega arith, wires-first (length (c .before .args .s .now)) (readIn (c .before .args .s .now) (c .before .args .from)) (c .before .args .outs))
+
+loop-again : tie.Need-loop-again Inv-loop μ-loop
+unfolding formTest
+loop-again c =
+    let a = c .before .before .before .before .before .args in
+    let p = c .before .before .before .loop in (
+      c .then-due2 .ensures .1,
+      p .inv .1 ∙ wires-step (length (a .s .now)) (readIn (a .s .now) (p .r)) (p .k) (a .outs) (readIn (a .s .now) (c .before .then-due .result)) (readIn (a .s .now) (c .then-due2 .result)) (omega arith) (c .before .then-due .ensures .0) (c .then-due2 .ensures .0),
+    )
+
+returns : tie.Need-returns Inv-loop μ-loop
+returns c =
+    let a = c .before .before .before .args in let p = c .before .loop in
+    (sym (p .inv .1 ∙ wires-end (length (a .s .now)) (readIn (a .s .now) (p .r)) (p .k) (a .outs) (c .loop-test .left)), p .inv .0)
+
+pub read-wires-spec : {M : Type 1} → statement M
+read-wires-spec = tie.close (tie.spec
+    Inv-loop μ-loop loop-holds (λ c κs. (omega arith, omega arith)) (λ c κs. (c .then-due .ensures .1, omega arith)) (λ c. omega arith)
+    (λ c. omega arith) loop-again returns)

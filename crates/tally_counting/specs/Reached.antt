@@ -1,0 +1,20 @@
+-- What a reader of lines answers: the place of the next line, or that of the line at fault. Assumes nothing.
+use Prim.Native.Nat.{ℕ}
+use mathlib.Core.Bool.{Bool, true, false}
+use mathlib.Core.List.{List, []}
+use lib.ListN.{drop}
+use Rattle.model.specs.Text.{Line, linesFrom}
+use Rattle.model.specs.Reading.{Read, holds, fault}
+use Rattle.tally_counting.specs.declared.Reached.{Reached}
+
+-- the lines from a place on
+abbrev pub linesOf : List ℕ → ℕ → List Line
+linesOf s at = linesFrom at [] (drop at s)
+
+abbrev pub pickRead : Bool → Read (List Line) → Read (List Line) → Read (List Line)
+pickRead true a b = a
+pickRead false a b = b
+
+-- what is read so far: the lines left, or 29 at a line's offset
+abbrev pub readIn : List ℕ → Reached → Read (List Line)
+readIn s r = pickRead (r .ok) (holds (linesOf s (r .at))) (fault 29 (r .at))

@@ -1,0 +1,34 @@
+-- `tally_lines::is_figures` meets its contract: by steps over its fields. Assumes nothing.
+use mathlib.Core.List.{_∷_, []}
+use Rattle.model.specs.Base.{same}
+use mathlib.Core.Path.{ap, _∙_}
+use Rattle.model.specs.Text.{text, decimal}
+use Rattle.model.specs.NetlistLines.{isFigures, areDigits}
+use Rattle.tally_lines.specs.Steps.{stepAt, stepsAt}
+use Rattle.tally_lines.specs.Kinds.{kindTest}
+use Rattle.tally_lines.proofs.Forms.{line-yes, line-no}
+use borrow.Author.Needs.{needs}
+use Rattle.tally_lines.proofs.is_figures.Statement.{statement}
+use Rattle.tally_lines.proofs.is_figures.Tie as tie
+
+returns : tie.Need-returns
+unfolding isFigures stepsAt kindTest text
+returns c =
+    let a = c .before .before .before .before .before .before .before .before .before .before .before .before .before .args in
+    line-yes (same (text "#") ∷ same (text "gates") ∷ same (decimal (a .gates)) ∷ same (text "area") ∷ same (decimal (a .area)) ∷ same (text "arrival") ∷ areDigits ∷ []) (a .w .now) (c .before .field3 .result)
+    (c .before .field3 .ensures ∙ ap (stepAt (areDigits) (a .w .now)) (c .before .before .word4 .ensures ∙ ap (stepAt (same (text "arrival")) (a .w .now)) (c .before .before .before .before .field2 .ensures ∙ ap (stepAt (same (decimal (a .area))) (a .w .now)) (c .before .before .before .before .before .word3 .ensures ∙ ap (stepAt (same (text "area")) (a .w .now)) (c .before .before .before .before .before .before .before .field .ensures ∙ ap (stepAt (same (decimal (a .gates))) (a .w .now)) (c .before .before .before .before .before .before .before .before .word2 .ensures ∙ ap (stepAt (same (text "gates")) (a .w .now)) (c .before .before .before .before .before .before .before .before .before .before .word .ensures)))))))
+    (c .if1 .taken)
+
+returns-2 : tie.Need-returns-2
+unfolding isFigures stepsAt kindTest text
+returns-2 c =
+    let a = c .before .before .before .before .before .before .before .before .before .before .before .before .before .args in
+    line-no (same (text "#") ∷ same (text "gates") ∷ same (decimal (a .gates)) ∷ same (text "area") ∷ same (decimal (a .area)) ∷ same (text "arrival") ∷ areDigits ∷ []) (a .w .now) (c .before .field3 .result)
+    (c .before .field3 .ensures ∙ ap (stepAt (areDigits) (a .w .now)) (c .before .before .word4 .ensures ∙ ap (stepAt (same (text "arrival")) (a .w .now)) (c .before .before .before .before .field2 .ensures ∙ ap (stepAt (same (decimal (a .area))) (a .w .now)) (c .before .before .before .before .before .word3 .ensures ∙ ap (stepAt (same (text "area")) (a .w .now)) (c .before .before .before .before .before .before .before .field .ensures ∙ ap (stepAt (same (decimal (a .gates))) (a .w .now)) (c .before .before .before .before .before .before .before .before .word2 .ensures ∙ ap (stepAt (same (text "gates")) (a .w .now)) (c .before .before .before .before .before .before .before .before .before .before .word .ensures)))))))
+    (c .if1 .left)
+
+pub is-figures-spec : {M : Type 1} → statement M
+is-figures-spec = tie.close (tie.spec
+    (λ c. search needs) (λ c κs. search needs) (λ c. search needs) (λ c κs. search needs) (λ c κs. search needs) (λ c. search needs)
+    (λ c κs. search needs) (λ c κs. search needs) (λ c. search needs) (λ c κs. search needs) (λ c κs. search needs) (λ c. search needs)
+    returns returns-2)

@@ -1,0 +1,13 @@
+-- `tally_lines::is_gate_net` meets its contract: a phase's net, or one inside a pair. Assumes nothing.
+use Rattle.tally_lines.proofs.Digits.{gate-first, gate-second}
+use mathlib.Core.Path.{sym, _∙_}
+use borrow.Author.Needs.{needs}
+use Rattle.tally_lines.proofs.is_gate_net.Statement.{statement}
+use Rattle.tally_lines.proofs.is_gate_net.Tie as tie
+
+returns-2 : tie.Need-returns-2
+returns-2 c = c .is-inner-net .ensures ∙ gate-second _ (sym (c .before .before .is-phase-net .ensures) ∙ c .before .if1 .left)
+
+pub is-gate-net-spec : {M : Type 1} → statement M
+is-gate-net-spec = tie.close (tie.spec
+    (λ c κs. search needs) (λ c. gate-first _ (sym (c .before .is-phase-net .ensures) ∙ c .if1 .taken)) (λ c κs. search needs) returns-2)

@@ -1,0 +1,140 @@
+-- The gate lines of the printed netlist are the needed phases, inputs' own nets apart, in their order. Assumes nothing.
+use Prim.Native.Nat.{ℕ, zero, suc, _+_, _*_, _/_, _%_, _≤_, _<_}
+use native.Mathlib.Omega.{arith}
+use mathlib.Core.Path.{_≡_, refl, sym, _∙_, ap, ap₂, subst}
+use mathlib.Core.Logic.{inl, inr}
+use mathlib.Core.Bool.{Bool, true, false, not, cond, true≢false}
+use mathlib.Core.List.{List, [], _∷_, _++_, map, map-append, List·Memᴰ, List·Memᴰ·head, List·Memᴰ·tail}
+use lib.Dec.{eqb}
+use lib.ListN.{length, take, drop}
+use Rattle.model.specs.Base.{elem, keep, each, from, below}
+use Rattle.model.specs.Cells.{cellAt}
+use Rattle.model.specs.Pairs.{cellOfPair, pairAt}
+use Rattle.model.specs.Graph.{Graph, varOf, negated}
+use Rattle.model.specs.Choice.{absent, chosen}
+use Rattle.model.specs.Cover.{IsOwn}
+use Rattle.model.specs.Netlist.{Net, ofPhase, ofPair, Gate, isOwn, needed, netName, label}
+use Rattle.model.specs.Blif.{drives}
+use Rattle.model.specs.Demands.{Before, InOrder, OneLine, TwoLines, LinesOf, none, one, two, Gated}
+use Rattle.model.specs.declared.Cell.{Cell}
+use Rattle.model.specs.declared.Figures.{Figures}
+use Rattle.theory_graph.proofs.Lists.{keep-out, by-eqb, map-map}
+use Rattle.theory_graph.proofs.Distinct.{from-low}
+use Rattle.theory_graph.specs.Accepted.{Accepted}
+use Rattle.theory_graph.proofs.Placing.{order-once}
+use Rattle.theory_text.proofs.ReadBack.{lineOf, blifOf}
+use Rattle.theory_cover.proofs.Own.{own-chosen}
+use Rattle.theory_demands.proofs.Numbered.{OfPair, single, double, Fitting}
+use Rattle.theory_demands.proofs.Settled.{map-take, map-drop, map-run, splice-parts, innerCell, fedPin, cellGate, innerGate, rootGate, gates-single, gates-double, single-bound, double-long, inner-bound, root-bound}
+use Rattle.theory_demands.proofs.Gates.{sourceOf, numberAt, fedAt, NeedsOf, gatesAt, chosenGates, gateNets, gates-are, Gates, net-out, of-cell, number-of, own-source}
+use Rattle.theory_demands.proofs.Formed.{phase-driven, driven-phase}
+use Rattle.theory_graph.proofs.Split.{by-bool}
+
+-- ---- the order
+
+-- a lower literal is of a lower variable, or the positive one of the same
+lower-before : (l k : ℕ) → l < k → Before l k
+unfolding varOf negated
+lower-before l k h = by-eqb (l / 2) (k / 2) same (λ d. inl (omega arith))
+  where
+    same : l / 2 ≡ k / 2 → Before l k
+    same e = inr (e, ap (λ (r : ℕ). eqb r 1) (let q : l % 2 ≡ 0 = omega arith in q), ap (λ (r : ℕ). eqb r 1) (let q : k % 2 ≡ 1 = omega arith in q))
+
+from-ordered : (n i : ℕ) → InOrder (from i n)
+unfolding from
+from-ordered zero i = tt
+from-ordered (suc n) i = ((λ k m. lower-before i k (from-low n (suc i) k m)), from-ordered n (suc i))
+
+keep-ordered : (p : ℕ → Bool) (xs : List ℕ) → InOrder xs → InOrder (keep p xs)
+unfolding keep
+keep-ordered p [] h = tt
+keep-ordered p (x ∷ xs) h = by-bool (p x) (λ e. rw e ((λ k m. h .0 k (keep-out p xs m .0)), (keep-ordered p xs (h .1))))
+    (λ q. rw q (keep-ordered p xs (h .1)))
+
+-- the lines of a phase's gates
+module _ (listed cells : List Cell) (fit : Fitting listed cells) (k : ℕ) (ins : List ℕ) (l : ℕ) (pins : length ins ≡ cellAt cells k .pins) where
+  abbrev nets : List (List ℕ)
+  nets = map netName ins
+
+  net-names : map label (map ofPhase ins) ≡ nets
+  unfolding label
+  net-names = map-map label ofPhase ins
+
+  one-line : k < length listed → cellAt cells k ≡ cellAt listed k → OneLine listed k nets l (lineOf (cellGate listed k ins l))
+  unfolding label lineOf
+  one-line h e =
+      let b = single-bound listed cells fit k ins l pins h e .bound in
+      record { isListed = h; cell = refl; net = b .isDriven; fed = b .isFed ∙ net-names }
+
+  two-lines : length listed ≤ k → OfPair listed (pairAt listed k) → cellAt cells k ≡ cellOfPair listed (pairAt listed k)
+      → TwoLines listed k nets l (lineOf (innerGate listed k ins l)) (lineOf (rootGate listed k ins l))
+  unfolding label lineOf
+  two-lines h p e =
+      let b = inner-bound listed cells fit k ins l pins p e .bound in
+      let r = root-bound listed cells fit k ins l pins p e .bound in
+      let c = double-long listed cells fit k ins l pins p e in
+      let hasPin = p .hasPin in
+      let some = p .somePin in
+      record {
+        isPair = h;
+        innerCell = refl;
+        rootCell = refl;
+        innerNet = b .isDriven;
+        rootNet = r .isDriven;
+        innerFed = b .isFed ∙ map-run label (fedPin listed k ins l) (innerCell listed k ins l .pins) (map ofPhase ins)
+            ∙ ap (λ (xs : List (List ℕ)). take (innerCell listed k ins l .pins) (drop (fedPin listed k ins l) xs)) net-names;
+        rootFed = r .isFed
+            ∙ ap (map label) (splice-parts (fedPin listed k ins l) (innerCell listed k ins l .pins) (λ (_ : List Net). ofPair l) (map ofPhase ins) (omega (arith, c, hasPin, some)))
+            ∙ map-append label (take (fedPin listed k ins l) (map ofPhase ins)) (ofPair l ∷ drop (fedPin listed k ins l + innerCell listed k ins l .pins) (map ofPhase ins))
+            ∙ ap₂ (λ (xs ys : List (List ℕ)). xs ++ (label (ofPair l) ∷ ys)) (map-take label (fedPin listed k ins l) (map ofPhase ins))
+            (map-drop label (fedPin listed k ins l + innerCell listed k ins l .pins) (map ofPhase ins))
+            ∙ (ap (λ (xs : List (List ℕ)). take (fedPin listed k ins l) xs ++ ((115 ∷ netName l) ∷ drop (fedPin listed k ins l + innerCell listed k ins l .pins) xs)) net-names);
+      }
+
+module _ (listed cells : List Cell) (fit : Fitting listed cells) (g : Graph) (ok : Accepted g)
+    (present-outputs : (l : ℕ) → List·Memᴰ l (g .outputs) → absent (chosen cells g l .source) ≡ false) where
+  -- an input's own net is chosen for it
+  own-is : (l : ℕ) → IsOwn g l → isOwn (sourceOf cells g l) ≡ true
+  unfolding isOwn
+  own-is l o = ap isOwn (own-chosen cells g (order-once g ok) l o)
+
+  abbrev Lines : List ℕ → List Gate → Type 0
+  Lines ls ts = LinesOf listed (numberAt cells g) (λ l. map netName (fedAt cells g l)) ls (map lineOf ts)
+
+  lines-of : (ls : List ℕ) → ((l : ℕ) → List·Memᴰ l ls → Gates listed cells fit g ok present-outputs l) → Lines ls (each (gatesAt listed cells g) ls)
+  unfolding each
+  lines-of [] h = none
+  lines-of (l ∷ ls) h = elim (number-of listed cells fit g ok present-outputs l q) [
+    | single b e ↦ rw (gates-single listed k (fedAt cells g l) l b)
+        (one (one-line listed cells fit k (fedAt cells g l) l pins b e) (lines-of ls (λ x m. h x (List·Memᴰ·tail m))))
+    | double p r z ↦ rw (gates-double listed k (fedAt cells g l) l p)
+        (two (two-lines listed cells fit k (fedAt cells g l) l pins p r z) (lines-of ls (λ x m. h x (List·Memᴰ·tail m))))
+  ]
+    where
+      q : Gates listed cells fit g ok present-outputs l
+      q = h l (List·Memᴰ·head refl)
+
+      k : ℕ
+      k = numberAt cells g l
+
+      pins : length (fedAt cells g l) ≡ cellAt cells k .pins
+      pins = of-cell listed cells fit g ok present-outputs l q .pins
+
+  pub gates-gated : (f : Figures) → Gated listed cells g f (blifOf g (chosenGates listed cells g))
+  unfolding blifOf
+  gates-gated f = record {
+    nets = λ l. (
+      (λ x. let h = driven-phase listed cells fit g ok present-outputs l x in (h .needs, (λ o. true≢false (sym (own-is l o) ∙ h .notOwn)))),
+      (λ h. is-driven l (h .0) (h .1)),
+    );
+    order = (
+      gateNets cells g,
+      unfold below in keep-ordered (λ (l : ℕ). cond (elem l (needed cells g (chosen cells g))) (not (isOwn (sourceOf cells g l))) false)
+          (below (2 * suc (g .size))) (from-ordered (2 * suc (g .size)) 0),
+      subst (Lines (gateNets cells g)) (sym (gates-are listed cells g)) (lines-of (gateNets cells g) (net-out listed cells fit g ok present-outputs)),
+    );
+  }
+    where
+      is-driven : (l : ℕ) → NeedsOf cells g l → ¬ IsOwn g l → List·Memᴰ (netName l) (map drives (map lineOf (chosenGates listed cells g)))
+      is-driven l n o = by-bool (isOwn (sourceOf cells g l)) (λ e. absurd (o (own-source listed cells fit g ok present-outputs l n e)))
+          (λ q. phase-driven listed cells fit g ok present-outputs l (record { needs = n; notOwn = q }))

@@ -1,9 +1,0 @@
--- `truth::bit` meets its contract: a row by a shift. Assumes nothing.
-use mathlib.Core.Path.{sym}
-use borrow.Author.Needs.{needs}
-use Rattle.truth.proofs.Tables.{value-shift}
-use Rattle.truth.proofs.bit.Statement.{statement}
-use Rattle.truth.proofs.bit.Tie as tie
-
-pub bit-spec : {M : Type 1} → statement M
-bit-spec = tie.close (tie.spec (λ c. search needs) (λ c. search needs) (λ c. sym (value-shift (c .args .r) (c .args .table))))

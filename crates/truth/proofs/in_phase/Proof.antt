@@ -1,9 +1,0 @@
--- `truth::in_phase` meets its contract, by the phase. Assumes nothing.
-use borrow.Author.Needs.{needs}
-use Rattle.model.specs.Matching.{phaseTable}
-use Rattle.truth.proofs.in_phase.Statement.{statement}
-use Rattle.truth.proofs.in_phase.Tie as tie
-
-pub in-phase-spec : {M : Type 1} → statement M
-unfolding phaseTable
-in-phase-spec = tie.close (tie.spec (λ c κs. search needs) (λ c. cc) (λ c. rw (c .if1 .left)))
